@@ -1,11 +1,12 @@
 //! A game's PGN as the archive has it, asked of the server.
 use act_log::{Record, Shown, clocks, shown_of};
-use anyhow::{Context, Result, bail};
+use anyhow::{Context, Error, Result, anyhow};
 use archive_text::{Heading, archived};
 use lobby_roster::Player;
 use players_file::full_name;
 use server_link::{Answer, Link, Row};
 use std::alloc::Global;
+use std::net::{Net, SocketAddr, TcpStream};
 
 /// What a PGN is made with: the players, what the tags are to say, and what the log has.
 #[derive(Clone, Copy)]
@@ -18,6 +19,14 @@ pub struct Knowledge<'a> {
     pub is_logged: bool,
 }
 
+/// A connection to a server.
+pub fn link_to<R: Net<Stream = TcpStream> + AllocGlobal>(
+    rt: &R,
+    server: SocketAddr,
+) -> Result<Link> {
+    Link::open(rt, server).context(format_args!("the server at {server}"))
+}
+
 // The server's answer to `pgn`.
 fn answer_of(alloc: Global, link: &mut Link, game: u32) -> Result<Answer> {
     let line = format!(in alloc; "pgn {game}")?;
@@ -25,17 +34,21 @@ fn answer_of(alloc: Global, link: &mut Link, game: u32) -> Result<Answer> {
     link.ask(line.as_str(), front.as_str())
 }
 
+// What is wrong where the server does not do this with a game, but gives that answer.
+fn not_done(verb: &str, game: u32, first: &str) -> Error {
+    anyhow!("the server does not {verb} game {game}: {first}")
+}
+
 // The PGN of a game as the server tells it; none where the game has left the table since.
 fn told(alloc: Global, link: &mut Link, game: u32) -> Result<Option<String>> {
     let answer = answer_of(alloc, link, game)?;
     if !answer.behind.is_empty() {
-        return Ok(Some(answer.behind));
+        Ok(Some(answer.behind))
+    } else if answer.first.starts_with("no 3 ") {
+        Ok(None)
+    } else {
+        Err(not_done("tell", game, answer.first.as_str()))
     }
-    let first = answer.first.as_str();
-    if first.starts_with("no 3 ") {
-        return Ok(None);
-    }
-    bail!("the server does not tell game {game}: {first}")
 }
 
 // Whether an answer about a game leaves open that it is on the table: it is there, or its server is away.
@@ -43,28 +56,37 @@ fn may_be_there(first: &str) -> bool {
     first == "lost" || first.starts_with("no 36 ") || first.starts_with("ok pgn ")
 }
 
+// Whether a game has left the table, as this answer tells.
+fn left_by(game: u32, first: &str) -> Result<bool> {
+    if first.starts_with("no 3 ") {
+        Ok(true)
+    } else if may_be_there(first) {
+        Ok(false)
+    } else {
+        Err(not_done("tell", game, first))
+    }
+}
+
 /// Whether a game that was on the table has left it. It has not where its server is away, as one of several may be.
 pub fn has_left(alloc: Global, link: &mut Link, game: u32) -> Result<bool> {
     let answer = answer_of(alloc, link, game)?;
-    let first = answer.first.as_str();
-    if first.starts_with("no 3 ") {
-        return Ok(true);
+    left_by(game, answer.first.as_str())
+}
+
+// How a game stands, as this answer tells.
+fn shown_by(game: u32, first: &str) -> Result<Option<Shown>> {
+    if first.starts_with("ok show ") || first.starts_with("no 3 ") {
+        Ok(shown_of(first))
+    } else {
+        Err(not_done("show", game, first))
     }
-    if may_be_there(first) {
-        return Ok(false);
-    }
-    bail!("the server does not tell game {game}: {first}")
 }
 
 // How a game stands now; none where the game has left the table since.
 fn shown(alloc: Global, link: &mut Link, game: u32) -> Result<Option<Shown>> {
     let line = format!(in alloc; "show {game}")?;
     let answer = link.ask(line.as_str(), "ok show ")?;
-    let first = answer.first.as_str();
-    if first.starts_with("ok show ") || first.starts_with("no 3 ") {
-        return Ok(shown_of(first));
-    }
-    bail!("the server does not show game {game}: {first}")
+    shown_by(game, answer.first.as_str())
 }
 
 // The clocks that the log knows. Where it has none behind the last move, whose answer was lost or is still to come, the server is

@@ -2,7 +2,7 @@
 use archive_text::Heading;
 use clap::error::ErrorKind;
 use clap::{ArgMatches, Command, Error};
-use option_tables::{OptionText, OptionValue, WordText, command_line, read_or_fault};
+use option_tables::{OptionText, OptionValue, WordText, command_line, read_by, read_or_fault};
 use pgn_tags::is_date;
 use std::alloc::{AllocError, Global};
 use std::net::SocketAddr;
@@ -70,20 +70,26 @@ pub enum Word<'a> {
     Live(Living<'a>),
 }
 
-/// What is kept, and where.
+/// Whose games are told, what their PGNs are made with, and how often.
 #[derive(Clone, Copy)]
-pub struct Keeping<'a> {
+pub struct Source<'a> {
     pub server: SocketAddr,
-    pub archive: &'a str,
     pub players: Option<&'a str>,
     pub log: Option<&'a str>,
     /// What the tags are to say; of White and Black nothing yet.
     pub heading: Heading<'a>,
+    /// After how many seconds it is done again.
+    pub every: Option<u32>,
+}
+
+/// What is kept, and where.
+#[derive(Clone, Copy)]
+pub struct Keeping<'a> {
+    pub source: Source<'a>,
+    pub archive: &'a str,
     pub drops: bool,
     /// The lobby whose browsers are asked about before a game is dropped.
     pub lobby: Option<SocketAddr>,
-    /// After how many seconds it is done again.
-    pub every: Option<u32>,
 }
 
 /// Which archive's games are written, and how.
@@ -107,17 +113,11 @@ pub enum Form {
 /// What is written where others fetch it.
 #[derive(Clone, Copy)]
 pub struct Living<'a> {
-    pub server: SocketAddr,
+    pub source: Source<'a>,
     pub file: &'a str,
     pub archive: Option<&'a str>,
-    pub players: Option<&'a str>,
-    pub log: Option<&'a str>,
-    /// What the tags are to say; of White and Black nothing yet.
-    pub heading: Heading<'a>,
     /// The date, where it is given.
     pub date: Option<&'a str>,
-    /// After how many seconds it is written again.
-    pub every: Option<u32>,
 }
 
 const SERVER: OptionText = OptionText {
@@ -157,9 +157,8 @@ const EVENT: OptionText = OptionText {
 
 const SITE: OptionText = OptionText {
     name: "site",
-    value: OptionValue::Text("TEXT"),
     help: "The tag Site, ? without it",
-    is_required: false,
+    ..EVENT
 };
 
 const DATE: OptionText = OptionText {
@@ -171,9 +170,8 @@ const DATE: OptionText = OptionText {
 
 const ROUND: OptionText = OptionText {
     name: "round",
-    value: OptionValue::Text("TEXT"),
     help: "The tag Round, ? without it",
-    is_required: false,
+    ..EVENT
 };
 
 const DROP: OptionText = OptionText {
@@ -206,16 +204,14 @@ const PGN: OptionText = OptionText {
 
 const CSV: OptionText = OptionText {
     name: "csv",
-    value: OptionValue::Nothing,
     help: "Writes a row a game as CSV, and no PGN",
-    is_required: false,
+    ..PGN
 };
 
 const SQLITE: OptionText = OptionText {
     name: "sqlite",
-    value: OptionValue::Nothing,
     help: "Writes a database for SQLite, with a row a game and its PGN there",
-    is_required: false,
+    ..PGN
 };
 
 const FILE: OptionText = OptionText {
@@ -226,17 +222,14 @@ const FILE: OptionText = OptionText {
 };
 
 const LIVE_ARCHIVE: OptionText = OptionText {
-    name: "archive",
-    value: OptionValue::Text("FILE"),
     help: "An archive whose games are written too; with --date those of this date",
     is_required: false,
+    ..ARCHIVE
 };
 
 const LIVE_EVERY: OptionText = OptionText {
-    name: "every",
-    value: OptionValue::Number("SECONDS", 1, 3_600),
     help: "After how many seconds it is written again, 1 to 3600; once without it",
-    is_required: false,
+    ..KEEP_EVERY
 };
 
 // In the order in which help lists them.
@@ -286,19 +279,7 @@ pub fn command<'a>(alloc: Global) -> Result<Command<'a>, AllocError> {
 
 /// Reads the words, the program's own name first. An `Err` is a usage fault, or a request for help.
 pub fn read_words<'a>(alloc: Global, words: &'a [String]) -> Result<Word<'a>, Error> {
-    read_by(alloc, &mut command(alloc)?, words)
-}
-
-// (One function owns the command line, and one what was read by it, which goes by a call: each way out would let go of all parts.)
-fn read_by<'a>(
-    alloc: Global,
-    command: &mut Command<'a>,
-    words: &'a [String],
-) -> Result<Word<'a>, Error> {
-    let matches = command.try_get_matches_from_mut(words)?;
-    let word = word_given(alloc, command, &matches);
-    drop(matches);
-    word
+    read_by(alloc, &mut command(alloc)?, words, word_given)
 }
 
 fn word_given<'a>(
@@ -336,10 +317,11 @@ fn no_date_of<'a>(matches: &ArgMatches<'a>) -> Option<&'a str> {
 
 // What words ask for; none where one of them is none that the program knows.
 fn word_of<'a>(matches: &ArgMatches<'a>) -> Option<Word<'a>> {
-    match matches.subcommand() {
-        Some(("keep", values)) => keeping_of(values).map(Word::Keep),
-        Some(("export", values)) => exporting_of(values).map(Word::Export),
-        Some(("live", values)) => living_of(values).map(Word::Live),
+    let (word, values) = matches.subcommand()?;
+    match word {
+        "keep" => keeping_of(values),
+        "export" => exporting_of(values),
+        "live" => living_of(values),
         _ => None,
     }
 }
@@ -365,19 +347,26 @@ fn lobby_of(values: &ArgMatches<'_>, drops: bool) -> Option<Option<SocketAddr>> 
     }
 }
 
-// What `keep` asks for; none where an address is none, a value cannot stand in a tag, or a lobby is asked for nothing.
-fn keeping_of<'a>(values: &ArgMatches<'a>) -> Option<Keeping<'a>> {
-    let drops = values.get_flag("drop");
-    Some(Keeping {
+// What `keep` and `live` both ask for; none where the address is none, or a value cannot stand in a tag.
+fn source_of<'a>(values: &ArgMatches<'a>) -> Option<Source<'a>> {
+    Some(Source {
         server: values.get_str("server")?.parse().ok()?,
-        archive: values.get_str("archive")?,
         players: values.get_str("players"),
         log: values.get_str("log"),
         heading: heading_of(values)?,
-        drops,
-        lobby: lobby_of(values, drops)?,
         every: values.get_one("every"),
     })
+}
+
+// What `keep` asks for; none where an address is none, a value cannot stand in a tag, or a lobby is asked for nothing.
+fn keeping_of<'a>(values: &ArgMatches<'a>) -> Option<Word<'a>> {
+    let drops = values.get_flag("drop");
+    Some(Word::Keep(Keeping {
+        source: source_of(values)?,
+        archive: values.get_str("archive")?,
+        drops,
+        lobby: lobby_of(values, drops)?,
+    }))
 }
 
 // The form that is asked for; none where two are.
@@ -392,25 +381,21 @@ fn form_of(values: &ArgMatches<'_>) -> Option<Form> {
 }
 
 // What `export` asks for; none where it asks for two forms.
-fn exporting_of<'a>(values: &ArgMatches<'a>) -> Option<Exporting<'a>> {
-    Some(Exporting {
+fn exporting_of<'a>(values: &ArgMatches<'a>) -> Option<Word<'a>> {
+    Some(Word::Export(Exporting {
         archive: values.get_str("archive")?,
         form: form_of(values)?,
-    })
+    }))
 }
 
 // What `live` asks for; none where the address is none, or a value cannot stand in a tag.
-fn living_of<'a>(values: &ArgMatches<'a>) -> Option<Living<'a>> {
-    Some(Living {
-        server: values.get_str("server")?.parse().ok()?,
+fn living_of<'a>(values: &ArgMatches<'a>) -> Option<Word<'a>> {
+    Some(Word::Live(Living {
+        source: source_of(values)?,
         file: values.get_str("file")?,
         archive: values.get_str("archive"),
-        players: values.get_str("players"),
-        log: values.get_str("log"),
-        heading: heading_of(values)?,
         date: values.get_str("date"),
-        every: values.get_one("every"),
-    })
+    }))
 }
 
 // The value of a tag; none where it has a control character.

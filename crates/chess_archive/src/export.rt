@@ -1,13 +1,12 @@
 //! The word that writes the games of an archive.
 use crate::command_line::{Exporting, Form};
+use crate::reading::games_kept;
 use anyhow::Result;
-use archive_games::{
-    Halves, Kept, database_of_games, halves_of, kept_in, pgn_continued, rows_of_games,
-};
+use archive_games::{Halves, Kept, database_of_games, halves_of, pgn_continued, rows_of_games};
 use archive_lines::lines_of;
+use sqlite_file::Database;
 use std::io::{self, Write};
 use std::rt::Files;
-use text_parts::parts;
 
 // Writes the PGN of a game.
 fn write_game<R: AllocGlobal + Print>(rt: &R, kept: &Kept, halves: &[Halves]) -> Result<()> {
@@ -34,13 +33,18 @@ fn write_rows<R: AllocGlobal + Print>(rt: &R, games: &[Kept]) -> Result<()> {
     Ok(())
 }
 
-// Writes a database of the games, once all its pages are made.
-fn write_database<R: AllocGlobal + Print>(rt: &R, games: &[Kept]) -> Result<()> {
-    let database = database_of_games(rt.alloc(), games)?;
+// Writes the pages of a database.
+fn write_pages<R: AllocGlobal + Print>(rt: &R, database: &Database) -> Result<()> {
     let first = database.first_page()?;
     io::writer(rt).write_all(first.as_slice())?;
     io::writer(rt).write_all(database.later_pages())?;
     Ok(())
+}
+
+// Writes a database of the games, once all its pages are made.
+fn write_database<R: AllocGlobal + Print>(rt: &R, games: &[Kept]) -> Result<()> {
+    let database = database_of_games(rt.alloc(), games)?;
+    write_pages(rt, &database)
 }
 
 // Writes games in a form.
@@ -54,9 +58,7 @@ fn write<R: AllocGlobal + Print>(rt: &R, form: Form, games: &[Kept]) -> Result<(
 
 /// Writes the games of an archive: the PGN of each, a row for each, or a database of them.
 pub fn export<R: Files + AllocGlobal + Print>(rt: &R, exporting: &Exporting<'_>) -> Result<()> {
-    let alloc = rt.alloc();
     let text = lines_of(rt, exporting.archive)?;
-    let lines = parts(alloc, text.as_str(), '\n')?;
-    let games = kept_in(alloc, lines.as_slice())?;
+    let games = games_kept(rt.alloc(), text.as_str())?;
     write(rt, exporting.form, games.as_slice())
 }

@@ -6,21 +6,17 @@ ghost use Rattle.lobby_archive.specs.Files.{contains};
 ghost use Rattle.chess_archive.specs.Games.{games_over_in, is_at};
 
 use crate::asking::{Knowledge, pgn_of};
-use crate::command_line::Keeping;
+use crate::reading::games_kept;
 use adjourned::{Ended, first_half, is_opened_for};
 use anyhow::{Context, Result, anyhow, bail};
 use archive_file::Archive;
-use archive_games::{Kept, has_game, kept_in, push_ended};
+use archive_games::{Kept, has_game, push_ended};
 use lobby_archive::Night;
-use lobby_watchers::Watchers;
 use night_files::NamedFile;
 use pgn_tags::with_tag;
 use server_link::{Link, Row};
 use std::alloc::{AllocError, Global};
 use std::collections::BTreeSet;
-use std::net::{Net, TcpStream};
-use std::rt::Clock;
-use text_parts::parts;
 
 /// How many games were kept and dropped, and how many are in the archive.
 #[derive(Clone, Copy)]
@@ -37,11 +33,16 @@ pub const NOTHING: Counts = Counts {
     all: 0,
 };
 
+/// Who tells whether somebody looks at a game.
+pub trait Onlookers {
+    /// Whether nobody does.
+    fn are_gone(&mut self, game: u32) -> Result<bool>;
+}
+
 /// An archive that is filled from a server.
 #[derive(Drop)]
-pub struct Keeper<'a, R> {
-    pub rt: &'a R,
-    pub keeping: &'a Keeping<'a>,
+pub struct Keeper<'a, O> {
+    pub alloc: Global,
     pub link: Link,
     pub archive: Archive<NamedFile>,
     /// The archive's lines when it was opened, and the games that were kept since.
@@ -52,8 +53,7 @@ pub struct Keeper<'a, R> {
     pub rows: &'a [Row<'a>],
     /// Whether games are dropped still.
     pub drops: bool,
-    /// What browsers watch, where a lobby is asked.
-    pub watchers: Option<Watchers>,
+    pub onlookers: O,
     pub done: Done,
     pub counts: Counts,
     /// What went wrong first, though the work went on.
@@ -155,17 +155,6 @@ fn is_kept_as(
     Ok(is_same)
 }
 
-// Whether nobody looks at a game, as the lobby answers, where one is asked.
-fn nobody_looks<R>(rt: &R, watchers: &mut Option<Watchers>, game: u32) -> Result<bool>
-where
-    R: Net<Stream = TcpStream> + AllocGlobal + Clock,
-{
-    match watchers {
-        Some(watchers) => Ok(!watchers.has(rt, game)?),
-        None => Ok(true),
-    }
-}
-
 // The row of a game.
 fn row_of<'a>(rows: &[Row<'a>], game: u32) -> Result<Row<'a>> {
     for row in rows {
@@ -185,12 +174,11 @@ fn is_dropped(alloc: Global, link: &mut Link, row: Row<'_>) -> Result<bool> {
     Ok(link.is_done(name.as_str())? && link.is_done(drop.as_str())?)
 }
 
-impl<R: AllocGlobal> Keeper<'_, R> {
+impl<O> Keeper<'_, O> {
     // Puts those of the archive's games behind others that may go on in a game with this PGN.
     fn push_halves(&self, ended: &mut Vec<Ended>, pgn: &str) -> Result<()> {
-        let alloc = self.rt.alloc();
-        let lines = parts(alloc, self.lines.as_str(), '\n')?;
-        let before = kept_in(alloc, lines.as_slice())?;
+        let alloc = self.alloc;
+        let before = games_kept(alloc, self.lines.as_str())?;
         push_ended(ended, alloc, before.as_slice(), pgn)?;
         push_ended(ended, alloc, self.kept.as_slice(), pgn)?;
         Ok(())
@@ -198,7 +186,7 @@ impl<R: AllocGlobal> Keeper<'_, R> {
 
     // The game that goes on in a game with this PGN, where the log tells how an arbiter opened it.
     fn half_of(&self, game: u32, pgn: &str) -> Result<Option<u32>> {
-        let alloc = self.rt.alloc();
+        let alloc = self.alloc;
         let records = self.known.records;
         let white = row_of(self.rows, game)?.white;
         if !is_opened_for(records, game, white) {
@@ -213,7 +201,7 @@ impl<R: AllocGlobal> Keeper<'_, R> {
     fn linked(&self, game: u32, pgn: Vec<u8>) -> Result<String> {
         let pgn = String::from_utf8(pgn)?;
         match self.half_of(game, pgn.as_str())? {
-            Some(half) => Ok(with_tag(self.rt.alloc(), pgn.as_str(), "Continues", half)?),
+            Some(half) => Ok(with_tag(self.alloc, pgn.as_str(), "Continues", half)?),
             None => Ok(pgn),
         }
     }
@@ -230,10 +218,7 @@ impl<R: AllocGlobal> Keeper<'_, R> {
     }
 }
 
-impl<R> Night for Keeper<'_, R>
-where
-    R: Net<Stream = TcpStream> + AllocGlobal + Clock,
-{
+impl<O: Onlookers> Night for Keeper<'_, O> {
     type Pgn = TablePgn;
 
     type Fault = anyhow::Error;
@@ -269,7 +254,7 @@ where
         take_off(&mut self.done.matched, game);
         take_off(&mut self.done.settled, game);
         let row = row_of(self.rows, game)?;
-        let Some(pgn) = pgn_of(self.rt.alloc(), &mut self.link, &self.known, row)? else {
+        let Some(pgn) = pgn_of(self.alloc, &mut self.link, &self.known, row)? else {
             put_among(&mut self.done.gone, game)?;
             return Ok(None);
         };
@@ -280,10 +265,9 @@ where
     fn is_same(&mut self, game: u32, told: &TablePgn) -> Result<bool> {
         self.done.unwatched = None;
         take_off(&mut self.done.matched, game);
-        let alloc = self.rt.alloc();
         let is_same = self.archive.has(game)
             && is_kept_as(
-                alloc,
+                self.alloc,
                 self.lines.as_str(),
                 game,
                 told.pgn.as_slice(),
@@ -300,7 +284,7 @@ where
         take_off(&mut self.done.settled, game);
         let pgn = self.linked(game, told.pgn)?;
         self.archive
-            .keep(self.rt.alloc(), game, pgn.as_bytes())
+            .keep(self.alloc, game, pgn.as_bytes())
             .context(format_args!("game {game}"))?;
         self.kept.push(Kept { game, pgn })?;
         self.counts.kept = self.counts.kept.saturating_add(1);
@@ -310,7 +294,7 @@ where
 
     fn is_left(&mut self, game: u32) -> Result<bool> {
         self.done.unwatched = None;
-        match nobody_looks(self.rt, &mut self.watchers, game) {
+        match self.onlookers.are_gone(game) {
             Ok(is_left) => {
                 set_among(&mut self.done.settled, game, !is_left)?;
                 self.done.unwatched = left_game(game, is_left);
@@ -329,7 +313,7 @@ where
     fn drop_game(&mut self, game: u32) -> Result<bool> {
         self.done.unwatched = None;
         let row = row_of(self.rows, game)?;
-        let is_done = is_dropped(self.rt.alloc(), &mut self.link, row)?;
+        let is_done = is_dropped(self.alloc, &mut self.link, row)?;
         if is_done {
             self.counts.dropped = self.counts.dropped.saturating_add(1);
         }

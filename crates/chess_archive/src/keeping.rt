@@ -1,12 +1,16 @@
 //! The word that keeps games that are over.
-use crate::asking::Knowledge;
+ghost use Rattle.std.specs.Prelude.{IfOk};
+ghost use Rattle.lobby_archive.specs.Files.{contains};
+ghost use Rattle.lobby_archive.specs.Night.{AreAll};
+ghost use Rattle.chess_archive.specs.Games.{games_over_in};
+
+use crate::asking::link_to;
 use crate::command_line::Keeping;
 use crate::hold::Hold;
-use crate::keeper::{Counts, Done, Keeper, NOTHING};
-use crate::log_reader::LogReader;
-use crate::players::Players;
+use crate::keeper::{Counts, Done, Keeper, NOTHING, Onlookers};
 use crate::rows::{games_over, rows_of};
-use crate::telling::Telling;
+use crate::sources::Sources;
+use crate::telling::{Work, go_on};
 use adjourned::in_order;
 use anyhow::{Context, Result};
 use archive_file::Archive;
@@ -15,11 +19,10 @@ use lobby_archive::look;
 use lobby_watchers::Watchers;
 use night_files::NamedFile;
 use server_link::{Link, Row};
+use std::alloc::Global;
 use std::fs::{self, File};
 use std::net::{Net, TcpStream};
 use std::rt::{Clock, Files};
-use std::thread;
-use std::time::Duration;
 
 // An archive, and its lines when it was opened.
 #[derive(Drop)]
@@ -51,113 +54,156 @@ where
     Ok(Opened { archive, lines })
 }
 
+// Those who look at games by a lobby, where one is asked.
+#[derive(Drop)]
+struct Browsers<'a, R> {
+    rt: &'a R,
+    watchers: Option<Watchers>,
+}
+
+impl<R> Onlookers for Browsers<'_, R>
+where
+    R: Net<Stream = TcpStream> + AllocGlobal + Clock,
+{
+    fn are_gone(&mut self, game: u32) -> Result<bool> {
+        match &mut self.watchers {
+            Some(watchers) => Ok(!watchers.has(self.rt, game)?),
+            None => Ok(true),
+        }
+    }
+}
+
 // What `keep` has of one look to the next.
 #[derive(Drop)]
 struct Looking<'a, R> {
     rt: &'a R,
     keeping: &'a Keeping<'a>,
-    players: Players<'a, R>,
-    log: LogReader<'a>,
+    sources: Sources<'a, R>,
     // Whether the archive was opened: then it is left alone while no game is over.
     has_looked: bool,
 }
 
+impl<'a, R: Files + AllocGlobal + Eprint> Looking<'a, R> {
+    // Nothing was looked at yet.
+    fn new(rt: &'a R, keeping: &'a Keeping<'a>) -> Result<Self> {
+        Ok(Looking {
+            rt,
+            keeping,
+            sources: Sources::open(rt, &keeping.source)?,
+            has_looked: false,
+        })
+    }
+}
+
+impl<R: Files + AllocGlobal> Looking<'_, R> {
+    // Those games of a list that are over, a first half before its second one, which is linked with it. Where one of them was not kept
+    // the log is read on before: behind the list, so that it has what is told of the games that are over in it.
+    fn games_in_order(&mut self, archive: &Archive<NamedFile>, rows: &[Row<'_>]) -> Result<Vec<u32>>
+        ensures { IfOk result (λ games. AreAll (λ game. contains game (games_over_in rows.now)) games.items) }
+    {
+        if is_asked(rows, archive) {
+            self.sources.log.read_on(self.rt, rows)?;
+        }
+        let over = games_over(self.rt.alloc(), rows)?;
+        Ok(in_order(self.rt.alloc(), self.sources.log.records(), over.as_slice())?)
+    }
+}
+
 impl<R> Looking<'_, R>
 where
-    R: Files<File = File> + Net<Stream = TcpStream> + AllocGlobal + Print + Eprint + Clock,
+    R: Net<Stream = TcpStream> + AllocGlobal + Clock,
 {
-    // Reads the log on where there is a game that is to be kept: behind the list, so that it has what is told of the games that
-    // are over in it.
-    fn read_log(&mut self, archive: &Archive<NamedFile>, rows: &[Row<'_>]) -> Result<()> {
-        let is_asked = rows.iter().any(|row| row.is_over && !archive.has(row.game));
-        if is_asked {
-            self.log.read_on(self.rt, rows)?;
-        }
-        Ok(())
-    }
-
-    // Opens the archive, with the players and the log as they are now; none where no game is over, and it was opened before.
-    fn open(&mut self, rows: &[Row<'_>]) -> Result<Option<Opened>> {
-        if self.has_looked && !rows.iter().any(|row| row.is_over) {
-            return Ok(None);
-        }
-        // (behind the list, so that they are all there who played its games)
-        self.players.renew()?;
-        let opened = open_archive(self.rt, self.keeping.archive)?;
-        self.has_looked = true;
-        self.read_log(&opened.archive, rows)?;
-        Ok(Some(opened))
-    }
-
     // Keeps the games of a list that are over, and drops them where that is asked.
     fn keep_games(
         &self,
         link: Link,
         opened: Opened,
         rows: &[Row<'_>],
-    ) -> Result<(Counts, Result<()>)> {
+        over: &[u32],
+    ) -> Result<(Counts, Result<()>)>
+        requires { AreAll (λ game. contains game (games_over_in rows.now)) over.now }
+    {
         let alloc = self.rt.alloc();
-        let over = games_over(alloc, rows)?;
-        // (a first half before its second one, which is linked with it)
-        let over = in_order(alloc, self.log.records(), over.as_slice())?;
         let mut keeper = Keeper {
-            rt: self.rt,
-            keeping: self.keeping,
+            alloc,
             link,
             archive: opened.archive,
             lines: opened.lines,
             kept: Vec::new(alloc),
-            known: Knowledge {
-                players: self.players.known(),
-                heading: self.keeping.heading,
-                records: self.log.records(),
-                is_logged: self.keeping.log.is_some(),
-            },
+            known: self.sources.known(),
             rows,
             drops: self.keeping.drops,
-            watchers: self.keeping.lobby.map(Watchers::new),
+            onlookers: Browsers {
+                rt: self.rt,
+                watchers: self.keeping.lobby.map(Watchers::new),
+            },
             done: Done::nothing(alloc),
             counts: NOTHING,
             fault: None,
         };
-        let done = look(&mut keeper, alloc, over.as_slice());
-        keeper.end(done)
+        let done = look(&mut keeper, alloc, over);
+        let counted = keeper.end(done);
+        drop(keeper);
+        counted
+    }
+}
+
+impl<R> Looking<'_, R>
+where
+    R: Files<File = File> + AllocGlobal + Eprint,
+{
+    // Opens the archive, with the players as they are now; none where no game is over, and it was opened before.
+    fn open(&mut self, rows: &[Row<'_>]) -> Result<Option<Opened>> {
+        if self.has_looked && !rows.iter().any(|row| row.is_over) {
+            return Ok(None);
+        }
+        // (behind the list, so that they are all there who played its games)
+        self.sources.players.renew()?;
+        let opened = open_archive(self.rt, self.keeping.archive)?;
+        self.has_looked = true;
+        Ok(Some(opened))
+    }
+}
+
+// Whether the log is asked about games: one is over, and was not kept.
+fn is_asked(rows: &[Row<'_>], archive: &Archive<NamedFile>) -> bool {
+    rows.iter().any(|row| row.is_over && !archive.has(row.game))
+}
+
+impl<R> Looking<'_, R>
+where
+    R: Files<File = File> + Net<Stream = TcpStream> + AllocGlobal + Eprint + Clock,
+{
+    // Keeps the games of a list that are over, and drops them where that is asked. What went wrong though the work went on comes
+    // beside the counts.
+    fn look_at(&mut self, link: Link, rows: &[Row<'_>]) -> Result<(Counts, Result<()>)> {
+        let Some(opened) = self.open(rows)? else {
+            return Ok((NOTHING, Ok(())));
+        };
+        let over = self.games_in_order(&opened.archive, rows)?;
+        self.keep_games(link, opened, rows, over.as_slice())
     }
 
-    // Keeps the games that are over now, and drops them where that is asked. What went wrong though the work went on comes beside
-    // the counts.
+    // The same of the list as it is now.
     fn look(&mut self) -> Result<(Counts, Result<()>)> {
-        let server = self.keeping.server;
-        let mut link = Link::open(self.rt, server).context(format_args!("the server at {server}"))?;
+        let mut link = link_to(self.rt, self.keeping.source.server)?;
         let list = link.list()?;
         let rows = rows_of(self.rt.alloc(), list.as_str())?;
-        match self.open(rows.as_slice())? {
-            Some(opened) => self.keep_games(link, opened, rows.as_slice()),
-            None => Ok((NOTHING, Ok(()))),
-        }
+        self.look_at(link, rows.as_slice())
     }
+}
 
-    // Looks once, and tells of it where games were kept or dropped, or where that is all.
-    fn look_and_tell(&mut self, is_once: bool) -> Result<()> {
+impl<R> Work for Looking<'_, R>
+where
+    R: Files<File = File> + Net<Stream = TcpStream> + AllocGlobal + Print + Eprint + Clock,
+{
+    // (it is told of where games were kept or dropped, or where that is all)
+    fn work(&mut self, is_once: bool) -> Result<()> {
         let (counts, done) = self.look()?;
         if is_once || counts.kept > 0 || counts.dropped > 0 {
             tell_counts(self.rt, counts)?;
         }
         done
-    }
-
-    // Looks once, or again and again until it is killed.
-    fn go_on(&mut self) -> Result<()> {
-        let Some(every) = self.keeping.every else {
-            return self.look_and_tell(true);
-        };
-        let mut telling = Telling::new(self.rt, "all is well again");
-        for _ in 0..u64::MAX {
-            let done = self.look_and_tell(false);
-            telling.tell(done)?;
-            thread::sleep(self.rt, Duration::from_secs(u64::from(every)));
-        }
-        Ok(())
     }
 }
 
@@ -175,12 +221,8 @@ where
     R: Files<File = File> + Net<Stream = TcpStream> + AllocGlobal + Print + Eprint + Clock,
 {
     let _hold = Hold::of(rt, keeping.archive)?;
-    let mut looking = Looking {
-        rt,
-        keeping,
-        players: Players::open(rt, keeping.players)?,
-        log: LogReader::new(rt.alloc(), keeping.log),
-        has_looked: false,
-    };
-    looking.go_on()
+    let mut looking = Looking::new(rt, keeping)?;
+    let done = go_on(rt, &mut looking, keeping.source.every, "all is well again");
+    drop(looking);
+    done
 }

@@ -1,20 +1,18 @@
 //! The word that writes the games of a night where others fetch them.
-use crate::asking::{Knowledge, has_left, pgn_of};
+use crate::asking::{has_left, link_to, pgn_of};
 use crate::command_line::Living;
-use crate::log_reader::LogReader;
-use crate::players::Players;
+use crate::reading::found;
 use crate::rows::rows_of;
-use crate::telling::Telling;
+use crate::sources::Sources;
+use crate::telling::{Work, go_on};
 use anyhow::{Context, Result};
 use archive_file::{game_of, pgn_of as pgn_in};
 use archive_lines::lines_of;
 use server_link::{Link, Row};
-use std::alloc::Global;
-use std::fs::{self, File};
+use std::alloc::{AllocError, Global};
+use std::fs;
 use std::net::{Net, TcpStream};
 use std::rt::{Clock, Files};
-use std::thread;
-use std::time::Duration;
 use text_parts::parts;
 
 // A game, as it stands in the file.
@@ -29,9 +27,8 @@ struct Board {
 struct Writer<'a, R> {
     rt: &'a R,
     living: &'a Living<'a>,
-    players: Players<'a, R>,
+    sources: Sources<'a, R>,
     link: Option<Link>,
-    log: LogReader<'a>,
     // The games of the table as they were seen last, also of servers that are away.
     seen: Vec<Board>,
     // The games of the archive that are written, and how long it was when they were read.
@@ -54,15 +51,10 @@ fn is_kept(row: Row<'_>, archived: &[Board]) -> bool {
 // Whether a PGN has a tag Date with this value.
 fn is_of_date(alloc: Global, pgn: &[u8], date: &str) -> Result<bool> {
     let tag = format!(in alloc; "[Date \"{date}\"]")?;
-    let Ok(text) = str::from_utf8(pgn) else {
-        return Ok(false);
-    };
-    for line in parts(alloc, text, '\n')?.as_slice() {
-        if *line == tag.as_str() {
-            return Ok(true);
-        }
+    match str::from_utf8(pgn) {
+        Ok(text) => Ok(parts(alloc, text, '\n')?.contains(&tag.as_str())),
+        Err(_) => Ok(false),
     }
-    Ok(false)
 }
 
 // Whether a game is among boards.
@@ -70,20 +62,22 @@ fn has_game(boards: &[Board], game: u32) -> bool {
     boards.iter().any(|board| board.game == game)
 }
 
-// The PGNs of the table's boards, and of those of the archive that are not there any more, by their numbers.
-fn text_of(alloc: Global, table: &[Board], archived: &[Board]) -> Result<Vec<u8>> {
-    let mut boards: Vec<&Board> = Vec::new(alloc);
-    for board in table {
-        boards.push(board)?;
-    }
-    for board in archived {
-        if !has_game(table, board.game) {
-            boards.push(board)?;
-        }
-    }
+// The table's boards, and those of the archive that are not there any more, by their numbers.
+fn in_order<'a>(
+    alloc: Global,
+    table: &'a [Board],
+    archived: &'a [Board],
+) -> Result<Vec<&'a Board>, AllocError> {
+    let left = archived.iter().filter(|board| !has_game(table, board.game));
+    let mut boards: Vec<&Board> = table.iter().chain(left).collect(alloc)?;
     boards.sort_by_key(|board| board.game)?;
+    Ok(boards)
+}
+
+// Their PGNs, one behind the other.
+fn text_of(alloc: Global, boards: &[&Board]) -> Result<Vec<u8>, AllocError> {
     let mut text = Vec::new(alloc);
-    for board in boards.as_slice() {
+    for board in boards {
         text.extend_from_slice(board.pgn.as_slice())?;
     }
     Ok(text)
@@ -94,80 +88,54 @@ fn length_of<R: Files>(rt: &R, path: &str) -> Result<u64> {
     if !fs::exists(rt, path)? {
         return Ok(0);
     }
-    let found = fs::metadata(rt, path).context(format_args!("reading {path}"))?;
-    Ok(found.len())
+    Ok(found(rt, path)?.len())
 }
 
-impl<R> Writer<'_, R>
-where
-    R: Files<File = File> + Net<Stream = TcpStream> + AllocGlobal + Print + Eprint + Clock,
-{
-    // The connection that there was, or a new one.
-    fn linked(&mut self) -> Result<Link> {
-        let server = self.living.server;
-        match self.link.take() {
-            Some(link) => Ok(link),
-            None => Link::open(self.rt, server).context(format_args!("the server at {server}")),
-        }
+// Puts the game of a line of the archive behind others, where it is written: each one, or those of this night alone where its date
+// is given.
+fn push_line(boards: &mut Vec<Board>, alloc: Global, line: &str, date: Option<&str>) -> Result<()> {
+    let Some(game) = game_of(alloc, line)? else {
+        return Ok(());
+    };
+    let pgn = pgn_in(alloc, line)?;
+    let is_here = match date {
+        Some(date) => is_of_date(alloc, pgn.as_slice(), date)?,
+        None => true,
+    };
+    if is_here {
+        boards.push(Board { game, pgn })?;
     }
+    Ok(())
+}
 
+// The games of an archive's text that are written.
+fn boards_of(alloc: Global, text: &str, date: Option<&str>) -> Result<Vec<Board>> {
+    let lines = parts(alloc, text, '\n')?;
+    let mut boards = Vec::new(alloc);
+    for line in lines.as_slice() {
+        push_line(&mut boards, alloc, line, date)?;
+    }
+    Ok(boards)
+}
+
+// Puts a text in a file's place, at once.
+fn put<R: Files + AllocGlobal>(rt: &R, path: &str, text: &[u8]) -> Result<()> {
+    let new = format!(in rt.alloc(); "{path}.new")?;
+    fs::write(rt, new.as_str(), text).context(format_args!("writing {new}"))?;
+    fs::rename(rt, new.as_str(), path).context(format_args!("writing {path}"))?;
+    Ok(())
+}
+
+impl<R> Writer<'_, R> {
     // Whether a game is written as the archive has it, where the table does not tell it.
     fn has_kept(&self, game: u32) -> bool {
         has_game(self.archived.as_slice(), game)
     }
 
-    // Those games of the server's list that are played or over, but those that were kept.
-    fn push_rows(&self, boards: &mut Vec<Board>, link: &mut Link, rows: &[Row<'_>]) -> Result<()> {
-        let known = Knowledge {
-            players: self.players.known(),
-            heading: self.living.heading,
-            records: self.log.records(),
-            is_logged: self.living.log.is_some(),
-        };
-        for row in rows {
-            if is_played(*row)
-                && !is_kept(*row, self.archived.as_slice())
-                && let Some(pgn) = pgn_of(self.rt.alloc(), link, &known, *row)?
-            {
-                let game = row.game;
-                boards.push(Board { game, pgn })?;
-            }
-        }
-        Ok(())
-    }
-
-    // The same of the list as it is now, with the players and the log as they are behind it.
-    fn push_list(&mut self, boards: &mut Vec<Board>, link: &mut Link) -> Result<()> {
-        let list = link.list()?;
-        let rows = rows_of(self.rt.alloc(), list.as_str())?;
-        // (behind the list, so that they are all there who play its games)
-        self.players.renew()?;
-        self.log.read_on(self.rt, rows.as_slice())?;
-        self.push_rows(boards, link, rows.as_slice())
-    }
-
-    // Of the games that were seen and are not told now those that have not left the table: their server is away. (each is asked
-    // about, since a list has no word of a server that is away, nor of one that could not tell its games)
-    fn games_away(&self, boards: &[Board], link: &mut Link) -> Result<Vec<u32>> {
-        let alloc = self.rt.alloc();
-        let mut away = Vec::new(alloc);
-        for board in self.seen.as_slice() {
-            let is_told = has_game(boards, board.game) || self.has_kept(board.game);
-            if !is_told && !has_left(alloc, link, board.game)? {
-                away.push(board.game)?;
-            }
-        }
-        Ok(away)
-    }
-
-    // The games of the server's table that are played or over, but those that were kept. What comes back are the games of servers
-    // that are away.
-    fn push_table(&mut self, boards: &mut Vec<Board>) -> Result<Vec<u32>> {
-        let mut link = self.linked()?;
-        self.push_list(boards, &mut link)?;
-        let away = self.games_away(boards.as_slice(), &mut link)?;
-        self.link = Some(link);
-        Ok(away)
+    // What the file is to have.
+    fn text(&self, alloc: Global) -> Result<Vec<u8>, AllocError> {
+        let boards = in_order(alloc, self.seen.as_slice(), self.archived.as_slice())?;
+        text_of(alloc, boards.as_slice())
     }
 
     // Puts games that are away behind others, as they were seen last, but those that were kept.
@@ -182,36 +150,74 @@ where
         Ok(())
     }
 
-    // Whether a game of the archive with this PGN is written: each one, or those of this night alone where its date is given.
-    fn is_here(&self, pgn: &[u8]) -> Result<bool> {
-        match self.living.date {
-            Some(date) => is_of_date(self.rt.alloc(), pgn, date),
-            None => Ok(true),
-        }
-    }
-
-    // Puts the game of a line of the archive behind others, where it is written.
-    fn push_line(&self, boards: &mut Vec<Board>, line: &str) -> Result<()> {
-        let alloc = self.rt.alloc();
-        let Some(game) = game_of(alloc, line)? else {
-            return Ok(());
-        };
-        let pgn = pgn_in(alloc, line)?;
-        if self.is_here(pgn.as_slice())? {
-            boards.push(Board { game, pgn })?;
+    // Those games of the server's list that are played or over, but those that were kept.
+    fn push_rows(
+        &self,
+        boards: &mut Vec<Board>,
+        alloc: Global,
+        link: &mut Link,
+        rows: &[Row<'_>],
+    ) -> Result<()> {
+        let known = self.sources.known();
+        for row in rows {
+            if is_played(*row)
+                && !is_kept(*row, self.archived.as_slice())
+                && let Some(pgn) = pgn_of(alloc, link, &known, *row)?
+            {
+                let game = row.game;
+                boards.push(Board { game, pgn })?;
+            }
         }
         Ok(())
     }
 
-    // The games of the archive that are written.
-    fn boards_of(&self, text: &str) -> Result<Vec<Board>> {
-        let alloc = self.rt.alloc();
-        let lines = parts(alloc, text, '\n')?;
-        let mut boards = Vec::new(alloc);
-        for line in lines.as_slice() {
-            self.push_line(&mut boards, line)?;
+    // Of the games that were seen and are not told now those that have not left the table: their server is away. (each is asked
+    // about, since a list has no word of a server that is away, nor of one that could not tell its games)
+    fn games_away(&self, boards: &[Board], alloc: Global, link: &mut Link) -> Result<Vec<u32>> {
+        let mut away = Vec::new(alloc);
+        for board in self.seen.as_slice() {
+            let is_told = has_game(boards, board.game) || self.has_kept(board.game);
+            if !is_told && !has_left(alloc, link, board.game)? {
+                away.push(board.game)?;
+            }
         }
-        Ok(boards)
+        Ok(away)
+    }
+}
+
+impl<'a, R: Files + AllocGlobal + Eprint> Writer<'a, R> {
+    // No game was seen yet.
+    fn new(rt: &'a R, living: &'a Living<'a>) -> Result<Self> {
+        let alloc = rt.alloc();
+        let sources = Sources::open(rt, &living.source)?;
+        Ok(Writer {
+            rt,
+            living,
+            sources,
+            link: None,
+            seen: Vec::new(alloc),
+            archived: Vec::new(alloc),
+            archive_length: 0,
+            written: fs::read(rt, living.file).ok(),
+        })
+    }
+
+    // Those games of the list as it is now that are played or over, but those that were kept, with the players and the log as they
+    // are behind it.
+    fn push_list(&mut self, boards: &mut Vec<Board>, link: &mut Link) -> Result<()> {
+        let alloc = self.rt.alloc();
+        let list = link.list()?;
+        let rows = rows_of(alloc, list.as_str())?;
+        // (behind the list, so that they are all there who play its games)
+        self.sources.renew(self.rt, rows.as_slice())?;
+        self.push_rows(boards, alloc, link, rows.as_slice())
+    }
+
+    // The games of the server's table that are played or over, but those that were kept. What comes back are the games of servers
+    // that are away.
+    fn push_table(&mut self, boards: &mut Vec<Board>, link: &mut Link) -> Result<Vec<u32>> {
+        self.push_list(boards, link)?;
+        self.games_away(boards.as_slice(), self.rt.alloc(), link)
     }
 
     // Reads the archive anew where it is another.
@@ -220,57 +226,54 @@ where
             return Ok(());
         };
         let length = length_of(self.rt, path)?;
-        if length == self.archive_length {
-            return Ok(());
+        if length != self.archive_length {
+            let text = lines_of(self.rt, path)?;
+            self.archived = boards_of(self.rt.alloc(), text.as_str(), self.living.date)?;
+            self.archive_length = length;
         }
-        let text = lines_of(self.rt, path)?;
-        self.archived = self.boards_of(text.as_str())?;
-        self.archive_length = length;
         Ok(())
     }
+}
 
-    // Puts a text in the file's place, at once.
-    fn put(&self, text: &[u8]) -> Result<()> {
-        let path = self.living.file;
-        let new = format!(in self.rt.alloc(); "{path}.new")?;
-        fs::write(self.rt, new.as_str(), text).context(format_args!("writing {new}"))?;
-        fs::rename(self.rt, new.as_str(), path).context(format_args!("writing {path}"))?;
-        Ok(())
+impl<R> Writer<'_, R>
+where
+    R: Files + Net<Stream = TcpStream> + AllocGlobal + Eprint,
+{
+    // The table's games, asked by the connection that there was, or by a new one.
+    fn push_told(&mut self, boards: &mut Vec<Board>) -> Result<Vec<u32>> {
+        let mut link = match self.link.take() {
+            Some(link) => link,
+            None => link_to(self.rt, self.living.source.server)?,
+        };
+        let away = self.push_table(boards, &mut link)?;
+        self.link = Some(link);
+        Ok(away)
     }
 
-    // What the file is to have.
-    fn text(&mut self) -> Result<Vec<u8>> {
-        let alloc = self.rt.alloc();
+    // Looks at the table and at the archive.
+    fn look(&mut self) -> Result<()> {
         self.read_archive()?;
-        let mut boards = Vec::new(alloc);
-        let away = self.push_table(&mut boards)?;
+        let mut boards = Vec::new(self.rt.alloc());
+        let away = self.push_told(&mut boards)?;
         // (once more, as a game may have been kept and dropped meanwhile)
         self.read_archive()?;
         self.push_away(&mut boards, away.as_slice())?;
         self.seen = boards;
-        text_of(alloc, self.seen.as_slice(), self.archived.as_slice())
-    }
-
-    // Writes the file where it has changed.
-    fn write(&mut self) -> Result<()> {
-        let text = self.text()?;
-        if self.written.as_ref() != Some(&text) {
-            self.put(text.as_slice())?;
-            self.written = Some(text);
-        }
         Ok(())
     }
+}
 
-    // Writes once, or again and again until it is killed.
-    fn go_on(&mut self) -> Result<()> {
-        let Some(every) = self.living.every else {
-            return self.write();
-        };
-        let mut telling = Telling::new(self.rt, "the file is written again");
-        for _ in 0..u64::MAX {
-            let done = self.write();
-            telling.tell(done)?;
-            thread::sleep(self.rt, Duration::from_secs(u64::from(every)));
+impl<R> Work for Writer<'_, R>
+where
+    R: Files + Net<Stream = TcpStream> + AllocGlobal + Eprint,
+{
+    // (the file is written where it has changed)
+    fn work(&mut self, _is_once: bool) -> Result<()> {
+        self.look()?;
+        let text = self.text(self.rt.alloc())?;
+        if self.written.as_ref() != Some(&text) {
+            put(self.rt, self.living.file, text.as_slice())?;
+            self.written = Some(text);
         }
         Ok(())
     }
@@ -280,18 +283,15 @@ where
 /// again and again until it is killed.
 pub fn live<R>(rt: &R, living: &Living<'_>) -> Result<()>
 where
-    R: Files<File = File> + Net<Stream = TcpStream> + AllocGlobal + Print + Eprint + Clock,
+    R: Files + Net<Stream = TcpStream> + AllocGlobal + Eprint + Clock,
 {
-    let mut writer = Writer {
+    let mut writer = Writer::new(rt, living)?;
+    let done = go_on(
         rt,
-        living,
-        players: Players::open(rt, living.players)?,
-        link: None,
-        log: LogReader::new(rt.alloc(), living.log),
-        seen: Vec::new(rt.alloc()),
-        archived: Vec::new(rt.alloc()),
-        archive_length: 0,
-        written: fs::read(rt, living.file).ok(),
-    };
-    writer.go_on()
+        &mut writer,
+        living.source.every,
+        "the file is written again",
+    );
+    drop(writer);
+    done
 }

@@ -10,9 +10,12 @@ mod keeping;
 mod live;
 mod log_reader;
 mod players;
+mod reading;
 mod rows;
+mod sources;
 mod telling;
 
+use clap::Error;
 use command_line::{Word, command, read_words};
 use command_words::{NotDone, end_of, words_given};
 use export::export;
@@ -26,10 +29,20 @@ fn main(rt: HostRuntime) -> ExitCode {
 
 // Does what the words of the command line ask for.
 fn do_words(rt: &HostRuntime) -> Result<(), NotDone> {
-    let words = words_given(rt, &mut command(rt.alloc())?)?;
-    let word = read_words(rt.alloc(), words.as_slice())?;
-    do_word(rt, &word)?;
-    Ok(())
+    let words = words_of(rt)?;
+    do_given(rt, words.as_slice())
+}
+
+// The words of the command line.
+fn words_of(rt: &HostRuntime) -> Result<Vec<String>, Error> {
+    let mut command = command(rt.alloc())?;
+    words_given(rt, &mut command)
+}
+
+// Does what these words ask for.
+fn do_given(rt: &HostRuntime, words: &[String]) -> Result<(), NotDone> {
+    let word = read_words(rt.alloc(), words)?;
+    do_word(rt, &word).map_err(NotDone::Work)
 }
 
 // Does what a word asks for.

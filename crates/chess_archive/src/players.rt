@@ -1,9 +1,9 @@
 //! The players as they stand in their file.
+use crate::reading::found;
 use crate::telling::Telling;
-use anyhow::{Context, Result, bail};
+use anyhow::{Result, bail};
 use lobby_roster::Player;
 use players_file::players_of;
-use std::fs;
 use std::rt::Files;
 
 /// The players of a file, where one is named.
@@ -18,8 +18,7 @@ pub struct Players<'a, R> {
 // The players of a file that is read again. It fails also for what is no regular file, since to read of a pipe may last for ever,
 // and where there are none, as while somebody writes it.
 fn read_again<R: Files + AllocGlobal>(rt: &R, file: &str) -> Result<Vec<Player>> {
-    let found = fs::metadata(rt, file).context(format_args!("reading {file}"))?;
-    if !found.is_file() {
+    if !found(rt, file)?.is_file() {
         bail!("{file} is no regular file");
     }
     let players = players_of(rt, file)?;
@@ -27,6 +26,13 @@ fn read_again<R: Files + AllocGlobal>(rt: &R, file: &str) -> Result<Vec<Player>>
         bail!("{file} has no players");
     }
     Ok(players)
+}
+
+impl<R> Players<'_, R> {
+    /// Those that were read last.
+    pub fn known(&self) -> &[Player] {
+        self.known.as_slice()
+    }
 }
 
 impl<'a, R: Files + AllocGlobal + Eprint> Players<'a, R> {
@@ -43,11 +49,6 @@ impl<'a, R: Files + AllocGlobal + Eprint> Players<'a, R> {
             known,
             telling,
         })
-    }
-
-    /// Those that were read last.
-    pub fn known(&self) -> &[Player] {
-        self.known.as_slice()
     }
 
     /// Reads the file again. Where it cannot be read, or is no players' file, that is told, and the players are as they were.

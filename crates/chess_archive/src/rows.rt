@@ -3,12 +3,10 @@ ghost use Rattle.std.specs.Prelude.{◌≡◌, IfOk};
 ghost use Rattle.chess_archive.specs.Games.{games_over_in};
 
 use anyhow::{Result, bail};
+use lobby_words::server_of;
 use server_link::{Row, row_of};
 use std::alloc::{AllocError, Global};
 use text_parts::parts;
-
-// Over several servers the numbers of server S are those from S times this on (`docs/SERVERS.md`); one server's own are below it.
-const GAMES_OF_A_SERVER: u32 = 10_000_000;
 
 /// The games of the server's list.
 pub fn rows_of(alloc: Global, list: &str) -> Result<Vec<Row<'_>>> {
@@ -25,10 +23,10 @@ pub fn rows_of(alloc: Global, list: &str) -> Result<Vec<Row<'_>>> {
 /// The least number on the table of a game's server: later games of that server have greater ones. `None` where the table has no game
 /// of that server.
 pub fn first_beside(rows: &[Row<'_>], game: u32) -> Option<u32> {
-    let server = game / GAMES_OF_A_SERVER;
+    let server = server_of(game);
     rows.iter()
         .map(|row| row.game)
-        .filter(|other| *other / GAMES_OF_A_SERVER == server)
+        .filter(|other| server_of(*other) == server)
         .min()
 }
 

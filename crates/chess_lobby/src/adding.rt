@@ -8,16 +8,18 @@ use std::random::RandomSource;
 use std::rt::Files;
 
 // The text of the players' file with a player who has this token.
-fn text_with<R>(rt: &R, adding: &Adding<'_>, text: &[u8], token: &[u8; 16]) -> Result<String>
+fn text_with<R>(rt: &R, adding: &Adding<'_>, token: &[u8; 16]) -> Result<String>
 where
-    R: AllocGlobal,
+    R: Files + AllocGlobal,
 {
+    let file = adding.players;
+    let text = players_file::read(rt, file).context(format_args!("reading {file}"))?;
     let who = Addition {
         name: adding.name,
         full_name: adding.full_name,
         is_arbiter: adding.is_arbiter,
     };
-    Ok(added(rt.alloc(), text, &who, token)?)
+    Ok(added(rt.alloc(), text.as_slice(), &who, token)?)
 }
 
 // Puts a player into a players' file that is held; the personal link.
@@ -26,9 +28,8 @@ where
     R: Files<File = File> + AllocGlobal + RandomSource,
 {
     let file = adding.players;
-    let text = players_file::read(rt, file).context(format_args!("reading {file}"))?;
     let token = new_token(rt)?;
-    let new = text_with(rt, adding, text.as_slice(), &token)?;
+    let new = text_with(rt, adding, &token)?;
     let link = link_text(rt.alloc(), adding.page, &token)?;
     players_file::put(rt, rt.alloc(), file, new.as_str()).context(format_args!("writing {file}"))?;
     Ok(link)

@@ -80,17 +80,20 @@ fn put_answers(text: &mut String, alloc: Global, counts: &Counts) -> Result<(), 
         "counter",
         "Answers to them, by their first word.",
     )?;
-    put_labelled(text, alloc, "answers_total", "word", "ok", counts.ok)?;
-    put_labelled(text, alloc, "answers_total", "word", "no", counts.no)?;
-    put_labelled(
-        text,
-        alloc,
-        "answers_total",
-        "word",
-        "fallen",
-        counts.fallen,
-    )?;
-    put_labelled(text, alloc, "answers_total", "word", "lost", counts.lost)?;
+    let words = [
+        ("ok", counts.ok),
+        ("no", counts.no),
+        ("fallen", counts.fallen),
+        ("lost", counts.lost),
+    ];
+    for (word, number) in words.iter() {
+        put_labelled(text, alloc, "answers_total", "word", word, *number)?;
+    }
+    Ok(())
+}
+
+// Which acts were accepted.
+fn put_acts(text: &mut String, alloc: Global, counts: &Counts) -> Result<(), AllocError> {
     put_head(
         text,
         alloc,
@@ -204,6 +207,7 @@ fn put_counts(text: &mut String, alloc: Global, lobby: &Lobby, at: u64) -> Resul
     let games = lobby.watched_games()?;
     put_watchers(text, alloc, games.as_slice())?;
     put_answers(text, alloc, lobby.counts())?;
+    put_acts(text, alloc, lobby.counts())?;
     put_times(text, alloc, lobby.counts())
 }
 

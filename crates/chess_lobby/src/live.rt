@@ -3,8 +3,8 @@ use crate::mark::{Mark, mark_of};
 use bytes::Bytes;
 use lobby_loop::Lobby;
 use lobby_web::{File, Kind};
-use std::alloc::AllocError;
-use std::fs::{File as OpenFile, OpenOptions};
+use std::alloc::{AllocError, Global};
+use std::fs::{self, OpenFile, OpenOptions};
 use std::io;
 use std::io::{ErrorKind, Read};
 use std::rt::Files;
@@ -15,24 +15,32 @@ const PATH: &[u8] = b"/live.pgn";
 /// So many milliseconds lie at least between two looks at the file.
 const REST: u64 = 1_000;
 
-// What a regular file has. It is opened for writing too, though nothing is written: a pipe that was put there since it was looked at
-// would else hold its opening up until somebody writes into it. A lobby that may only read the file goes by the look.
-fn read_regular<R: Files<File = OpenFile> + AllocGlobal>(
-    rt: &R,
-    file: &str,
-) -> io::Result<Vec<u8>> {
+// Opens the file for writing too, though nothing is written: a pipe that was put there since it was looked at would else hold its
+// opening up until somebody writes into it. A lobby that may only read the file goes by the look.
+fn opened<R: Files>(rt: &R, file: &str) -> io::Result<R::File> {
     let mut options = OpenOptions::new();
     options.read(true).write(true);
-    let mut opened = match options.open(rt, file) {
-        Err(error) if error.kind() == ErrorKind::PermissionDenied => OpenFile::open(rt, file)?,
-        opened => opened?,
-    };
+    match options.open(rt, file) {
+        Err(error) if error.kind() == ErrorKind::PermissionDenied => fs::open(rt, file),
+        found => found,
+    }
+}
+
+// What a regular file has.
+fn read_regular<R: Files + AllocGlobal>(rt: &R, file: &str) -> io::Result<Vec<u8>> {
+    let mut opened = opened(rt, file)?;
     if !opened.metadata()?.is_file() {
         return Err(io::Error::from(ErrorKind::InvalidInput));
     }
     let mut bytes = Vec::new(rt.alloc());
     opened.read_to_end(&mut bytes)?;
     Ok(bytes)
+}
+
+// Bytes are served from now on.
+fn serve(alloc: Global, lobby: &mut Lobby, bytes: Vec<u8>) -> Result<(), AllocError> {
+    let path = PATH.to_vec(alloc)?;
+    lobby.put_file(File::new(alloc, path, Kind::Pgn, Bytes::from_vec(bytes)?)?)
 }
 
 /// The file, and what was seen of it last.
@@ -54,16 +62,13 @@ impl<'a> Live<'a> {
     }
 
     // What the file has is served from now on; nothing where it cannot be read.
-    fn read<R: Files<File = OpenFile> + AllocGlobal + Clone + Drop>(
+    fn read<R: Files + AllocGlobal>(
         &mut self,
         rt: &R,
         lobby: &mut Lobby,
     ) -> Result<(), AllocError> {
         match read_regular(rt, self.file) {
-            Ok(bytes) => {
-                let path = PATH.to_vec(rt.alloc())?;
-                lobby.put_file(File::new(rt.alloc(), path, Kind::Pgn, Bytes::from_vec(bytes)?)?)
-            }
+            Ok(bytes) => serve(rt.alloc(), lobby, bytes),
             Err(_) => {
                 self.seen = None;
                 lobby.take_off_file(PATH);
@@ -73,7 +78,7 @@ impl<'a> Live<'a> {
     }
 
     /// Looks at the file, where the last look was a second ago, and reads it where it has changed.
-    pub fn look<R: Files<File = OpenFile> + AllocGlobal + Clone + Drop>(
+    pub fn look<R: Files + AllocGlobal>(
         &mut self,
         rt: &R,
         lobby: &mut Lobby,

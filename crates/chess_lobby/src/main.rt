@@ -15,10 +15,11 @@ mod serving;
 mod table;
 
 use adding::add_player;
+use clap::Error;
 use command_words::{NotDone, end_of, words_given};
 use evidence::evidence;
 use lobby_commands::{Word, command, read_words};
-use serving::serve;
+use serving::Server;
 use std::process::ExitCode;
 
 fn main(rt: HostRuntime) -> ExitCode {
@@ -27,16 +28,26 @@ fn main(rt: HostRuntime) -> ExitCode {
 
 // Does what the words of the command line ask for.
 fn do_words(rt: &HostRuntime) -> Result<(), NotDone> {
-    let words = words_given(rt, &mut command(rt.alloc())?)?;
-    let word = read_words(rt.alloc(), words.as_slice())?;
-    do_word(rt, &word)?;
-    Ok(())
+    let words = words_of(rt)?;
+    do_given(rt, words.as_slice())
+}
+
+// The words of the command line.
+fn words_of(rt: &HostRuntime) -> Result<Vec<String>, Error> {
+    let mut command = command(rt.alloc())?;
+    words_given(rt, &mut command)
+}
+
+// Does what these words ask for.
+fn do_given(rt: &HostRuntime, words: &[String]) -> Result<(), NotDone> {
+    let word = read_words(rt.alloc(), words)?;
+    do_word(rt, &word).map_err(NotDone::Work)
 }
 
 // Does what a word asks for.
 fn do_word(rt: &HostRuntime, word: &Word<'_>) -> anyhow::Result<()> {
     match word {
-        Word::Serve(serving) => serve(rt, serving),
+        Word::Serve(serving) => Server::new(rt, serving).serve(),
         Word::Player(adding) => add_player(rt, adding),
         Word::Evidence(asked) => evidence(rt, asked),
     }

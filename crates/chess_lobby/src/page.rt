@@ -84,10 +84,10 @@ pub fn site_of<R: Files + AllocGlobal + Clone + Drop>(
     address: SocketAddr,
     names: &[&str],
 ) -> Result<Site> {
-    let mut hosts = Vec::new(rt.alloc());
     let mut files = Vec::new(rt.alloc());
     push_files(&mut files, rt, folder)?;
     anyhow::ensure!(has_page(rt, folder)?, "there is no index.html in {folder}");
+    let mut hosts = Vec::new(rt.alloc());
     push_hosts(&mut hosts, rt.alloc(), address, names)?;
     Ok(Site::new(hosts, files))
 }

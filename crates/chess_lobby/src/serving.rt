@@ -37,11 +37,12 @@ impl<R: Eprint> Telling<'_, R> {
         let server = self.server;
         if is_here != self.is_here {
             self.is_here = is_here;
-            let _ = if is_here {
-                eprintln!(self.rt; "the server at {server} is there")
+            let how = if is_here {
+                "is there"
             } else {
-                eprintln!(self.rt; "the server at {server} is not there: it is waited for")
+                "is not there: it is waited for"
             };
+            let _ = eprintln!(self.rt; "the server at {server} {how}");
         }
     }
 
@@ -141,43 +142,55 @@ fn tell_address<R: Print + Eprint>(rt: &R, address: SocketAddr) -> Result<()> {
     Ok(())
 }
 
-// The lobby of those who come in there.
-fn lobby_of<R>(
-    rt: &R,
-    serving: &Serving<'_>,
-    entrance: Entrance,
-    address: SocketAddr,
-    known: Vec<Player>,
-    is_paused: bool,
-) -> Result<Lobby>
-where
-    R: Files<File = File> + AllocGlobal + Clone + Drop + Net + RandomSource,
-{
-    let site = site_of(rt, serving.page, address, serving.hosts.as_slice())?;
-    let keys = RandomState::new(rt)?;
-    Ok(Lobby::new(
-        rt,
-        rt.alloc(),
-        keys,
-        entrance,
-        serving.server,
-        site,
-        known,
-        is_paused,
-    )?)
+// Listens on an address.
+fn entrance_on<R: Net>(rt: &R, address: SocketAddr) -> Result<Entrance> {
+    Entrance::open(rt, address).context(format_args!("listening on {address}"))
 }
 
-// Prints the page's address, and takes turns until something is at fault. (What is large goes by a call: each way out would let go of
-// all its parts.)
-fn serve_lobby<R, L: ActLog>(
-    rt: &R,
-    serving: &Serving<'_>,
-    players: &mut Players<'_, R>,
-    entries: Entries<'_, R>,
-    address: SocketAddr,
-    lobby: &mut Lobby,
-    log: &mut L,
-) -> Result<()>
+/// The lobby's server, as the command line asks for it.
+#[derive(Drop)]
+pub struct Server<'a, R> {
+    rt: &'a R,
+    serving: &'a Serving<'a>,
+}
+
+impl<'a, R> Server<'a, R> {
+    /// Nothing is served yet.
+    pub fn new(rt: &'a R, serving: &'a Serving<'a>) -> Self {
+        Server { rt, serving }
+    }
+}
+
+impl<R> Server<'_, R>
+where
+    R: Files + AllocGlobal + Clone + Drop + Net + RandomSource,
+{
+    // The lobby of those who come in there.
+    fn lobby(
+        &self,
+        entrance: Entrance,
+        address: SocketAddr,
+        known: Vec<Player>,
+        is_paused: bool,
+    ) -> Result<Lobby> {
+        let (rt, serving) = (self.rt, self.serving);
+        let keys = RandomState::new(rt)?;
+        let site = site_of(rt, serving.page, address, serving.hosts.as_slice())?;
+        Ok(Lobby::new(
+            rt,
+            rt.alloc(),
+            keys,
+            entrance,
+            serving.server,
+            site,
+            known,
+            is_paused,
+        )?)
+    }
+}
+
+// (What is large goes by a call of `drop`: each way out would let go of all its parts.)
+impl<R> Server<'_, R>
 where
     R: Files<File = File>
         + AllocGlobal
@@ -189,62 +202,47 @@ where
         + Net
         + RandomSource,
 {
-    tell_address(rt, address)?;
-    let mut beside = Beside::new(rt, serving, entries)?;
-    let served = beside.take_turns(players, lobby, log);
-    drop(beside);
-    served
-}
+    // Prints the page's address, and takes turns until something is at fault.
+    fn serve_lobby<L: ActLog>(
+        &self,
+        players: &mut Players<'_, R>,
+        entries: Entries<'_, R>,
+        address: SocketAddr,
+        lobby: &mut Lobby,
+        log: &mut L,
+    ) -> Result<()> {
+        tell_address(self.rt, address)?;
+        let mut beside = Beside::new(self.rt, self.serving, entries)?;
+        let served = beside.take_turns(players, lobby, log);
+        drop(beside);
+        served
+    }
 
-// Serves browsers, with a log of acts.
-fn serve_with<R, L: ActLog>(
-    rt: &R,
-    serving: &Serving<'_>,
-    players: &mut Players<'_, R>,
-    known: Vec<Player>,
-    log: &mut L,
-) -> Result<()>
-where
-    R: Files<File = File>
-        + AllocGlobal
-        + Clone
-        + Drop
-        + Clock
-        + Print
-        + Eprint
-        + Net
-        + RandomSource,
-{
-    let entrance = Entrance::open(rt, serving.address).context(format_args!(
-        "listening on {}",
-        serving.address
-    ))?;
-    let address = entrance.address()?;
-    let entries = Entries::new(rt, serving.players)?;
-    let mut lobby = lobby_of(rt, serving, entrance, address, known, entries.is_paused())?;
-    let served = serve_lobby(rt, serving, players, entries, address, &mut lobby, log);
-    drop(lobby);
-    served
-}
+    // Serves browsers, with a log of acts.
+    fn serve_with<L: ActLog>(
+        &self,
+        players: &mut Players<'_, R>,
+        known: Vec<Player>,
+        log: &mut L,
+    ) -> Result<()> {
+        let (rt, serving) = (self.rt, self.serving);
+        let entrance = entrance_on(rt, serving.address)?;
+        let address = entrance.address()?;
+        let entries = Entries::new(rt, serving.players)?;
+        let mut lobby = self.lobby(entrance, address, known, entries.is_paused())?;
+        let served = self.serve_lobby(players, entries, address, &mut lobby, log);
+        drop(lobby);
+        served
+    }
 
-/// Serves browsers, and first prints the page's address.
-pub fn serve<R>(rt: &R, serving: &Serving<'_>) -> Result<()>
-where
-    R: Files<File = File>
-        + AllocGlobal
-        + Clone
-        + Drop
-        + Clock
-        + Print
-        + Eprint
-        + Net
-        + RandomSource,
-{
-    let mut players = Players::new(rt, serving.players);
-    let known = players.read()?;
-    let Some(file) = serving.log else {
-        return serve_with(rt, serving, &mut players, known, &mut NoActLog);
-    };
-    let mut log = FileLog::open(rt, file).context(format_args!("opening {file}"))?;
-    serve_with(rt, serving, &mut players, known, &mut log)
+    /// Serves browsers, and first prints the page's address.
+    pub fn serve(&self) -> Result<()> {
+        let mut players = Players::new(self.rt, self.serving.players);
+        let known = players.read()?;
+        let Some(file) = self.serving.log else {
+            return self.serve_with(&mut players, known, &mut NoActLog);
+        };
+        let mut log = FileLog::open(self.rt, file).context(format_args!("opening {file}"))?;
+        self.serve_with(&mut players, known, &mut log)
+    }
 }

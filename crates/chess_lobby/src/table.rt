@@ -38,6 +38,7 @@ struct Call {
 }
 
 /// Whether there is more to be seen of a question.
+#[derive(Clone, Copy)]
 enum Seen {
     /// Not for now.
     Nothing,
@@ -164,17 +165,24 @@ impl Table {
         }
     }
 
-    // Goes on with a question.
-    fn go_on(&mut self, mut call: Call, at: u64) -> Result<(), AllocError> {
-        match call.look(at)? {
-            Seen::Nothing => self.call = Some(call),
-            Seen::Lost => {}
-            Seen::Games(games) => {
-                self.games = Some(games);
-                self.fresh_until = at.saturating_add(FRESH);
-            }
+    // Goes on with a question, where one is on its way.
+    fn go_on(&mut self, at: u64) -> Result<Seen, AllocError> {
+        match &mut self.call {
+            Some(call) => call.look(at),
+            None => Ok(Seen::Nothing),
         }
-        Ok(())
+    }
+
+    // Takes what was seen of a question.
+    fn take(&mut self, seen: Seen, at: u64) {
+        if matches!(seen, Seen::Nothing) {
+            return;
+        }
+        self.call = None;
+        if let Seen::Games(games) = seen {
+            self.games = Some(games);
+            self.fresh_until = at.saturating_add(FRESH);
+        }
     }
 
     // What was told is told no more.
@@ -195,10 +203,9 @@ impl Table {
         if self.is_due(at) {
             self.begin(net, at);
         }
-        match self.call.take() {
-            Some(call) => self.go_on(call, at),
-            None => Ok(()),
-        }
+        let seen = self.go_on(at)?;
+        self.take(seen, at);
+        Ok(())
     }
 
     /// The games that the server told last; none where that is long ago, or it is not there.

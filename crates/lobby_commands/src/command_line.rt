@@ -1,6 +1,6 @@
 //! The words of the command line, with the texts of their help.
 use clap::{ArgMatches, Command, Error};
-use option_tables::{OptionText, OptionValue, WordText, command_line, read_or_fault};
+use option_tables::{OptionText, OptionValue, WordText, command_line, read_by, read_or_fault};
 use std::alloc::{AllocError, Global};
 use std::net::{IpAddr, Ipv4Addr, SocketAddr};
 
@@ -249,36 +249,32 @@ pub fn command<'a>(alloc: Global) -> Result<Command<'a>, AllocError> {
 
 /// Reads the words, the program's own name first. An `Err` is a usage fault, or a request for help.
 pub fn read_words<'a>(alloc: Global, words: &'a [String]) -> Result<Word<'a>, Error> {
-    read_by(alloc, &mut command(alloc)?, words)
+    read_by(alloc, &mut command(alloc)?, words, word_given)
 }
 
-// (One function owns the command line, and one what was read by it, which goes by a call: each way out would let go of all parts.)
-fn read_by<'a>(
+fn word_given<'a>(
     alloc: Global,
     command: &mut Command<'a>,
-    words: &'a [String],
+    matches: &ArgMatches<'a>,
 ) -> Result<Word<'a>, Error> {
-    let matches = command.try_get_matches_from_mut(words)?;
-    let word = word_of(alloc, &matches);
-    drop(matches);
-    read_or_fault(command, word?, "an address is none")
+    read_or_fault(command, word_of(alloc, matches)?, "an address is none")
 }
 
 // What the words ask for; none where an address is none.
 fn word_of<'a>(alloc: Global, matches: &ArgMatches<'a>) -> Result<Option<Word<'a>>, AllocError> {
-    Ok(match matches.subcommand() {
-        Some(("serve", values)) => serving_of(alloc, values)?.map(Word::Serve),
-        Some(("player", values)) => adding_of(values).map(Word::Player),
-        Some(("evidence", values)) => evidence_of(values).map(Word::Evidence),
-        _ => None,
-    })
+    let Some((word, values)) = matches.subcommand() else {
+        return Ok(None);
+    };
+    match word {
+        "serve" => serving_of(alloc, values),
+        "player" => Ok(adding_of(values)),
+        "evidence" => Ok(evidence_of(values)),
+        _ => Ok(None),
+    }
 }
 
 // What `serve` asks for; none where an address is none.
-fn serving_of<'a>(
-    alloc: Global,
-    values: &ArgMatches<'a>,
-) -> Result<Option<Serving<'a>>, AllocError> {
+fn serving_of<'a>(alloc: Global, values: &ArgMatches<'a>) -> Result<Option<Word<'a>>, AllocError> {
     let (Some(players), Some(server), Some(address)) = (
         values.get_str("players"),
         server_of(values),
@@ -286,7 +282,7 @@ fn serving_of<'a>(
     ) else {
         return Ok(None);
     };
-    Ok(Some(Serving {
+    Ok(Some(Word::Serve(Serving {
         players,
         server,
         address: SocketAddr::new(address, values.get_one("port").unwrap_or(PORT)),
@@ -295,7 +291,7 @@ fn serving_of<'a>(
         live: values.get_str("live"),
         journals: Vec::from_slice(alloc, values.get_strs("journal").unwrap_or(&[]))?,
         log: values.get_str("log"),
-    }))
+    })))
 }
 
 fn server_of(values: &ArgMatches<'_>) -> Option<SocketAddr> {
@@ -309,19 +305,19 @@ fn address_of(values: &ArgMatches<'_>) -> Option<IpAddr> {
     }
 }
 
-fn adding_of<'a>(values: &ArgMatches<'a>) -> Option<Adding<'a>> {
-    Some(Adding {
+fn adding_of<'a>(values: &ArgMatches<'a>) -> Option<Word<'a>> {
+    Some(Word::Player(Adding {
         name: values.get_str("name")?,
         full_name: values.get_str("full-name")?,
         is_arbiter: values.get_flag("arbiter"),
         players: values.get_str("players")?,
         page: values.get_str("url").unwrap_or("http://127.0.0.1:8080/"),
-    })
+    }))
 }
 
-fn evidence_of<'a>(values: &ArgMatches<'a>) -> Option<Evidence<'a>> {
-    Some(Evidence {
+fn evidence_of<'a>(values: &ArgMatches<'a>) -> Option<Word<'a>> {
+    Some(Word::Evidence(Evidence {
         game: values.get_one("game")?,
         log: values.get_str("log")?,
-    })
+    }))
 }

@@ -1,9 +1,12 @@
 //! What was read of the words.
-ghost use Rattle.std.specs.Prelude.{◌≡◌, ◌⊎◌, None, Some, IfErr, IfOk, OnErr};
+ghost use Rattle.std.specs.Prelude.{◌≡◌, ◌⊎◌, None, Some, IfErr, IfOk, OnErr, OnOk, map};
+ghost use Rattle.clap.specs.Simple.{HasMatchesOf, app_of};
 ghost use Rattle.clap.specs.Values.{kind_of};
 
 use clap::error::ErrorKind;
-use clap::{Command, Error};
+use clap::{ArgMatches, Command, Error};
+use std::alloc::Global;
+use std::convert::AsStr;
 
 /// What was read of the words, or a usage fault of the command with this text where nothing was. `OutOfMemory` where memory was
 /// refused for the fault.
@@ -20,4 +23,25 @@ pub fn read_or_fault<T: Drop>(
         Some(value) => Ok(value),
         None => Err(command.error(ErrorKind::InvalidValue, text)?),
     }
+}
+
+/// What `read` answers of what the command has of the words, the program's own name first. An `Err` is its fault, or one of the
+/// command, which is a request for help too.
+pub fn read_by<'a, S: AsStr, T, F>(
+    alloc: Global,
+    command: &mut Command<'a>,
+    words: &'a [S],
+    read: F,
+) -> Result<T, Error>
+where
+    F: FnOnce(Global, &mut Command<'a>, &ArgMatches<'a>) -> Result<T, Error>,
+    requires { F.IsAlwaysCallable read }
+    ensures { OnOk result ((found : _) × HasMatchesOf (app_of command.old) (map S.text words.entry.now) found.now
+        × ((before : _) × (after : _) × F.post read alloc before found result after)) }
+{
+    let matches = command.try_get_matches_from_mut(words)?;
+    let answer = read(alloc, command, &matches);
+    // (it goes by a call: each way out would let go of all its parts)
+    drop(matches);
+    answer
 }

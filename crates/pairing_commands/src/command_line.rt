@@ -2,7 +2,7 @@
 use crate::days::is_day;
 use clap::error::ErrorKind;
 use clap::{ArgMatches, Command, Error};
-use option_tables::{OptionText, OptionValue, WordText, command_line, read_or_fault};
+use option_tables::{OptionText, OptionValue, WordText, command_line, read_by, read_or_fault};
 use std::alloc::{AllocError, Global};
 use std::net::SocketAddr;
 use trf_texts::Tournament;
@@ -339,19 +339,7 @@ pub fn command<'a>(alloc: Global) -> Result<Command<'a>, AllocError> {
 
 /// Reads the words, the program's own name first. An `Err` is a usage fault, or a request for help.
 pub fn read_words<'a>(alloc: Global, words: &'a [String]) -> Result<Word<'a>, Error> {
-    read_by(alloc, &mut command(alloc)?, words)
-}
-
-// (One function owns the command line, and one what was read by it, which goes by a call: each way out would let go of all parts.)
-fn read_by<'a>(
-    alloc: Global,
-    command: &mut Command<'a>,
-    words: &'a [String],
-) -> Result<Word<'a>, Error> {
-    let matches = command.try_get_matches_from_mut(words)?;
-    let word = word_given(alloc, command, &matches);
-    drop(matches);
-    word
+    read_by(alloc, &mut command(alloc)?, words, word_given)
 }
 
 fn word_given<'a>(
@@ -389,10 +377,13 @@ fn no_day_told(alloc: Global, matches: &ArgMatches<'_>) -> Result<Option<String>
 
 // What words ask for; none where one of them is none that the program knows.
 fn word_of<'a>(alloc: Global, matches: &ArgMatches<'a>) -> Result<Option<Word<'a>>, AllocError> {
-    match matches.subcommand() {
-        Some(("start", values)) => Ok(starting_of(alloc, values)?.map(Word::Start)),
-        Some(("results", values)) => Ok(asking_of(values).map(Word::Results)),
-        Some(("trf", values)) => Ok(reporting_of(alloc, values)?.map(Word::Report)),
+    let Some((word, values)) = matches.subcommand() else {
+        return Ok(None);
+    };
+    match word {
+        "start" => starting_of(alloc, values),
+        "results" => Ok(asking_of(values)),
+        "trf" => reporting_of(alloc, values),
         _ => Ok(None),
     }
 }
@@ -417,12 +408,12 @@ fn source_of<'a>(values: &ArgMatches<'a>) -> Option<Source<'a>> {
     Some(Source { archive, server })
 }
 
-fn asking_of<'a>(values: &ArgMatches<'a>) -> Option<Asking<'a>> {
-    Some(Asking {
+fn asking_of<'a>(values: &ArgMatches<'a>) -> Option<Word<'a>> {
+    Some(Word::Results(Asking {
         round: round_of(values)?,
         source: source_of(values)?,
         players: values.get_str("players"),
-    })
+    }))
 }
 
 // A number from 1 on.
@@ -475,10 +466,7 @@ fn address_of(values: &ArgMatches<'_>) -> Option<SocketAddr> {
 }
 
 // What `start` asks for; none where an address, a board, a game or a server is none.
-fn starting_of<'a>(
-    alloc: Global,
-    values: &ArgMatches<'a>,
-) -> Result<Option<Starting<'a>>, AllocError> {
+fn starting_of<'a>(alloc: Global, values: &ArgMatches<'a>) -> Result<Option<Word<'a>>, AllocError> {
     let (Some(round), Some(server)) = (round_of(values), address_of(values)) else {
         return Ok(None);
     };
@@ -490,13 +478,13 @@ fn starting_of<'a>(
     if !put_said(&mut said, values)? {
         return Ok(None);
     }
-    Ok(Some(Starting {
+    Ok(Some(Word::Start(Starting {
         round,
         server,
         players: values.get_str("players"),
         said,
         is_short: values.get_flag("short"),
-    }))
+    })))
 }
 
 // The files of a round, `round1.csv,round1.games`.
@@ -544,7 +532,7 @@ fn tournament_of<'a>(values: &ArgMatches<'a>) -> Option<Tournament<'a>> {
 fn reporting_of<'a>(
     alloc: Global,
     values: &ArgMatches<'a>,
-) -> Result<Option<Reporting<'a>>, AllocError> {
+) -> Result<Option<Word<'a>>, AllocError> {
     let (Some(players), Some(source), Some(tournament)) = (
         values.get_str("players"),
         source_of(values),
@@ -556,10 +544,10 @@ fn reporting_of<'a>(
     if !put_rounds(&mut rounds, values.get_strs("rounds").unwrap_or(&[]))? {
         return Ok(None);
     }
-    Ok(Some(Reporting {
+    Ok(Some(Word::Report(Reporting {
         players,
         rounds,
         source,
         tournament,
-    }))
+    })))
 }
