@@ -1,16 +1,12 @@
 //! The rounds of a league: games opened for pairings, their results, and the report of a tournament.
 #![tactic(auto)]
 
-mod outcomes;
-mod report_word;
-mod results_word;
 mod start_word;
 
 use clap::Error;
 use command_words::{NotDone, end_of, words_given};
 use pairing_commands::{Word, command, read_words};
-use report_word::write_report;
-use results_word::write_results;
+use round_outcomes::{write_report, write_results};
 use start_word::start;
 use std::process::ExitCode;
 

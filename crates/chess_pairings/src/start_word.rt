@@ -9,7 +9,7 @@ use round_games::{
     pairings_of, take_words,
 };
 use server_link::Link;
-use std::alloc::{AllocError, Global};
+use std::alloc::Global;
 use std::fs::File;
 use std::net::{Net, SocketAddr, TcpStream};
 use std::rt::{Clock, Files};
@@ -21,7 +21,7 @@ const PAUSE: u64 = 500;
 
 /// What became of the boards of a round.
 #[derive(Drop)]
-struct Rounds {
+struct Rounds<'a> {
     file: RoundFile,
     // The boards, by their numbers, of which the arbiter is asked.
     asks: Vec<u32>,
@@ -30,7 +30,7 @@ struct Rounds {
     // Whether nobody could be told.
     is_unheard: bool,
     // The servers that are not waited for.
-    without: Vec<u32>,
+    without: &'a [u32],
 }
 
 // The moment, in milliseconds from 1970 on.
@@ -41,7 +41,7 @@ fn moment<R: Clock>(rt: &R) -> Result<i64> {
     }
 }
 
-impl Rounds {
+impl<'a> Rounds<'a> {
     // Whether it cannot go on.
     fn has_failed(&self) -> bool {
         self.is_unheard || self.file.has_failed()
@@ -50,8 +50,7 @@ impl Rounds {
     // Tells that a board has its game.
     fn tell_game<R: Print>(&mut self, rt: &R, board: &Board, game: u32) -> Result<()> {
         let number = board.pairing.board;
-        let (white, black) = (board.pairing.white, board.game.black);
-        let (white, black) = (white.as_str(), black.as_str());
+        let (white, black) = (board.pairing.white.as_str(), board.game.black.as_str());
         println!(rt; "board {number}: game {game}, {white} against {black}")?;
         self.done.push(number)?;
         Ok(())
@@ -96,7 +95,7 @@ impl Rounds {
     ) -> Result<()> {
         let number = board.pairing.board;
         let became = board
-            .go_on(link, &mut self.file, self.without.as_slice())
+            .go_on(link, &mut self.file, self.without)
             .context(format_args!("board {number}, by the server at {server}"))?;
         self.tell(rt, board, became)
     }
@@ -174,7 +173,7 @@ fn tell_failure<R: AllocGlobal + Eprint>(rt: &R, told: &mut String, error: Error
 // Goes once round the boards. Where the server is gone it is tried again.
 fn go_once<R>(
     rt: &R,
-    rounds: &mut Rounds,
+    rounds: &mut Rounds<'_>,
     server: SocketAddr,
     boards: &[Board],
     told: &mut String,
@@ -214,7 +213,7 @@ fn tell_waits<R: Eprint + Clock>(rt: &R, boards: &[Board]) -> Result<()> {
 }
 
 // Goes round the boards until each has its game or is the arbiter's.
-fn go_round<R>(rt: &R, rounds: &mut Rounds, server: SocketAddr, boards: &[Board]) -> Result<()>
+fn go_round<R>(rt: &R, rounds: &mut Rounds<'_>, server: SocketAddr, boards: &[Board]) -> Result<()>
 where
     R: Net<Stream = TcpStream> + AllocGlobal + Print + Eprint + Clock,
 {
@@ -285,18 +284,23 @@ fn file_of<R: Files<File = File> + AllocGlobal>(
 }
 
 // Nothing has become of boards yet.
-fn rounds_of(alloc: Global, file: RoundFile, without: &[u32]) -> Result<Rounds, AllocError> {
-    Ok(Rounds {
-        without: Vec::from_slice(alloc, without)?,
+fn rounds_of<'a>(alloc: Global, file: RoundFile, without: &'a [u32]) -> Rounds<'a> {
+    Rounds {
         file,
         asks: Vec::new(alloc),
         done: Vec::new(alloc),
         is_unheard: false,
-    })
+        without,
+    }
 }
 
 // Goes round the boards to the end, and tells how many have their games.
-fn go_through<R>(rt: &R, rounds: &mut Rounds, server: SocketAddr, boards: &[Board]) -> Result<usize>
+fn go_through<R>(
+    rt: &R,
+    rounds: &mut Rounds<'_>,
+    server: SocketAddr,
+    boards: &[Board],
+) -> Result<usize>
 where
     R: Net<Stream = TcpStream> + AllocGlobal + Print + Eprint + Clock,
 {
@@ -315,7 +319,7 @@ fn open_games<R>(
 where
     R: Net<Stream = TcpStream> + AllocGlobal + Print + Eprint + Clock,
 {
-    let mut rounds = rounds_of(rt.alloc(), file, starting.said.without.as_slice())?;
+    let mut rounds = rounds_of(rt.alloc(), file, starting.said.without.as_slice());
     go_through(rt, &mut rounds, starting.server, boards)
 }
 

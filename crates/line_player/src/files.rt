@@ -90,14 +90,15 @@ impl<'a> FilePlayer<'a> {
 
     // The journal that a device holds, or a new one.
     fn journal_on(&self, device: FileDevice) -> Result<Journal<FileDevice>, JournalFault> {
-        match format(self.rt.alloc(), device, LIMITS) {
-            Ok(journal) => Ok(journal),
-            Err(refused) if refused.fault == JournalFault::Exists => {
-                match open(self.rt.alloc(), refused.device) {
-                    Ok(opened) => Ok(opened.journal),
-                    Err(refused) => Err(refused.fault),
-                }
-            }
+        let refused = match format(self.rt.alloc(), device, LIMITS) {
+            Ok(journal) => return Ok(journal),
+            Err(refused) => refused,
+        };
+        if refused.fault != JournalFault::Exists {
+            return Err(refused.fault);
+        }
+        match open(self.rt.alloc(), refused.device) {
+            Ok(opened) => Ok(opened.journal),
             Err(refused) => Err(refused.fault),
         }
     }
@@ -129,14 +130,15 @@ impl<'a> FilePlayer<'a> {
     fn store_on(&self, device: FileDevice, limits: Limits) -> Result<Store<FileDevice>, StoreFault>
         requires { IsInRange Two limits }
     {
-        match store_opening::create(self.rt.alloc(), device, limits) {
+        let refused = match store_opening::create(self.rt.alloc(), device, limits) {
+            Ok(store) => return Ok(store),
+            Err(refused) => refused,
+        };
+        if refused.fault != StoreFault::Exists {
+            return Err(refused.fault);
+        }
+        match store_opening::open(self.rt.alloc(), refused.device) {
             Ok(store) => Ok(store),
-            Err(refused) if refused.fault == StoreFault::Exists => {
-                match store_opening::open(self.rt.alloc(), refused.device) {
-                    Ok(store) => Ok(store),
-                    Err(refused) => Err(refused.fault),
-                }
-            }
             Err(refused) => Err(refused.fault),
         }
     }

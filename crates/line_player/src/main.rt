@@ -1,25 +1,19 @@
 //! Plays lines of standard input, for tests by whole runs and for measuring. A line `play WORD` says on what the lines after
 //! it are played, anew: a table in memory (`table`), a store in memory (`store`), lives of a store (`lives`), a hub (`hub`),
 //! a server over loopback (`sockets`), journals and stores on files (`files`). The head of each of these modules has its
-//! lines. What a line answers is written; one that cannot be played is the last, and standard error says why.
+//! lines; those in memory are modules of `memory_players`. What a line answers is written; one that cannot be played is the
+//! last, and standard error says why.
 #![tactic(auto)]
 
 mod files;
-mod hub;
-mod lives;
-mod memory;
 mod sockets;
-mod store;
-mod table;
 
 use files::FilePlayer;
-use hub::HubPlayer;
-use lives::LivesPlayer;
+use memory_players::{HubPlayer, LivesPlayer, StorePlayer, TablePlayer};
 use player_lines::{Fault, LinePlayer, play_lines};
 use sockets::SocketPlayer;
+use std::mem;
 use std::process::ExitCode;
-use store::StorePlayer;
-use table::TablePlayer;
 
 /// On what lines are played.
 #[derive(Drop)]
@@ -72,10 +66,19 @@ struct Player<'a> {
     playing: Playing<'a>,
 }
 
+impl Player<'_> {
+    // Begins what a word names. (What was played on before goes by a call: an assignment lets go of each part.)
+    fn begin(&mut self, word: &str) -> Result<(), Fault> {
+        let playing = Playing::begin(self.rt, word)?;
+        drop(mem::replace(&mut self.playing, playing));
+        Ok(())
+    }
+}
+
 impl<'a> LinePlayer for Player<'a> {
     fn play(&mut self, line: &str) -> Result<String, Fault> {
         if let Some(word) = line.strip_prefix("play ") {
-            self.playing = Playing::begin(self.rt, word)?;
+            self.begin(word)?;
             return Ok(String::new(self.rt.alloc()));
         }
         self.playing.play(line)
@@ -87,5 +90,7 @@ fn main(rt: HostRuntime) -> ExitCode {
         rt: &rt,
         playing: Playing::Nothing,
     };
-    play_lines(&rt, rt.alloc(), &mut player)
+    let ended = play_lines(&rt, rt.alloc(), &mut player);
+    drop(player);
+    ended
 }

@@ -12,12 +12,13 @@
 //! - `moment MOMENT`: that of the turns from now on, in milliseconds, 1,000 at first;
 //! - `silence COUNT`: a new server, without clients and over a new store, closes who is silent for so many milliseconds;
 //!   with 0 nobody.
-use crate::memory::store_in_memory;
 use chess_hub::Hub;
 use chess_sockets::{Server, Turned};
+use memory_players::store_in_memory;
 use player_lines::clients::Clients;
 use player_lines::{Fault, SMALL};
 use sector_dev::MemoryDevice;
+use std::mem;
 
 /// The first turns' moment.
 const MOMENT: u64 = 1_000;
@@ -109,7 +110,8 @@ impl<'a> SocketPlayer<'a> {
     // A server in place of this one, without clients and over a new store.
     fn begin_anew(&mut self, silence: u64) -> Option<()> {
         let silence = if silence == 0 { None } else { Some(silence) };
-        *self = SocketPlayer::begin(self.rt, silence)?;
+        let player = SocketPlayer::begin(self.rt, silence)?;
+        drop(mem::replace(self, player));
         Some(())
     }
 
@@ -120,22 +122,31 @@ impl<'a> SocketPlayer<'a> {
 
     // What a line answers; `None` where it cannot be played.
     fn answer(&mut self, line: &str) -> Option<String> {
-        if line == "turns" {
-            self.take_turns()?;
-            return self.clients.told().ok();
+        match line.split_once(" ") {
+            None => self.answer_word(line),
+            Some((word, rest)) => self.answer_words(word, rest),
         }
-        if line == "told" {
-            return self.clients.told().ok();
+    }
+
+    // What a line of one word answers.
+    fn answer_word(&mut self, word: &str) -> Option<String> {
+        let alloc = self.rt.alloc();
+        match word {
+            "turns" => {
+                self.take_turns()?;
+                self.clients.told().ok()
+            }
+            "told" => self.clients.told().ok(),
+            "away" => format!(in alloc; "away {}\n", self.server.turned_away()).ok(),
+            "elsewhere" => {
+                format!(in alloc; "elsewhere {}\n", self.clients.reach_elsewhere(self.rt)).ok()
+            }
+            _ => None,
         }
-        if line == "away" {
-            let away = self.server.turned_away();
-            return format!(in self.rt.alloc(); "away {away}\n").ok();
-        }
-        if line == "elsewhere" {
-            let is_reached = self.clients.reach_elsewhere(self.rt);
-            return format!(in self.rt.alloc(); "elsewhere {is_reached}\n").ok();
-        }
-        let (word, rest) = line.split_once(" ")?;
+    }
+
+    // What a line of several words answers.
+    fn answer_words(&mut self, word: &str, rest: &str) -> Option<String> {
         match (word, rest) {
             ("turns", count) => self.take_turns_alone(count.parse().ok()?)?,
             ("moment", moment) => self.at = moment.parse().ok()?,

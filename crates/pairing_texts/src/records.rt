@@ -1,11 +1,21 @@
 //! The rows of a text of CSV.
-ghost use Rattle.std.specs.Prelude.{map, IfOk};
+ghost use Rattle.std.specs.Prelude.{◌≡◌, ◌++◌, ◌∷◌, [], Ok, map, IfOk, OnOk};
 ghost use Rattle.csv.specs.Reading.{AreRecords, default_config, strip_bom};
 ghost use Rattle.csv.specs.Records.{fields_of};
 ghost use Rattle.csv.specs.declared.parser.State.TheVariants as st;
 
 use csv::{Error, ReaderBuilder, StringRecord};
 use std::alloc::Global;
+
+// Puts a row that was read behind the others.
+fn put(rows: &mut Vec<StringRecord>, row: Result<StringRecord, Error>) -> Result<(), Error>
+    ensures { OnOk result ((kept : StringRecord) × (row ≡ Ok kept) × (rows.new.items ≡ rows.old.items ++ (kept ∷ []))) }
+{
+    if rows.push(row?).is_err() {
+        return Err(Error::out_of_memory());
+    }
+    Ok(())
+}
 
 /// The rows of a text (RFC 4180), of any lengths.
 pub fn records_of(alloc: Global, text: &[u8]) -> Result<Vec<StringRecord>, Error>
@@ -17,9 +27,7 @@ pub fn records_of(alloc: Global, text: &[u8]) -> Result<Vec<StringRecord>, Error
         .from_reader(alloc, text);
     let mut rows = Vec::new(alloc);
     for row in reader.into_records() {
-        if rows.push(row?).is_err() {
-            return Err(Error::out_of_memory());
-        }
+        put(&mut rows, row)?;
     }
     Ok(rows)
 }

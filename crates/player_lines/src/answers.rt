@@ -6,8 +6,7 @@ use std::alloc::{AllocError, Global};
 pub fn push_reply(text: &mut String, reply: &Reply) -> Result<(), AllocError> {
     text.push_str(reply.line.as_str())?;
     text.push_str("\n")?;
-    text.push_str(reply.body.as_str())?;
-    Ok(())
+    text.push_str(reply.body.as_str())
 }
 
 /// A word as a line.

@@ -1,7 +1,7 @@
 //! The lines of standard input, one after the other.
 use crate::fault::Fault;
 use std::alloc::Global;
-use std::io::{BufRead, BufReader};
+use std::io::{self, BufRead, BufReader};
 use std::process::ExitCode;
 
 /// Plays lines.
@@ -10,16 +10,26 @@ pub trait LinePlayer {
     fn play(&mut self, line: &str) -> Result<String, Fault>;
 }
 
-// Plays each line, and prints what it answers.
+// Plays a line that was read, and prints what it answers.
+fn play_line<R: Print, P: LinePlayer>(
+    rt: &R,
+    player: &mut P,
+    line: io::Result<String>,
+) -> Result<(), Fault> {
+    let line = line?;
+    let answer = player.play(line.as_str())?;
+    print!(rt; "{}", answer.as_str())?;
+    Ok(())
+}
+
+// Plays each line.
 fn play_all<R: Input + Print, P: LinePlayer>(
     rt: &R,
     alloc: Global,
     player: &mut P,
 ) -> Result<(), Fault> {
     for line in BufReader::new(alloc, rt.reader())?.lines(alloc) {
-        let line = line?;
-        let answer = player.play(line.as_str())?;
-        print!(rt; "{}", answer.as_str())?;
+        play_line(rt, player, line)?;
     }
     Ok(())
 }

@@ -92,15 +92,21 @@ pub fn sectors_of(alloc: Global, device: &mut MemoryDevice) -> Result<Vec<[u8; 5
     Ok(sectors)
 }
 
+// Writes sectors from the first on, and syncs.
+fn fill(device: &mut MemoryDevice, sectors: &[[u8; 512]]) -> Result<(), Fault> {
+    for (at, bytes) in (0..device.sectors()).zip(sectors.iter()) {
+        write(device, at, bytes)?;
+    }
+    device.sync()?;
+    Ok(())
+}
+
 /// A device of these sectors, with nothing pending.
 pub fn device_of(alloc: Global, sectors: &[[u8; 512]]) -> Result<MemoryDevice, Fault> {
     let Ok(count) = u32::try_from(sectors.len()) else {
         return Err(Fault::Input);
     };
     let mut device = MemoryDevice::new(alloc, count)?;
-    for (at, bytes) in (0..count).zip(sectors.iter()) {
-        write(&mut device, at, bytes)?;
-    }
-    device.sync()?;
+    fill(&mut device, sectors)?;
     Ok(device)
 }

@@ -105,11 +105,11 @@ impl Board {
 
     // Has its game opened, under White's name.
     fn ask_open(&self, link: &mut Link) -> Result<u32> {
-        let white = self.pairing.white;
+        let white = self.pairing.white.as_str();
         let line = opening_of(self.alloc, self.game.times)?;
-        link.take_name(white.as_str())?;
+        link.take_name(white)?;
         let answer = link.ask(line.as_str(), "ok open all ")?;
-        opened_in(white.as_str(), answer.first.as_str())
+        opened_in(white, answer.first.as_str())
     }
 
     // Opens its game. The answer, as that a game was opened, may be lost: what was noted before tells which games may be it.
@@ -122,8 +122,7 @@ impl Board {
 
     // Joins its game, under Black's name. Whether it was joined is looked up.
     fn join(&self, link: &mut Link, game: u32) -> Result<()> {
-        let black = self.game.black;
-        link.take_name(black.as_str())?;
+        link.take_name(self.game.black.as_str())?;
         let line = format!(in self.alloc; "join {game}")?;
         link.is_done(line.as_str())?;
         Ok(())
@@ -131,9 +130,8 @@ impl Board {
 
     // The games that may be its and have its times, since it was noted that it is about to be opened, and is newer than these.
     fn games(&self, link: &mut Link, noted: &[u32], rows: &[Row]) -> Result<Vec<u32>> {
-        let white = self.pairing.white;
         let times = times_text(self.alloc, self.game.times)?;
-        let found = candidates(self.alloc, noted, &white, rows)?;
+        let found = candidates(self.alloc, noted, &self.pairing.white, rows)?;
         with_times(self.alloc, link, found.as_slice(), times.as_str())
     }
 
@@ -153,8 +151,8 @@ impl Board {
 
     // What is to be done about it where its game was not opened, by what was seen of the table and these games.
     fn step_by(&self, stage: Option<&Stage>, away: &[u32], games: &[u32]) -> Step {
-        let (white, black) = (self.pairing.white, self.game.black);
-        step_of(&white, &black, stage, away, games, None)
+        let (white, black) = (&self.pairing.white, &self.game.black);
+        step_of(white, black, stage, away, games, None)
     }
 
     // The same, where the games are still to be looked for.
@@ -193,8 +191,8 @@ impl Board {
         if seats.is_none() && self.taken == Some(game) {
             return Ok(Step::Note(game));
         }
-        let (white, black) = (self.pairing.white, self.game.black);
-        Ok(step_of(&white, &black, Some(stage), &[], &[], seats))
+        let (white, black) = (&self.pairing.white, &self.game.black);
+        Ok(step_of(white, black, Some(stage), &[], &[], seats))
     }
 
     // What is to be done about it now.
@@ -235,8 +233,7 @@ impl Board {
 
     // That servers were not heard, one of which may have its game.
     fn not_heard(&self, away: &[u32]) -> Result<Error> {
-        let white = self.pairing.white;
-        let white = white.as_str();
+        let white = self.pairing.white.as_str();
         let servers = numbers_text(self.alloc, away)?;
         Ok(anyhow!("these servers are away and may have games of {white}:{servers}"))
     }

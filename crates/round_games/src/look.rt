@@ -171,9 +171,21 @@ pub fn look(
     settles: bool,
 ) -> Result<Sight> {
     let servers = servers_of(alloc, link)?;
-    let mut heard = heard_of(alloc, link, servers.as_slice(), settles)?;
+    look_at(alloc, link, servers.as_slice(), noted, without, settles)
+}
+
+// The same where the table has these servers.
+fn look_at(
+    alloc: Global,
+    link: &mut Link,
+    servers: &[u32],
+    noted: &[u32],
+    without: &[u32],
+    settles: bool,
+) -> Result<Sight> {
+    let mut heard = heard_of(alloc, link, servers, settles)?;
     heard.servers.extend_from_slice(without)?;
-    let away = unheard(alloc, servers.as_slice(), noted, heard.servers.as_slice())?;
+    let away = unheard(alloc, servers, noted, heard.servers.as_slice())?;
     Ok(Sight {
         rows: heard.rows,
         away,

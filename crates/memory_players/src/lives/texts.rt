@@ -1,5 +1,5 @@
 //! What is written.
-use chess_lives::{Report, Tally, drill};
+use chess_lives::{Drilled, Report, Tally, drill};
 use player_lines::Fault;
 use std::alloc::{AllocError, Global};
 
@@ -33,6 +33,11 @@ pub fn report_text(alloc: Global, report: &Report) -> Result<String, AllocError>
 /// What comes of the drill, and its tally.
 pub fn drill_text(alloc: Global) -> Result<String, Fault> {
     let drilled = drill(alloc)?;
+    drilled_text(alloc, &drilled)
+}
+
+// What came of a drill, and its tally.
+fn drilled_text(alloc: Global, drilled: &Drilled) -> Result<String, Fault> {
     let mut text = String::new(alloc);
     for case in &drilled.cases {
         match &case.report {
@@ -40,9 +45,9 @@ pub fn drill_text(alloc: Global) -> Result<String, Fault> {
             Err(fault) => return Err(Fault::of(alloc, fault)),
         }
     }
-    let Tally { cases, none, all } = match drilled.tally {
-        Ok(tally) => tally,
-        Err(fault) => return Err(Fault::of(alloc, &fault)),
+    let Tally { cases, none, all } = match &drilled.tally {
+        Ok(tally) => *tally,
+        Err(fault) => return Err(Fault::of(alloc, fault)),
     };
     text.push_str(format!(in alloc; "drill {cases} none {none} all {all}\n")?.as_str())?;
     Ok(text)

@@ -1,23 +1,15 @@
 //! The word that writes the results of a round.
-use crate::outcomes::{Ended, Outcomes, check_halves};
+use crate::outcomes::{Ended, Outcomes, check_halves, noted_game};
 use anyhow::Result;
 use lobby_roster::Player;
 use pairing_commands::Asking;
-use pairing_texts::{Note, Outcome, Pairing, game_in, last_of, results};
+use pairing_texts::{Note, Outcome, Pairing, results};
 use players_file::players_of;
 use round_games::{Paired, paired_of};
 use std::alloc::{AllocError, Global};
 use std::io::{self, Write};
 use std::net::{Net, TcpStream};
 use std::rt::Files;
-
-/// The game of a board, where it was opened and noted.
-pub fn game_of(notes: &[Note], board: u32) -> Option<u32> {
-    match last_of(notes, board) {
-        Some(note) => game_in(&note.stage),
-        None => None,
-    }
-}
 
 // What came of each board's game.
 fn endings(
@@ -28,8 +20,7 @@ fn endings(
 ) -> Result<Vec<Option<Ended>>> {
     let mut endings = Vec::new(alloc);
     for pairing in paired.pairings.as_slice() {
-        let game = game_of(paired.notes.as_slice(), pairing.board);
-        endings.push(outcomes.of(file, pairing, game)?)?;
+        endings.push(outcomes.of(file, paired.notes.as_slice(), pairing)?)?;
     }
     Ok(endings)
 }
@@ -55,7 +46,7 @@ fn outcome_of<'a>(notes: &[Note], pairing: &'a Pairing, ended: &'a Option<Ended>
         },
         result,
         article,
-        game: game_of(notes, pairing.board),
+        game: noted_game(notes, pairing.board),
     }
 }
 
@@ -110,15 +101,25 @@ where
     Ok(io::writer(rt).write_all(text.as_slice())?)
 }
 
+// The same. It fails behind that where a board's game is of others than its players, or was played on as another.
+fn write_checked<R>(rt: &R, file: &str, paired: &Paired, outcomes: &mut Outcomes<'_>) -> Result<()>
+where
+    R: AllocGlobal + Print + Eprint,
+{
+    write_outcomes(rt, file, paired, outcomes)?;
+    outcomes.check_players()?;
+    check_halves(outcomes.has_halves())
+}
+
 // Writes the results of a round, for which these players are known.
 fn write_round<R>(rt: &R, asking: &Asking<'_>, players: &[Player], paired: &Paired) -> Result<()>
 where
     R: Files + Net<Stream = TcpStream> + AllocGlobal + Print + Eprint,
 {
     let mut outcomes = Outcomes::open(rt, asking.source, players)?;
-    write_outcomes(rt, asking.round.pairings, paired, &mut outcomes)?;
-    outcomes.check_players()?;
-    check_halves(outcomes.has_halves())
+    let written = write_checked(rt, asking.round.pairings, paired, &mut outcomes);
+    drop(outcomes);
+    written
 }
 
 // The same, of which the files are still to be read.

@@ -16,6 +16,7 @@ use player_lines::{Fault, Sent, push_reply, read_limits, read_sent, split, text_
 use rec_bytes::write_record;
 use rec_codec::{Limits, Record};
 use std::alloc::{AllocError, Global};
+use std::mem;
 use stored::{Change, Stored};
 
 // The limits of the table before one is asked for.
@@ -91,8 +92,13 @@ impl TablePlayer {
     fn begin(&mut self, limits: Limits)
         requires { IsInRange Two limits }
     {
-        self.table = Table::new(self.alloc, limits);
+        self.put_table(Table::new(self.alloc, limits));
         self.stored = None;
+    }
+
+    // Goes on with another table. (The one before goes by a call: an assignment lets go of each part.)
+    fn put_table(&mut self, table: Table) {
+        drop(mem::replace(&mut self.table, table));
     }
 
     // Takes the records of a snapshot of the table, a line each.
@@ -114,7 +120,7 @@ impl TablePlayer {
         };
         match stored.read(self.alloc, limits)? {
             Some(table) => {
-                self.table = table;
+                self.put_table(table);
                 Ok(text_line(self.alloc, "reopened")?)
             }
             None => Ok(text_line(self.alloc, "damaged")?),

@@ -8,8 +8,8 @@
 //! - `run READER WRITER MOMENTS TEXT`: a run over a new store from this text. READER and WRITER are
 //!   `BYTES`, so many at a time; `BYTES!COUNT`, which fails after so many; `~` before it, interrupted before each. MOMENTS
 //!   are numbers with commas between, `-` for none.
-use crate::memory::store_in_memory;
-use chess_hub::Hub;
+use crate::memory::{opened, store_in_memory};
+use chess_hub::{Hub, HubFault};
 use chess_run::{ListMoments, ReaderSource, RunFault, run};
 use chess_store::Store;
 use player_lines::escapes::bytes_of;
@@ -17,6 +17,7 @@ use player_lines::streams::{Sink, Source, read_manner};
 use player_lines::{Fault, SMALL, Size, push_reply, read_calls, read_size, split};
 use sector_dev::{CrashDevice, MemoryDevice};
 use std::alloc::{AllocError, Global};
+use std::mem;
 
 /// What hubs and runs stand on.
 #[derive(Clone, Copy)]
@@ -69,10 +70,7 @@ fn store_on(alloc: Global, ground: &Ground) -> Result<Store<MemoryDevice>, Fault
     // Of an empty store an opening takes three calls.
     let mut device = store.into_device();
     device.arm(calls.saturating_add(3));
-    match store_opening::open(alloc, device) {
-        Ok(store) => Ok(store),
-        Err(refused) => Err(Fault::of(alloc, &refused.fault)),
-    }
+    opened(alloc, store_opening::open(alloc, device))
 }
 
 impl HubPlayer {
@@ -92,20 +90,24 @@ impl HubPlayer {
     pub fn play(&mut self, line: &str) -> Result<String, Fault> {
         let (word, rest) = split(line);
         match word {
-            "store" => {
-                self.ground = read_ground(rest)?;
-                Ok(String::new(self.alloc))
+            "store" => self.ground = read_ground(rest)?,
+            "hub" => self.begin()?,
+            "run" => return self.run(rest),
+            _ => {
+                return match &mut self.hub {
+                    Some(hub) => play_on(self.alloc, hub, word, rest),
+                    None => Err(Fault::Input),
+                };
             }
-            "hub" => {
-                self.hub = Some(Hub::new(self.alloc, store_on(self.alloc, &self.ground)?));
-                Ok(String::new(self.alloc))
-            }
-            "run" => self.run(rest),
-            _ => match &mut self.hub {
-                Some(hub) => play_on(self.alloc, hub, word, rest),
-                None => Err(Fault::Input),
-            },
         }
+        Ok(String::new(self.alloc))
+    }
+
+    // Begins a new hub. (The one before goes by a call: an assignment lets go of each part.)
+    fn begin(&mut self) -> Result<(), Fault> {
+        let store = store_on(self.alloc, &self.ground)?;
+        drop(mem::replace(&mut self.hub, Some(Hub::new(self.alloc, store))));
+        Ok(())
     }
 
     // `READER WRITER MOMENTS TEXT`.
@@ -117,17 +119,28 @@ impl HubPlayer {
         let bytes = bytes_of(self.alloc, text)?;
         let moments = moments_of(self.alloc, moments)?;
         let store = store_on(self.alloc, &self.ground)?;
-        let mut source = ReaderSource::new(Source::new(&bytes, reader));
         let mut sink = Sink::new(self.alloc, writer);
-        let ended = run(
+        let ended = run_from(
             self.alloc,
-            &mut source,
+            Source::new(&bytes, reader),
             &mut sink,
             store,
-            ListMoments::new(&moments),
+            &moments,
         );
         run_text(self.alloc, &sink.written, &ended)
     }
+}
+
+// How a run over a store ends, from a source to a sink at these moments.
+fn run_from(
+    alloc: Global,
+    source: Source<'_>,
+    sink: &mut Sink,
+    store: Store<MemoryDevice>,
+    moments: &[u64],
+) -> Result<(), RunFault> {
+    let mut source = ReaderSource::new(source);
+    run(alloc, &mut source, sink, store, ListMoments::new(moments))
 }
 
 // What a run has written, and how it ended.
@@ -135,6 +148,19 @@ fn run_text(alloc: Global, written: &[u8], ended: &Result<(), RunFault>) -> Resu
     match str::from_utf8(written) {
         Ok(written) => Ok(format!(in alloc; "{written}|\n{ended:?}\n")?),
         Err(_) => Err(Fault::Input),
+    }
+}
+
+// What is told of a fault of a hub.
+fn fault_text(alloc: Global, fault: HubFault) -> Result<String, Fault> {
+    Ok(format!(in alloc; "fault {fault:?}\n")?)
+}
+
+// What is told of a call that may be refused.
+fn called_text(alloc: Global, called: Result<(), HubFault>) -> Result<String, Fault> {
+    match called {
+        Ok(()) => Ok(String::new(alloc)),
+        Err(fault) => fault_text(alloc, fault),
     }
 }
 
@@ -148,7 +174,7 @@ fn play_on(
     match word {
         "connect" => match hub.connect() {
             Ok(sid) => Ok(format!(in alloc; "session {sid}\n")?),
-            Err(fault) => Ok(format!(in alloc; "fault {fault:?}\n")?),
+            Err(fault) => fault_text(alloc, fault),
         },
         "turn" => turn(alloc, hub, rest),
         "feed" => feed(alloc, hub, rest),
@@ -188,10 +214,7 @@ fn turn(alloc: Global, hub: &mut Hub<MemoryDevice>, text: &str) -> Result<String
     if most < 1 || most > 64 {
         return Err(Fault::Input);
     }
-    match hub.turn(at, most) {
-        Ok(()) => Ok(String::new(alloc)),
-        Err(fault) => Ok(format!(in alloc; "fault {fault:?}\n")?),
-    }
+    called_text(alloc, hub.turn(at, most))
 }
 
 // `SID TEXT`.
@@ -202,10 +225,7 @@ fn feed(alloc: Global, hub: &mut Hub<MemoryDevice>, text: &str) -> Result<String
     if !hub.is_open(sid) || bytes.len() > 4096 {
         return Err(Fault::Input);
     }
-    match hub.feed(sid, &bytes) {
-        Ok(()) => Ok(String::new(alloc)),
-        Err(fault) => Ok(format!(in alloc; "fault {fault:?}\n")?),
-    }
+    called_text(alloc, hub.feed(sid, &bytes))
 }
 
 // All answers that are to be given.

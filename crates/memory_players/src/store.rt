@@ -36,16 +36,30 @@ use rec_codec::Limits;
 use sector_dev::{CrashDevice, MemoryDevice, OnceDevice};
 use sector_journal::open;
 use std::alloc::Global;
+use std::mem;
 use store_opening::Refused;
-use texts::{fault_text, journal_text, replies_text};
+use texts::{done_text, fault_text, journal_text, replies_text, unread_text};
+
+// A device in memory, of which one call can be made to fail.
+type Device = OnceDevice<MemoryDevice>;
+
+// What comes of making or opening a store.
+type Opened = Result<Store<Device>, Refused<Device>>;
+
+// What lines are played on.
+#[derive(Drop)]
+enum Ground {
+    Nothing,
+    Device(MemoryDevice),
+    Store(Store<Device>),
+}
 
 /// A device in memory, alone or with the store that is open on it, the sectors that were noted, and the commands of the
 /// next batch.
 #[derive(Drop)]
 pub struct StorePlayer {
     alloc: Global,
-    store: Option<Store<OnceDevice<MemoryDevice>>>,
-    device: Option<MemoryDevice>,
+    ground: Ground,
     noted: Vec<[u8; 512]>,
     batch: Vec<Command>,
 }
@@ -55,8 +69,7 @@ impl StorePlayer {
     pub fn new(alloc: Global) -> StorePlayer {
         StorePlayer {
             alloc,
-            store: None,
-            device: None,
+            ground: Ground::Nothing,
             noted: Vec::new(alloc),
             batch: Vec::new(alloc),
         }
@@ -100,24 +113,35 @@ impl StorePlayer {
 
     // ---- the device
 
-    fn lay(&mut self, sectors: u32) -> Result<String, Fault> {
-        self.store = None;
-        self.device = Some(MemoryDevice::new(self.alloc, sectors)?);
-        self.nothing()
+    // Puts this in the place of what lines were played on. (It goes by a call: an assignment lets go of each part.)
+    fn put_ground(&mut self, ground: Ground) {
+        drop(mem::replace(&mut self.ground, ground));
     }
 
-    // The device; a store on it is closed.
-    fn closed(&mut self) -> Result<&mut MemoryDevice, Fault> {
-        if let Some(store) = self.store.take() {
-            self.device = Some(store.into_device().into_device());
-        }
-        self.device.as_mut().ok_or(Fault::Input)
+    fn lay(&mut self, sectors: u32) -> Result<String, Fault> {
+        self.put_ground(Ground::Nothing);
+        let device = MemoryDevice::new(self.alloc, sectors)?;
+        self.put_ground(Ground::Device(device));
+        self.nothing()
     }
 
     // The device, which is to be put back; a store on it is closed.
     fn taken(&mut self) -> Result<MemoryDevice, Fault> {
-        self.closed()?;
-        self.device.take().ok_or(Fault::Input)
+        match mem::replace(&mut self.ground, Ground::Nothing) {
+            Ground::Nothing => Err(Fault::Input),
+            Ground::Device(device) => Ok(device),
+            Ground::Store(store) => Ok(store.into_device().into_device()),
+        }
+    }
+
+    // The device; a store on it is closed.
+    fn closed(&mut self) -> Result<&mut MemoryDevice, Fault> {
+        let device = self.taken()?;
+        self.put_ground(Ground::Device(device));
+        match &mut self.ground {
+            Ground::Device(device) => Ok(device),
+            _ => Err(Fault::Input),
+        }
     }
 
     // `AT FROM DIGITS`.
@@ -147,35 +171,35 @@ impl StorePlayer {
     }
 
     fn keep(&mut self) -> Result<String, Fault> {
-        self.noted = sectors_of(self.alloc, self.closed()?)?;
+        let alloc = self.alloc;
+        self.noted = sectors_of(alloc, self.closed()?)?;
         self.nothing()
     }
 
     fn again(&mut self) -> Result<String, Fault> {
-        self.store = None;
-        self.device = Some(device_of(self.alloc, &self.noted)?);
+        self.put_ground(Ground::Nothing);
+        let device = device_of(self.alloc, &self.noted)?;
+        self.put_ground(Ground::Device(device));
         self.nothing()
     }
 
     fn journal(&mut self) -> Result<String, Fault> {
-        match open(self.alloc, self.taken()?) {
+        let device = self.taken()?;
+        let (text, device) = match open(self.alloc, device) {
             Ok(opened) => {
                 let text = journal_text(self.alloc, &opened);
-                self.device = Some(opened.journal.into_device());
-                text
+                (text, opened.journal.into_device())
             }
-            Err(refused) => {
-                self.device = Some(refused.device);
-                let fault = refused.fault;
-                Ok(format!(in self.alloc; "journal fault {fault:?}\n")?)
-            }
-        }
+            Err(refused) => (unread_text(self.alloc, refused.fault), refused.device),
+        };
+        self.put_ground(Ground::Device(device));
+        text
     }
 
     // ---- making and opening a store
 
     // The device, which serves so many calls more.
-    fn armed(&mut self, calls: Option<u64>) -> Result<OnceDevice<MemoryDevice>, Fault> {
+    fn armed(&mut self, calls: Option<u64>) -> Result<Device, Fault> {
         let mut device = self.taken()?;
         if let Some(calls) = calls {
             device.arm(calls);
@@ -200,30 +224,27 @@ impl StorePlayer {
         requires { IsInRange Two limits }
     {
         let device = self.armed(calls)?;
-        match store_opening::create(self.alloc, device, limits) {
-            Ok(store) => {
-                self.store = Some(store);
-                Ok(format!(in self.alloc; "created\n")?)
-            }
-            Err(refused) => self.refuse(refused),
-        }
+        let made = store_opening::create(self.alloc, device, limits);
+        self.take(made, "created")
     }
 
-    // The device is back.
-    fn refuse(&mut self, refused: Refused<OnceDevice<MemoryDevice>>) -> Result<String, Fault> {
-        self.device = Some(refused.device.into_device());
-        fault_text(self.alloc, refused.fault)
+    // Takes the store that was made or opened, which this word tells; else the device is back.
+    fn take(&mut self, opened: Opened, word: &str) -> Result<String, Fault> {
+        let (ground, text) = match opened {
+            Ok(store) => (Ground::Store(store), done_text(self.alloc, word)),
+            Err(refused) => (
+                Ground::Device(refused.device.into_device()),
+                fault_text(self.alloc, refused.fault),
+            ),
+        };
+        self.put_ground(ground);
+        text
     }
 
     // The store that a device holds.
-    fn open_on(&mut self, device: OnceDevice<MemoryDevice>) -> Result<String, Fault> {
-        match store_opening::open(self.alloc, device) {
-            Ok(store) => {
-                self.store = Some(store);
-                Ok(format!(in self.alloc; "opened\n")?)
-            }
-            Err(refused) => self.refuse(refused),
-        }
+    fn open_on(&mut self, device: Device) -> Result<String, Fault> {
+        let opened = store_opening::open(self.alloc, device);
+        self.take(opened, "opened")
     }
 
     fn open(&mut self, calls: Option<u64>) -> Result<String, Fault> {
@@ -259,7 +280,7 @@ impl StorePlayer {
     }
 
     fn submit(&mut self) -> Result<String, Fault> {
-        let Some(store) = &mut self.store else {
+        let Ground::Store(store) = &mut self.ground else {
             return Err(Fault::Input);
         };
         if self.batch.is_empty() || self.batch.len() > 64 {
@@ -276,7 +297,7 @@ impl StorePlayer {
     fn widen(&mut self, limits: Limits) -> Result<String, Fault>
         requires { IsInRange Two limits }
     {
-        let Some(store) = &mut self.store else {
+        let Ground::Store(store) = &mut self.ground else {
             return Err(Fault::Input);
         };
         let present = store.limits();
@@ -284,13 +305,13 @@ impl StorePlayer {
             return Err(Fault::Input);
         }
         match store_opening::widen(store, limits) {
-            Ok(()) => Ok(format!(in self.alloc; "widened\n")?),
+            Ok(()) => done_text(self.alloc, "widened"),
             Err(fault) => fault_text(self.alloc, fault),
         }
     }
 
     fn table(&self) -> Result<String, Fault> {
-        let Some(store) = &self.store else {
+        let Ground::Store(store) = &self.ground else {
             return Err(Fault::Input);
         };
         let limits = store.limits();

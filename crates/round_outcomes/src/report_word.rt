@@ -1,6 +1,5 @@
 //! The word that writes the report of a tournament.
 use crate::outcomes::{Ended, Outcomes, check_halves};
-use crate::results_word::game_of;
 use anyhow::{Context, Result};
 use lobby_roster::Player;
 use pairing_commands::{Reporting, Round};
@@ -72,9 +71,9 @@ fn meeting_of(players: &[&Player], pairing: &Pairing, ended: &Option<Ended>) -> 
 }
 
 // The same, where a fault names the board.
-fn meeting(players: &[&Player], pairing: &Pairing, ended: &Option<Ended>) -> Result<Meeting> {
+fn meeting(players: &[&Player], pairing: &Pairing, ended: Option<Ended>) -> Result<Meeting> {
     let board = pairing.board;
-    meeting_of(players, pairing, ended).context(format_args!("board {board}"))
+    meeting_of(players, pairing, &ended).context(format_args!("board {board}"))
 }
 
 fn put_meetings(
@@ -85,9 +84,8 @@ fn put_meetings(
     outcomes: &mut Outcomes<'_>,
 ) -> Result<()> {
     for pairing in paired.pairings.as_slice() {
-        let game = game_of(paired.notes.as_slice(), pairing.board);
-        let ended = outcomes.of(file, pairing, game)?;
-        meetings.push(meeting(players, pairing, &ended)?)?;
+        let ended = outcomes.of(file, paired.notes.as_slice(), pairing)?;
+        meetings.push(meeting(players, pairing, ended)?)?;
     }
     Ok(())
 }
@@ -103,6 +101,16 @@ fn meetings_of<R: Files + AllocGlobal>(
     let mut meetings = Vec::new(rt.alloc());
     put_meetings(&mut meetings, round.pairings, &paired, players, outcomes)?;
     Ok(meetings)
+}
+
+// The same, where a fault names the file of the pairings.
+fn meetings_told<R: Files + AllocGlobal>(
+    rt: &R,
+    round: Round<'_>,
+    players: &[&Player],
+    outcomes: &mut Outcomes<'_>,
+) -> Result<Vec<Meeting>> {
+    meetings_of(rt, round, players, outcomes).context(round.pairings)
 }
 
 // The players who are no arbiters.
@@ -128,26 +136,9 @@ fn rounds_of<R: Files + AllocGlobal>(
 ) -> Result<Vec<Vec<Meeting>>> {
     let mut met = Vec::new(rt.alloc());
     for round in rounds {
-        let file = round.pairings;
-        let meetings = meetings_of(rt, *round, players, outcomes);
-        met.push(meetings.context(file)?)?;
+        met.push(meetings_told(rt, *round, players, outcomes)?)?;
     }
     Ok(met)
-}
-
-// The meetings of each round; it is told what is to be told of boards.
-fn rounds_told<R>(
-    rt: &R,
-    reporting: &Reporting<'_>,
-    players: &[&Player],
-    outcomes: &mut Outcomes<'_>,
-) -> Result<Vec<Vec<Meeting>>>
-where
-    R: Files + AllocGlobal + Eprint,
-{
-    let rounds = rounds_of(rt, reporting.rounds.as_slice(), players, outcomes)?;
-    outcomes.tell(rt)?;
-    Ok(rounds)
 }
 
 // The meetings of each round, and whether a board has the result of a game that was played on as another.
@@ -157,18 +148,32 @@ struct Met {
     has_halves: bool,
 }
 
-// What was met in the rounds. It fails where a board's game is of others than its players.
-fn met_in<R>(rt: &R, reporting: &Reporting<'_>, all: &[Player], players: &[&Player]) -> Result<Met>
+// What was met in the rounds, by what came of their games; it is told what is to be told of boards. It fails where a board's game is of others than its players.
+fn met_by<R>(
+    rt: &R,
+    reporting: &Reporting<'_>,
+    players: &[&Player],
+    outcomes: &mut Outcomes<'_>,
+) -> Result<Met>
 where
-    R: Files + Net<Stream = TcpStream> + AllocGlobal + Eprint,
+    R: Files + AllocGlobal + Eprint,
 {
-    let mut outcomes = Outcomes::open(rt, reporting.source, all)?;
-    let rounds = rounds_told(rt, reporting, players, &mut outcomes)?;
+    let rounds = rounds_of(rt, reporting.rounds.as_slice(), players, outcomes)?;
+    outcomes.tell(rt)?;
     outcomes.check_players()?;
     Ok(Met {
         rounds,
         has_halves: outcomes.has_halves(),
     })
+}
+
+// The same, where it is still to be looked what came of games.
+fn met_in<R>(rt: &R, reporting: &Reporting<'_>, all: &[Player], players: &[&Player]) -> Result<Met>
+where
+    R: Files + Net<Stream = TcpStream> + AllocGlobal + Eprint,
+{
+    let mut outcomes = Outcomes::open(rt, reporting.source, all)?;
+    met_by(rt, reporting, players, &mut outcomes)
 }
 
 // The text of a report of these rounds.
@@ -182,13 +187,14 @@ fn text_of(
     Ok(report(alloc, tournament, names.as_slice(), rounds)?)
 }
 
-// Writes the report of what was met.
+// Writes the report of what was met. It fails behind that where a board has the result of a game that was played on as another.
 fn write_met<R>(rt: &R, tournament: &Tournament<'_>, players: &[&Player], met: &Met) -> Result<()>
 where
     R: AllocGlobal + Print,
 {
     let text = text_of(rt.alloc(), tournament, players, met.rounds.as_slice())?;
-    Ok(io::writer(rt).write_all(text.as_slice())?)
+    io::writer(rt).write_all(text.as_slice())?;
+    check_halves(met.has_halves)
 }
 
 // Writes the report of a tournament of these players.
@@ -198,8 +204,7 @@ where
 {
     let players = playing(rt.alloc(), all)?;
     let met = met_in(rt, reporting, all, players.as_slice())?;
-    write_met(rt, &reporting.tournament, players.as_slice(), &met)?;
-    check_halves(met.has_halves)
+    write_met(rt, &reporting.tournament, players.as_slice(), &met)
 }
 
 /// Writes the report of a tournament; none where a board's game is of others than its players, since it would lack points. It

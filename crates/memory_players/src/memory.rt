@@ -4,6 +4,18 @@ use player_lines::{Fault, Size};
 use rec_codec::Version;
 use sector_dev::MemoryDevice;
 use std::alloc::Global;
+use store_opening::Refused;
+
+/// The store that was made or opened; else the name of its fault.
+pub fn opened(
+    alloc: Global,
+    opened: Result<Store<MemoryDevice>, Refused<MemoryDevice>>,
+) -> Result<Store<MemoryDevice>, Fault> {
+    match opened {
+        Ok(store) => Ok(store),
+        Err(refused) => Err(Fault::of(alloc, &refused.fault)),
+    }
+}
 
 /// A new store on a new device. `Input`: the limits are not in range.
 pub fn store_in_memory(alloc: Global, size: &Size) -> Result<Store<MemoryDevice>, Fault> {
@@ -11,8 +23,5 @@ pub fn store_in_memory(alloc: Global, size: &Size) -> Result<Store<MemoryDevice>
         return Err(Fault::Input);
     }
     let device = MemoryDevice::new(alloc, size.sectors)?;
-    match store_opening::create(alloc, device, size.limits) {
-        Ok(store) => Ok(store),
-        Err(refused) => Err(Fault::of(alloc, &refused.fault)),
-    }
+    opened(alloc, store_opening::create(alloc, device, size.limits))
 }

@@ -1,9 +1,9 @@
 //! What is written.
 use chess_answer::Reply;
 use chess_store::StoreFault;
-use player_lines::{Fault, push_reply};
+use player_lines::{Fault, push_reply, text_line};
 use sector_dev::MemoryDevice;
-use sector_journal::Opened;
+use sector_journal::{JournalFault, Opened};
 use std::alloc::Global;
 
 /// What replies say, line by line.
@@ -15,9 +15,19 @@ pub fn replies_text(alloc: Global, replies: &[Reply]) -> Result<String, Fault> {
     Ok(text)
 }
 
+/// That something was done, by its word.
+pub fn done_text(alloc: Global, word: &str) -> Result<String, Fault> {
+    Ok(text_line(alloc, word)?)
+}
+
 /// What a fault says.
 pub fn fault_text(alloc: Global, fault: StoreFault) -> Result<String, Fault> {
     Ok(format!(in alloc; "fault {fault:?}\n")?)
+}
+
+/// Why a journal is not read.
+pub fn unread_text(alloc: Global, fault: JournalFault) -> Result<String, Fault> {
+    Ok(format!(in alloc; "journal fault {fault:?}\n")?)
 }
 
 /// What a journal holds: of its header all but the counts of sectors, and how many records of a snapshot and of a

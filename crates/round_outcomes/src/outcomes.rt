@@ -4,7 +4,7 @@ use archive_file::{game_of, pgn_of};
 use archive_lines::lines_of;
 use lobby_roster::Player;
 use pairing_commands::Source;
-use pairing_texts::{Pairing, Seats};
+use pairing_texts::{Note, Pairing, Seats, game_in, last_of};
 use pgn_tags::{unescaped, value_in};
 use players_file::full_name;
 use rec_codec::Name;
@@ -65,6 +65,14 @@ pub struct Outcomes<'a> {
     has_halves: bool,
 }
 
+/// The game of a board, where it was opened and noted.
+pub fn noted_game(notes: &[Note], board: u32) -> Option<u32> {
+    match last_of(notes, board) {
+        Some(note) => game_in(&note.stage),
+        None => None,
+    }
+}
+
 // Whether a word of a PGN is a move: it begins with a letter.
 fn is_move(word: &str) -> bool {
     match word.as_bytes() {
@@ -106,16 +114,21 @@ struct PgnTags<'a> {
     plies: u32,
 }
 
+// What a line has as the value of this tag, and else what was told before it.
+fn told_in<'a>(line: &'a str, tag: &str, before: &'a str) -> &'a str {
+    value_in(line, tag).unwrap_or(before)
+}
+
 impl<'a> PgnTags<'a> {
     // The same with what a line tells, in which so many moves stand.
     fn with_line(self, line: &'a str, moves: u32) -> PgnTags<'a> {
         PgnTags {
-            white: value_in(line, "White").unwrap_or(self.white),
-            black: value_in(line, "Black").unwrap_or(self.black),
-            fen: value_in(line, "FEN").unwrap_or(self.fen),
-            result: value_in(line, "Result").unwrap_or(self.result),
-            article: value_in(line, "Article").unwrap_or(self.article),
-            continues: value_in(line, "Continues").unwrap_or(self.continues),
+            white: told_in(line, "White", self.white),
+            black: told_in(line, "Black", self.black),
+            fen: told_in(line, "FEN", self.fen),
+            result: told_in(line, "Result", self.result),
+            article: told_in(line, "Article", self.article),
+            continues: told_in(line, "Continues", self.continues),
             plies: self.plies.saturating_add(moves),
         }
     }
@@ -497,19 +510,27 @@ impl<'a> Outcomes<'a> {
         self.put_word(file, board, why.as_str())
     }
 
-    /// What came of the game of a board, in the round of this file; none where that is not known. Of a game that goes on, is
-    /// not known or was played on as another there is a word to be told.
-    pub fn of(
+    // Has it told later what is to be told of a board's game.
+    fn put_words(
         &mut self,
         file: &str,
-        pairing: &Pairing,
+        board: u32,
         game: Option<u32>,
-    ) -> Result<Option<Ended>> {
-        let found = self.found_at(pairing, game)?;
-        self.put_why(file, pairing.board, &found)?;
-        if let Some(game) = game {
-            self.put_half(file, pairing.board, game)?;
+        found: &Found,
+    ) -> Result<(), AllocError> {
+        self.put_why(file, board, found)?;
+        match game {
+            Some(game) => self.put_half(file, board, game),
+            None => Ok(()),
         }
+    }
+
+    /// What came of the game of a board, in the round of this file with these notes; none where that is not known. Of a game that
+    /// goes on, is not known or was played on as another there is a word to be told.
+    pub fn of(&mut self, file: &str, notes: &[Note], pairing: &Pairing) -> Result<Option<Ended>> {
+        let game = noted_game(notes, pairing.board);
+        let found = self.found_at(pairing, game)?;
+        self.put_words(file, pairing.board, game, &found)?;
         Ok(found.ended())
     }
 

@@ -1,0 +1,9 @@
+//! What came of the games of rounds: in the archive and on the table, as the results of a round and as the report of a tournament.
+#![tactic(auto)]
+
+mod outcomes;
+mod report_word;
+mod results_word;
+
+pub use report_word::write_report;
+pub use results_word::write_results;
