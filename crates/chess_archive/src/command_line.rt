@@ -232,40 +232,53 @@ const LIVE_EVERY: OptionText = OptionText {
     ..KEEP_EVERY
 };
 
-// In the order in which help lists them.
-const WORDS: &[WordText] = &[
-    WordText {
-        name: "keep",
-        about: "Keeps the games that are over",
-        help: HELP_OF_KEEP,
-        options: &[
-            SERVER, ARCHIVE, PLAYERS, LOG, EVENT, SITE, DATE, ROUND, DROP, LOBBY, KEEP_EVERY,
-        ],
-    },
-    WordText {
-        name: "export",
-        about: "Writes the games of an archive as PGN, CSV or a database",
-        help: HELP_OF_EXPORT,
-        options: &[ARCHIVE, PGN, CSV, SQLITE],
-    },
-    WordText {
-        name: "live",
-        about: "Writes the games that are played to a file that others fetch",
-        help: HELP_OF_LIVE,
-        options: &[
-            SERVER,
-            FILE,
-            LIVE_ARCHIVE,
-            PLAYERS,
-            LOG,
-            EVENT,
-            SITE,
-            DATE,
-            ROUND,
-            LIVE_EVERY,
-        ],
-    },
-];
+const KEEP: WordText = WordText {
+    name: "keep",
+    about: "Keeps the games that are over",
+    help: HELP_OF_KEEP,
+    options: &[
+        SERVER, ARCHIVE, PLAYERS, LOG, EVENT, SITE, DATE, ROUND, DROP, LOBBY, KEEP_EVERY,
+    ],
+};
+
+const EXPORT: WordText = WordText {
+    name: "export",
+    about: "Writes the games of an archive as PGN, CSV or a database",
+    help: HELP_OF_EXPORT,
+    options: &[ARCHIVE, PGN, CSV, SQLITE],
+};
+
+const LIVE: WordText = WordText {
+    name: "live",
+    about: "Writes the games that are played to a file that others fetch",
+    help: HELP_OF_LIVE,
+    options: &[
+        SERVER,
+        FILE,
+        LIVE_ARCHIVE,
+        PLAYERS,
+        LOG,
+        EVENT,
+        SITE,
+        DATE,
+        ROUND,
+        LIVE_EVERY,
+    ],
+};
+
+// (Each has a function of its own, since each step of a function that has texts tells of all their bytes. Help lists them in the
+// order of `command`.)
+fn keep_word() -> WordText {
+    KEEP
+}
+
+fn export_word() -> WordText {
+    EXPORT
+}
+
+fn live_word() -> WordText {
+    LIVE
+}
 
 /// The program's command line.
 pub fn command<'a>(alloc: Global) -> Result<Command<'a>, AllocError> {
@@ -273,7 +286,7 @@ pub fn command<'a>(alloc: Global) -> Result<Command<'a>, AllocError> {
         alloc,
         "chess-archive",
         "The archive of a chess club's games.",
-        WORDS,
+        &[keep_word(), export_word(), live_word()],
     )
 }
 

@@ -30,7 +30,6 @@ const DROPPED_MOST: u32 = 255;
 /// A client.
 #[derive(Drop)]
 pub struct Client {
-    alloc: Global,
     /// Its sockets' names are from `key * SOCKETS` on.
     pub key: usize,
     wire: Wire,
@@ -54,11 +53,17 @@ fn links_of(
     let mut links = Vec::new(alloc);
     for place in 0..servers.len() {
         if let Some(Some(address)) = servers.get(place) {
-            let token = Token(key.saturating_mul(SOCKETS).saturating_add(place + 1));
-            links.push(Link::new(alloc, *address, place, token))?;
+            links.push(link_of(alloc, key, *address, place))?;
         }
     }
     Ok(links)
+}
+
+// The connection to the server at a place.
+fn link_of(alloc: Global, key: usize, address: SocketAddr, place: usize) -> Link {
+    let socket = place.saturating_add(1);
+    let token = Token(key.saturating_mul(SOCKETS).saturating_add(socket));
+    Link::new(alloc, address, place, token)
 }
 
 impl Client {
@@ -72,7 +77,6 @@ impl Client {
         let links = links_of(alloc, key, servers)?;
         let exchange = Exchange::new(alloc, servers.len())?;
         Ok(Client {
-            alloc,
             key,
             wire: Wire::new(stream),
             lines: Lines::new(alloc),
@@ -97,17 +101,14 @@ impl Client {
         }
     }
 
-    /// Whether a server is there, and whether it was tried and is not.
-    pub fn has_server(&self, place: usize) -> bool {
-        self.links
-            .iter()
-            .any(|link| link.place() == place && link.is_here())
-    }
-
-    pub fn lacks_server(&self, place: usize) -> bool {
-        self.links
-            .iter()
-            .any(|link| link.place() == place && link.is_away())
+    /// Whether a server is there; none where that is not known yet.
+    pub fn has_server(&self, place: usize) -> Option<bool> {
+        for link in self.links.as_slice() {
+            if link.place() == place {
+                return link.has_server();
+            }
+        }
+        None
     }
 
     /// Whether nothing more is to be done for it.
@@ -190,7 +191,7 @@ impl Client {
         Ok(true)
     }
 
-    // Says its lines, as far as they may be said, and that one was too long.
+    // Says its lines, as far as they may be said.
     fn say_lines(&mut self) -> Result<bool> {
         let mut has_said = false;
         for _ in 0..LINES_AT_ONCE {
@@ -199,12 +200,17 @@ impl Client {
             }
             has_said = true;
         }
+        Ok(has_said)
+    }
+
+    // Says that a line was too long, once those before it are said.
+    fn say_too_long(&mut self) -> Result<(), AllocError> {
         let is_last = self.lines.is_too_long() && !self.lines.has_line();
         if is_last && !self.has_left && self.exchange.is_ready() {
-            self.exchange.said_too_long()?;
             self.has_left = true;
+            self.exchange.said_too_long()?;
         }
-        Ok(has_said)
+        Ok(())
     }
 
     // Whether each server was tried.
@@ -214,10 +220,7 @@ impl Client {
         }
         let by = self.begin_by.unwrap_or(at.saturating_add(FIRST_MOST));
         self.begin_by = Some(by);
-        let are_tried = self
-            .links
-            .iter()
-            .all(|link| link.is_here() || link.is_away());
+        let are_tried = self.links.iter().all(|link| link.has_server().is_some());
         self.has_begun = at >= by || are_tried;
     }
 
@@ -232,15 +235,7 @@ impl Client {
         let mut has_worked = false;
         let may_read = !self.is_full();
         for link in self.links.as_mut_slice() {
-            has_worked |= link.turn(
-                self.alloc,
-                net,
-                registry,
-                &mut self.exchange,
-                piece,
-                may_read,
-                at,
-            )?;
+            has_worked |= link.turn(net, registry, &mut self.exchange, piece, may_read, at)?;
         }
         Ok(has_worked)
     }
@@ -267,6 +262,7 @@ impl Client {
         let has_read = self.read(piece);
         self.begin(at);
         let has_said = self.say_lines()?;
+        self.say_too_long()?;
         let has_worked = self.turn_links(net, registry, piece, at)?;
         let has_written = self.write_told();
         Ok(has_read | has_said | has_worked | has_written)

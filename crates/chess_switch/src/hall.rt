@@ -68,14 +68,17 @@ impl<'a> Hall<'a> {
         Ok(self.listener.local_addr()?.port())
     }
 
-    /// Whether a client has a server.
-    pub fn has_server(&self, place: usize) -> bool {
-        self.clients.iter().any(|client| client.has_server(place))
-    }
-
-    /// Whether a client has tried a server, and it was not there.
-    pub fn lacks_server(&self, place: usize) -> bool {
-        self.clients.iter().any(|client| client.lacks_server(place))
+    /// Whether a client has a server; none where no client has it, and none has found that it is not there.
+    pub fn has_server(&self, place: usize) -> Option<bool> {
+        let mut has_server = None;
+        for client in self.clients.as_slice() {
+            match client.has_server(place) {
+                Some(true) => return Some(true),
+                Some(false) => has_server = Some(false),
+                None => {}
+            }
+        }
+        has_server
     }
 
     // The next client's key.

@@ -28,8 +28,8 @@ enum Stage {
     Away,
     /// It is being made.
     Called(TcpStream),
-    /// It is made, and the first line is not answered.
-    Asked(Wire, Vec<u8>),
+    /// It is made, so many bytes of the first line were written, and that is not answered.
+    Asked(Wire, usize),
     /// The server is there.
     Here(Wire),
 }
@@ -50,10 +50,21 @@ pub struct Link {
 }
 
 // A connection that is made, over which the first line is to go; any other stage as it was.
-fn asked(stage: Stage, probe: Vec<u8>) -> Stage {
+fn asked(stage: Stage) -> Stage {
     match stage {
-        Stage::Called(call) => Stage::Asked(Wire::new(call), probe),
+        Stage::Called(call) => Stage::Asked(Wire::new(call), 0),
         stage => stage,
+    }
+}
+
+// Writes what is left of the first line, of which so many bytes were written. It tells whether there was anything to do.
+fn write_behind(wire: &mut Wire, sent: &mut usize) -> bool {
+    match wire.write(PROBE.get(*sent..).unwrap_or(&[])) {
+        Some(count) => {
+            *sent = sent.saturating_add(count);
+            true
+        }
+        None => false,
     }
 }
 
@@ -84,14 +95,13 @@ impl Link {
         self.place
     }
 
-    /// Whether the server is there.
-    pub fn is_here(&self) -> bool {
-        matches!(self.stage, Stage::Here(_))
-    }
-
-    /// Whether the server was tried and is not there.
-    pub fn is_away(&self) -> bool {
-        matches!(self.stage, Stage::Away) && self.call_at > 0
+    /// Whether the server is there; none where it was not tried yet, or has not answered yet.
+    pub fn has_server(&self) -> Option<bool> {
+        match self.stage {
+            Stage::Here(_) => Some(true),
+            Stage::Away if self.call_at > 0 => Some(false),
+            _ => None,
+        }
     }
 
     /// Its socket may be ready.
@@ -132,48 +142,35 @@ impl Link {
     }
 
     // Asks over a connection that is made.
-    fn ask(&mut self, alloc: Global, at: u64) -> Result<()> {
-        let probe = Vec::from_slice(alloc, PROBE)?;
+    fn ask(&mut self, at: u64) {
         self.held.clear();
         self.until = at.saturating_add(PATIENCE);
-        let stage = asked(self.take_stage(), probe);
+        let stage = asked(self.take_stage());
         self.enter(stage);
-        Ok(())
     }
 
     // Goes on with a connection that was begun, by whether it is made.
-    fn go_on(&mut self, alloc: Global, made: Option<bool>, at: u64) -> Result<bool> {
+    fn go_on(&mut self, made: Option<bool>, at: u64) -> bool {
         match made {
-            Some(true) => {
-                self.ask(alloc, at)?;
-                Ok(true)
-            }
-            None if at < self.until => Ok(false),
-            _ => {
-                self.enter(Stage::Away);
-                Ok(true)
-            }
+            Some(true) => self.ask(at),
+            None if at < self.until => return false,
+            _ => self.enter(Stage::Away),
         }
+        true
     }
 
     // Goes on with a connection that is not made yet.
-    fn reach(
-        &mut self,
-        alloc: Global,
-        net: &impl Net,
-        registry: &Registry,
-        at: u64,
-    ) -> Result<bool> {
+    fn reach(&mut self, net: &impl Net, registry: &Registry, at: u64) -> bool {
         match &self.stage {
             Stage::Away if at >= self.call_at => {
                 self.call(net, registry, at);
-                Ok(true)
+                true
             }
             Stage::Called(call) => {
                 let made = is_made(call);
-                self.go_on(alloc, made, at)
+                self.go_on(made, at)
             }
-            _ => Ok(false),
+            _ => false,
         }
     }
 
@@ -193,7 +190,7 @@ impl Link {
     // Writes what is left of the first line. It tells whether there was anything to do.
     fn write_probe(&mut self) -> bool {
         match &mut self.stage {
-            Stage::Asked(wire, probe) => wire.write_out(probe),
+            Stage::Asked(wire, sent) => write_behind(wire, sent),
             _ => false,
         }
     }
@@ -312,7 +309,7 @@ impl Link {
         may_read: bool,
         at: u64,
     ) -> Result<bool> {
-        if !self.is_here() {
+        if !matches!(self.stage, Stage::Here(_)) {
             return Ok(false);
         }
         let has_written = self.write(exchange);
@@ -329,7 +326,6 @@ impl Link {
     /// One turn. It tells whether there was anything to do.
     pub fn turn(
         &mut self,
-        alloc: Global,
         net: &impl Net,
         registry: &Registry,
         exchange: &mut Exchange,
@@ -337,7 +333,7 @@ impl Link {
         may_read: bool,
         at: u64,
     ) -> Result<bool> {
-        let has_reached = self.reach(alloc, net, registry, at)?;
+        let has_reached = self.reach(net, registry, at);
         let has_greeted = self.greet(exchange, piece, at)?;
         let has_served = self.serve(exchange, piece, may_read, at)?;
         Ok(has_reached | has_greeted | has_served)

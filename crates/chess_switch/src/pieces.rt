@@ -2,7 +2,7 @@
 ghost use Rattle.std.specs.Prelude.{◌≤◌, length, IfSome};
 
 use mio::net::TcpStream;
-use session_lines::{Came, give_up, read_piece};
+use session_lines::{Came, read_piece};
 use std::alloc::AllocError;
 use std::io::{ErrorKind, Write};
 
@@ -95,16 +95,5 @@ impl Wire {
             },
         }
         Some(0)
-    }
-
-    /// The same, and gives up what the peer took. It tells whether there was anything to do.
-    pub fn write_out(&mut self, bytes: &mut Vec<u8>) -> bool {
-        match self.write(bytes.as_slice()) {
-            Some(count) => {
-                give_up(bytes, count);
-                true
-            }
-            None => false,
-        }
     }
 }

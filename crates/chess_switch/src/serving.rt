@@ -24,9 +24,10 @@ fn tell_servers<R: Eprint>(
     told: &mut [Option<bool>],
 ) {
     for place in 0..told.len() {
-        let is_here = hall.has_server(place);
-        let is_known = is_here || hall.lacks_server(place);
-        if !is_known || told[place] == Some(is_here) {
+        let Some(is_here) = hall.has_server(place) else {
+            continue;
+        };
+        if told[place] == Some(is_here) {
             continue;
         }
         told[place] = Some(is_here);

@@ -188,6 +188,29 @@ pub fn write_games<W: Write>(alloc: Global, table: &Table, output: &mut W) -> Re
     Ok(())
 }
 
+// A copy in memory of the journal in a file.
+fn copy_of<R: Files<File = File> + Eprint>(
+    rt: &R,
+    alloc: Global,
+    teller: &Teller<'_, R>,
+    journal: &str,
+) -> Result<MemoryDevice, Fault>
+    ensures { IfErr result IsShowFault }
+{
+    let mut source = open_source(rt, teller, journal)?;
+    let copied = copy_in_memory(alloc, &mut source);
+    teller.failed(journal, "a read failed", source.last_error());
+    copied
+}
+
+// Writes the games of the journal on a device in memory.
+fn write_stored<W: Write>(alloc: Global, memory: MemoryDevice, output: &mut W) -> Result<(), Fault>
+    ensures { IfErr result IsShowFault }
+{
+    let parts = open_on(alloc, memory)?.into_parts();
+    write_games(alloc, &parts.table, output)
+}
+
 // Writes the games of a journal's file.
 fn write_journal<R: Files<File = File> + Eprint, W: Write>(
     rt: &R,
@@ -198,11 +221,8 @@ fn write_journal<R: Files<File = File> + Eprint, W: Write>(
 ) -> Result<(), Fault>
     ensures { IfErr result IsShowFault }
 {
-    let mut source = open_source(rt, teller, journal)?;
-    let copied = copy_in_memory(alloc, &mut source);
-    teller.failed(journal, "a read failed", source.last_error());
-    let parts = open_on(alloc, copied?)?.into_parts();
-    write_games(alloc, &parts.table, output)
+    let memory = copy_of(rt, alloc, teller, journal)?;
+    write_stored(alloc, memory, output)
 }
 
 /// Writes the PGN of each game of a journal, by rising number, also of a journal in which somebody plays.

@@ -213,29 +213,42 @@ const ITS_LOG: OptionText = OptionText {
     is_required: true,
 };
 
-// In the order in which help lists them.
-const WORDS: &[WordText] = &[
-    WordText {
-        name: "serve",
-        about: "Serves the page and its players, over a game server",
-        help: HELP_OF_SERVE,
-        options: &[
-            PLAYERS, SERVER, AT_PORT, ADDRESS, PAGE, HOST, LIVE, LOG, JOURNAL,
-        ],
-    },
-    WordText {
-        name: "player",
-        about: "Puts a player into the players' file, and prints the personal link",
-        help: HELP_OF_PLAYER,
-        options: &[NAME, FULL_NAME, PLAYERS, URL, ARBITER],
-    },
-    WordText {
-        name: "evidence",
-        about: "Tells what the log has of a game",
-        help: HELP_OF_EVIDENCE,
-        options: &[GAME, ITS_LOG],
-    },
-];
+const SERVE: WordText = WordText {
+    name: "serve",
+    about: "Serves the page and its players, over a game server",
+    help: HELP_OF_SERVE,
+    options: &[
+        PLAYERS, SERVER, AT_PORT, ADDRESS, PAGE, HOST, LIVE, LOG, JOURNAL,
+    ],
+};
+
+const PLAYER: WordText = WordText {
+    name: "player",
+    about: "Puts a player into the players' file, and prints the personal link",
+    help: HELP_OF_PLAYER,
+    options: &[NAME, FULL_NAME, PLAYERS, URL, ARBITER],
+};
+
+const EVIDENCE: WordText = WordText {
+    name: "evidence",
+    about: "Tells what the log has of a game",
+    help: HELP_OF_EVIDENCE,
+    options: &[GAME, ITS_LOG],
+};
+
+// (Each has a function of its own, since each step of a function that has texts tells of all their bytes. Help lists them in the
+// order of `command`.)
+fn serve_word() -> WordText {
+    SERVE
+}
+
+fn player_word() -> WordText {
+    PLAYER
+}
+
+fn evidence_word() -> WordText {
+    EVIDENCE
+}
 
 /// The lobby's command line.
 pub fn command<'a>(alloc: Global) -> Result<Command<'a>, AllocError> {
@@ -243,7 +256,7 @@ pub fn command<'a>(alloc: Global) -> Result<Command<'a>, AllocError> {
         alloc,
         "chess-lobby",
         "The lobby of a chess club: players and spectators come by a browser.",
-        WORDS,
+        &[serve_word(), player_word(), evidence_word()],
     )
 }
 

@@ -1,6 +1,7 @@
 //! What is told of the journals behind a lobby.
+use crate::file::{JournalFile, LookFault};
 use crate::lines::{put_head, put_labelled, put_labelled_text, seconds};
-use journal_figures::{Figures, JournalFile, LookFault};
+use crate::reading::Figures;
 use std::alloc::{AllocError, Global};
 use std::fs::File;
 use std::rt::Files;

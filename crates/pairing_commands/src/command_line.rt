@@ -290,39 +290,52 @@ const ALL_ROUNDS: OptionText = OptionText {
     is_required: false,
 };
 
-// In the order in which help lists them.
-const WORDS: &[WordText] = &[
-    WordText {
-        name: "start",
-        about: "Opens the games of a round",
-        help: HELP_OF_START,
-        options: &[
-            PAIRINGS,
-            ROUND_FILE,
-            SERVER_ASKED,
-            PLAYERS_OPENED,
-            TAKE,
-            AFTER,
-            WITHOUT,
-            SHORT,
-        ],
-    },
-    WordText {
-        name: "results",
-        about: "Writes the results of a round as CSV",
-        help: HELP_OF_RESULTS,
-        options: &[PAIRINGS, ROUND_FILE, PLAYERS_NAMED, ARCHIVE, SERVER],
-    },
-    WordText {
-        name: "trf",
-        about: "Writes the report of a tournament, TRF-16",
-        help: HELP_OF_TRF,
-        options: &[
-            PLAYERS, ROUNDS, NAME, CITY, FEDERATION, BEGINS, ENDS, KIND, ARBITER, DEPUTY, TIMES,
-            ALL_ROUNDS, ARCHIVE, SERVER,
-        ],
-    },
-];
+const START: WordText = WordText {
+    name: "start",
+    about: "Opens the games of a round",
+    help: HELP_OF_START,
+    options: &[
+        PAIRINGS,
+        ROUND_FILE,
+        SERVER_ASKED,
+        PLAYERS_OPENED,
+        TAKE,
+        AFTER,
+        WITHOUT,
+        SHORT,
+    ],
+};
+
+const RESULTS: WordText = WordText {
+    name: "results",
+    about: "Writes the results of a round as CSV",
+    help: HELP_OF_RESULTS,
+    options: &[PAIRINGS, ROUND_FILE, PLAYERS_NAMED, ARCHIVE, SERVER],
+};
+
+const TRF: WordText = WordText {
+    name: "trf",
+    about: "Writes the report of a tournament, TRF-16",
+    help: HELP_OF_TRF,
+    options: &[
+        PLAYERS, ROUNDS, NAME, CITY, FEDERATION, BEGINS, ENDS, KIND, ARBITER, DEPUTY, TIMES,
+        ALL_ROUNDS, ARCHIVE, SERVER,
+    ],
+};
+
+// (Each has a function of its own, since each step of a function that has texts tells of all their bytes. Help lists them in the
+// order of `command`.)
+fn start_word() -> WordText {
+    START
+}
+
+fn results_word() -> WordText {
+    RESULTS
+}
+
+fn trf_word() -> WordText {
+    TRF
+}
 
 // Which options are days.
 const DAYS: [&str; 2] = ["begins", "ends"];
@@ -333,7 +346,7 @@ pub fn command<'a>(alloc: Global) -> Result<Command<'a>, AllocError> {
         alloc,
         "chess-pairings",
         "The rounds of a chess league.",
-        WORDS,
+        &[start_word(), results_word(), trf_word()],
     )
 }
 

@@ -9,7 +9,7 @@ use chess_san::rewound;
 use itoa::Buffer;
 
 /// Why there is no count.
-#[derive(Clone, Copy, Debug, PartialEq, Eq)]
+#[derive(Clone, Copy)]
 pub enum Fault {
     /// The line is not a depth from 0 to 255, a space and a text.
     Line,

@@ -1,5 +1,5 @@
 //! The answers of a server, with the numbers that its games have here.
-ghost use Rattle.std.specs.Prelude.{◌≡◌, ◌++◌, IfOk, codes};
+ghost use Rattle.std.specs.Prelude.{◌≡◌, ◌<◌, ◌++◌, ◌∷◌, [], IfOk};
 ghost use Rattle.std.specs.String.{string_bytes};
 ghost use Rattle.server_switch.specs.Answers as answers;
 ghost use Rattle.server_switch.specs.Answers.{told_behind};
@@ -44,14 +44,15 @@ fn tell_behind(
     Ok(told)
 }
 
-// The words before the game in an answer `ok WORD G ..`.
-fn ok_words(alloc: Global, word: &str) -> Result<String, AllocError>
-    ensures { IfOk result (λ words. string_bytes words ≡ codes "ok " ++ (word.now ++ codes " ")) }
+/// Two texts, one behind the other, and a sign behind them.
+pub fn joined(alloc: Global, front: &str, rest: &str, sign: char) -> Result<String, AllocError>
+    requires { sign < 128 }
+    ensures { IfOk result (λ text. string_bytes text ≡ front.now ++ (rest.now ++ sign ∷ [])) }
 {
-    let mut words = String::from_str(alloc, "ok ")?;
-    words.push_str(word)?;
-    words.push(' ')?;
-    Ok(words)
+    let mut text = String::from_str(alloc, front)?;
+    text.push_str(rest)?;
+    text.push(sign)?;
+    Ok(text)
 }
 
 /// A server's answer to a line of a game or to `open`, as it is told.
@@ -64,7 +65,7 @@ pub fn told(alloc: Global, place: usize, answer: &str) -> Result<String, AllocEr
     if word == "fallen" {
         tell_behind(alloc, "fallen ", place, rest, tail)
     } else if word == "ok" {
-        let words = ok_words(alloc, kind)?;
+        let words = joined(alloc, "ok ", kind, ' ')?;
         tell_behind(alloc, words.as_str(), place, behind, tail)
     } else {
         String::from_str(alloc, answer)

@@ -9,7 +9,7 @@ ghost use Rattle.server_switch.specs.Lines.{standing_of, change_at, put_under, i
 ghost use Rattle.server_switch.specs.Waits.{wait_of, share_of};
 ghost use Rattle.server_switch.specs.Waits as waits;
 
-use crate::answers::{BAD_LINE, NO_GAME, NO_SERVER, TOO_LONG};
+use crate::answers::{BAD_LINE, NO_GAME, NO_SERVER, TOO_LONG, joined};
 use crate::fields::push_number;
 use crate::lists::{Part, ask_each, listing_of};
 use crate::numbers::game_of;
@@ -38,7 +38,6 @@ pub struct Exchange {
 }
 
 // The lines to servers that are not there.
-#[tactic(auto, using(crate::proofs::Places::fresh_more))]
 fn lines_of(alloc: Global, servers: usize) -> Result<Vec<ServerLine>, AllocError>
     ensures { IfOk result (λ lines. map standing_of lines.items ≡ replicate servers (renewed false)) }
 {
@@ -234,9 +233,7 @@ impl Exchange {
         ensures { OnOk result (IsNamed name (view self.old) (view self.new)) }
     {
         self.name = Some(name);
-        let mut text = String::from_str(self.alloc, "ok name ")?;
-        text.push_str(name.as_str())?;
-        text.push('\n')?;
+        let text = joined(self.alloc, "ok name ", name.as_str(), '\n')?;
         self.queue.push_back(Pending::Answered(text))?;
         Ok(())
     }

@@ -9,7 +9,7 @@ ghost use Rattle.server_switch.specs.Lines.{standing_of};
 ghost use Rattle.server_switch.specs.Waits as waits;
 ghost use Rattle.server_switch.specs.Waits.{is_due, share_of, wait_of, rows_in, listing};
 
-use crate::answers::NO_SERVER;
+use crate::answers::{NO_SERVER, joined};
 use crate::fields::{push_number, renumbered};
 use crate::pending::Pending;
 use crate::server_line::ServerLine;
@@ -149,9 +149,7 @@ fn headed(alloc: Global, rows: &str) -> Result<String, AllocError>
     ensures { IfOk result (λ text. string_bytes text ≡ waits.list_text rows.now) }
 {
     let mut buffer = Buffer::new();
-    let mut text = String::from_str(alloc, "ok list ")?;
-    text.push_str(buffer.format(count_lines(rows)))?;
-    text.push('\n')?;
+    let mut text = joined(alloc, "ok list ", buffer.format(count_lines(rows)), '\n')?;
     text.push_str(rows)?;
     Ok(text)
 }

@@ -254,57 +254,95 @@ const QUIET: OptionText = OptionText {
     is_required: false,
 };
 
-// In the order in which help lists them.
-const WORDS: &[WordText] = &[
-    WordText {
-        name: "board",
-        about: "Answers the lines of standard input, over one board in memory",
-        help: HELP_OF_BOARD,
-        options: &[],
-    },
-    WordText {
-        name: "format",
-        about: "Makes a file a journal without games",
-        help: HELP_OF_FORMAT,
-        options: &[JOURNAL, GAMES, PLIES, FORCE],
-    },
-    WordText {
-        name: "run",
-        about: "Answers the lines of standard input, over the games of a journal",
-        help: HELP_OF_RUN,
-        options: &[JOURNAL],
-    },
-    WordText {
-        name: "serve",
-        about: "Serves players on a port, over the games of a journal",
-        help: HELP_OF_SERVE,
-        options: &[JOURNAL, PORT, TURNS, IDLE, QUIET],
-    },
-    WordText {
-        name: "drill",
-        about: "Plays every crash of one batch on a device in memory",
-        help: HELP_OF_DRILL,
-        options: &[],
-    },
-    WordText {
-        name: "widen",
-        about: "Raises the limits of a journal's table",
-        help: HELP_OF_WIDEN,
-        options: &[JOURNAL, GAMES, PLIES],
-    },
-    WordText {
-        name: "copy",
-        about: "Copies a journal, also one in which a server plays",
-        help: HELP_OF_COPY,
-        options: &[JOURNAL, TO],
-    },
-    WordText {
-        name: "show",
-        about: "Writes the PGN of every game of a journal",
-        help: HELP_OF_SHOW,
-        options: &[JOURNAL],
-    },
-];
+const BOARD: WordText = WordText {
+    name: "board",
+    about: "Answers the lines of standard input, over one board in memory",
+    help: HELP_OF_BOARD,
+    options: &[],
+};
+
+const FORMAT: WordText = WordText {
+    name: "format",
+    about: "Makes a file a journal without games",
+    help: HELP_OF_FORMAT,
+    options: &[JOURNAL, GAMES, PLIES, FORCE],
+};
+
+const RUN: WordText = WordText {
+    name: "run",
+    about: "Answers the lines of standard input, over the games of a journal",
+    help: HELP_OF_RUN,
+    options: &[JOURNAL],
+};
+
+const SERVE: WordText = WordText {
+    name: "serve",
+    about: "Serves players on a port, over the games of a journal",
+    help: HELP_OF_SERVE,
+    options: &[JOURNAL, PORT, TURNS, IDLE, QUIET],
+};
+
+const DRILL: WordText = WordText {
+    name: "drill",
+    about: "Plays every crash of one batch on a device in memory",
+    help: HELP_OF_DRILL,
+    options: &[],
+};
+
+const WIDEN: WordText = WordText {
+    name: "widen",
+    about: "Raises the limits of a journal's table",
+    help: HELP_OF_WIDEN,
+    options: &[JOURNAL, GAMES, PLIES],
+};
+
+const COPY: WordText = WordText {
+    name: "copy",
+    about: "Copies a journal, also one in which a server plays",
+    help: HELP_OF_COPY,
+    options: &[JOURNAL, TO],
+};
+
+const SHOW: WordText = WordText {
+    name: "show",
+    about: "Writes the PGN of every game of a journal",
+    help: HELP_OF_SHOW,
+    options: &[JOURNAL],
+};
+
+// (Each has a function of its own, since each step of a function that has texts tells of all their bytes. Help lists them in the
+// order of `command`.)
+fn board_word() -> WordText {
+    BOARD
+}
+
+fn format_word() -> WordText {
+    FORMAT
+}
+
+fn run_word() -> WordText {
+    RUN
+}
+
+fn serve_word() -> WordText {
+    SERVE
+}
+
+fn drill_word() -> WordText {
+    DRILL
+}
+
+fn widen_word() -> WordText {
+    WIDEN
+}
+
+fn copy_word() -> WordText {
+    COPY
+}
+
+fn show_word() -> WordText {
+    SHOW
+}
 
 /// The program's command line.
 pub fn command<'a>(alloc: Global) -> Result<Command<'a>, AllocError> {
@@ -312,6 +350,15 @@ pub fn command<'a>(alloc: Global) -> Result<Command<'a>, AllocError> {
         alloc,
         "chess_server",
         "A chess game server whose games last. Each word has its own --help.",
-        WORDS,
+        &[
+            board_word(),
+            format_word(),
+            run_word(),
+            serve_word(),
+            drill_word(),
+            widen_word(),
+            copy_word(),
+            show_word(),
+        ],
     )
 }

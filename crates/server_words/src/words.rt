@@ -67,12 +67,17 @@ pub struct Serving<'a> {
 /// Reads the words, the program's own name first. An `Err` is a usage fault, or a request for help.
 pub fn read_words<'a>(alloc: Global, words: &'a [String]) -> Result<Word<'a>, Error> {
     let mut command = command(alloc)?;
-    word_given(&mut command, words)
+    let word = word_given(&mut command, words);
+    drop(command);
+    word
 }
 
+// (What was read goes by a call: each way out would let go of all its parts.)
 fn word_given<'a>(command: &mut Command<'a>, words: &'a [String]) -> Result<Word<'a>, Error> {
     let matches = command.try_get_matches_from_mut(words)?;
-    match matches.subcommand().and_then(word_of) {
+    let word = matches.subcommand().and_then(word_of);
+    drop(matches);
+    match word {
         Some(word) => Ok(word),
         None => Err(command.error(ErrorKind::MissingSubcommand, "a word is missing")?),
     }

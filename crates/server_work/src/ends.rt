@@ -35,7 +35,7 @@ pub enum Fault {
 }
 
 /// How a run ends.
-#[derive(Clone, Copy, Debug, PartialEq, Eq)]
+#[derive(Clone, Copy)]
 pub enum End {
     /// The work is done, or the help that was asked for is printed.
     Done,
