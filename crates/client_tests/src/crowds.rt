@@ -30,7 +30,7 @@ const LINES_THAT_WAIT_AT_AN_END: [Step; 12] = [
 ];
 
 // The end is heard in the second turn, when three answers are to come.
-const LINES_AT_AN_END_READ_SLOWLY: [Step; 10] = [
+const LINES_AT_AN_END_READ_SLOWLY: [Step; 11] = [
     Step::Come(1, ENDS, &Takes::SlowsAt(130)),
     FOUR_STAY,
     Step::Turns((4, 1, false, None)),
@@ -41,6 +41,7 @@ const LINES_AT_AN_END_READ_SLOWLY: [Step; 10] = [
     Step::Client(4, true, NAMED, Some(16)),
     Step::Turns((16, 1, false, None)),
     Step::Client(0, false, NAMED, Some(16)),
+    Step::Lines(NAMED, 16, 16, 80),
 ];
 
 // 64 clients ask for the list again and again.

@@ -466,7 +466,7 @@ static SCRIPTS: [(&str, &[Step]); 25] = [
 ];
 
 #[test]
-fn files_are_devices(rt: HostRuntime) {
+fn files_are_devices_and_what_is_gone_or_none_fails(rt: HostRuntime) {
     for (path, steps) in &SCRIPTS {
         play(&rt, path, steps);
     }

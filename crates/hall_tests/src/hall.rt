@@ -2,7 +2,9 @@
 use crate::browser::{file_of, site_of};
 use crate::frames::UPGRADE;
 use lobby_desk::Order;
-use lobby_loop::{ActLog, Fault, Found, Hall, Links, Listens, Welcomed, welcome};
+use lobby_loop::{
+    ActLog, Fault, Found, Hall, Links, Listens, NoActLog, NoLinks, Welcomed, welcome,
+};
 use lobby_players::relinked;
 use lobby_roster::{Linked, Player};
 use lobby_web::Kind;
@@ -226,6 +228,12 @@ impl Lab {
         None
     }
 
+    // A turn more, without a log and without a players' file.
+    fn turn_alone(&mut self, rt: &impl Abort, at: u64) {
+        let turned = self.hall.turn(at, &mut NoActLog, &mut NoLinks);
+        assert!(rt; turned.is_ok());
+    }
+
     // Plays a script.
     fn play(&mut self, rt: &impl Abort, script: &Script, turns: u64, apart: u64) -> Option<bool> {
         self.begin(rt, script);
@@ -283,7 +291,7 @@ const FLOOD: &[u8] =
 // A browser that shows ann's token, and some turns later opens a game.
 const LATE: &[u8] = b"UP~\x81\x87\0\0\0\0login t~~~~~~~~~\x81\x90\0\0\0\0open white 300 2";
 
-const CASES: [Case; 11] = [
+static CASES: [Case; 13] = [
     // three messages, of which the first is not answered
     (
         (
@@ -334,7 +342,9 @@ const CASES: [Case; 11] = [
         b"",
         GONE,
     ),
-    // who closes, and who is reset
+    // who ends, before the upgrade and behind it, who closes, and who is reset
+    ((b"END", b"", How::Plainly), (90, 1), b"", GONE),
+    ((b"UP~END", b"", How::Plainly), (90, 1), b"", GONE),
     (
         (b"UP~\x88\x82\0\0\0\0\x03\xe8", b"", How::Plainly),
         (90, 1),
@@ -355,7 +365,7 @@ const CASES: [Case; 11] = [
     ),
 ];
 
-const ACTS: [Case; 6] = [
+static ACTS: [Case; 6] = [
     // half a frame, and an answer in two pieces
     (
         (
@@ -452,11 +462,12 @@ fn a_file_changes_between_turns(rt: &impl Abort, lab: &mut Lab) {
     for bytes in [b"one".as_slice(), b"another"] {
         let file = file_of(rt, lab.alloc, b"/live.pgn", Kind::Pgn, bytes);
         lab.hall.put_file(file).expect(rt, "memory");
-        lab.turn(rt, 2, 1);
+        assert!(rt; lab.turn(rt, 2, 1).is_none());
         assert!(rt; lab.is_told(bytes));
     }
     lab.hall.take_off_file(b"/live.pgn");
-    lab.turn(rt, 2, 1);
+    assert!(rt; lab.turn(rt, 1, 1).is_none());
+    lab.turn_alone(rt, 1);
     assert!(rt; lab.is_told(b"There is no such page here."));
 }
 
@@ -467,7 +478,7 @@ const COUNTED: Script = (
 );
 
 fn what_was_said_is_counted(rt: &impl Abort, lab: &mut Lab) {
-    lab.play(rt, &COUNTED, 90, 1);
+    assert!(rt; lab.play(rt, &COUNTED, 90, 1).is_none());
     let counts = lab.hall.counts();
     assert!(rt; [counts.messages, counts.no, counts.ok, counts.lost] == [3, 1, 1, 1]);
     assert!(rt; [counts.timed, counts.within[11]] == [3, 3] && counts.time > 0);
@@ -504,9 +515,9 @@ fn a_failed_accept_ends_the_turn_at_the_door(rt: &impl Abort, lab: &mut Lab) {
 
 // Ann, who has come by her link, acts after her token was given this sum: the server is sent this, and she is told so.
 fn check_renewed(rt: &impl Abort, lab: &mut Lab, sum: [u8; 32], asked: &[u8], told: &[u8]) {
-    lab.play(rt, &(LATE, b"", How::Plainly), 6, 1);
+    assert!(rt; lab.play(rt, &(LATE, b"", How::Plainly), 6, 1).is_none());
     lab.hall.renew(players(rt, lab.alloc, sum));
-    lab.turn(rt, 30, 1);
+    assert!(rt; lab.turn(rt, 30, 1).is_none());
     assert!(rt; lab.is_so(asked, told));
 }
 

@@ -302,12 +302,18 @@ fn check_end(
     assert!(rt; lab.has(b"", answer, b"", true));
 }
 
+// More comes at once than is taken: nothing is answered, and the connection is over at once.
+fn check_too_much(rt: &impl Abort, lab: &mut Lab) {
+    let much = lab.long(rt, b"GET /", MOST_AT_ONCE + 1);
+    lab.whole(rt, &much);
+    assert!(rt; lab.has(b"", b"", b"", true));
+}
+
 fn heads_too_long_or_too_short_are_refused(rt: &impl Abort, lab: &mut Lab) {
     let front = b"GET / HTTP/1.1\r\nHost: a:1\r\nX: ";
     check_end(rt, lab, front, 16_384, b"a", b"HTTP/1.1 431 ");
     check_end(rt, lab, b"GET /", 16_384, b"a", b"HTTP/1.1 414 ");
-    // (more than is taken at once)
-    check_end(rt, lab, b"GET /", MOST_AT_ONCE + 1, b"", b"");
+    check_too_much(rt, lab);
     let half = b"GET / HTTP/1.1\r\nHost: a:1\r\n";
     check_end(rt, lab, half, half.len(), b"", b"HTTP/1.1 400 ");
 }

@@ -66,8 +66,28 @@ const REFUSED: [Row; 9] = [
     Row::Left(6, false),
 ];
 
+// The life after a kill, when game 1 stood in the archive: then all three stand there, and none is left on the table.
+const SECOND_LIFE: [Row; 11] = [
+    Row::Over(1, true, true),
+    Row::Came(1, true, false),
+    Row::Over(2, true, true),
+    Row::Came(2, false, true),
+    Row::Over(3, true, true),
+    Row::Came(3, false, true),
+    Row::Left(1, false),
+    Row::Synced,
+    Row::Left(1, true),
+    Row::Left(2, true),
+    Row::Left(3, true),
+];
+
 // What a clerk finds in the archive, and what happens then.
-static RUNS: [(&[u32], &[Row]); 3] = [(&[], &EVENING), (&[1, 3], &AFTER_A_KILL), (&[2], &REFUSED)];
+static RUNS: [(&[u32], &[Row]); 4] = [
+    (&[], &EVENING),
+    (&[1, 3], &AFTER_A_KILL),
+    (&[2], &REFUSED),
+    (&[1], &SECOND_LIFE),
+];
 
 // That a clerk decides so wherever it is killed, is in the laws of its crate; and here, that it is given the memory for it.
 #[test]

@@ -15,7 +15,7 @@ static CASES: [(&str, Option<&str>); 3] = [
 ];
 
 #[test]
-fn tells_a_check_and_the_moves_out_of_it(rt: HostRuntime) {
+fn tells_check_and_moves_of_a_position_or_nothing(rt: HostRuntime) {
     for (fen, wanted) in &CASES {
         let line = moves_line(rt.alloc(), fen).expect(&rt, "memory");
         assert!(rt; line.as_deref() == *wanted);

@@ -127,10 +127,25 @@ fn refuses_other_lines(rt: HostRuntime) {
     }
 }
 
+// Lines, and the game and the PGN of each.
+static LINES: [(&str, u32, &[u8]); 2] = [
+    (
+        "{\"game\":12,\"pgn\":\"[A \\\"b\\\\\\\\\\\"]\\n*\\n\"}",
+        12,
+        b"[A \"b\\\\\"]\n*\n",
+    ),
+    ("{\"game\":7,\"pgn\":\"\u{fc}\"}", 7, b"\xc3\xbc"),
+];
+
+fn check_line(rt: &impl Abort, alloc: Global, line: &str, game: u32, wanted: &[u8]) {
+    assert!(rt; game_of(alloc, line).expect(rt, "memory") == Some(game));
+    let pgn = pgn_of(alloc, line).expect(rt, "memory");
+    assert!(rt; pgn.as_slice() == wanted);
+}
+
 #[test]
 fn reads_lines(rt: HostRuntime) {
-    let line = "{\"game\":12,\"pgn\":\"[A \\\"b\\\\\\\\\\\"]\\n*\\n\"}";
-    assert!(rt; game_of(rt.alloc(), line).expect(&rt, "memory") == Some(12));
-    let pgn = pgn_of(rt.alloc(), line).expect(&rt, "memory");
-    assert!(rt; pgn.as_slice() == b"[A \"b\\\\\"]\n*\n".as_slice());
+    for (line, game, pgn) in &LINES {
+        check_line(&rt, rt.alloc(), line, *game, pgn);
+    }
 }

@@ -114,13 +114,24 @@ fn texts_are_told_again(rt: HostRuntime) {
     }
 }
 
-// Games of a player's table, of which nobody has joined any.
-fn rows(white: Option<Name>) -> [Row; 4] {
-    [9, 16, 20_000_002, 20_000_003].map(|game| Row {
+// A game, and who sits in it; nobody where a name is empty.
+fn row(game: u32, white: &str, black: &str) -> Row {
+    Row {
         game,
-        white,
-        black: None,
-    })
+        white: Name::try_new(white),
+        black: Name::try_new(black),
+    }
+}
+
+// Games of the table. In one of them ann has Black.
+fn rows() -> [Row; 5] {
+    [
+        row(9, "ann", ""),
+        row(10, "cid", "ann"),
+        row(16, "ann", "bob"),
+        row(20_000_002, "ann", "cid"),
+        row(20_000_003, "ann", ""),
+    ]
 }
 
 fn check_newest(rt: &impl Abort, alloc: Global, rows: &[Row]) {
@@ -131,7 +142,7 @@ fn check_newest(rt: &impl Abort, alloc: Global, rows: &[Row]) {
 #[test]
 fn games_are_looked_at(rt: HostRuntime) {
     let ann = Name::try_new("ann").expect(&rt, "a name");
-    let rows = rows(Some(ann));
+    let rows = rows();
     check_newest(&rt, rt.alloc(), &rows);
     let own = candidates(rt.alloc(), &[9], &ann, &rows).expect(&rt, "memory");
     assert!(rt; own.as_slice() == [16, 20_000_002, 20_000_003].as_slice());

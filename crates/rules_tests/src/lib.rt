@@ -7,6 +7,8 @@
 #[cfg(test)]
 mod board;
 #[cfg(test)]
+mod clock;
+#[cfg(test)]
 mod fen;
 #[cfg(test)]
 mod game_text;

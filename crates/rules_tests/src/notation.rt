@@ -16,7 +16,7 @@ const UNNAMED: &str =
     "|e2|e2e|e2e9|e0e4|i2i4|E2E4|e7e8k|e7e8p|e7e8Q|e2e4 | e2e4|e7e8qq|e2-e4|0000|é2e4|O-O";
 
 #[test]
-fn coordinates_name_squares(rt: HostRuntime) {
+fn coordinates_name_squares_and_other_texts_nothing(rt: HostRuntime) {
     for (text, from, to, promotion) in &NAMED {
         let mv = coordinate(text).expect(&rt, "a move");
         assert!(rt; mv.from.number() == *from && mv.to.number() == *to);

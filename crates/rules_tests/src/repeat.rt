@@ -1,11 +1,44 @@
-//! Games in which positions come again. Which positions are the same, and their keys, clauses of `key` and `is_same` settle, and
-//! claims show it in the stored run of `line_player`.
+//! Positions that are the same, and games in which they come again. Which are the same, and their keys, clauses of `key` and
+//! `is_same` settle, and claims show it in the stored run of `line_player`: here it is asked for.
 use chess_board::Board;
+use chess_fen::fen_read;
 use chess_moves::after_legal;
 use chess_notation::coordinate;
-use chess_repeat::History;
+use chess_repeat::{History, is_same};
 use std::alloc::{AllocError, Global};
 use std::process::Abort;
+
+// Two positions, and whether they are the same: a target counts where a pawn can take on it, and no counter does.
+static PAIRS: [(&str, &str, bool); 3] = [
+    (
+        "rnbqkbnr/pppppppp/8/8/4P3/8/PPPP1PPP/RNBQKBNR b KQkq e3 0 1",
+        "rnbqkbnr/pppppppp/8/8/4P3/8/PPPP1PPP/RNBQKBNR b KQkq - 8 5",
+        true,
+    ),
+    (
+        "4k3/8/8/8/3pP3/8/8/4K3 b - e3 0 1",
+        "4k3/8/8/8/3pP3/8/8/4K3 b - - 4 3",
+        false,
+    ),
+    (
+        "4k3/8/8/8/3pP3/8/8/4K3 b - - 4 3",
+        "4k3/8/8/8/3pP3/8/8/4K3 b - - 8 5",
+        true,
+    ),
+];
+
+fn are_same(rt: &impl Abort, first: &str, second: &str) -> bool {
+    let first = fen_read(first).expect(rt, "a FEN");
+    let second = fen_read(second).expect(rt, "a FEN");
+    is_same(&first, &second)
+}
+
+#[test]
+fn positions_are_the_same_or_not(rt: HostRuntime) {
+    for (first, second, wanted) in &PAIRS {
+        assert!(rt; are_same(&rt, first, second) == *wanted);
+    }
+}
 
 // The board after a legal move.
 fn after(rt: &impl Abort, board: &Board, text: &str) -> Board {

@@ -155,6 +155,13 @@ static TEXTS: [(Text, Text); 23] = [
     ((10_000, b"hello!\n", b""), (10_000, BAD_LINE, b"")),
 ];
 
+// Bytes are read as they stand, and answers are written behind one another.
+fn check_bytes(rt: &impl Abort, alloc: Global) {
+    let mut written: Vec<u8> = Vec::new(alloc);
+    let ended = board(&mut ReaderSource::new(b"\n".as_slice()), &mut written);
+    assert!(rt; ended == Ok(()) && written.as_slice() == BAD_LINE);
+}
+
 const ALL: usize = usize::MAX;
 
 const OTHER: Option<ErrorKind> = Some(ErrorKind::Other);
@@ -248,7 +255,8 @@ static CASES: [Case; 10] = [
 ];
 
 #[test]
-fn answers_lines(rt: HostRuntime) {
+fn answers_lines_up_to_a_failed_read_or_write(rt: HostRuntime) {
+    check_bytes(&rt, rt.alloc());
     for (input, output) in &TEXTS {
         for most in [ALL, 1] {
             let case: Case = (*input, *output, [most; 2], None, None, Ok(()), None);

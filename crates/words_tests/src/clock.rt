@@ -47,7 +47,7 @@ static EVENLY: [(u64, u64, u64); 7] = [
 static FAILING: [(u64, u64, u64); 2] = [(u64::MAX, u64::MAX, 0), (u64::MAX, 10_000, 0)];
 
 #[test]
-fn goes_on_evenly(rt: HostRuntime) {
+fn goes_on_evenly_or_not_at_all(rt: HostRuntime) {
     for rows in [&EVENLY[..], &FAILING[..]] {
         let hands = Hands {
             system: Cell::new(rows[0].0),

@@ -1,6 +1,7 @@
 //! What is shown of a copy of a journal.
 use chess_bits::Colour;
 use chess_entry::{Act, Command, Limits, Name};
+use chess_store::Store;
 use journal_copy::{Copied, Still, copy};
 use journal_words::write_games;
 use sector_dev::MemoryDevice;
@@ -35,20 +36,30 @@ fn command(who: &str, act: Act) -> Command {
     }
 }
 
-// A device with a journal of two games, of which one is over and one that nobody has joined.
+// Submits a command by itself, which is answered.
+fn submit(rt: &impl Abort, store: &mut Store<MemoryDevice>, who: &str, act: Act) {
+    let replies = store
+        .submit(&[command(who, act)])
+        .ok()
+        .expect(rt, "a reply");
+    assert!(rt; replies.len() == 1);
+}
+
+// Two games are played, of which one is over then and one that nobody has joined: four commits.
+fn play(rt: &impl Abort, store: &mut Store<MemoryDevice>) {
+    submit(rt, store, "ann", opening(Colour::White));
+    submit(rt, store, "bob", JOIN);
+    submit(rt, store, "bob", opening(Colour::Black));
+    submit(rt, store, "bob", RESIGN);
+}
+
+// A device with a journal of these games.
 fn played(rt: &impl Abort, alloc: Global) -> MemoryDevice {
     let device = MemoryDevice::new(alloc, 212).expect(rt, "memory");
     let Ok(mut store) = store_opening::create(alloc, device, LIMITS) else {
         panic!(rt; "no journal");
     };
-    let commands = [
-        command("ann", opening(Colour::White)),
-        command("bob", JOIN),
-        command("bob", opening(Colour::Black)),
-        command("bob", RESIGN),
-    ];
-    let answered = store.submit(&commands).is_ok();
-    assert!(rt; answered);
+    play(rt, &mut store);
     store.into_device()
 }
 
