@@ -8,7 +8,7 @@ mod slots;
 mod source;
 mod still;
 
-pub use copying::{Copied, copy};
+pub use copying::{Copied, copy, follows};
 pub use fault::CopyFault;
 pub use file::FileSource;
 pub use slots::header_in_force;

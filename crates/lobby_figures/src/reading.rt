@@ -5,10 +5,10 @@ ghost use Rattle.lobby_figures.specs.Figures.{AreFiguresOf};
 ghost use Rattle.lobby_figures.specs.Faults.{IsAtSome, IsCause};
 
 use crate::fault::FiguresFault;
-use crate::places::{follows, telling_sector};
+use crate::places::telling_sector;
 use crate::records::last_moment;
 use crate::slots::header_seen;
-use journal_copy::Source;
+use journal_copy::{Source, follows};
 
 /// What is told of a journal.
 #[derive(Clone, Copy, Debug, PartialEq, Eq)]
