@@ -1,5 +1,5 @@
 //! The fields of a line.
-ghost use Rattle.std.specs.Prelude.{◌≡◌, ◌≢◌, ◌↔◌, ◌<◌, ◌^◌, ℕ, List, ◌∷◌, ◌++◌, Bool, Option, Some, None, EachIndex, IsTrue, IfSome, IsSome, IsSomeAnd, SomeIff, option_map, slice_index, length, decimal};
+ghost use Rattle.std.specs.Prelude.{◌≡◌, ◌≢◌, ◌↔◌, ℕ, List, ◌∷◌, ◌++◌, Bool, Option, Some, None, EachIndex, IsTrue, IfSome, IsSome, IsSomeAnd, option_map, slice_index, length, decimal};
 ghost use Rattle.std.specs.Option.{MatchOption};
 ghost use Rattle.chess_bits.specs.declared.men.Colour.{Colour};
 ghost use Rattle.chess_line.specs.Fields.{IsNumber, IsField, IsRest, colour_word, claim_word, times_text, AreTimes};
@@ -27,17 +27,7 @@ pub fn number_named(text: &str) -> Option<u32>
     ensures some { IfSome result (λ n. IsNumber n × (text.now ≡ decimal n)) }
     ensures every { (n : ℕ) → IsNumber n → text.now ≡ decimal n → result ≡ Some n }
 {
-    match decimal_text::number_named(text) {
-        Some(number) => below_32_bits(number),
-        None => None,
-    }
-}
-
-// A number, where 32 bits have it.
-fn below_32_bits(number: u64) -> Option<u32>
-    ensures { SomeIff result (number < 2 ^ 32) number }
-{
-    u32::try_from(number).ok()
+    decimal_text::number_of_32_bits(text)
 }
 
 /// The number of the first field, and what follows the space after it.

@@ -3,4 +3,4 @@
 
 mod numbers;
 
-pub use numbers::number_named;
+pub use numbers::{number_named, number_of_32_bits};

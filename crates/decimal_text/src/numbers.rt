@@ -1,6 +1,6 @@
 //! The number that a text spells.
-ghost use Rattle.std.specs.Prelude.{ℕ, ◌≡◌, ◌<◌, ◌^◌, Some, IfSome, decimal};
-ghost use Rattle.decimal_text.specs.Numbers.{number_in};
+ghost use Rattle.std.specs.Prelude.{ℕ, ◌≡◌, ◌<◌, ◌^◌, Some, IfSome, SomeIff, decimal};
+ghost use Rattle.decimal_text.specs.Numbers.{number_below, number_in};
 
 use itoa::Buffer;
 
@@ -25,4 +25,21 @@ fn number_read(text: &str) -> Option<u64>
     } else {
         None
     }
+}
+
+/// The number below 2 ^ 32 that a text spells, in its one spelling.
+pub fn number_of_32_bits(text: &str) -> Option<u32>
+    ensures { result ≡ number_below (2 ^ 32) text.now }
+{
+    match number_named(text) {
+        Some(number) => below_32_bits(number),
+        None => None,
+    }
+}
+
+// A number, where 32 bits have it.
+fn below_32_bits(number: u64) -> Option<u32>
+    ensures { SomeIff result (number < 2 ^ 32) number }
+{
+    u32::try_from(number).ok()
 }

@@ -1,6 +1,5 @@
 -- The number that a text spells.
 use Rattle.std.proofs.Common.{ℕ, ◌≡◌, ◌<◌, ◌≤◌, ◌^◌, List, Option, None, Some, IfSome, decimal, arith}
-use Rattle.std.specs.Prelude.{SomeIff}
 use Rattle.decimal_text.specs.Numbers.{number_below}
 use Rattle.decimal_text.proofs.Spelled as decimals
 use Rattle.lobby_words.specs.Words.{number_in}
@@ -26,11 +25,7 @@ pub number_spelled : (n : ℕ) → n < 2 ^ 32 → number_in (decimal n) ≡ Some
 unfolding number_in
 number_spelled n small = decimals.number_spelled (2 ^ 32) n small (omega arith)
 
--- a number that is read is small or none
-pub none_small : (text : List ℕ) → None ≡ number_below (2 ^ 64) text → None ≡ number_in text
+-- a number that is read is the one that the text spells
+pub spelled_in : (text : List ℕ) (r : Option ℕ) → r ≡ number_below (2 ^ 32) text → r ≡ number_in text
 unfolding number_in
-none_small text none = decimals.none_lower (2 ^ 32) text (omega arith) none
-
-pub some_small : (text : List ℕ) (n : ℕ) (r : Option ℕ) → Some n ≡ number_below (2 ^ 64) text → SomeIff r (n < 2 ^ 32) n → r ≡ number_in text
-unfolding number_in
-some_small text n r e h = decimals.some_lower (2 ^ 32) n text r (omega arith) e h
+spelled_in text r is = is

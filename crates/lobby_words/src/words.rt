@@ -1,5 +1,5 @@
 //! What the first word of a message says.
-ghost use Rattle.std.specs.Prelude.{◌≡◌, ◌<◌, ◌^◌, SomeIff};
+ghost use Rattle.std.specs.Prelude.{◌≡◌};
 ghost use Rattle.std.specs.List.{list_all};
 ghost use Rattle.lobby_words.specs.Words as words;
 
@@ -218,17 +218,7 @@ pub fn sort_of(text: &str) -> Sort
 pub fn number_named(text: &str) -> Option<u32>
     ensures { result ≡ words.number_in text.now }
 {
-    match decimal_text::number_named(text) {
-        Some(number) => below_32_bits(number),
-        None => None,
-    }
-}
-
-// A number, where 32 bits have it.
-fn below_32_bits(number: u64) -> Option<u32>
-    ensures { SomeIff result (number < 2 ^ 32) number }
-{
-    u32::try_from(number).ok()
+    decimal_text::number_of_32_bits(text)
 }
 
 /// The same, and 0 where a text spells no number.
