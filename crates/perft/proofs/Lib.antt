@@ -1,4 +1,5 @@
 mod Asked
 mod Counters
+mod Depths
 mod Recounting
 mod Through

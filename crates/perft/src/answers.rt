@@ -1,12 +1,11 @@
 //! The answer to a line.
-ghost use Rattle.std.specs.Prelude.{ℕ, ◌≡◌, ◌≢◌, ◌≤◌, decimal, IfOk, IfErr, IfSome, IfNone};
+ghost use Rattle.std.specs.Prelude.{ℕ, ◌≡◌, ◌≢◌, ◌<◌, ◌≤◌, ◌^◌, decimal, IfOk, IfErr, IfSome, IfNone, SomeIff};
 ghost use Rattle.perft.specs.Answers.{IsCountFrom, IsFault, IsAnswer, IsRefusal, board_fault_name, fen_fault_name, fault_name};
 
 use crate::lines::count_lines;
 use chess_board::BadBoard;
 use chess_fen::{FenError, fen_read};
 use chess_san::rewound;
-use itoa::Buffer;
 
 /// Why there is no count.
 #[derive(Clone, Copy)]
@@ -34,15 +33,17 @@ fn depth_named(digits: &str) -> Option<u8>
     ensures named { IfSome result (λ depth. digits.now ≡ decimal depth) }
     ensures none { IfNone result ((depth : ℕ) → depth ≤ 255 → digits.now ≢ decimal depth) }
 {
-    let Ok(depth) = digits.parse::<u8>() else {
-        return None;
-    };
-    let mut buffer = Buffer::new();
-    if buffer.format(depth) == digits {
-        Some(depth)
-    } else {
-        None
+    match decimal_text::number_named(digits) {
+        Some(number) => below_8_bits(number),
+        None => None,
     }
+}
+
+// A number, where 8 bits have it.
+fn below_8_bits(number: u64) -> Option<u8>
+    ensures { SomeIff result (number < 2 ^ 8) number }
+{
+    u8::try_from(number).ok()
 }
 
 /// The answer to a line `DEPTH FEN`. `Line`: it is not a depth from 0 to 255 without leading zeros, a space and a text;
