@@ -1,6 +1,5 @@
 -- Lines to the server.
-use Rattle.std.specs.Prelude.{ℕ, ◌≡◌, Bool, false, List, [], ◌∷◌, ◌++◌, Option, Some, None, codes, decimal, if◌then◌else◌}
-use Rattle.std.specs.Str.{bytes_eq}
+use Rattle.std.specs.Prelude.{ℕ, ◌≡◌, List, [], ◌∷◌, ◌++◌, Option, Some, None, codes, decimal, if◌then◌else◌}
 use Rattle.lobby_words.specs.declared.planning.Plan.{Plan}
 use Rattle.lobby_words.specs.Words.{as_line}
 use Rattle.lobby_words.specs.declared.planning.Plan.TheVariants as plans
@@ -8,6 +7,7 @@ use Rattle.rec_codec.specs.Name.{IsName}
 use Rattle.lobby_desk.specs.Refusals.{game_named}
 use Rattle.lobby_desk.specs.declared.server_line.ServerLine.{ServerLine}
 pub use Rattle.lobby_words.specs.Answers.{ended}
+pub use Rattle.lobby_words.specs.Naming.{is_said}
 pub use Rattle.lobby_roster.specs.Lines.{bytes_of}
 
 -- the line that says a name
@@ -17,10 +17,6 @@ name_line name = codes "name " ++ name
 -- the line that asks something of a game
 abbrev pub game_line : List ℕ → ℕ → List ℕ
 game_line word game = word ++ decimal game
-
-abbrev pub is_said : Option (List ℕ) → List ℕ → Bool
-is_said None name = false
-is_said (Some said) name = bytes_eq said name
 
 -- what asks how a game stands, if one is named
 abbrev pub notice_lines : Option ℕ → List (List ℕ)

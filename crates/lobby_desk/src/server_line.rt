@@ -5,12 +5,11 @@ ghost use Rattle.rec_codec.specs.Name.{IsName};
 ghost use Rattle.std.specs.String.{string_bytes};
 ghost use Rattle.lobby_desk.specs.Events.{owed_of, owed_last, owed_lines, Nobody, Behind, Asker, ForAct};
 ghost use Rattle.lobby_desk.specs.Refusals.{game_named};
-ghost use Rattle.lobby_desk.specs.Lines as lines;
 ghost use Rattle.lobby_desk.specs.Lines.{ended, bytes_of, name_lines, act_lines, notice_lines, game_line, IsHeardSame};
 
 use crate::refusals::{Refused, game_named};
 use itoa::Buffer;
-use lobby_words::{Coming, Waiting};
+use lobby_words::{Coming, Waiting, is_said};
 use rec_codec::Name;
 use std::alloc::{AllocError, Global};
 use std::collections::VecDeque;
@@ -93,18 +92,6 @@ fn put(wire: &mut Vec<u8>, front: &str, rest: &str) -> Result<(), AllocError>
     wire.extend_from_slice(front.as_bytes())?;
     wire.extend_from_slice(rest.as_bytes())?;
     wire.extend_from_slice(b"\n")
-}
-
-// Whether the name was said last.
-fn is_said(said: &Option<Name>, name: &Name) -> bool
-    ensures said { result ≡ lines.is_said said.now name.now }
-    ensures named { IsName name.now }
-{
-    let name = name.as_str();
-    match said {
-        None => false,
-        Some(said) => said.as_str() == name,
-    }
 }
 
 impl ServerLine {

@@ -3,3 +3,4 @@ pub mod Answers
 pub mod Plans
 pub mod Waiting
 pub mod Servers
+pub mod Naming

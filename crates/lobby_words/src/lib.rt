@@ -4,6 +4,7 @@
 mod answers;
 mod coming;
 mod listing;
+mod naming;
 mod planning;
 mod refusals;
 mod servers;
@@ -12,6 +13,7 @@ mod words;
 pub use answers::{game_told, has_empty_seat, is_accepted, is_over, is_table_act, seated};
 pub use coming::Coming;
 pub use listing::{Waiting, ends_wait, is_list, is_open, waiting_in, waiting_of, waiting_row};
+pub use naming::is_said;
 pub use planning::{Identity, Order, Plan, Standing, order_of, plan_of};
 pub use refusals::Refusal;
 pub use servers::{GAMES_OF_A_SERVER, SERVERS_MOST, server_of};

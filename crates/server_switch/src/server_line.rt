@@ -2,12 +2,11 @@
 ghost use Rattle.std.specs.Prelude.{◌≡◌, ◌≤◌, ◌++◌, false, length, option_map, OnOk, IfOk};
 ghost use Rattle.std.specs.String.{string_bytes};
 ghost use Rattle.server_switch.specs.Exchanges.{asked, share_asked};
-ghost use Rattle.server_switch.specs.Lines as lines;
 ghost use Rattle.server_switch.specs.Lines.{standing_of, renewed, put_behind, put_under, is_new, took, whole_of, gone_ahead};
 ghost use Rattle.server_switch.specs.Waits.{share_of};
 
 use crate::lists::Part;
-use lobby_words::Coming;
+use lobby_words::{Coming, is_said};
 use rec_codec::Name;
 use session_lines::give_up;
 use std::alloc::{AllocError, Global};
@@ -22,17 +21,6 @@ pub struct ServerLine {
     pub coming: Coming,
     /// What is to go there.
     pub wire: Vec<u8>,
-}
-
-// Whether a name was said last.
-fn is_said(said: &Option<Name>, name: &Name) -> bool
-    ensures { result ≡ lines.is_said said.now name.now }
-{
-    let name = name.as_str();
-    match said {
-        None => false,
-        Some(said) => said.as_str() == name,
-    }
 }
 
 impl ServerLine {
