@@ -3,7 +3,6 @@
 
 mod start_word;
 
-use clap::Error;
 use command_words::{NotDone, end_of, words_given};
 use pairing_commands::{Word, command, read_words};
 use round_outcomes::{write_report, write_results};
@@ -16,19 +15,8 @@ fn main(rt: HostRuntime) -> ExitCode {
 
 // Does what the words of the command line ask for.
 fn do_words(rt: &HostRuntime) -> Result<(), NotDone> {
-    let words = words_of(rt)?;
-    do_given(rt, words.as_slice())
-}
-
-// The words of the command line.
-fn words_of(rt: &HostRuntime) -> Result<Vec<String>, Error> {
-    let mut command = command(rt.alloc())?;
-    words_given(rt, &mut command)
-}
-
-// Does what these words ask for.
-fn do_given(rt: &HostRuntime, words: &[String]) -> Result<(), NotDone> {
-    let word = read_words(rt.alloc(), words)?;
+    let words = words_given(rt, command(rt.alloc())?)?;
+    let word = read_words(rt.alloc(), words.as_slice())?;
     do_word(rt, &word).map_err(NotDone::Work)
 }
 

@@ -27,17 +27,9 @@ fn end_with(rt: &HostRuntime, error: &Error) -> End {
     end_of_words(error)
 }
 
-// The words of the command line.
-fn words_of(rt: &HostRuntime) -> Result<Vec<String>, Error> {
-    let mut command = command(rt.alloc())?;
-    let words = words_given(rt, &mut command);
-    drop(command);
-    words
-}
-
 // Does what the words of the command line ask for.
 fn do_words(rt: &HostRuntime) -> Result<Result<(), Fault>, Error> {
-    let words = words_of(rt)?;
+    let words = words_given(rt, command(rt.alloc())?)?;
     let word = read_words(rt.alloc(), words.as_slice())?;
     Ok(do_work(rt, word))
 }

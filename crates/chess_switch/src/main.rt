@@ -8,7 +8,6 @@ mod link;
 mod pieces;
 mod serving;
 
-use clap::Error;
 use command_line::{command, read_words};
 use command_words::{NotDone, end_of, words_given};
 use serving::serve;
@@ -20,15 +19,7 @@ fn main(rt: HostRuntime) -> ExitCode {
 
 // Does what the words of the command line ask for.
 fn do_words(rt: &HostRuntime) -> Result<(), NotDone> {
-    let words = words_of(rt)?;
+    let words = words_given(rt, command(rt.alloc())?)?;
     let serving = read_words(rt.alloc(), words.as_slice())?;
     serve(rt, &serving).map_err(NotDone::Work)
-}
-
-// The words of the command line.
-fn words_of(rt: &HostRuntime) -> Result<Vec<String>, Error> {
-    let mut command = command(rt.alloc())?;
-    let words = words_given(rt, &mut command);
-    drop(command);
-    words
 }
