@@ -9,19 +9,14 @@ mod tags;
 
 use anyhow::Result;
 use archive_text::archived;
+use command_words::{NotDone, end_of};
 use input::lines_behind;
 use std::io::{self, BufRead, BufReader, Write};
 use std::process::ExitCode;
 use tags::Tags;
 
 fn main(rt: HostRuntime) -> ExitCode {
-    match run(&rt) {
-        Ok(()) => ExitCode::SUCCESS,
-        Err(error) => {
-            let _ = eprintln!(rt; "{error:#}");
-            ExitCode::FAILURE
-        }
-    }
+    end_of(&rt, "archive_player", run(&rt).map_err(NotDone::Work))
 }
 
 fn run(rt: &HostRuntime) -> Result<()> {

@@ -9,18 +9,13 @@ mod club;
 mod play;
 
 use anyhow::Result;
+use command_words::{NotDone, end_of};
 use play::Play;
 use std::io::{self, BufRead, BufReader, Write};
 use std::process::ExitCode;
 
 fn main(rt: HostRuntime) -> ExitCode {
-    match run(&rt) {
-        Ok(()) => ExitCode::SUCCESS,
-        Err(error) => {
-            let _ = eprintln!(rt; "{error:#}");
-            ExitCode::FAILURE
-        }
-    }
+    end_of(&rt, "desk_player", run(&rt).map_err(NotDone::Work))
 }
 
 fn run(rt: &HostRuntime) -> Result<()> {
