@@ -12,7 +12,7 @@ ghost use Rattle.chess_entry.specs.Parsed.{Parsed, parsed, bytes_of};
 ghost use Rattle.chess_entry.specs.Verdict.{while_running, in_turn, for_move, for_stated, are_times, in_game, by_side, side_of, is_full, has_offer, open_verdict, join_verdict, move_verdict, offer_verdict, accept_verdict, decline_verdict, resign_verdict, claim_verdict, flag_verdict, drop_verdict, player_verdict, verdict, is_read, IsVerdict};
 ghost use Rattle.chess_entry.specs.Table.{IsEnteredOn};
 ghost use Rattle.chess_table.specs.Entered.{OnEnter};
-ghost use Rattle.chess_table.specs.Checks.{stopped_by, opening_from};
+ghost use Rattle.chess_table.specs.Checks.{stopped_by, offered, opening_from};
 ghost use Rattle.chess_table.specs.Asked.{game_of, asked_verdict, IsAskedBy, AsksNoSeat};
 ghost use Rattle.chess_table.specs.Parsing.{IsTheStart, IsTheMove, IsTheParsed};
 
@@ -318,6 +318,28 @@ fn is_offered(game: &Game, side: Colour) -> bool
     game.offers(side.other())
 }
 
+// It does.
+fn offered(game: &Game, side: Colour) -> Option<Verdict>
+    ensures { result ≡ stopped_by (offered game.now side) }
+{
+    if is_offered(game, side) {
+        None
+    } else {
+        Some(Verdict::Refuse(Refusal::NoOffer))
+    }
+}
+
+// The game is not over, as `while_running` says, and an offer of the opponent stands.
+fn while_offered(game: &Game, side: Colour, at: u64) -> Option<Verdict>
+    requires { game.now.moment ≤ at }
+    ensures { result ≡ stopped_by (while_running game.now at ++ offered game.now side) }
+{
+    match while_running(game, at) {
+        Some(stop) => Some(stop),
+        None => offered(game, side),
+    }
+}
+
 pub(crate) fn offer_verdict(game: &Game, side: Colour, at: u64) -> Verdict
     requires { game.now.moment ≤ at }
     ensures { result ≡ offer_verdict at game.now side }
@@ -335,11 +357,8 @@ pub(crate) fn accept_verdict(game: &Game, side: Colour, at: u64) -> Verdict
     requires { game.now.moment ≤ at }
     ensures { result ≡ accept_verdict at game.now side }
 {
-    if let Some(stop) = while_running(game, at) {
+    if let Some(stop) = while_offered(game, side, at) {
         return stop;
-    }
-    if !is_offered(game, side) {
-        return Verdict::Refuse(Refusal::NoOffer);
     }
     if game.ply() < 2 {
         return Verdict::Refuse(Refusal::TooEarly);
@@ -351,13 +370,10 @@ pub(crate) fn decline_verdict(game: &Game, side: Colour, at: u64) -> Verdict
     requires { game.now.moment ≤ at }
     ensures { result ≡ decline_verdict at game.now side }
 {
-    if let Some(stop) = while_running(game, at) {
-        return stop;
+    match while_offered(game, side, at) {
+        Some(stop) => stop,
+        None => entry_verdict(game, at, Event::Decline(side)),
     }
-    if !is_offered(game, side) {
-        return Verdict::Refuse(Refusal::NoOffer);
-    }
-    entry_verdict(game, at, Event::Decline(side))
 }
 
 pub(crate) fn resign_verdict(game: &Game, side: Colour, at: u64) -> Verdict

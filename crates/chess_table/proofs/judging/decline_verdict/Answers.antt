@@ -1,36 +1,24 @@
-use Rattle.std.proofs.Common.{[], ◌∷◌, List, sym, ap, ◌∙◌}
-use Rattle.std.specs.Prelude.{not}
-use Rattle.chess_bits.specs.Man.{other}
+use Rattle.std.proofs.Common.{◌++◌, List, sym, ◌∙◌}
 use Rattle.rec_codec.specs.declared.record.Event.TheVariants as event
 use Rattle.rec_codec.specs.Records.{entry}
-use Rattle.chess_entry.specs.declared.refusals.Refusal.TheVariants.{NoOffer}
 use Rattle.chess_entry.specs.declared.verdicts.Verdict.{Verdict}
 use Rattle.chess_entry.specs.declared.verdicts.Verdict.TheVariants.{Enter}
-use Rattle.chess_entry.specs.State.{seat_of}
-use Rattle.chess_entry.specs.Verdict.{Check, refuse, while_running}
-use Rattle.chess_table.proofs.CheckLemmas.{stops, passes, applies, skipped}
+use Rattle.chess_entry.specs.Verdict.{Check, while_running}
+use Rattle.chess_table.specs.Checks.{offered}
+use Rattle.chess_table.proofs.CheckLemmas.{stops_last, passes_last}
 use Rattle.chess_table.proofs.judging.decline_verdict.Goals as goal
 
 pub returns-in-Some : goal.returns-in-Some
 returns-in-Some c =
     let game = c.args.game.now in
-    let rest : List Check = refuse (not (seat_of (other c.args.side) game).offers) NoOffer ∷ [] in
+    let checks : List Check = while_running game c.args.at ++ offered game c.args.side in
     let last : Verdict = Enter (entry game.number c.args.at (event.Decline c.args.side)) in
-    sym (stops c.while_running.result (while_running game c.args.at) rest last c.in-Some.stop c.while_running.ensures c.in-Some.is)
+    sym (stops_last c.while_offered.result checks last c.in-Some.stop c.while_offered.ensures c.in-Some.is)
 
-pub returns-then-not-is_offered : goal.returns-then-not-is_offered
-returns-then-not-is_offered c =
+pub returns-in-None : goal.returns-in-None
+returns-in-None c =
     let game = c.args.game.now in
-    let rest : List Check = refuse (not (seat_of (other c.args.side) game).offers) NoOffer ∷ [] in
+    let checks : List Check = while_running game c.args.at ++ offered game c.args.side in
     let last : Verdict = Enter (entry game.number c.args.at (event.Decline c.args.side)) in
-    sym (passes c.while_running.result (while_running game c.args.at) rest last c.while_running.ensures c.in_default.is
-    ∙ applies _ _ _ (ap not (sym c.is_offered.ensures ∙ c.if-not-is_offered.true)))
-
-pub returns : goal.returns
-returns c =
-    let game = c.args.game.now in
-    let rest : List Check = refuse (not (seat_of (other c.args.side) game).offers) NoOffer ∷ [] in
-    let last : Verdict = Enter (entry game.number c.args.at (event.Decline c.args.side)) in
-    sym (passes c.while_running.result (while_running game c.args.at) rest last c.while_running.ensures c.in_default.is
-    ∙ skipped _ _ _ (ap not (sym c.is_offered.ensures ∙ c.if-not-is_offered.false))
+    sym (passes_last c.while_offered.result checks last c.while_offered.ensures c.in-None.is
     ∙ sym c.entry_verdict.ensures)
