@@ -1,5 +1,5 @@
 // A device of which one call fails.
-ghost use Rattle.std.specs.Prelude.{◌≡◌, ◌≢◌, ◌⊎◌, ◌<◌, ◌+◌, ◌-◌, ◌↔◌, true, false, IsTrue, IsErr};
+ghost use Rattle.std.specs.Prelude.{◌≡◌, ◌≢◌, ◌⊎◌, ◌<◌, ◌+◌, ◌-◌, ◌↔◌, true, false, IsTrue, IsErr, OnOk, OnErr};
 ghost use Rattle.sector_dev.specs.Calls.{IsReadCall, IsWriteCall, IsSyncCall};
 ghost use Rattle.sector_dev.specs.Device.{IsPending, HasRisen, CountsFailure};
 
@@ -50,6 +50,22 @@ impl<D: Device> OnceDevice<D> {
     {
         self.device
     }
+
+    // Counts a call down. `Err`: it is the one that fails.
+    fn fail_if_due(&mut self) -> Result<(), DeviceFault>
+        ensures device { self.new.device ≡ self.old.device }
+        ensures counted { self.new.fails_in ≡ self.old.fails_in - 1 }
+        ensures pending { self.new.pending ≡ self.old.pending }
+        ensures due { OnErr result (self.old.fails_in ≡ 1) }
+        ensures not_due { OnOk result (self.old.fails_in ≢ 1) }
+        ensures failures { CountsFailure result self.old.failures self.new.failures }
+    {
+        if is_due(&mut self.fails_in) {
+            self.failures = self.failures.saturating_add(1);
+            return Err(DeviceFault);
+        }
+        Ok(())
+    }
 }
 
 // Whether this call is the one that fails. It counts down.
@@ -89,10 +105,7 @@ impl<D: Device> Device for OnceDevice<D> {
         ensures passes { self.old.fails_in ≢ 1
             → CountsFailure result (D.failures self.old.device) (D.failures self.new.device) }
     {
-        if is_due(&mut self.fails_in) {
-            self.failures = self.failures.saturating_add(1);
-            return Err(DeviceFault);
-        }
+        self.fail_if_due()?;
         self.device.read(at, into)
     }
 
@@ -112,14 +125,15 @@ impl<D: Device> Device for OnceDevice<D> {
         ensures passes { self.old.fails_in ≢ 1
             → CountsFailure result (D.failures self.old.device) (D.failures self.new.device) }
     {
-        if !is_due(&mut self.fails_in) {
-            return self.device.write(at, from);
+        match self.fail_if_due() {
+            Ok(()) => self.device.write(at, from),
+            Err(fault) => {
+                if self.pending {
+                    self.device.write(at, from)?;
+                }
+                Err(fault)
+            }
         }
-        self.failures = self.failures.saturating_add(1);
-        if self.pending {
-            self.device.write(at, from)?;
-        }
-        Err(DeviceFault)
     }
 
     fn sync(&mut self) -> Result<(), DeviceFault>
@@ -132,10 +146,7 @@ impl<D: Device> Device for OnceDevice<D> {
         ensures passes { self.old.fails_in ≢ 1
             → CountsFailure result (D.failures self.old.device) (D.failures self.new.device) }
     {
-        if is_due(&mut self.fails_in) {
-            self.failures = self.failures.saturating_add(1);
-            return Err(DeviceFault);
-        }
+        self.fail_if_due()?;
         self.device.sync()
     }
 }
