@@ -1,4 +1,3 @@
 pub mod Tags
 pub mod Moves
 pub mod Archived
-pub mod Results

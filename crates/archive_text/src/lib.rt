@@ -5,11 +5,9 @@ mod heading;
 mod law;
 mod lines;
 mod moves;
-mod rounds;
 mod tags;
 mod whole;
 
 pub use heading::Heading;
 pub use law::law_of_moves;
-pub use rounds::{Outcome, results};
 pub use whole::{TextFault, archived};

@@ -1,5 +1,5 @@
 //! Games of a club. How one stands in the archive is in the stored run of `archive_player`.
-use archive_text::{Heading, Outcome, TextFault, archived, results};
+use archive_text::{Heading, TextFault, archived};
 
 const CLUB: Heading<'static> = Heading {
     event: "Club",
@@ -20,29 +20,9 @@ static TEXTS: [(&str, Option<TextFault>); 3] = [
     ("*\n", None),
 ];
 
-static OUTCOMES: [Outcome<'static>; 2] = [
-    Outcome {
-        board: 1,
-        white: "Ann Lee",
-        black: "Bo \"Bob\", jr.",
-        result: "1/2-1/2",
-    },
-    Outcome {
-        board: 12,
-        white: "Eve",
-        black: "",
-        result: "1-0",
-    },
-];
-
-const RESULTS: &str =
-    "board,white,black,result\r\n1,\"Ann Lee\",\"Bo \"\"Bob\"\", jr.\",1/2-1/2\r\n12,\"Eve\",\"\",1-0\r\n";
-
 #[test]
-fn what_is_no_game_is_refused_and_results_are_told(rt: HostRuntime) {
+fn what_is_no_game_is_refused(rt: HostRuntime) {
     for (text, wanted) in &TEXTS {
         assert!(rt; archived(rt.alloc(), &CLUB, text, &[]).err() == *wanted);
     }
-    let text = results(rt.alloc(), &OUTCOMES).expect(&rt, "memory");
-    assert!(rt; text.as_slice() == RESULTS.as_bytes());
 }
