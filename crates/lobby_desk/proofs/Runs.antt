@@ -26,7 +26,7 @@ use Rattle.lobby_desk.specs.Watching.{watch_if, sit_if}
 use Rattle.lobby_desk.specs.Events.{DeskInput, Opened, Closed, Said, Hurried, Heard, Gone, Here, Renewed, Linked, MessageValue, ForItself, ForPositions, ForTable, ForGame, ForAct, Owed, Nobody, Asker, Dropper, Followers, Behind, owed_last, owed_acted, owed_some, owed_lines, sort_asker, asker, followers_of, follower, Following, is_same_game, asked_after}
 use Rattle.lobby_desk.specs.Tellings.{Known, open_now, watch_heard, watch_next, watches_now, table_heard, table_next, table_now, owed_answered, owed_now, known_now, presence, lost, AreToldAll, IsTold}
 use Rattle.lobby_desk.specs.Who.{View, BeginsView, IsSaid, IsHeard, IsDropped, IsSentFor, IsSentNext, IsSentHeard, IsDone, IsRenewed, IsLinked, IsKnown, who_noted, name_of, speaker}
-use Rattle.lobby_roster.specs.Players.{player_named, renewed}
+use Rattle.lobby_roster.specs.Players.{known_name, renewed}
 use Rattle.lobby_desk.specs.History.{Step, comes, has_come, shown_by, player_said, player_after, players_in, player_in, is_drop, name_as, name_for, name_behind, name_through, name_before, name_in, ActsUnder, ActsRight, NoActs, NoDrops, sort_asks, IsOf, open_in, known_in, IsArbiter, AsksNow, HasAsked, IsDropOf, IsNoticeOf, IsRight, AreWhole, AllRight, AllTold, IsRun}
 use Rattle.lobby_words.proofs.Numbers.{number_small}
 use Rattle.lobby_desk.proofs.Sent.{is_said_same}
@@ -276,7 +276,7 @@ named_good text s who (Some name) under said same message is =
     entered_good (as_line text ∷ notice_lines (game_named text)) text s under said (plans.ActAs who name)
     (λ named. acts_good (as_line text) name (game_named text) (named_small text) under said same (as_whole text message is) (as_acts text is) named)
 
-arbiter_good : (players : List Player) (text : List ℕ) (s : Standing) (said : Option (List ℕ)) (who : Identity) → s.named ≡ player_named players (as_name text) →
+arbiter_good : (players : List Player) (text : List ℕ) (s : Standing) (said : Option (List ℕ)) (who : Identity) → s.named ≡ known_name players (as_name text) →
     is_message text ≡ true → sort_of text ≡ sorts.As → (b : Bool) → who.is_arbiter ≡ b →
     IsNamed (if b then named_plan s who s.named else plans.Refuse refusals.NotArbiter) →
     Good (as_line text ∷ notice_lines (game_named text)) (name_for players (Some who) text) said (lines_of (if b then named_plan s who s.named else plans.Refuse refusals.NotArbiter) said text)
@@ -287,7 +287,7 @@ arbiter_good players text s said who other message is true arbiter =
     ∙ (ap (λ (b : Bool). name_as players b text) arbiter ∙ sym other)) message is
 arbiter_good players text s said who other message is false arbiter = λ named. none_good (as_line text ∷ notice_lines (game_named text)) (name_for players (Some who) text) said
 
-as_good : (players : List Player) (text : List ℕ) (s : Standing) (said : Option (List ℕ)) (who : Option Identity) → s.named ≡ player_named players (as_name text) →
+as_good : (players : List Player) (text : List ℕ) (s : Standing) (said : Option (List ℕ)) (who : Option Identity) → s.named ≡ known_name players (as_name text) →
     is_message text ≡ true → sort_of text ≡ sorts.As → IsNamed (as_plan s who) →
     Good (as_line text ∷ notice_lines (game_named text)) (name_for players who text) said (lines_of (as_plan s who) said text) (said_after (as_plan s who) said)
 as_good players text s said None other message is = λ named. none_good (as_line text ∷ notice_lines (game_named text)) None said
@@ -365,7 +365,7 @@ line_good text s under said (Some game) small named =
 
 -- each plan for a message
 plan_good : (players : List Player) (text : List ℕ) (s : Standing) (said : Option (List ℕ)) (game : Option ℕ) (m : Bool) (sort : Sort) →
-    s.named ≡ player_named players (as_name text) → is_message text ≡ m → sort_of text ≡ sort → IfSome game (λ g. g < 2 ^ 32) →
+    s.named ≡ known_name players (as_name text) → is_message text ≡ m → sort_of text ≡ sort → IfSome game (λ g. g < 2 ^ 32) →
     IsNamed (plan_of m sort s game) →
     Good (sort_asks sort (or_0 game) text) (name_for players s.who text) said (lines_of (plan_of m sort s game) said text) (said_after (plan_of m sort s game) said)
 plan_good players text s said game false sort other message is small named = none_good (sort_asks sort (or_0 game) text) (name_for players s.who text) said

@@ -7,7 +7,7 @@ use Rattle.lobby_words.specs.declared.words.Sort.TheVariants as sorts
 use Rattle.lobby_words.specs.declared.planning.Identity.{Identity}
 use Rattle.lobby_roster.specs.declared.players.Player.{Player}
 use Rattle.lobby_words.specs.Words.{rest_of, as_name, as_line, is_message, sort_of, is_act_sort, is_as_sort, is_drop_sort, is_name_sort, is_login_sort, is_link_sort, number_or_0}
-use Rattle.lobby_roster.specs.Players.{holder_of, player_named, renewed, is_token_of}
+use Rattle.lobby_roster.specs.Players.{holder_of, known_name, renewed, is_token_of}
 use Rattle.lobby_words.specs.Answers.{IsSeated, IsFirstSeated, has_empty_seat, act_game, is_whole, answer}
 use Rattle.lobby_desk.specs.Lines.{name_line, game_line, notice_lines}
 use Rattle.lobby_desk.specs.Events.{DeskInput, Opened, Closed, Said, Heard, Gone, Here, Renewed, Linked, MessageValue, ForAct, Owed, Asker, Dropper, Followers, Following, asked_after, told_as}
@@ -96,7 +96,7 @@ NoDrops lines = AllByRecursion (λ line. is_drop line ≡ false) lines
 -- The name under which the acts for a message may stand, where its connection has shown the token of this player: his own; but
 -- for `as NAME LINE` that name, where he is an arbiter and a player has it, and else none. Without a token there is none.
 abbrev pub name_as : List Player → Bool → List ℕ → Option (List ℕ)
-name_as players is_arbiter text = if is_arbiter then player_named players (as_name text) else None
+name_as players is_arbiter text = if is_arbiter then known_name players (as_name text) else None
 
 abbrev pub name_for : List Player → Option Identity → List ℕ → Option (List ℕ)
 name_for players None text = None

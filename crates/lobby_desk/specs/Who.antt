@@ -16,7 +16,7 @@ use Rattle.lobby_desk.specs.declared.watching.Watch.{Watch}
 use Rattle.lobby_desk.specs.declared.desk.Desk.{Desk}
 use Rattle.lobby_words.specs.Words.{rest_of, as_name, actor, is_message, sort_of, number_in}
 use Rattle.lobby_words.specs.Waiting.{is_open as opens_game}
-use Rattle.lobby_roster.specs.Players.{holder_of, player_named, renewed, is_token_of, login_text, players_text, present_names, who_text}
+use Rattle.lobby_roster.specs.Players.{holder_of, known_name, renewed, is_token_of, login_text, players_text, present_names, who_text}
 use Rattle.lobby_words.specs.Plans.{refusal_text, plan_of, order_of}
 use Rattle.lobby_desk.specs.Lines.{bytes_of, lines_of, act_lines, said_after, notice_lines, IsNamed}
 use Rattle.lobby_words.specs.Answers.{IsSeated, IsFirstSeated, IsSeatless, has_empty_seat, act_game, is_whole, answer}
@@ -211,8 +211,8 @@ abbrev pub standing_of : Desk → ℕ → List ℕ → Standing
 standing_of desk c text = record {
   who = who_of desk c;
   holder = holder_of desk.players.items (rest_of text);
-  named = player_named desk.players.items (as_name text);
-  linked = player_named desk.players.items (rest_of text);
+  named = known_name desk.players.items (as_name text);
+  linked = known_name desk.players.items (rest_of text);
   is_here = desk.line.is_here;
   is_full = is_full desk.watches.items c (number_in (rest_of text));
   is_crowded = crowds (known desk) (who_of desk c) text;
@@ -231,8 +231,8 @@ pub record IsSaid (players : List Player) (old : View) (c : ℕ) (text : List �
   pub standing : Standing
   pub who : standing.who ≡ old.who c
   pub holder : standing.holder ≡ holder_of players (rest_of text)
-  pub other : standing.named ≡ player_named players (as_name text)
-  pub link : standing.linked ≡ player_named players (rest_of text)
+  pub other : standing.named ≡ known_name players (as_name text)
+  pub link : standing.linked ≡ known_name players (rest_of text)
   pub here : standing.is_here ≡ old.here
   pub full : standing.is_full ≡ is_full old.known.watches c (number_in (rest_of text))
   pub crowded : standing.is_crowded ≡ crowds old.known (old.who c) text
@@ -339,7 +339,7 @@ pub record IsRenewed (players : List Player) (old : View) (later : List Player) 
 pub record IsLinked (players : List Player) (old : View) (c : ℕ) (text : List ℕ) (later : List Player) (token : List ℕ) (lines : List (List ℕ)) (new : View) : Type 0 where
   pub standing : Standing
   pub who : standing.who ≡ old.who c
-  pub link : standing.linked ≡ player_named players (rest_of text)
+  pub link : standing.linked ≡ known_name players (rest_of text)
   pub order : Order
   pub planned : plan_of (is_message text) (sort_of text) standing (number_in (rest_of text)) ≡ plans.Order order
   pub holds : is_token_of later token (rest_of text) ≡ true

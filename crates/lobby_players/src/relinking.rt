@@ -11,7 +11,7 @@ use crate::adding::{Addition, text_with};
 use crate::faults::LinkFault;
 use crate::reading::{has_sum, read_text, text_of};
 use crate::token::token_text;
-use lobby_roster::{Linked, Player, named};
+use lobby_roster::{Linked, Player, player_by_name};
 use rec_codec::Name;
 use sha2::{Digest, Sha256};
 use std::alloc::{AllocError, Global};
@@ -115,7 +115,7 @@ pub fn relinked(
         Ok(players) => players,
         Err(fault) => return Err(LinkFault::File(fault)),
     };
-    let Some(player) = named(before.as_slice(), name.as_str()) else {
+    let Some(player) = player_by_name(before.as_slice(), name.as_str()) else {
         return Err(LinkFault::NoPlayer);
     };
     let shown = token_text(alloc, token)?;

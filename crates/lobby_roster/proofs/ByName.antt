@@ -6,7 +6,7 @@ use Rattle.std.specs.Str.{bytes_eq}
 use Rattle.std.proofs.lemmas.Bool.{false≢true}
 use Rattle.std.proofs.lemmas.Slice.Eq.{bytes_eq-Decides}
 use Rattle.lobby_roster.specs.declared.players.Player.{Player}
-use Rattle.lobby_roster.specs.Players.{player_named}
+use Rattle.lobby_roster.specs.Players.{known_name}
 
 abbrev pub has_name : List ℕ → Player → Bool
 has_name name player = bytes_eq player.name name
@@ -15,13 +15,13 @@ abbrev pub name_found : Option Player → Option (List ℕ)
 name_found found = option_map (λ (player : Player). player.name) found
 
 named_at : (name : List ℕ) (x : Player) (xs : List Player) (b : Bool) → has_name name x ≡ b →
-    name_found (find (has_name name) xs) ≡ player_named xs name →
+    name_found (find (has_name name) xs) ≡ known_name xs name →
     name_found (cond b (Some x) (find (has_name name) xs)) ≡ (if b || list_any (has_name name) xs then Some name else None)
 named_at name x xs true is h = ap Some ((bytes_eq-Decides x.name name).0 is)
 named_at name x xs false is h = h
 
 -- the name of the first player who has it is this name
-pub found_named : (players : List Player) (name : List ℕ) → name_found (find (has_name name) players) ≡ player_named players name
+pub found_named : (players : List Player) (name : List ℕ) → name_found (find (has_name name) players) ≡ known_name players name
 found_named [] name = refl
 found_named (x ∷ xs) name = named_at name x xs (has_name name x) refl (found_named xs name)
 
@@ -34,5 +34,5 @@ same_name name other true is = ap (or_name name) is
 same_name name other false is = absurd (false≢true (ap is_some is))
 
 -- who is found by a name has it
-pub named_is : (players : List Player) (name other : List ℕ) → player_named players name ≡ Some other → name ≡ other
+pub named_is : (players : List Player) (name other : List ℕ) → known_name players name ≡ Some other → name ≡ other
 named_is players name other is = same_name name other (list_any (has_name name) players) is

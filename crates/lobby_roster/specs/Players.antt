@@ -38,8 +38,8 @@ renewed old new None = None
 renewed old new (Some who) = goes_on (first_named old who.name) (first_named new who.name)
 
 -- this name, where a player has it
-abbrev pub player_named : List Player → List ℕ → Option (List ℕ)
-player_named players name = if list_any (λ player. bytes_eq player.name name) players then Some name else None
+abbrev pub known_name : List Player → List ℕ → Option (List ℕ)
+known_name players name = if list_any (λ player. bytes_eq player.name name) players then Some name else None
 
 -- a player as he is told: name, role and full name
 abbrev pub role_text : Bool → List ℕ

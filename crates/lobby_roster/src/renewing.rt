@@ -4,7 +4,7 @@ ghost use Rattle.std.specs.Option.{option_copied};
 ghost use Rattle.lobby_roster.specs.Players.{goes_on, renewed};
 
 use crate::players::{Player, is_same_sum};
-use crate::rows::named;
+use crate::rows::player_by_name;
 use lobby_words::Identity;
 
 // For whom a connection acts on that acted for a player of one list, where the other list has a player of the name.
@@ -37,8 +37,8 @@ pub fn renewed(before: &[Player], later: &[Player], who: Option<Identity>) -> Op
         None => None,
         Some(who) => {
             let name = who.name.as_str();
-            let old = named(before, name);
-            let new = named(later, name);
+            let old = player_by_name(before, name);
+            let new = player_by_name(later, name);
             goes_on(old, new)
         }
     }

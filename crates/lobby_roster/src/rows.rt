@@ -5,7 +5,7 @@ ghost use Rattle.std.specs.Option.{option_copied};
 ghost use Rattle.std.specs.Str.{bytes_eq};
 ghost use Rattle.std.specs.String.{string_bytes};
 ghost use Rattle.lobby_words.specs.Answers.{ended};
-ghost use Rattle.lobby_roster.specs.Players.{role_text, player_row, row_of, player_named, full_name_of, login_text, players_text, who_front, who_text};
+ghost use Rattle.lobby_roster.specs.Players.{role_text, player_row, row_of, known_name, full_name_of, login_text, players_text, who_front, who_text};
 
 use crate::players::Player;
 use itoa::Buffer;
@@ -48,17 +48,17 @@ fn push_player(text: &mut String, player: &Player) -> Result<(), AllocError>
 }
 
 /// The first player of a name; `None` where nobody has it.
-pub fn named<'a>(players: &'a [Player], name: &str) -> Option<&'a Player>
+pub fn player_by_name<'a>(players: &'a [Player], name: &str) -> Option<&'a Player>
     ensures { option_copied result ≡ find (λ player. bytes_eq player.name name.now) players.now }
 {
     players.iter().find(|player| player.name.as_str() == name)
 }
 
 /// A name, where a player has it.
-pub fn player_named(players: &[Player], name: &str) -> Option<Name>
-    ensures { result ≡ player_named players.now name.now }
+pub fn known_name(players: &[Player], name: &str) -> Option<Name>
+    ensures { result ≡ known_name players.now name.now }
 {
-    match named(players, name) {
+    match player_by_name(players, name) {
         None => None,
         Some(player) => Some(player.name),
     }
@@ -68,7 +68,7 @@ pub fn player_named(players: &[Player], name: &str) -> Option<Name>
 fn full_name_of<'a>(players: &'a [Player], name: &str) -> &'a str
     ensures { result.now ≡ full_name_of players.now name.now }
 {
-    match named(players, name) {
+    match player_by_name(players, name) {
         None => "",
         Some(player) => player.full_name.as_str(),
     }

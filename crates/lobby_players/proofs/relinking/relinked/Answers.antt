@@ -20,7 +20,7 @@ returns-in_default-clause-fault c =
       before = subst (λ (t : List ℕ). IsFileOf t (entries_of before)) c.in-Ok.ensures.text c.in-Ok-read_text.ensures.players;
       none = nobody c.args.name.now before
           (ap (λ (ps : List Player). find (named c.args.name.now) ps) (sym c.as_slice.ensures.value)
-          ∙ (ap (λ (n : List ℕ). find (named n) c.as_slice.result.now) (sym c.as_str.ensures.text) ∙ (sym c.named.ensures ∙ ap option_copied c.in_default.is)));
+          ∙ (ap (λ (n : List ℕ). find (named n) c.as_slice.result.now) (sym c.as_str.ensures.text) ∙ (sym c.player_by_name.ensures ∙ ap option_copied c.in_default.is)));
     }
 
 pub returns-then-has_sum-clause-fault : goal.returns-then-has_sum-clause-fault
@@ -44,7 +44,7 @@ returns-clause-file c =
     file_relinked name sum c.args.text.now (string_bytes c.in_ok-new.new) p before c.in_ok-players.players.items
     (subst (λ (t : List ℕ). IsFileOf t (entries_of before)) c.in-Ok.ensures.text c.in-Ok-read_text.ensures.players)
     (ap (λ (ps : List Player). find (named name) ps) (sym c.as_slice.ensures.value)
-    ∙ (ap (λ (n : List ℕ). find (named n) c.as_slice.result.now) (sym c.as_str.ensures.text) ∙ (sym c.named.ensures ∙ ap option_copied c.in-Some.is)))
+    ∙ (ap (λ (n : List ℕ). find (named n) c.as_slice.result.now) (sym c.as_str.ensures.text) ∙ (sym c.player_by_name.ensures ∙ ap option_copied c.in-Some.is)))
     (any_of (has_sum sum) c.has_sum.result false c.as_slice-2.result.now before c.has_sum.ensures c.as_slice-2.ensures.value c.if-has_sum.false)
     c.in_ok-new.ensures.digits
     (subst (λ (ps : List Player). AreWithSum name sum ps c.in_ok-players.players.items) c.as_slice-3.ensures.value c.in_ok-players.ensures)
@@ -58,6 +58,6 @@ returns-clause-players c =
     players_relinked name (string_bytes c.in_ok-shown.shown) sum c.in-Some.player.now before c.in_ok-players.players.items
     (c.digest-sum.ensures ∙ ap sha256 c.as_str-2.ensures.value)
     (ap (λ (ps : List Player). find (named name) ps) (sym c.as_slice.ensures.value)
-    ∙ (ap (λ (n : List ℕ). find (named n) c.as_slice.result.now) (sym c.as_str.ensures.text) ∙ (sym c.named.ensures ∙ ap option_copied c.in-Some.is)))
+    ∙ (ap (λ (n : List ℕ). find (named n) c.as_slice.result.now) (sym c.as_str.ensures.text) ∙ (sym c.player_by_name.ensures ∙ ap option_copied c.in-Some.is)))
     (any_of (has_sum sum) c.has_sum.result false c.as_slice-2.result.now before c.has_sum.ensures c.as_slice-2.ensures.value c.if-has_sum.false)
     (subst (λ (ps : List Player). AreWithSum name sum ps c.in_ok-players.players.items) c.as_slice-3.ensures.value c.in_ok-players.ensures)

@@ -11,8 +11,8 @@ returns-in-Some c =
     let before = c.args.before.now in
     let later = c.args.later.now in
     c.goes_on.ensures
-    ∙ (ap (λ (o : Option Player). goes_on o (option_copied c.named-new.result))
-    (c.named-old.ensures ∙ ap (λ (n : List ℕ). first_named before n) c.as_str-name.ensures.text)
+    ∙ (ap (λ (o : Option Player). goes_on o (option_copied c.player_by_name-new.result))
+    (c.player_by_name-old.ensures ∙ ap (λ (n : List ℕ). first_named before n) c.as_str-name.ensures.text)
     ∙ (ap (λ (o : Option Player). goes_on (first_named before who.name) o)
-    (c.named-new.ensures ∙ ap (λ (n : List ℕ). first_named later n) c.as_str-name.ensures.text)
+    (c.player_by_name-new.ensures ∙ ap (λ (n : List ℕ). first_named later n) c.as_str-name.ensures.text)
     ∙ ap (λ (w : Option Identity). renewed before later w) (sym c.in-Some.is)))
