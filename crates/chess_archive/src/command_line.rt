@@ -2,7 +2,9 @@
 use archive_text::Heading;
 use clap::error::ErrorKind;
 use clap::{ArgMatches, Command, Error};
-use option_tables::{OptionText, OptionValue, WordText, command_line, read_by, read_or_fault};
+use option_tables::{
+    OptionText, OptionValue, SERVER, WordText, command_line, read_by, read_or_fault,
+};
 use pgn_tags::is_date;
 use std::alloc::{AllocError, Global};
 use std::net::SocketAddr;
@@ -119,13 +121,6 @@ pub struct Living<'a> {
     /// The date, where it is given.
     pub date: Option<&'a str>,
 }
-
-const SERVER: OptionText = OptionText {
-    name: "server",
-    value: OptionValue::Text("A:P"),
-    help: "Where the game server listens",
-    is_required: true,
-};
 
 const ARCHIVE: OptionText = OptionText {
     name: "archive",

@@ -1,6 +1,8 @@
 //! The words of the command line, with the texts of their help.
 use clap::{ArgMatches, Command, Error};
-use option_tables::{OptionText, OptionValue, WordText, command_line, read_by, read_or_fault};
+use option_tables::{
+    OptionText, OptionValue, SERVER, WordText, command_line, read_by, read_or_fault,
+};
 use std::alloc::{AllocError, Global};
 use std::net::{IpAddr, Ipv4Addr, SocketAddr};
 
@@ -112,13 +114,6 @@ const PLAYERS: OptionText = OptionText {
     name: "players",
     value: OptionValue::Text("FILE"),
     help: "The players' file",
-    is_required: true,
-};
-
-const SERVER: OptionText = OptionText {
-    name: "server",
-    value: OptionValue::Text("A:P"),
-    help: "Where the game server listens",
     is_required: true,
 };
 

@@ -4,5 +4,5 @@
 mod options;
 mod reading;
 
-pub use options::{OptionText, OptionValue, WordText, arguments, command_line};
+pub use options::{OptionText, OptionValue, SERVER, WordText, arguments, command_line};
 pub use reading::{read_by, read_or_fault};

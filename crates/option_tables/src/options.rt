@@ -28,6 +28,14 @@ pub struct OptionText {
     pub is_required: bool,
 }
 
+/// `--server A:P`, of a program that plays on a game server.
+pub const SERVER: OptionText = OptionText {
+    name: "server",
+    value: OptionValue::Text("A:P"),
+    help: "Where the game server listens",
+    is_required: true,
+};
+
 /// A word of a program, with its options in the order in which help lists them.
 #[derive(Clone, Copy)]
 pub struct WordText {
