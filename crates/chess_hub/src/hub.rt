@@ -40,7 +40,7 @@ fn counted(refusals: u64, fault: HubFault) -> u64
     }
 }
 
-// Submits commands, at most 64, and counts it where memory was refused; without one the store is not called.
+// Submits commands, at most 64; without one the store is not called. A refusal of memory is counted.
 fn ask<D: Device>(
     alloc: Global,
     store: &mut Store<D>,
@@ -77,13 +77,14 @@ fn ask<D: Device>(
     }
 }
 
-// What a turn takes of the sessions: lines that wait, with their commands, and room for their answers.
+// What a turn takes of the sessions: lines that wait, with their commands.
 #[derive(Drop)]
 struct Gathered {
     taken: Vec<Taken>,
     commands: Vec<Command>,
 }
 
+// Takes lines that wait, at most so many, and makes room for their answers.
 fn gather(sessions: &mut Sessions, at: u64, most: usize) -> Result<Gathered, AllocError>
     ensures lines { IfOk result (λ g. AreTakenAs (turn_lines most (waiting_of sessions.old)) g.taken.items) }
     ensures commands { IfOk result (λ g.

@@ -186,8 +186,8 @@ impl ServerLine {
         self.send(word, buffer.format(game), due, wire)
     }
 
-    #[tactic(auto, using(crate::proofs::Sent::one_line, crate::proofs::Sent::is_said_same))]
     // Says a name, where another was said last.
+    #[tactic(auto, using(crate::proofs::Sent::one_line, crate::proofs::Sent::is_said_same))]
     fn say_name(&mut self, name: Name, wire: &mut Vec<u8>) -> Result<(), AllocError>
         ensures sent { OnOk result (wire.new.items ≡ wire.old.items ++ bytes_of (name_lines self.old.said name)) }
         ensures owed { OnOk result (map owed_of self.new.queue.items ≡ map owed_of self.old.queue.items ++ owed_last Nobody (name_lines self.old.said name)) }
@@ -204,8 +204,8 @@ impl ServerLine {
         Ok(())
     }
 
-    #[tactic(auto, using(crate::proofs::Sent::two_lines))]
     /// Asks how a game stands, by two lines: the answer to the second is due so.
+    #[tactic(auto, using(crate::proofs::Sent::two_lines))]
     pub fn ask_standing(
         &mut self,
         game: u32,

@@ -104,7 +104,7 @@ fn meetings_of<R: Files + AllocGlobal>(
 }
 
 // The same, where a fault names the file of the pairings.
-fn meetings_told<R: Files + AllocGlobal>(
+fn meetings_with_context<R: Files + AllocGlobal>(
     rt: &R,
     round: Round<'_>,
     players: &[&Player],
@@ -136,7 +136,7 @@ fn rounds_of<R: Files + AllocGlobal>(
 ) -> Result<Vec<Vec<Meeting>>> {
     let mut met = Vec::new(rt.alloc());
     for round in rounds {
-        met.push(meetings_told(rt, *round, players, outcomes)?)?;
+        met.push(meetings_with_context(rt, *round, players, outcomes)?)?;
     }
     Ok(met)
 }
@@ -148,7 +148,8 @@ struct Met {
     has_halves: bool,
 }
 
-// What was met in the rounds, by what came of their games; it is told what is to be told of boards. It fails where a board's game is of others than its players.
+// What was met in the rounds, by what came of their games; it is told what is to be told of boards. It fails where a board's
+// game is of others than its players.
 fn met_by<R>(
     rt: &R,
     reporting: &Reporting<'_>,
