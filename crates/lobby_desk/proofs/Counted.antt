@@ -6,7 +6,7 @@ use Rattle.std.proofs.lemmas.Bool.Decides.{Decides-eqb}
 use Rattle.lobby_words.specs.Answers.{act_game, is_whole, is_table_act, answer}
 use Rattle.lobby_roster.specs.declared.players.Player.{Player}
 use Rattle.lobby_desk.specs.declared.refusals.Refused.{Refused}
-use Rattle.lobby_desk.specs.Events.{DeskInput, Opened, Closed, Said, Hurried, Heard, Gone, Here, Renewed, Linked, ForItself, ForPositions, ForTable, ForGame, ForAct, Owed, Nobody, Asker, Dropper, Followers, Behind}
+use Rattle.lobby_desk.specs.Events.{DeskInput, Opened, Closed, Said, Hurried, Heard, ServerTurned, Renewed, Linked, ForItself, ForPositions, ForTable, ForGame, ForAct, Owed, Nobody, Asker, Dropper, Followers, Behind}
 use Rattle.lobby_desk.specs.Refusals.{is_act_accepted, is_refusal, game_named, refused_game, count_in, count_of, without, cleared, one_more}
 use Rattle.lobby_desk.specs.Tellings.{Known, is_number, refused_heard, refused_next, refused_now}
 use Rattle.lobby_desk.specs.History.{Step, known_in, Acted, acted_for, acted_next, acted_now, acted_in, refuses, since, refused_since}
@@ -155,8 +155,7 @@ now_counted (Heard line) k acts h =
     ]
 now_counted (Renewed later) k acts h = h
 now_counted (Linked c text later token) k acts h = h
-now_counted Gone k acts h = h
-now_counted Here k acts h = h
+now_counted (ServerTurned is_here) k acts h = h
 
 are_counted : (players : List Player) (past : List Step) → AreCounted (known_in players past).refused (acted_in players past)
 are_counted players [] = λ game. refl

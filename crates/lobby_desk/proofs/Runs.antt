@@ -23,7 +23,7 @@ use Rattle.lobby_desk.specs.Lines.{lines_of, act_lines, said_after, name_line, g
 use Rattle.lobby_words.specs.Answers.{is_accepted, first_line, act_game, is_whole, answer}
 use Rattle.lobby_desk.specs.Refusals.{game_named}
 use Rattle.lobby_desk.specs.Watching.{watch_if, sit_if}
-use Rattle.lobby_desk.specs.Events.{DeskInput, Opened, Closed, Said, Hurried, Heard, Gone, Here, Renewed, Linked, MessageValue, ForItself, ForPositions, ForTable, ForGame, ForAct, Owed, Nobody, Asker, Dropper, Followers, Behind, owed_last, owed_acted, owed_some, owed_lines, sort_asker, asker, followers_of, follower, Following, is_same_game, asked_after}
+use Rattle.lobby_desk.specs.Events.{DeskInput, Opened, Closed, Said, Hurried, Heard, ServerTurned, Renewed, Linked, MessageValue, ForItself, ForPositions, ForTable, ForGame, ForAct, Owed, Nobody, Asker, Dropper, Followers, Behind, owed_last, owed_acted, owed_some, owed_lines, sort_asker, asker, followers_of, follower, Following, is_same_game, asked_after}
 use Rattle.lobby_desk.specs.Tellings.{Known, open_now, watch_heard, watch_next, watches_now, table_heard, table_next, table_now, owed_answered, owed_now, known_now, presence, lost, AreToldAll, IsTold}
 use Rattle.lobby_desk.specs.Who.{View, BeginsView, IsSaid, IsHeard, IsDropped, IsSentFor, IsSentNext, IsSentHeard, IsDone, IsRenewed, IsLinked, IsKnown, who_noted, name_of, speaker}
 use Rattle.lobby_roster.specs.Players.{known_name, renewed}
@@ -462,8 +462,7 @@ watches_alike (Heard line) f g same k =
     ap (λ (watches : List Watch). if is_whole k.left line then watches else k.watches) (watch_next_alike f g same k.last k.owed k.watches)
 watches_alike (Renewed later) f g same k = refl
 watches_alike (Linked c text later token) f g same k = refl
-watches_alike Gone f g same k = refl
-watches_alike Here f g same k = refl
+watches_alike (ServerTurned is_here) f g same k = refl
 
 -- and so does who is told of the table
 table_alike : (f g : ℕ → Bool) → ((c : ℕ) → f c ≡ g c) → (o : Owed) (table : List ℕ) → table_heard f o table ≡ table_heard g o table
@@ -490,8 +489,7 @@ tables_alike (Heard line) f g same k =
     ap (λ (table : List ℕ). if is_whole k.left line then table else k.table) (table_next_alike f g same k.owed k.table)
 tables_alike (Renewed later) f g same k = refl
 tables_alike (Linked c text later token) f g same k = refl
-tables_alike Gone f g same k = refl
-tables_alike Here f g same k = refl
+tables_alike (ServerTurned is_here) f g same k = refl
 
 known_alike : (event : DeskInput) (by : List ℕ) (lines : List (List ℕ)) (f g : ℕ → Bool) → ((c : ℕ) → f c ≡ g c) → (k : Known) →
     known_now event by lines f k ≡ known_now event by lines g k
@@ -514,8 +512,7 @@ speaker_alike f g same (Hurried c) = refl
 speaker_alike f g same (Heard line) = refl
 speaker_alike f g same (Renewed later) = refl
 speaker_alike f g same (Linked c text later token) = refl
-speaker_alike f g same Gone = refl
-speaker_alike f g same Here = refl
+speaker_alike f g same (ServerTurned is_here) = refl
 
 -- what connections are told is right by what the past says
 all_alike : (f g : ℕ → Bool) → ((c : ℕ) → f c ≡ g c) → (first : List MessageValue) (text : List ℕ) (tells : List MessageValue) →
@@ -531,8 +528,7 @@ told_alike (Hurried c) lines tells f g same k h = (sym (same c) ∙ h.0, h.1, h.
 told_alike (Heard line) lines tells f g same k h = h
 told_alike (Renewed later) lines tells f g same k h = h
 told_alike (Linked c text later token) lines tells f g same k h = (sym (same c) ∙ h.0, h.1, h.2)
-told_alike Gone lines tells f g same k h = all_alike f g same (lost k.owed) (presence false) tells h
-told_alike Here lines tells f g same k h = all_alike f g same (lost k.owed) (presence true) tells h
+told_alike (ServerTurned is_here) lines tells f g same k h = all_alike f g same (lost k.owed) (presence is_here) tells h
 
 -- each drop that waits was asked for
 abbrev pub IsAsked : List Player → List Step → Owed → Type 0
@@ -782,8 +778,7 @@ asked_now players past (Hurried d) c text h = absurd h
 asked_now players past (Heard line) c text h = absurd h
 asked_now players past (Renewed later) c text h = absurd h
 asked_now players past (Linked d said later token) c text h = absurd h
-asked_now players past Gone c text h = absurd h
-asked_now players past Here c text h = absurd h
+asked_now players past (ServerTurned is_here) c text h = absurd h
 
 was_asked : (players : List Player) (past : List Step) (c : ℕ) (text : List ℕ) → HasAsked players past c text → WasAsked text
 was_asked players [] c text h = absurd h
@@ -900,8 +895,7 @@ came_then players past old (Hurried d) lines tells now agrees step c h = subst (
 came_then players past old (Heard line) lines tells now agrees step c h = subst (λ (n : ℕ). c < n) (sym step.next_is) (agrees.came c h)
 came_then players past old (Renewed later) lines tells now agrees step c h = subst (λ (n : ℕ). c < n) (sym step.next_is) (agrees.came c h)
 came_then players past old (Linked d text later token) lines tells now agrees step c h = subst (λ (n : ℕ). c < n) (sym step.renews.next_is) (agrees.came c h)
-came_then players past old Gone lines tells now agrees step c h = subst (λ (n : ℕ). c < n) (sym step.next_is) (agrees.came c h)
-came_then players past old Here lines tells now agrees step c h = subst (λ (n : ℕ). c < n) (sym step.next_is) (agrees.came c h)
+came_then players past old (ServerTurned is_here) lines tells now agrees step c h = subst (λ (n : ℕ). c < n) (sym step.next_is) (agrees.came c h)
 
 none_done : (players : List Player) (past : List Step) (event : DeskInput) (lines : List (List ℕ)) (now : View) →
     (lines ≡ [] → IsRight players past event lines) → lines ≡ [] → now.said ≡ name_before event (name_in past) →
@@ -965,10 +959,8 @@ done_good players past old (Linked c text later token) lines tells now agrees st
     (λ none. (none, subst IsArbiter (step.who ∙ agrees.who c) orders.arbiter, orders.message, orders.sort_is, step.holds))
     step.renews.none (step.renews.said_is ∙ agrees.said)
     (λ d. renewed_who players past old later lines now agrees step.renews d)
-done_good players past old Gone lines tells now agrees step =
-    none_done players past Gone lines now (λ none. none) step.none step.said_is (λ d. step.who_is d ∙ agrees.who d)
-done_good players past old Here lines tells now agrees step =
-    none_done players past Here lines now (λ none. none) step.none step.said_is (λ d. step.who_is d ∙ agrees.who d)
+done_good players past old (ServerTurned is_here) lines tells now agrees step =
+    none_done players past (ServerTurned is_here) lines now (λ none. none) step.none step.said_is (λ d. step.who_is d ∙ agrees.who d)
 
 -- each drop that waits then was asked for
 asked_then : (players : List Player) (past : List Step) (old : View) (event : DeskInput) (lines : List (List ℕ)) (tells : List MessageValue) (now : View) →
@@ -988,8 +980,7 @@ asked_then players past old (Heard line) lines tells now agrees step =
     (is_whole old.known.left line)
 asked_then players past old (Renewed later) lines tells now agrees step = are_asked_later players (record { event = Renewed later; lines = lines; tells = tells }) past old.known.owed agrees.asked
 asked_then players past old (Linked c text later token) lines tells now agrees step = are_asked_later players (record { event = Linked c text later token; lines = lines; tells = tells }) past old.known.owed agrees.asked
-asked_then players past old Gone lines tells now agrees step = tt
-asked_then players past old Here lines tells now agrees step = tt
+asked_then players past old (ServerTurned is_here) lines tells now agrees step = tt
 
 begins_known : (players : List Player) (is_paused : Bool) (now : View) → BeginsView is_paused now → now.known ≡ known_in players []
 begins_known players is_paused now begins =

@@ -1,5 +1,5 @@
 -- What comes in and what goes out.
-use Rattle.std.specs.Prelude.{ℕ, Bool, false, ◌==◌, if◌then◌else◌, List, [], ◌∷◌, ◌++◌, codes, map, Option, None, Some}
+use Rattle.std.specs.Prelude.{ℕ, Bool, true, false, ◌==◌, if◌then◌else◌, List, [], ◌∷◌, ◌++◌, codes, map, Option, None, Some}
 use Rattle.std.specs.String.{string_bytes}
 use Rattle.lobby_desk.specs.declared.telling.Kind.{Kind}
 use Rattle.lobby_desk.specs.declared.telling.Kind.TheVariants as kinds
@@ -24,10 +24,16 @@ pub data DeskInput : Type 0 where
   Said : (c : ℕ) → (text : List ℕ) → DeskInput
   Hurried : (c : ℕ) → DeskInput
   Heard : (line : List ℕ) → DeskInput
-  Gone : DeskInput
-  Here : DeskInput
+  ServerTurned : (is_here : Bool) → DeskInput
   Renewed : (players : List Player) → DeskInput
   Linked : (c : ℕ) → (text : List ℕ) → (players : List Player) → (token : List ℕ) → DeskInput
+
+-- the server is gone, and is there again
+abbrev pub Gone : DeskInput
+Gone = ServerTurned false
+
+abbrev pub Here : DeskInput
+Here = ServerTurned true
 
 -- a message to connections, and what is still to be done with it
 pub record MessageValue : Type 0 where

@@ -10,7 +10,7 @@ use Rattle.lobby_words.specs.Words.{rest_of, as_name, as_line, is_message, sort_
 use Rattle.lobby_roster.specs.Players.{holder_of, known_name, renewed, is_token_of}
 use Rattle.lobby_words.specs.Answers.{IsSeated, IsFirstSeated, has_empty_seat, act_game, is_whole, answer}
 use Rattle.lobby_desk.specs.Lines.{name_line, game_line, notice_lines}
-use Rattle.lobby_desk.specs.Events.{DeskInput, Opened, Closed, Said, Heard, Gone, Here, Renewed, Linked, MessageValue, ForAct, Owed, Asker, Dropper, Followers, Following, asked_after, told_as}
+use Rattle.lobby_desk.specs.Events.{DeskInput, Opened, Closed, Said, Heard, ServerTurned, Renewed, Linked, MessageValue, ForAct, Owed, Asker, Dropper, Followers, Following, asked_after, told_as}
 use Rattle.lobby_desk.specs.Refusals.{is_act_accepted, game_named, refused_game}
 use Rattle.lobby_desk.specs.Logging.{act_logged, is_of_act, one_if, log_texts}
 use Rattle.lobby_desk.specs.Tellings.{Known, known_now, open_now, is_number, IsTold}
@@ -73,8 +73,7 @@ name_through said (line ∷ lines) = name_through (name_behind said line) lines
 
 -- no name holds on a new connection to the server
 abbrev pub name_before : DeskInput → Option (List ℕ) → Option (List ℕ)
-name_before Gone said = None
-name_before Here said = None
+name_before (ServerTurned is_here) said = None
 name_before _ said = said
 
 -- the name that holds at the server behind all lines that went to it

@@ -11,7 +11,7 @@ use Rattle.lobby_words.specs.declared.refusals.Refusal.TheVariants as refusals
 use Rattle.lobby_words.specs.Plans.{refusal_text}
 use Rattle.lobby_words.specs.Answers.{left_after, is_whole, answer, is_accepted, is_over, act_game}
 use Rattle.lobby_desk.specs.Watching.{at_table, watch_if, sit_if, unwatched, none_watched, risen, followers}
-use Rattle.lobby_desk.specs.Events.{DeskInput, Opened, Closed, Said, Hurried, Heard, Gone, Here, Renewed, Linked, MessageValue, to_one, to_one_as, Ask, ForPositions, ForGame, ForTable, ForAct, Owed, Nobody, Asker, Dropper, Followers, Behind, owed_lines, asker, follower, Following, follows_heard, told_as}
+use Rattle.lobby_desk.specs.Events.{DeskInput, Opened, Closed, Said, Hurried, Heard, ServerTurned, Renewed, Linked, MessageValue, to_one, to_one_as, Ask, ForPositions, ForGame, ForTable, ForAct, Owed, Nobody, Asker, Dropper, Followers, Behind, owed_lines, asker, follower, Following, follows_heard, told_as}
 use Rattle.lobby_desk.specs.Logging.{logged_for, logged_standing}
 use Rattle.lobby_desk.specs.Waiting.{waiting_told, waiting_listed}
 use Rattle.lobby_desk.specs.Refusals.{refused_told}
@@ -123,8 +123,7 @@ follows_next (o ∷ owed) now follows = follows_heard o now follows
 
 abbrev pub follows_now : DeskInput → Known → Option Following
 follows_now (Heard line) k = if is_whole k.left line then follows_next k.owed (answer k.begun line) k.follows else k.follows
-follows_now Gone k = None
-follows_now Here k = None
+follows_now (ServerTurned is_here) k = None
 follows_now _ k = k.follows
 
 -- the first of them is answered so, and these lines go out for it
@@ -136,20 +135,17 @@ owed_answered (o ∷ owed) now lines = owed ++ owed_lines (follower o now) lines
 abbrev pub owed_now : DeskInput → List ℕ → List (List ℕ) → Known → List Owed
 owed_now (Said c text) by lines k = k.owed ++ owed_lines (asker c by text) lines
 owed_now (Heard line) by lines k = if is_whole k.left line then owed_answered k.owed (answer k.begun line) lines else k.owed
-owed_now Gone by lines k = []
-owed_now Here by lines k = []
+owed_now (ServerTurned is_here) by lines k = []
 owed_now _ by lines k = k.owed
 
 abbrev pub left_now : DeskInput → Known → ℕ
 left_now (Heard line) k = left_after k.left line
-left_now Gone k = 0
-left_now Here k = 0
+left_now (ServerTurned is_here) k = 0
 left_now _ k = k.left
 
 abbrev pub begun_now : DeskInput → Known → List ℕ
 begun_now (Heard line) k = if is_whole k.left line then [] else answer k.begun line
-begun_now Gone k = []
-begun_now Here k = []
+begun_now (ServerTurned is_here) k = []
 begun_now _ k = k.begun
 
 abbrev pub last_now : DeskInput → Known → List ℕ
@@ -287,5 +283,4 @@ IsTold (Heard line) lines tells is_open k = IsToldHeard (is_whole k.left line) k
 IsTold (Renewed players) lines tells is_open k = tells ≡ []
 IsTold (Linked c text players token) lines tells is_open k =
     (is_open c ≡ true) × (owes k.owed c ≡ false) × (tells ≡ to_one c (linked_text text token) ∷ [])
-IsTold Gone lines tells is_open k = AreToldAll is_open (lost k.owed) (presence false) tells
-IsTold Here lines tells is_open k = AreToldAll is_open (lost k.owed) (presence true) tells
+IsTold (ServerTurned is_here) lines tells is_open k = AreToldAll is_open (lost k.owed) (presence is_here) tells

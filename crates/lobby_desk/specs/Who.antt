@@ -25,7 +25,7 @@ use Rattle.lobby_desk.specs.Refusals.{game_named}
 use Rattle.lobby_desk.specs.Waiting.{is_crowded}
 use Rattle.lobby_desk.specs.Pace.{is_too_fast}
 pub use Rattle.lobby_desk.specs.Watching.{at_table}
-use Rattle.lobby_desk.specs.Events.{DeskInput, Opened, Closed, Said, Hurried, Heard, Gone, Here, Renewed, Linked, MessageValue, to_one, ForAct, Owed, Asker, Dropper, owed_of, owed_lines, plan_asker, follower, following, asked_after, follows_heard, told_as}
+use Rattle.lobby_desk.specs.Events.{DeskInput, Opened, Closed, Said, Hurried, Heard, ServerTurned, Renewed, Linked, MessageValue, to_one, ForAct, Owed, Asker, Dropper, owed_of, owed_lines, plan_asker, follower, following, asked_after, follows_heard, told_as}
 use Rattle.lobby_desk.specs.Tellings.{Known, open_now, watch_heard, watch_next, table_heard, table_next, watches_now, table_now, waiting_heard, waiting_next, waiting_now, refused_heard, refused_next, refused_now, follows_next, follows_now, owed_now, left_now, begun_now, last_now, owed_answered, owes, presence, IsTold, IsToldFor, IsToldNext}
 
 -- the player for whom a connection acts
@@ -354,8 +354,7 @@ IsDone players old (Hurried c) lines tells new = IsHurried old lines new
 IsDone players old (Heard line) lines tells new = IsHeard old line lines new
 IsDone players old (Renewed later) lines tells new = IsRenewed players old later lines new
 IsDone players old (Linked c text later token) lines tells new = IsLinked players old c text later token lines new
-IsDone players old Gone lines tells new = IsTurned old false lines new
-IsDone players old Here lines tells new = IsTurned old true lines new
+IsDone players old (ServerTurned is_here) lines tells new = IsTurned old is_here lines new
 
 -- What is known then, where these connections are open before, and the one that has spoken acts for the player of this name.
 pub record IsKnown (event : DeskInput) (by : List ℕ) (lines : List (List ℕ)) (is_open : ℕ → Bool) (old new : Known) : Type 0 where

@@ -8,7 +8,7 @@ use Rattle.std.proofs.lemmas.Bool.{cases_Bool, false≢true}
 use Rattle.std.proofs.lemmas.Bool.Decides.{eqb_tells}
 use Rattle.websocket.specs.Content.{text as Text, ping as Ping}
 use Rattle.lobby_desk.specs.declared.telling.Message.{Message}
-use Rattle.lobby_desk.specs.Events.{DeskInput, Opened, Closed, Said, Hurried, Heard, Gone, Here, Renewed, Linked, MessageValue, message_value, message_values}
+use Rattle.lobby_desk.specs.Events.{DeskInput, Opened, Closed, Said, Hurried, Heard, ServerTurned, Renewed, Linked, MessageValue, message_value, message_values}
 use Rattle.lobby_desk.specs.Who.{at_table}
 use Rattle.lobby_desk.specs.History.{Step}
 use Rattle.lobby_web.specs.declared.browser.Browser.{Browser}
@@ -55,8 +55,7 @@ message_apart c (Linked d text players token) before apart =
     ap (λ (b : Bool). if b then Linked d text players token ∷ before else before) (differs d c apart)
 message_apart c (Renewed players) before apart = refl
 message_apart c (Heard line) before apart = refl
-message_apart c Gone before apart = refl
-message_apart c Here before apart = refl
+message_apart c (ServerTurned is_here) before apart = refl
 
 opening_apart : (c : ℕ) (e : DeskInput) → IsApart c e → is_opening c e ≡ false
 opening_apart c (Opened d) apart = differs d c apart
@@ -66,8 +65,7 @@ opening_apart c (Hurried d) apart = refl
 opening_apart c (Linked d text players token) apart = refl
 opening_apart c (Renewed players) apart = refl
 opening_apart c (Heard line) apart = refl
-opening_apart c Gone apart = refl
-opening_apart c Here apart = refl
+opening_apart c (ServerTurned is_here) apart = refl
 
 said_on : (n : Option ℕ) (s : Step) (steps : List Step) (past : List Doing) → ApartFrom n s.event → IsSaidBy steps n past →
     IsSaidBy (s ∷ steps) n past

@@ -3,7 +3,7 @@ use Rattle.std.specs.Prelude.{ℕ, ◌≡◌, ◌≢◌, ◌<◌, ◌⊎◌, Boo
 use Rattle.std.specs.List.{AllZip, AllByRecursion}
 use Rattle.session_lines.specs.Lines.{HasNoFeed}
 use Rattle.lobby_roster.specs.declared.players.Player.{Player}
-use Rattle.lobby_desk.specs.Events.{DeskInput, Heard, Gone, Here, Renewed, MessageValue, message_values}
+use Rattle.lobby_desk.specs.Events.{DeskInput, Heard, ServerTurned, Renewed, MessageValue, message_values}
 use Rattle.lobby_desk.specs.Lines.{bytes_of}
 use Rattle.lobby_desk.specs.Logging.{log_texts}
 use Rattle.lobby_desk.specs.Who.{view}
@@ -123,8 +123,7 @@ put_in (Turned at taken is_gone put front ∷ past) = put_in past ++ put
 
 -- the bytes of the lines that the desk had for the server since its connection began
 abbrev pub kept : DeskInput → List ℕ → List ℕ
-kept Gone bytes = []
-kept Here bytes = []
+kept (ServerTurned is_here) bytes = []
 kept _ bytes = bytes
 
 abbrev pub sent_in : List Step → List ℕ
@@ -134,7 +133,7 @@ sent_in (s ∷ past) = kept s.event (sent_in past) ++ bytes_of s.lines
 -- the lines that the desk heard of the server since its connection began, the newest first
 abbrev pub line_more : DeskInput → List (List ℕ) → List (List ℕ)
 line_more (Heard line) lines = line ∷ lines
-line_more Here lines = []
+line_more (ServerTurned true) lines = []
 line_more _ lines = lines
 
 abbrev pub lines_heard : List Step → List (List ℕ)
@@ -143,8 +142,7 @@ lines_heard (s ∷ past) = line_more s.event (lines_heard past)
 
 -- what the desk was told of whether the server is there, the newest first
 abbrev pub presence_more : DeskInput → List Bool → List Bool
-presence_more Gone before = false ∷ before
-presence_more Here before = true ∷ before
+presence_more (ServerTurned is_here) before = is_here ∷ before
 presence_more _ before = before
 
 abbrev pub presences_told : List Step → List Bool
