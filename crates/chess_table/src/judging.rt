@@ -318,7 +318,7 @@ fn is_offered(game: &Game, side: Colour) -> bool
     game.offers(side.other())
 }
 
-// It does.
+// As a check: it is refused where none stands.
 fn offered(game: &Game, side: Colour) -> Option<Verdict>
     ensures { result ≡ stopped_by (offered game.now side) }
 {
@@ -329,7 +329,7 @@ fn offered(game: &Game, side: Colour) -> Option<Verdict>
     }
 }
 
-// The game is not over, as `while_running` says, and an offer of the opponent stands.
+// The checks of `while_running`, and this one.
 fn while_offered(game: &Game, side: Colour, at: u64) -> Option<Verdict>
     requires { game.now.moment ≤ at }
     ensures { result ≡ stopped_by (while_running game.now at ++ offered game.now side) }
