@@ -43,10 +43,10 @@ man_there standing other_man false false man e apart = (refl, e)
 abbrev standing : Colour → Kind → Option Man
 standing side kind = Some (side, kind)
 
-king_of_kind : (side : Colour) (kind : Kind) → kind ≢ King → standing side kind ≢ standing side King
+pub king_of_kind : (side : Colour) (kind : Kind) → kind ≢ King → standing side kind ≢ standing side King
 king_of_kind side kind apart e = apart (ap (λ (man : Man). man.1) (same_Some (side, kind) (side, King) e))
 
-own_is_not : (side : Colour) (kind new : Kind) → standing side new ≢ standing (other side) kind
+pub own_is_not : (side : Colour) (kind new : Kind) → standing side new ≢ standing (other side) kind
 own_is_not side kind new e =
     other-differs side (sym (ap (λ (man : Man). man.0) (same_Some (side, new) (other side, kind) e)))
 

@@ -2,7 +2,6 @@
 use Rattle.std.specs.Prelude.{◌≡◌, ◌≢◌, Bool, cond, List, length, Option, Some, None, is_some}
 use Rattle.std.proofs.Common.{refl, sym, ap, subst, ◌∙◌, inl, inr}
 use Rattle.std.proofs.lemmas.Bool.{cases_Bool}
-use Rattle.std.proofs.lemmas.Option.{same_Some}
 use Rattle.chess_bits.specs.declared.men.Colour.{Colour}
 use Rattle.chess_bits.specs.declared.men.Kind.{Kind}
 use Rattle.chess_bits.specs.declared.men.Kind.TheVariants.{Pawn, King}
@@ -11,7 +10,6 @@ use Rattle.chess_bits.specs.Man.{Man, other}
 use Rattle.chess_bits.specs.Table.{put}
 use Rattle.chess_bits.specs.Attack.{Attacks}
 use Rattle.chess_bits.proofs.TableLemmas.{length-put, at-put, map-put}
-use Rattle.chess_bits.proofs.ManLemmas.{other-differs}
 use Rattle.chess_board.specs.declared.castling.Wing.TheVariants as wing
 use Rattle.chess_board.specs.declared.moves.Move.{Move}
 use Rattle.chess_board.specs.Position.{Position, man_at, occupied_of, IsInCheck}
@@ -21,6 +19,7 @@ use Rattle.chess_board.proofs.PlacementAfter.{length-without_taken}
 use Rattle.chess_board.proofs.Candidates.{no_castling}
 use Rattle.chess_moves.specs.Targets.{plain}
 use Rattle.chess_moves.specs.Listing.{promoted}
+use Rattle.chess_moves.proofs.Exact.{king_of_kind, own_is_not}
 
 -- the men that a check is made of stand in both placements
 pub check_from : (a b : List (Option Man)) (side : Colour) → occupied_of a ≡ occupied_of b →
@@ -59,23 +58,13 @@ same_occupied : (t : List (Option Man)) (to : Square) (a b : Man) →
     occupied_of (put t to (Some a)) ≡ occupied_of (put t to (Some b))
 same_occupied t to a b = map-put is_some t to (Some a) ∙ sym (map-put is_some t to (Some b))
 
-abbrev standing : Colour → Kind → Option Man
-standing side kind = Some (side, kind)
-
-no_king : (side : Colour) (kind : Kind) → kind ≢ King → standing side kind ≢ standing side King
-no_king side kind other_kind e = other_kind (ap (λ (man : Man). man.1) (same_Some (side, kind) (side, King) e))
-
-no_opponent : (side : Colour) (kind new : Kind) → standing side new ≢ standing (other side) kind
-no_opponent side kind new e =
-    other-differs side (sym (ap (λ (man : Man). man.0) (same_Some (side, new) (other side, kind) e)))
-
 check_of_other : (t : List (Option Man)) (side : Colour) (to : Square) (a b : Kind) → length t ≡ 64 → IsOnBoard to →
     a ≢ King → IsInCheck (put t to (Some (side, a))) side → IsInCheck (put t to (Some (side, b))) side
 check_of_other t side to a b whole on mover check =
     check_from (put t to (Some (side, a))) (put t to (Some (side, b))) side (same_occupied t to (side, a) (side, b))
-    (λ s here. stays t to s (Some (side, a)) (Some (side, b)) (side, King) whole on (no_king side a mover) here)
+    (λ s here. stays t to s (Some (side, a)) (Some (side, b)) (side, King) whole on (king_of_kind side a mover) here)
     (λ s kind here. stays t to s (Some (side, a)) (Some (side, b)) (other side, kind) whole on
-    (no_opponent side kind a) here) check
+    (own_is_not side kind a) here) check
 
 -- a pawn's move brings no rook
 after_pawn : (p : Position) (m : Move) → man_at p.placement m.from ≡ Some (p.side, Pawn) →
