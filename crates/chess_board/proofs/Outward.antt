@@ -28,14 +28,15 @@ first_of : (set : List Bool) (ms : List Square) → PassesEach (has set) ms → 
 first_of set [] passes some = absurd (some refl)
 first_of set (m ∷ ms) passes some = (m, passes.0)
 
-not_empty : (set : List Bool) → (members set ≡ [] → ⊥) → (s : Square) × (has set s ≡ true)
+-- a set that is not empty has a square
+pub not_empty : (set : List Bool) → (members set ≡ [] → ⊥) → (s : Square) × (has set s ≡ true)
 not_empty set some = first_of set (members set) (PassesEach-members set) some
 
-not_true : (x : Bool) → not x ≡ true → x ≡ true → ⊥
+pub not_true : (x : Bool) → not x ≡ true → x ≡ true → ⊥
 not_true true e f = false≢true e
 not_true false e f = false≢true f
 
-true_not : (x : Bool) → (x ≡ true → ⊥) → not x ≡ true
+pub true_not : (x : Bool) → (x ≡ true → ⊥) → not x ≡ true
 true_not true never = absurd (never refl)
 true_not false never = refl
 

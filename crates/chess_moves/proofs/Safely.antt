@@ -10,11 +10,12 @@ use Rattle.chess_bits.specs.Table.{has, put, union, meet, members, IsSetOf}
 use Rattle.chess_bits.specs.Attack.{SomeOf, Slides, SlidesAlong, straight, diagonal}
 use Rattle.chess_bits.proofs.TableLemmas.{at-put, length-put, is_square-true, is_square-other, is_square-false, on_board-from_at}
 use Rattle.chess_bits.proofs.ManLemmas.{none_is_no_man, not_of_both}
-use Rattle.chess_bits.proofs.AlongLemmas.{SomeOf-members, PassesEach, PassesEach-members}
+use Rattle.chess_bits.proofs.AlongLemmas.{SomeOf-members}
 use Rattle.chess_bits.proofs.SetLemmas.{has-none, IsSetOf-union, IsSetOf-like}
 use Rattle.chess_board.specs.Position.{Position, man_at, occupied_of, IsValid}
 use Rattle.chess_board.specs.Next.{is_target, is_en_passant}
 use Rattle.chess_board.proofs.Candidates.{IsOnBoard-from_man, no_en_passant, no_target_is_plain, is_target-true}
+use Rattle.chess_board.proofs.Outward.{not_empty, not_true, true_not}
 use Rattle.chess_moves.specs.declared.masks.Masks.{Masks}
 use Rattle.chess_moves.specs.Targets.{plain, GoesTo, LeavesKingSafe, GoesSafely, IsPiece}
 use Rattle.chess_moves.specs.Masks.{SlidesIn, IsSlider, IsLeaper, EndsChecks, KeepsLine, IsAttackedWithout, HoldsMasks}
@@ -24,15 +25,10 @@ use Rattle.chess_moves.proofs.Exact.{masks_exact}
 
 -- ---- attacks once the king is taken off
 
-first_square : (set : List Bool) (ms : List Square) → PassesEach (has set) ms → (ms ≡ [] → ⊥) →
-    (s : Square) × (has set s ≡ true)
-first_square set [] passes some = absurd (some refl)
-first_square set (m ∷ ms) passes some = (m, passes.0)
-
 -- a set that is not empty has a square of the board
 pub some_square : (set : List Bool) → ¬ (members set ≡ []) → (s : Square) × IsOnBoard s × (has set s ≡ true)
 some_square set some =
-    let found = first_square set (members set) (PassesEach-members set) some in
+    let found = not_empty set some in
     (found.0, on_board-from_at false set found.0 (λ none. false≢true (sym none ∙ found.1)), found.1)
 
 -- a kind slides alike in two ways of which both are straight or both diagonal
@@ -111,14 +107,6 @@ attacker_seen p k q on (c, kind, stands, attack) =
         ))
       ]
     ]
-
-not_true : (x : Bool) → not x ≡ true → x ≡ true → ⊥
-not_true true e f = false≢true e
-not_true false e f = false≢true f
-
-true_not : (x : Bool) → (x ≡ true → ⊥) → not x ≡ true
-true_not true never = absurd (never refl)
-true_not false never = refl
 
 pub attacked_told : (p : Position) (k q : Square) (attackers : List Bool) (none : Bool) → IsOnBoard q →
     IsSetOf attackers (IsSeenAttacker p (put (occupied_of p.placement) k false) q) →
