@@ -21,7 +21,7 @@ use Rattle.chess_entry.specs.declared.verdicts.Verdict.{Verdict}
 use Rattle.chess_entry.specs.declared.verdicts.Verdict.TheVariants.{Refuse, Enter, Read}
 use Rattle.chess_entry.specs.State.{GameState, TableState, ply_of, seat_of, is_joined, is_over, find_game}
 use Rattle.chess_entry.specs.Parsed.{Parsed, IsMoveParsed, bytes_of}
-use Rattle.chess_entry.specs.Verdict.{Check, refuse, first_of, are_times, is_start, is_finished, is_full, is_long, is_read, has_offer, in_game, by_side, while_running, in_turn, for_move, for_stated, opened_from, move_entered, join_verdict, move_verdict, offer_verdict, accept_verdict, decline_verdict, resign_verdict, claim_verdict, flag_verdict, drop_verdict, in_seat, side_of, player_verdict, name_or_none, effective, verdict, IsParsed}
+use Rattle.chess_entry.specs.Verdict.{Check, refuse, first_of, are_times, is_start, is_finished, is_full, is_long, is_read, has_offer, in_game, by_side, while_running, in_turn, for_move, for_stated, opening_for, opened_from, move_entered, join_verdict, move_verdict, offer_verdict, accept_verdict, decline_verdict, resign_verdict, claim_verdict, flag_verdict, drop_verdict, in_seat, side_of, player_verdict, name_or_none, effective, verdict, IsParsed}
 use Rattle.chess_entry.specs.Table.{IsTable, IsOnTable}
 use Rattle.chess_entry.proofs.Entering.{find_game-number}
 use Rattle.chess_game.specs.Turn.{IsPlayable}
@@ -183,14 +183,7 @@ opened-comes table at opening (Some p) is =
 player-comes : (table : TableState) (at : ℕ) (name : List ℕ) (parsed : Parsed) (a : Act) → IsTable table
     → IsParsed table a parsed → Enters (Comes table) (player_verdict table at name parsed a)
 player-comes table at name parsed (act.Open colour initial increment fen period) is says =
-    let opening = λ (start : Position). let o : Opening = record {
-      colour = colour;
-      initial = initial;
-      increment = increment;
-      period = period;
-      name = name;
-      start = start;
-    } in o in
+    let opening = opening_for colour initial increment period name in
     Enters-first_of (Comes table)
     (refuse (not (are_times initial increment period)) BadTime ∷
     refuse (not (is_start parsed.start)) BadFen ∷

@@ -21,7 +21,7 @@ use Rattle.chess_entry.specs.declared.verdicts.Verdict.TheVariants.{Refuse, Ente
 use Rattle.chess_entry.specs.declared.refusals.Refusal.TheVariants.{OfferStands, NoOffer, TooEarly, AlreadyClaimed, FlagUp}
 use Rattle.chess_entry.specs.State.{GameState, TableState, position_of, ply_of, seat_of, is_joined, is_over, find_game}
 use Rattle.chess_entry.specs.Parsed.{Parsed}
-use Rattle.chess_entry.specs.Verdict.{Check, refuse, first_of, is_period, are_times, is_start, is_finished, is_full, is_long, is_on_move, has_offer, has_fallen, in_game, by_side, while_running, in_turn, for_move, for_stated, opened_from, move_entered, open_verdict, join_verdict, move_verdict, offer_verdict, accept_verdict, decline_verdict, resign_verdict, claim_verdict, flag_verdict, drop_verdict, in_seat, side_of, player_verdict, name_or_none, is_read, effective, verdict}
+use Rattle.chess_entry.specs.Verdict.{Check, refuse, first_of, is_period, are_times, is_start, is_finished, is_full, is_long, is_on_move, has_offer, has_fallen, in_game, by_side, while_running, in_turn, for_move, for_stated, opening_for, opened_from, move_entered, open_verdict, join_verdict, move_verdict, offer_verdict, accept_verdict, decline_verdict, resign_verdict, claim_verdict, flag_verdict, drop_verdict, in_seat, side_of, player_verdict, name_or_none, is_read, effective, verdict}
 use Rattle.chess_entry.proofs.Allowed.{IsPlaying, IsInTime, IsAllowed}
 
 -- An entry opens a game with the next number.
@@ -263,27 +263,16 @@ opened-enters table at opening period (Some p) e same ranges h =
       period = ap is_period (same p) ∙ ranges;
     })
 
--- what a command opens, from each start
-abbrev opening_of : Colour → ℕ → ℕ → Option (ℕ × ℕ) → List ℕ → Position → Opening
-opening_of colour initial increment period name start = record {
-  colour = colour;
-  initial = initial;
-  increment = increment;
-  period = period;
-  name = name;
-  start = start;
-}
-
 open-enters : (table : TableState) (at : ℕ) (colour : Colour) (initial increment : ℕ) (period : Option (ℕ × ℕ))
     (name : List ℕ) (start : Option Position) (e : Entry) →
-    open_verdict table at (opening_of colour initial increment period name) (are_times initial increment period) start
+    open_verdict table at (opening_for colour initial increment period name) (are_times initial increment period) start
     ≡ Enter e → Opens table e
 open-enters table at colour initial increment period name start e h =
     let times = passed (not (are_times initial increment period)) _ _ e h in
     let numbered = passed (not (is_start start)) _ _ e times.1 in
     let goes_on = passed (is_finished start) _ _ e numbered.1 in
     let room = passed (is_full table) _ _ e goes_on.1 in
-    opened-enters table at (opening_of colour initial increment period name) period start e (λ p. refl)
+    opened-enters table at (opening_for colour initial increment period name) period start e (λ p. refl)
     (and_parts (nat_le 1 initial && nat_le initial 86400 && nat_le increment 60) (is_period period)
     (not-false (are_times initial increment period) times.0)).1
     room.1

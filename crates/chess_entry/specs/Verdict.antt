@@ -124,6 +124,17 @@ for_move table game move = refuse (is_long table game) TooLong ∷ refuse (is_no
 
 -- ---- the entries
 
+-- what a player opens with a colour and times, from each start
+abbrev pub opening_for : Colour → ℕ → ℕ → Option (ℕ × ℕ) → List ℕ → Position → Opening
+opening_for colour initial increment period name start = record {
+  colour = colour;
+  initial = initial;
+  increment = increment;
+  period = period;
+  name = name;
+  start = start;
+}
+
 -- a game that is opened
 abbrev pub opened : TableState → ℕ → Opening → Verdict
 opened table at opening = Enter (entry (table.last + 1) at (event.Open opening))
@@ -201,15 +212,8 @@ in_seat table name number verdict =
 -- what a player's act meets
 abbrev pub player_verdict : TableState → ℕ → List ℕ → Parsed → Act → Verdict
 player_verdict table at name parsed (act.Open colour initial increment fen period) =
-    open_verdict table at
-    (λ start. record {
-      colour = colour;
-      initial = initial;
-      increment = increment;
-      period = period;
-      name = name;
-      start = start;
-    }) (are_times initial increment period) parsed.start
+    open_verdict table at (opening_for colour initial increment period name) (are_times initial increment period)
+    parsed.start
 player_verdict table at name parsed (act.Join game) = in_game (join_verdict at name) (find_game game table.games)
 player_verdict table at name parsed (act.Move game ply text) =
     in_seat table name game (move_verdict table at ply parsed.move)

@@ -25,14 +25,13 @@ use Rattle.chess_entry.specs.declared.verdicts.Verdict.TheVariants.{Refuse, Ente
 use Rattle.chess_entry.specs.declared.refusals.Refusal.TheVariants.{OfferStands, NoOffer, TooEarly, AlreadyClaimed, FlagUp}
 use Rattle.chess_entry.specs.State.{GameState, TableState, position_of, ply_of, seat_of, is_joined, is_over, find_game}
 use Rattle.chess_entry.specs.Parsed.{Parsed, IsStartParsed, IsMoveParsed, bytes_of}
-use Rattle.chess_entry.specs.Verdict.{Check, refuse, first_of, are_times, is_start, is_finished, is_full, is_long, is_on_move, has_offer, has_fallen, in_game, by_side, while_running, in_turn, for_move, for_stated, opened_from, move_entered, open_verdict, join_verdict, move_verdict, offer_verdict, accept_verdict, decline_verdict, resign_verdict, claim_verdict, flag_verdict, drop_verdict, in_seat, side_of, player_verdict, name_or_none, is_read, effective, verdict, IsParsed}
+use Rattle.chess_entry.specs.Verdict.{Check, refuse, first_of, are_times, is_start, is_finished, is_full, is_long, is_on_move, has_offer, has_fallen, in_game, by_side, while_running, in_turn, for_move, for_stated, opening_for, opened_from, move_entered, open_verdict, join_verdict, move_verdict, offer_verdict, accept_verdict, decline_verdict, resign_verdict, claim_verdict, flag_verdict, drop_verdict, in_seat, side_of, player_verdict, name_or_none, is_read, effective, verdict, IsParsed}
 use Rattle.chess_entry.specs.Games.{control_of}
 use Rattle.chess_entry.specs.Bounds.{IsStart}
 use Rattle.chess_entry.specs.Table.{IsTable, IsOnTable, IsEnteredOn}
 use Rattle.chess_entry.proofs.Entering.{passed, entered, in_game-entered, by_side-entered, find_game-number}
 use Rattle.chess_entry.proofs.InPlay.{none-not_some}
 use Rattle.chess_table.proofs.ParsingLemmas.{legal_parsed, start_valid, IsTimeControl-of}
-use Rattle.chess_table.specs.Checks.{opening_of}
 use Rattle.chess_table.specs.Witness.{is_fallen, Enters, opening_verdict, witness_verdict}
 use Rattle.chess_table.proofs.Readiness.{IsReadyFor, OpensGame, ActsInGame, Comes}
 use Rattle.chess_game.specs.Turn.{IsRunningAt, IsInTime, IsPlayable}
@@ -344,14 +343,14 @@ module _ (table : TableState) (is : IsTable table) (at : ℕ) (from : table.mome
 
   open-enters : (colour : Colour) (initial increment : ℕ) (period : Option (ℕ × ℕ)) (name : List ℕ)
       (fen : Option (List ℕ)) (start : Option Position) (e : Entry) → IsName name → IsStartParsed fen start
-      → open_verdict table at (opening_of colour initial increment period name) (are_times initial increment period) start
+      → open_verdict table at (opening_for colour initial increment period name) (are_times initial increment period) start
       ≡ Enter e → (e.moment ≡ at) × OpensGame table e
   open-enters colour initial increment period name fen start e named tells h =
       let times = passed (not (are_times initial increment period)) _ _ e h in
       let numbered = passed (not (is_start start)) _ _ e times.1 in
       let goes_on = passed (is_finished start) _ _ e numbered.1 in
       let room = passed (is_full table) _ _ e goes_on.1 in
-      opens (opening_of colour initial increment period name) start e
+      opens (opening_for colour initial increment period name) start e
       (λ p states. (
         IsTimeControl-of initial increment period (not-false (are_times initial increment period) times.0),
         record {
@@ -362,7 +361,7 @@ module _ (table : TableState) (is : IsTable table) (at : ℕ) (from : table.mome
         named,
       ))
       (λ p states. ap (λ (s : Option Position). open_verdict table at
-      (opening_of colour initial increment period name) (are_times initial increment period) s) (sym states) ∙ h)
+      (opening_for colour initial increment period name) (are_times initial increment period) s) (sym states) ∙ h)
       room.0 room.1
 
   -- ---- every act

@@ -16,8 +16,7 @@ use Rattle.chess_entry.specs.declared.verdicts.Verdict.{Verdict}
 use Rattle.chess_entry.specs.declared.verdicts.Verdict.TheVariants.{Refuse, Enter, Read}
 use Rattle.chess_entry.specs.State.{GameState, TableState, ply_of, seat_of, is_joined, is_over, find_game}
 use Rattle.chess_entry.specs.Parsed.{Parsed}
-use Rattle.chess_entry.specs.Verdict.{Check, refuse, first_of, are_times, is_start, is_finished, is_full, has_offer, is_read, in_game, by_side, while_running, in_turn, for_move, for_stated, opened_from, move_entered, in_seat, side_of, player_verdict, name_or_none, effective, move_verdict, offer_verdict, accept_verdict, decline_verdict, resign_verdict, claim_verdict, flag_verdict, drop_verdict, join_verdict}
-use Rattle.chess_table.specs.Checks.{opening_of}
+use Rattle.chess_entry.specs.Verdict.{Check, refuse, first_of, are_times, is_start, is_finished, is_full, has_offer, is_read, in_game, by_side, while_running, in_turn, for_move, for_stated, opening_for, opened_from, move_entered, in_seat, side_of, player_verdict, name_or_none, effective, move_verdict, offer_verdict, accept_verdict, decline_verdict, resign_verdict, claim_verdict, flag_verdict, drop_verdict, join_verdict}
 use Rattle.chess_table.specs.Reading.{IsRead}
 
 -- what holds where a verdict is a read
@@ -96,8 +95,8 @@ player-reads table at name parsed (act.Open colour initial increment fen period)
     refuse (not (is_start parsed.start)) BadFen ∷
     refuse (is_finished parsed.start) Finished ∷
     refuse (is_full table) TooManyGames ∷ [])
-    (opened_from table at (opening_of colour initial increment period name) parsed.start) (tt, (tt, (tt, (tt, tt))))
-    (opened-reads table at (opening_of colour initial increment period name) parsed.start)
+    (opened_from table at (opening_for colour initial increment period name) parsed.start) (tt, (tt, (tt, (tt, tt))))
+    (opened-reads table at (opening_for colour initial increment period name) parsed.start)
 player-reads table at name parsed (act.Join game) =
     in_game-reads ⊥ (join_verdict at name) (find_game game table.games)
     (λ g found. first_of-reads ⊥

@@ -7,7 +7,7 @@ use Rattle.rec_codec.specs.declared.record.Opening.{Opening}
 use Rattle.chess_entry.specs.declared.verdicts.Verdict.{Verdict}
 use Rattle.chess_entry.specs.declared.refusals.Refusal.TheVariants.{NoOffer}
 use Rattle.chess_entry.specs.State.{GameState, seat_of}
-use Rattle.chess_entry.specs.Verdict.{Check, refuse}
+use Rattle.chess_entry.specs.Verdict.{Check, opening_for, refuse}
 use Rattle.chess_game.specs.declared.games.Times.{Times}
 
 -- the verdict of the first check that applies, if one does
@@ -19,17 +19,6 @@ stopped_by (c ∷ checks) = if c.applies then Some c.verdict else stopped_by che
 abbrev pub offered : GameState → Colour → List Check
 offered game side = refuse (not (seat_of (other side) game).offers) NoOffer ∷ []
 
--- what a player opens with a colour and times, from each start
-abbrev pub opening_of : Colour → ℕ → ℕ → Option (ℕ × ℕ) → List ℕ → Position → Opening
-opening_of colour initial increment period name start = record {
-  colour = colour;
-  initial = initial;
-  increment = increment;
-  period = period;
-  name = name;
-  start = start;
-}
-
--- the same with the times together
+-- what a player opens with a colour and the times together, from each start
 abbrev pub opening_from : Colour → Times → List ℕ → Position → Opening
-opening_from colour times name = opening_of colour times.initial times.increment times.period name
+opening_from colour times name = opening_for colour times.initial times.increment times.period name
