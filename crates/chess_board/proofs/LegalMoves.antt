@@ -51,7 +51,7 @@ Contains-squares s on =
     (number_of s, rw (length-map-range_with_len square_at 0 64) below, rw found (square_at-number_of s on))
 
 -- what a move's promotion can be
-abbrev CanBecome : Option Kind → Type 0
+abbrev pub CanBecome : Option Kind → Type 0
 CanBecome None = Unit {0}
 CanBecome (Some kind) = IsPromotionKind kind
 
@@ -63,7 +63,7 @@ pawn_becomes p to (Some _) h = h.1
 none_becomes : (promotion : Option Kind) → promotion ≡ None → CanBecome promotion
 none_becomes promotion e = subst CanBecome (sym e) tt
 
-becomes : (p : Position) (m : Move) (kind : Kind) → IsMoveOf p m kind → CanBecome m.promotion
+pub becomes : (p : Position) (m : Move) (kind : Kind) → IsMoveOf p m kind → CanBecome m.promotion
 becomes p m Pawn h = pawn_becomes p m.to m.promotion h.promotion
 becomes p m Knight h = none_becomes m.promotion h.no_promotion
 becomes p m Bishop h = none_becomes m.promotion h.no_promotion

@@ -1,14 +1,14 @@
 -- The moves of a game can be kept in records.
-use Rattle.std.specs.Prelude.{◌≡◌, List, [], ◌∷◌, ◌++◌, Option, Some, None}
+use Rattle.std.specs.Prelude.{List, [], ◌∷◌, ◌++◌, Option, Some, None}
 use Rattle.std.specs.List.{AllByRecursion}
 use Rattle.std.proofs.Common.{subst, sym, inl, inr}
 use Rattle.chess_bits.specs.declared.men.Kind.{Kind}
-use Rattle.chess_bits.specs.declared.men.Kind.TheVariants.{Pawn, Knight, Bishop, Rook, Queen, King}
 use Rattle.chess_board.specs.declared.moves.Move.{Move}
 use Rattle.chess_board.specs.Position.{Position}
 use Rattle.chess_board.specs.Next.{next}
 use Rattle.chess_board.specs.Line.{IsLegalLine}
-use Rattle.chess_board.specs.Legal.{IsPromotionKind, IsPromotion, IsMoveOf, IsLegal}
+use Rattle.chess_board.specs.Legal.{IsPromotionKind, IsLegal}
+use Rattle.chess_board.proofs.LegalMoves.{CanBecome as MayBecome, becomes}
 use Rattle.rec_codec.specs.Moves.{CanBecome}
 
 piece_becomes : (kind : Kind) → IsPromotionKind kind → CanBecome (Some kind)
@@ -17,26 +17,13 @@ piece_becomes _ (inr (inl e)) = subst (λ (k : Kind). CanBecome (Some k)) (sym e
 piece_becomes _ (inr (inr (inl e))) = subst (λ (k : Kind). CanBecome (Some k)) (sym e) tt
 piece_becomes _ (inr (inr (inr e))) = subst (λ (k : Kind). CanBecome (Some k)) (sym e) tt
 
-none_becomes : (promotion : Option Kind) → promotion ≡ None → CanBecome promotion
-none_becomes promotion e = subst CanBecome (sym e) tt
-
-pawn_becomes : (p : Position) (m : Move) (promotion : Option Kind) → IsPromotion p.side m.to promotion →
-    CanBecome promotion
-pawn_becomes p m None h = tt
-pawn_becomes p m (Some kind) h = piece_becomes kind h.1
-
-becomes : (p : Position) (m : Move) (kind : Kind) → IsMoveOf p m kind → CanBecome m.promotion
-becomes p m Pawn h = pawn_becomes p m m.promotion h.promotion
-becomes p m Knight h = none_becomes m.promotion h.no_promotion
-becomes p m Bishop h = none_becomes m.promotion h.no_promotion
-becomes p m Rook h = none_becomes m.promotion h.no_promotion
-becomes p m Queen h = none_becomes m.promotion h.no_promotion
-becomes p m King (inl h) = none_becomes m.promotion h.no_promotion
-becomes p m King (inr (inl h)) = none_becomes m.promotion h.no_promotion
-becomes p m King (inr (inr h)) = none_becomes m.promotion h.no_promotion
+kept_becomes : (promotion : Option Kind) → MayBecome promotion → CanBecome promotion
+kept_becomes None h = tt
+kept_becomes (Some kind) h = piece_becomes kind h
 
 pub CanBecome-legal : (p : Position) (m : Move) → IsLegal p m → CanBecome m.promotion
-CanBecome-legal p m legal = becomes p m legal.candidate.kind legal.candidate.rule
+CanBecome-legal p m legal =
+    kept_becomes m.promotion (becomes p m legal.candidate.kind legal.candidate.rule)
 
 abbrev pub AllBecome : List Move → Type 0
 AllBecome moves = AllByRecursion (λ m. CanBecome m.promotion) moves
