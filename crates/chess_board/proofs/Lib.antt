@@ -10,6 +10,7 @@ pub mod MenLemmas
 pub mod Moved
 pub mod Outward
 pub mod PlacementAfter
+pub mod SamePosition
 pub mod Steps
 pub mod ValidMen
 pub mod ValidNext

@@ -9,6 +9,7 @@ use Rattle.chess_bits.specs.Man.{Man}
 use Rattle.chess_bits.specs.Square.{Square}
 use Rattle.chess_bits.proofs.TableLemmas.{same_table}
 use Rattle.chess_board.specs.Position.{Position, Rights, man_at}
+use Rattle.chess_board.proofs.SamePosition.{same_position}
 use Rattle.chess_notation.specs.Fen.{rank_of, ranks_of, AreRowTexts, IsPlacementText, IsFenOf, fields, side_letter, letter_if, or_dash, rights_text, target_text}
 use Rattle.chess_fen.proofs.Joined.{AllAbove, AllAbove-append, EachAbove, join_unique}
 use Rattle.chess_fen.proofs.ReadBack.{row_in, IsRowText-row_in, IsRowText-above, rights_text-injective, side_letter-injective, target_text-injective}
@@ -175,23 +176,4 @@ IsFenOf-one_position text p q h k in_p in_q =
     let target = target_text-injective p.target q.target target_same in
     let half = decimal_injective p.halfmove q.halfmove in_p.halfmove in_q.halfmove half_same in
     let full = decimal_injective p.fullmove q.fullmove in_p.fullmove in_q.fullmove full_same in
-    same_position p q placement side rights target half full
-  where
-    same_position : (p q : Position) → p.placement ≡ q.placement → p.side ≡ q.side → p.rights ≡ q.rights →
-        p.target ≡ q.target → p.halfmove ≡ q.halfmove → p.fullmove ≡ q.fullmove → p ≡ q
-    same_position p q a b c d e f =
-        let make : List (Option Man) → Colour → Rights → Option Square → ℕ → ℕ → Position =
-        λ placement side rights target halfmove fullmove. record {
-          placement = placement;
-          side = side;
-          rights = rights;
-          target = target;
-          halfmove = halfmove;
-          fullmove = fullmove;
-        } in
-        ap (λ x. make x p.side p.rights p.target p.halfmove p.fullmove) a
-        ∙ (ap (λ x. make q.placement x p.rights p.target p.halfmove p.fullmove) b
-        ∙ (ap (λ x. make q.placement q.side x p.target p.halfmove p.fullmove) c
-        ∙ (ap (λ x. make q.placement q.side q.rights x p.halfmove p.fullmove) d
-        ∙ (ap (λ x. make q.placement q.side q.rights q.target x p.fullmove) e
-        ∙ ap (λ x. make q.placement q.side q.rights q.target q.halfmove x) f))))
+    same_position q p.placement p.side p.rights p.target p.halfmove p.fullmove placement side rights target half full

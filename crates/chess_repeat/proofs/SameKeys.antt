@@ -1,5 +1,5 @@
 -- Keys are equal exactly for the same positions.
-use Rattle.std.proofs.Common.{ℕ, ◌≡◌, ◌≢◌, ◌↔◌, inl, inr, List, [], ◌∷◌, ◌++◌, get_or, Option, Some, ap, sym, ◌∙◌, arith}
+use Rattle.std.proofs.Common.{ℕ, ◌≡◌, ◌≢◌, ◌↔◌, inl, inr, List, [], ◌∷◌, ◌++◌, get_or, Some, refl, ap, sym, ◌∙◌, arith}
 use Rattle.chess_bits.specs.declared.men.Colour.{Colour}
 use Rattle.chess_bits.specs.Square.{Square, IsOnBoard, number_of}
 use Rattle.chess_bits.proofs.TableLemmas.{number_of-injective}
@@ -8,6 +8,7 @@ use Rattle.chess_board.specs.Position.{Position, Placement, Rights, IsValid}
 use Rattle.chess_board.specs.Next.{placement_after}
 use Rattle.chess_board.specs.Computing.{is_legal}
 use Rattle.chess_board.proofs.Deciding.{Decides-is_legal}
+use Rattle.chess_board.proofs.SamePosition.{same_position}
 use Rattle.chess_repeat.specs.SamePosition.{IsLegalEnPassant, IsSamePosition}
 use Rattle.chess_repeat.specs.Key.{men_bytes, state_byte, target_byte, key_of}
 use Rattle.chess_repeat.proofs.LiveTargets.{cases_live, target_byte-live, target_byte-dead}
@@ -17,24 +18,14 @@ below_64 : (s : Square) → IsOnBoard s → number_of s ≢ 64
 below_64 s on e = absurd (omega arith)
 
 -- the counters do not matter to what is legal
-position_of : Placement → Colour → Rights → Option Square → ℕ → ℕ → Position
-position_of placement side rights target halfmove fullmove = record {
-  placement = placement;
-  side = side;
-  rights = rights;
-  target = target;
-  halfmove = halfmove;
-  fullmove = fullmove;
-}
-
 legal-same : (p q : Position) (m : Move) → p.placement ≡ q.placement → p.side ≡ q.side → p.rights ≡ q.rights →
     p.target ≡ q.target → is_legal p m ≡ is_legal q m
-unfolding placement_after position_of
+unfolding placement_after
 legal-same p q m placement side rights target =
-    ap (λ (x : Placement). is_legal (position_of x p.side p.rights p.target p.halfmove p.fullmove) m) placement
-    ∙ ap (λ (x : Colour). is_legal (position_of q.placement x p.rights p.target p.halfmove p.fullmove) m) side
-    ∙ ap (λ (x : Rights). is_legal (position_of q.placement q.side x p.target p.halfmove p.fullmove) m) rights
-    ∙ ap (λ (x : Option Square). is_legal (position_of q.placement q.side q.rights x p.halfmove p.fullmove) m) target
+    let counted : Position = record q { halfmove = p.halfmove; fullmove = p.fullmove } in
+    ap (λ (x : Position). is_legal x m)
+    (same_position counted p.placement p.side p.rights p.target p.halfmove p.fullmove placement side rights target refl
+    refl)
 
 capture-same : (p q : Position) (m : Move) → p.placement ≡ q.placement → p.side ≡ q.side → p.rights ≡ q.rights →
     p.target ≡ q.target → IsLegalEnPassant p m → IsLegalEnPassant q m

@@ -128,37 +128,6 @@ same_rights r a b c d e f g h =
     ap (λ x. make x b c d) e ∙ (ap (λ x. make r.white_king x c d) f
     ∙ (ap (λ x. make r.white_king r.white_queen x d) g ∙ ap (λ x. make r.white_king r.white_queen r.black_king x) h))
 
--- a position by its parts
-pub same_position : (p : Position) (men : List (Option Man)) (side : Colour) (rights : Rights)
-    (target : Option Square) (half full : ℕ) →
-    men ≡ p.placement → side ≡ p.side → rights ≡ p.rights → target ≡ p.target → half ≡ p.halfmove → full ≡ p.fullmove →
-    (let made : Position = record {
-      placement = men;
-      side = side;
-      rights = rights;
-      target = target;
-      halfmove =
-          half;
-      fullmove = full;
-    } in made) ≡ p
-same_position p men side rights target half full a b c d e f =
-    let make : List (Option Man) → Colour → Rights → Option Square → ℕ → ℕ → Position =
-    λ men side rights target half full. record {
-      placement = men;
-      side = side;
-      rights = rights;
-      target =
-          target;
-      halfmove = half;
-      fullmove = full;
-    } in
-    ap (λ x. make x side rights target half full) a
-    ∙ (ap (λ x. make p.placement x rights target half full) b
-    ∙ (ap (λ x. make p.placement p.side x target half full) c
-    ∙ (ap (λ x. make p.placement p.side p.rights x half full) d
-    ∙ (ap (λ x. make p.placement p.side p.rights p.target x full) e
-    ∙ ap (λ x. make p.placement p.side p.rights p.target p.halfmove x) f))))
-
 -- the target of a valid position is a square of the board
 pub target_on_board : (p : Position) → IsValid p → IfSome p.target IsOnBoard
 target_on_board p v = of_target p.target (λ t e. (v.target t e).on_board)

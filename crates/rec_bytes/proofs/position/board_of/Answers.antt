@@ -3,8 +3,9 @@ use Rattle.chess_board.specs.Parts.{IsFirstBroken}
 use Rattle.chess_board.specs.Position.{Position, IsValid}
 use Rattle.chess_board.specs.RightsOf.{rights_of}
 use Rattle.chess_board.proofs.Broken.{none_broken}
+use Rattle.chess_board.proofs.SamePosition.{same_position}
 use Rattle.rec_codec.specs.Position.{position_flags, target_number, position_bytes}
-use Rattle.rec_bytes.proofs.PositionLemmas.{position-stands, same_position, target_on_board}
+use Rattle.rec_bytes.proofs.PositionLemmas.{position-stands, target_on_board}
 use Rattle.rec_bytes.proofs.position.board_of.Goals.{After-u16_at-2}
 use Rattle.rec_bytes.proofs.position.board_of.Goals as goal
 
