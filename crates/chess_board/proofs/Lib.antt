@@ -5,6 +5,7 @@ pub mod Deciding
 pub mod DistinctMoves
 mod Examples
 pub mod LegalMoves
+pub mod LineLemmas
 pub mod ManAfter
 pub mod MenLemmas
 pub mod Moved

@@ -4,7 +4,7 @@ use Rattle.chess_bits.specs.declared.men.Colour.{Colour}
 use Rattle.chess_bits.specs.declared.men.Colour.TheVariants.{White, Black}
 use Rattle.chess_board.specs.declared.moves.Move.{Move}
 use Rattle.chess_board.specs.Position.{Position}
-use Rattle.chess_board.specs.Next.{next}
+pub use Rattle.chess_board.specs.Line.{position_after}
 use Rattle.chess_end.specs.declared.ending.Ending.{Ending}
 use Rattle.chess_clock.specs.TimeControl.{TimeControl}
 use Rattle.rec_codec.specs.declared.limits.Limits.{Limits}
@@ -38,11 +38,6 @@ pub record TableState : Type 0 where
   pub moment : ℕ
   pub last : ℕ
   pub entries : ℕ
-
--- the position after moves from a start: the last of their line
-abbrev pub position_after : Position → List Move → Position
-position_after start [] = start
-position_after start (m ∷ moves) = position_after (next start m) moves
 
 abbrev pub position_of : GameState → Position
 position_of game = position_after game.start game.moves

@@ -7,16 +7,11 @@ use Rattle.chess_bits.specs.Man.{other}
 use Rattle.chess_board.specs.declared.moves.Move.{Move}
 use Rattle.chess_board.specs.Position.{Position}
 use Rattle.chess_board.specs.Next.{next, halfmove_after, fullmove_after}
-use Rattle.chess_board.specs.Legal.{IsLegal}
-use Rattle.chess_board.specs.Line.{positions_of, IsLegalLine}
+use Rattle.chess_board.specs.Line.{positions_of}
+pub use Rattle.chess_board.proofs.LineLemmas.{position_after-push, IsLegalLine-push}
 use Rattle.chess_clock.specs.ClockState.{on_move_after}
 use Rattle.chess_repeat.specs.QuietRun.{quiet_run}
 use Rattle.chess_entry.specs.State.{position_after}
-
-pub position_after-push : (p : Position) (moves : List Move) (m : Move)
-    → position_after p (moves ++ m ∷ []) ≡ next (position_after p moves) m
-position_after-push p [] m = refl
-position_after-push p (n ∷ moves) m = position_after-push (next p n) moves m
 
 pub positions_of-push : (p : Position) (moves : List Move) (m : Move)
     → positions_of p (moves ++ m ∷ []) ≡ positions_of p moves ++ next (position_after p moves) m ∷ []
@@ -26,11 +21,6 @@ positions_of-push p (n ∷ moves) m = ap (λ (ps : List Position). p ∷ ps) (po
 pub length-positions_of : (p : Position) (moves : List Move) → length (positions_of p moves) ≡ length moves + 1
 length-positions_of p [] = refl
 length-positions_of p (n ∷ moves) = let rest = length-positions_of (next p n) moves in omega arith
-
-pub IsLegalLine-push : (p : Position) (moves : List Move) (m : Move) → IsLegalLine p moves
-    → IsLegal (position_after p moves) m → IsLegalLine p (moves ++ m ∷ [])
-IsLegalLine-push p [] m line legal = (legal, tt)
-IsLegalLine-push p (n ∷ moves) m line legal = (line.0, IsLegalLine-push (next p n) moves m line.1 legal)
 
 pub quiet_run-positions_of : (p : Position) (moves : List Move)
     → quiet_run (positions_of p moves) ≡ (position_after p moves).halfmove

@@ -5,17 +5,12 @@ use Rattle.chess_board.specs.declared.moves.Move.{Move}
 use Rattle.chess_board.specs.Position.{Position}
 use Rattle.chess_board.specs.Next.{next}
 use Rattle.chess_board.specs.Legal.{IsLegal}
-use Rattle.chess_board.specs.Line.{IsLegalLine}
+use Rattle.chess_board.specs.Line.{position_after, IsLegalLine}
 use Rattle.chess_notation.specs.San.{IsSan}
 use Rattle.chess_san.proofs.OneText.{IsSan-one}
 use Rattle.chess_text.specs.Game.{numbers_before, AreMoveTokens, HasRoom, IsGameText}
 use Rattle.chess_text.specs.Pgn.{Heading}
 use Rattle.chess_text.proofs.TagLemmas.{IsPgnOf-unique}
-
--- the position after moves
-abbrev pub after_moves : Position → List Move → Position
-after_moves p [] = p
-after_moves p (m ∷ moves) = after_moves (next p m) moves
 
 -- whether the next move is the first
 abbrev pub is_first_after : Bool → List Move → Bool
@@ -27,29 +22,19 @@ pub is_first_after-more : (is_first : Bool) (moves : List Move) (m : Move) →
 is_first_after-more is_first [] m = refl
 is_first_after-more is_first (x ∷ moves) m = refl
 
-pub after_moves-more : (p : Position) (moves : List Move) (m : Move) →
-    after_moves p (moves ++ m ∷ []) ≡ next (after_moves p moves) m
-after_moves-more p [] m = refl
-after_moves-more p (x ∷ moves) m = after_moves-more (next p x) moves m
-
 pub legal_at : (p : Position) (moves : List Move) (i : ℕ) (d : Move) → IsLegalLine p moves → i < length moves →
-    IsLegal (after_moves p (take i moves)) (get_or moves i d)
+    IsLegal (position_after p (take i moves)) (get_or moves i d)
 legal_at p [] i d legal below = absurd (omega arith)
 legal_at p (m ∷ moves) zero d legal below = legal.0
 legal_at p (m ∷ moves) (suc i) d legal below = legal_at (next p m) moves i d legal.1 (omega arith)
 
-pub line_more : (p : Position) (moves : List Move) (m : Move) → IsLegalLine p moves →
-    IsLegal (after_moves p moves) m → IsLegalLine p (moves ++ m ∷ [])
-line_more p [] m line legal = (legal, tt)
-line_more p (x ∷ moves) m line legal = (line.0, line_more (next p x) moves m line.1 legal)
-
 pub room_more : (p : Position) (moves : List Move) (m : Move) → HasRoom p moves →
-    (after_moves p moves).halfmove < 65535 → (after_moves p moves).fullmove < 65535 → HasRoom p (moves ++ m ∷ [])
+    (position_after p moves).halfmove < 65535 → (position_after p moves).fullmove < 65535 → HasRoom p (moves ++ m ∷ [])
 room_more p [] m room half full = (half, full, tt)
 room_more p (x ∷ moves) m room half full = (room.0, room.1, room_more (next p x) moves m room.2 half full)
 
 pub room_at : (p : Position) (moves : List Move) (i : ℕ) → HasRoom p moves → i < length moves →
-    ((after_moves p (take i moves)).halfmove < 65535) × ((after_moves p (take i moves)).fullmove < 65535)
+    ((position_after p (take i moves)).halfmove < 65535) × ((position_after p (take i moves)).fullmove < 65535)
 room_at p [] i room below = absurd (omega arith)
 room_at p (m ∷ moves) zero room below = (room.0, room.1)
 room_at p (m ∷ moves) (suc i) room below = room_at (next p m) moves i room.2 (omega arith)
@@ -59,9 +44,9 @@ not_first [] = refl
 not_first (m ∷ moves) = refl
 
 pub tokens_more : (p : Position) (is_first : Bool) (moves : List Move) (tokens : List (List ℕ)) (m : Move)
-    (san : List ℕ) → AreMoveTokens p is_first moves tokens → IsSan (after_moves p moves) m san →
+    (san : List ℕ) → AreMoveTokens p is_first moves tokens → IsSan (position_after p moves) m san →
     AreMoveTokens p is_first (moves ++ m ∷ []) (tokens
-    ++ (numbers_before (after_moves p moves).side (is_first_after is_first moves) (after_moves p moves).fullmove
+    ++ (numbers_before (position_after p moves).side (is_first_after is_first moves) (position_after p moves).fullmove
     ++ san ∷ []))
 tokens_more p is_first [] tokens m san none told = record {
   san = san;
@@ -71,7 +56,7 @@ tokens_more p is_first [] tokens m san none told = record {
   joined = ap (λ (front : List (List ℕ)). front ++ (numbers_before p.side is_first p.fullmove ++ san ∷ [])) none;
 }
 tokens_more p is_first (x ∷ moves) tokens m san h told =
-    let q = after_moves (next p x) moves in
+    let q = position_after (next p x) moves in
     record {
       san = h.san;
       is_san = h.is_san;

@@ -7,6 +7,7 @@ use Rattle.chess_board.specs.declared.moves.Move.{Move}
 use Rattle.chess_board.specs.Position.{Position}
 use Rattle.chess_board.specs.Next.{next}
 use Rattle.chess_board.specs.Legal.{IsLegal}
+use Rattle.chess_board.specs.Line.{position_after}
 use Rattle.chess_notation.specs.Naming.{Names}
 use Rattle.lobby_positions.specs.Pgn.{Plays, ArePlayed, IsPlayable, PlaysWord}
 
@@ -95,22 +96,13 @@ playable p [] (m ∷ ms) h = absurd h
 playable p (word ∷ words) [] h = absurd h
 playable p (word ∷ words) (m ∷ ms) h = (legal_of p word m h.0, h.0.halfmove, h.0.fullmove, playable (next p m) words ms h.1)
 
--- the position after moves
-abbrev pub after_moves : Position → List Move → Position
-after_moves p [] = p
-after_moves p (m ∷ ms) = after_moves (next p m) ms
-
-pub after_more : (p : Position) (moves : List Move) (m : Move) → after_moves p (moves ++ m ∷ []) ≡ next (after_moves p moves) m
-after_more p [] m = refl
-after_more p (x ∷ moves) m = after_more (next p x) moves m
-
 pub record IsPlayableAt (p : Position) (m : Move) : Type 0 where
   pub legal : IsLegal p m
   pub halfmove : p.halfmove < 65535
   pub fullmove : p.fullmove < 65535
 
 pub playable_at : (p : Position) (moves : List Move) (i : ℕ) (d : Move) → IsPlayable p moves → i < length moves →
-    IsPlayableAt (after_moves p (take i moves)) (get_or moves i d)
+    IsPlayableAt (position_after p (take i moves)) (get_or moves i d)
 playable_at p [] i d all below = absurd (omega arith)
 playable_at p (m ∷ moves) zero d all below = record { legal = all.0; halfmove = all.1; fullmove = all.2 }
 playable_at p (m ∷ moves) (suc i) d all below = playable_at (next p m) moves i d all.3 (omega arith)

@@ -3,14 +3,14 @@ use Rattle.std.proofs.Common.{ℕ, zero, suc, ◌≡◌, ◌+◌, List, [], ◌�
 use Rattle.chess_board.specs.declared.moves.Move.{Move}
 use Rattle.chess_board.specs.Position.{Position}
 use Rattle.chess_board.specs.Next.{next}
+use Rattle.chess_board.specs.Line.{position_after}
 use Rattle.chess_notation.specs.San.{IsSan}
 use Rattle.chess_notation.specs.Fen.{fen_of}
 use Rattle.lobby_moves.specs.Telling.{coordinate_of}
 use Rattle.lobby_positions.specs.Answer.{row, rows, AreSans, AreRows, PutsRow, PutsRows, IsLineAnswer}
-use Rattle.lobby_positions.proofs.Played.{after_moves}
 
 sans_more : (p : Position) (moves : List Move) (sans : List (List ℕ)) (m : Move) (san : List ℕ) → AreSans p moves sans →
-    IsSan (after_moves p moves) m san → AreSans p (moves ++ m ∷ []) (sans ++ san ∷ [])
+    IsSan (position_after p moves) m san → AreSans p (moves ++ m ∷ []) (sans ++ san ∷ [])
 sans_more p [] [] m san are is = (is, tt)
 sans_more p [] (s ∷ ss) m san are is = absurd are
 sans_more p (x ∷ xs) [] m san are is = absurd are
@@ -24,7 +24,7 @@ next_number n k = omega arith
 
 rows_more : (n : ℕ) (p : Position) (moves : List Move) (sans : List (List ℕ)) (m : Move) (san : List ℕ) → AreSans p moves sans →
     rows n p (moves ++ m ∷ []) (sans ++ san ∷ [])
-    ≡ rows n p moves sans ++ row (n + length moves) san (coordinate_of m) (next (after_moves p moves) m)
+    ≡ rows n p moves sans ++ row (n + length moves) san (coordinate_of m) (next (position_after p moves) m)
 rows_more n p [] [] m san are =
     append-nil (row n san (coordinate_of m) (next p m))
     ∙ ap (λ (k : ℕ). row k san (coordinate_of m) (next p m)) (sym (first_number n))
@@ -32,7 +32,7 @@ rows_more n p [] (s ∷ ss) m san are = absurd are
 rows_more n p (x ∷ xs) [] m san are = absurd are
 rows_more n p (x ∷ xs) (s ∷ ss) m san are =
     let here = row n s (coordinate_of x) (next p x) in
-    let behind = next (after_moves (next p x) xs) m in
+    let behind = next (position_after (next p x) xs) m in
     ap (λ (t : List ℕ). here ++ t) (rows_more (suc n) (next p x) xs ss m san are.1)
     ∙ (sym (append_assoc here (rows (suc n) (next p x) xs ss) (row (suc n + length xs) san (coordinate_of m) behind))
     ∙ ap (λ (k : ℕ). (here ++ rows (suc n) (next p x) xs ss) ++ row k san (coordinate_of m) behind) (next_number n (length xs)))
@@ -45,12 +45,12 @@ rows_none start text = record {
 }
 
 pub rows_put : (start before after : Position) (moves more : List Move) (m : Move) (number : ℕ) (old text new : List ℕ) → PutsRows start moves old text →
-    PutsRow number before m after text new → before ≡ after_moves start moves → after ≡ next before m → number ≡ 1 + length moves →
+    PutsRow number before m after text new → before ≡ position_after start moves → after ≡ next before m → number ≡ 1 + length moves →
     more ≡ moves ++ m ∷ [] → PutsRows start more old new
 rows_put start before after moves more m number old text new rows_so_far put_row at made counted grown =
     let here = row number put_row.san (coordinate_of m) after in
-    let there = row (1 + length moves) put_row.san (coordinate_of m) (next (after_moves start moves) m) in
-    let same : row number put_row.san (coordinate_of m) after ≡ row (1 + length moves) put_row.san (coordinate_of m) (next (after_moves start moves) m) =
+    let there = row (1 + length moves) put_row.san (coordinate_of m) (next (position_after start moves) m) in
+    let same : row number put_row.san (coordinate_of m) after ≡ row (1 + length moves) put_row.san (coordinate_of m) (next (position_after start moves) m) =
     ap (λ (k : ℕ). row k put_row.san (coordinate_of m) after) counted
     ∙ ap (λ (q : Position). row (1 + length moves) put_row.san (coordinate_of m) q) (made ∙ ap (λ (q : Position). next q m) at) in
     rw grown (record {
@@ -58,7 +58,7 @@ rows_put start before after moves more m number old text new rows_so_far put_row
       are = record {
         sans = rows_so_far.are.sans ++ put_row.san ∷ [];
         are = sans_more start moves rows_so_far.are.sans m put_row.san rows_so_far.are.are
-            (let h : IsSan (after_moves start moves) m put_row.san = rw at at put_row.is_san in h);
+            (let h : IsSan (position_after start moves) m put_row.san = rw at at put_row.is_san in h);
         spelled = ap (λ (t : List ℕ). t ++ here) rows_so_far.are.spelled
             ∙ (ap (λ (t : List ℕ). rows 1 start moves rows_so_far.are.sans ++ t) same
             ∙ sym (rows_more 1 start moves rows_so_far.are.sans m put_row.san rows_so_far.are.are));

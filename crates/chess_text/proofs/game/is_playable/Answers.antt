@@ -4,7 +4,9 @@ use Rattle.std.proofs.lemmas.Bool.{false≢true}
 use Rattle.chess_board.specs.declared.moves.Move.{Move}
 use Rattle.chess_board.specs.Legal.{IsLegal}
 use Rattle.chess_board.specs.Next.{next}
-use Rattle.chess_text.proofs.GameLemmas.{after_moves, after_moves-more, legal_at, room_at, line_more, room_more}
+use Rattle.chess_board.specs.Line.{position_after}
+use Rattle.chess_board.proofs.LineLemmas.{position_after-push, IsLegalLine-push}
+use Rattle.chess_text.proofs.GameLemmas.{legal_at, room_at, room_more}
 use Rattle.chess_text.proofs.game.is_playable.Goals as goal
 
 pub returns-then-not-can_play : goal.returns-then-not-can_play
@@ -33,9 +35,9 @@ loop-mv-preserved c =
     let taken : take (i + 1) moves ≡ take i moves ++ m ∷ [] =
     ap (λ (n : ℕ). take n moves) next_index ∙ take-suc moves i m c.loop-mv-test.true
     ∙ ap (λ (x : Move). take i moves ++ x ∷ []) (sym c.mv-item.is) in
-    let legal : IsLegal (after_moves p (take i moves)) m = rw at at can.0 in
+    let legal : IsLegal (position_after p (take i moves)) m = rw at at can.0 in
     rw taken (record {
-      at = c.apply-board.ensures.next ∙ (ap (λ q. next q m) at ∙ sym (after_moves-more p (take i moves) m));
-      legal = line_more p (take i moves) m c.loop-mv.invariant.legal legal;
+      at = c.apply-board.ensures.next ∙ (ap (λ q. next q m) at ∙ sym (position_after-push p (take i moves) m));
+      legal = IsLegalLine-push p (take i moves) m c.loop-mv.invariant.legal legal;
       room = room_more p (take i moves) m c.loop-mv.invariant.room (rw at at can.1) (rw at at can.2);
     })

@@ -3,8 +3,10 @@ use Rattle.std.proofs.Math.Seq.{take-suc}
 use Rattle.std.specs.String.{string_bytes}
 use Rattle.chess_board.specs.declared.moves.Move.{Move}
 use Rattle.chess_board.specs.Next.{next}
+use Rattle.chess_board.specs.Line.{position_after}
+use Rattle.chess_board.proofs.LineLemmas.{position_after-push}
 use Rattle.chess_text.specs.Game.{numbers_before, AddsMove}
-use Rattle.chess_text.proofs.GameLemmas.{after_moves, is_first_after, is_first_after-more, after_moves-more, legal_at, room_at, tokens_more}
+use Rattle.chess_text.proofs.GameLemmas.{is_first_after, is_first_after-more, legal_at, room_at, tokens_more}
 use Rattle.chess_text.proofs.game.push_moves.Goals as goal
 
 pub push_move-requires-clause-legal : goal.push_move-requires-clause-legal
@@ -42,15 +44,15 @@ loop-mv-preserved c =
     let taken : take (i + 1) moves ≡ take i moves ++ m ∷ [] =
     ap (λ (n : ℕ). take n moves) next_index ∙ take-suc moves i m c.loop-mv-test.true
     ∙ ap (λ (x : Move). take i moves ++ x ∷ []) (sym c.mv-item.is) in
-    let added : AddsMove (after_moves p (take i moves)) (is_first_after true (take i moves)) m front before.tokens
+    let added : AddsMove (position_after p (take i moves)) (is_first_after true (take i moves)) m front before.tokens
     (string_bytes c.push_move.new.text) c.in_ok-width.width =
     rw (sym at, sym c.loop-mv.invariant.first) (c.in_ok-width.ensures.added front before.tokens before.under_way) in
     rw taken (record {
-      at = c.apply-board.ensures.next ∙ (ap (λ q. next q m) at ∙ sym (after_moves-more p (take i moves) m));
+      at = c.apply-board.ensures.next ∙ (ap (λ q. next q m) at ∙ sym (position_after-push p (take i moves) m));
       first = sym (is_first_after-more true (take i moves) m);
       added = record {
-        tokens = before.tokens ++ (numbers_before (after_moves p (take i moves)).side
-            (is_first_after true (take i moves)) (after_moves p (take i moves)).fullmove ++ added.san ∷ []);
+        tokens = before.tokens ++ (numbers_before (position_after p (take i moves)).side
+            (is_first_after true (take i moves)) (position_after p (take i moves)).fullmove ++ added.san ∷ []);
         are = tokens_more p true (take i moves) before.tokens m added.san before.are added.is_san;
         under_way = added.under_way;
       };

@@ -3,7 +3,9 @@ use Rattle.std.proofs.lemmas.List.{take_more, length-take-le}
 use Rattle.std.specs.String.{string_bytes}
 use Rattle.chess_board.specs.declared.moves.Move.{Move}
 use Rattle.chess_board.specs.Next.{next}
-use Rattle.lobby_positions.proofs.Played.{after_moves, after_more, playable_at}
+use Rattle.chess_board.specs.Line.{position_after}
+use Rattle.chess_board.proofs.LineLemmas.{position_after-push}
+use Rattle.lobby_positions.proofs.Played.{playable_at}
 use Rattle.lobby_positions.proofs.Spelled.{rows_none, rows_put}
 use Rattle.lobby_positions.proofs.rows.push_rows.Goals as goal
 
@@ -46,7 +48,7 @@ loop-mv-preserved c =
     let inside : c.loop-mv.mv-index ≤ length c.args.moves.now = omega (arith, c.loop-mv-test.true) in
     let len = length-take-le i moves inside in
     record {
-      at = c.apply-after.ensures.next ∙ (ap (λ q. next q m) at ∙ (sym (after_more p (take i moves) m) ∙ ap (after_moves p) (sym taken)));
+      at = c.apply-after.ensures.next ∙ (ap (λ q. next q m) at ∙ (sym (position_after-push p (take i moves) m) ∙ ap (position_after p) (sym taken)));
       counted = omega (arith, c.loop-mv.invariant.counted);
       put = rows_put p c.loop-mv.board c.apply-after.result (take i moves) (take (i + 1) moves) m _ (string_bytes c.args.text.now)
           (string_bytes c.loop-mv.text) (string_bytes c.push_row.new.text) c.loop-mv.invariant.put c.in_ok-push_row.ensures at
