@@ -201,6 +201,20 @@ answered-one t (a ∷ b ∷ answered) h =
 head-same : (x y : Said) (xs ys : List Said) → x ∷ xs ≡ y ∷ ys → x ≡ y
 head-same x y xs ys e = cc
 
+-- the answer to the one line of a batch that asks nothing of the table
+answered-alone : (t : Taken) (at : ℕ) (read : Option Request) (line : List ℕ) (answer : Said) → t.line ≡ read →
+    own_answer at read ≡ Some line → AreAnswers at (t ∷ []) [] (answer ∷ []) →
+    (own_answer at read ≡ Some answer.line) × (answer.body ≡ [])
+answered-alone t at read line answer is own k =
+    let found = subst (λ (o : Option (List ℕ)). MatchOption o
+    ((r : Said) × (others : List Said) × (rest : List Said) × ([] ≡ r ∷ others)
+    × (answer ∷ [] ≡ r ∷ rest) × AreAnswers at [] others rest)
+    (λ l. (rest : List Said) × (answer ∷ [] ≡ alone l ∷ rest) × AreAnswers at [] [] rest))
+    (ap (own_answer at) is ∙ own) k in
+    let (rest, first, none) = found in
+    let same = head-same answer (alone line) [] rest first in
+    (own ∙ ap (λ (a : Said). Some a.line) (sym same), ap (λ (a : Said). a.body) same)
+
 -- the answer to the one line of a batch
 line-answered : (t : Taken) (at : ℕ) (name : Option (List ℕ)) (read : Option Request) (before after : TableState)
     (replies : List Reply) (entries : List Entry) (answer : Said) → t.line ≡ read →
@@ -221,22 +235,10 @@ line-answered t at name (Some (Act act)) before after (reply ∷ []) entries ans
     )
 line-answered t at name (Some (Act act)) before after (reply ∷ more ∷ replies) entries answer is h k = absurd h.rest
 line-answered t at name (Some (Called given)) before after [] entries answer is h k =
-    let found = subst (λ (line : Option Request). MatchOption (own_answer at line)
-    ((r : Said) × (others : List Said) × (rest : List Said) × ([] ≡ r ∷ others)
-    × (answer ∷ [] ≡ r ∷ rest) × AreAnswers at [] others rest)
-    (λ l. (rest : List Said) × (answer ∷ [] ≡ alone l ∷ rest) × AreAnswers at [] [] rest)) is k in
-    let (rest, first, none) = found in
-    let same = head-same answer (alone _) [] rest first in
-    (ap (λ (a : Said). Some a.line) (sym same), ap (λ (a : Said). a.body) same, h.same)
+    let told = answered-alone t at (Some (Called given)) _ answer is refl k in (told.0, told.1, h.same)
 line-answered t at name (Some (Called given)) before after (reply ∷ replies) entries answer is h k = absurd h
 line-answered t at name None before after [] entries answer is h k =
-    let found = subst (λ (line : Option Request). MatchOption (own_answer at line)
-    ((r : Said) × (others : List Said) × (rest : List Said) × ([] ≡ r ∷ others)
-    × (answer ∷ [] ≡ r ∷ rest) × AreAnswers at [] others rest)
-    (λ l. (rest : List Said) × (answer ∷ [] ≡ alone l ∷ rest) × AreAnswers at [] [] rest)) is k in
-    let (rest, first, none) = found in
-    let same = head-same answer (alone _) [] rest first in
-    (ap (λ (a : Said). Some a.line) (sym same), ap (λ (a : Said). a.body) same, h.same)
+    let told = answered-alone t at None _ answer is refl k in (told.0, told.1, h.same)
 line-answered t at name None before after (reply ∷ replies) entries answer is h k = absurd h
 
 -- ---- the line is taken
