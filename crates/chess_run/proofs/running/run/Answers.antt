@@ -2,8 +2,8 @@
 use Rattle.std.proofs.Common.{refl, inr}
 use Rattle.std.proofs.lemmas.Result.{err_from_is_err_and}
 use Rattle.chess_sessions.specs.Answers.{name_at}
-use Rattle.chess_run.specs.Running.{kept, stands}
-use Rattle.chess_run.proofs.RunLemmas.{whole-run, long-run, ended-ok, ended-err, of_source}
+use Rattle.chess_run.specs.Running.{stands}
+use Rattle.chess_run.proofs.RunLemmas.{kept_of, whole-run, long-run, ended-ok, ended-err, of_source}
 use Rattle.chess_run.proofs.running.run.Goals as goal
 
 pub returns-in-Err-clause-ended : goal.returns-in-Err-clause-ended
@@ -15,8 +15,7 @@ returns-in_err-ended-clause-long g c =
     let e = err_from_is_err_and c.from_residual.result c.from_residual.ensures.1 in
     long-run g.D.Device.state g.D.Device.sector_count g.D.Device.failures g.M.Moments.gives
     c.answer_lines-ended.result.0 c.in-Ok.talk
-    (λ t. stands (kept t.hub.store.journal.device t.hub.store.journal.header t.hub.store.journal.compaction t.hub.store.table t.hub.store.failed) (name_at t.hub.sessions t.sid) t.moments)
-    (kept first.journal.device first.journal.header first.journal.compaction first.table first.failed) c.args.moments
+    (λ t. stands (kept_of t.hub.store) (name_at t.hub.sessions t.sid) t.moments) (kept_of first) c.args.moments
     c.in-Ok.ensures.begins c.answer_lines-ended.result.1 c.in_err-ended.field-0.0 c.from_residual.result e.0 (g.W.Write.contents c.args.writer.now)
     (g.W.Write.contents c.answer_lines-ended.new.writer) (g.S.LineSource.remaining c.args.source.now)
     c.in_err-ended.was e.1 e.2 c.answer_lines-ended.ensures.long
@@ -27,8 +26,7 @@ returns-in_err-ended-clause-ended g c =
     let e = err_from_is_err_and c.from_residual.result c.from_residual.ensures.1 in
     ended-err g.D.Device.state g.D.Device.sector_count g.D.Device.failures g.M.Moments.gives
     c.answer_lines-ended.result.0 c.in-Ok.talk
-    (λ t. stands (kept t.hub.store.journal.device t.hub.store.journal.header t.hub.store.journal.compaction t.hub.store.table t.hub.store.failed) (name_at t.hub.sessions t.sid) t.moments)
-    (kept first.journal.device first.journal.header first.journal.compaction first.table first.failed) c.args.moments
+    (λ t. stands (kept_of t.hub.store) (name_at t.hub.sessions t.sid) t.moments) (kept_of first) c.args.moments
     c.in-Ok.ensures.begins c.answer_lines-ended.result.1 c.in_err-ended.field-0.0 c.from_residual.result e.0 (g.S.LineSource.remaining c.args.source.now)
     (g.S.LineSource.remaining c.answer_lines-ended.new.source) (g.W.Write.contents c.args.writer.now)
     (g.W.Write.contents c.answer_lines-ended.new.writer) c.in_err-ended.was e.1 e.2 c.answer_lines-ended.ensures.ended
@@ -38,8 +36,7 @@ returns-clause-whole g c =
     let first = c.args.store in
     whole-run g.D.Device.state g.D.Device.sector_count g.D.Device.failures g.M.Moments.gives
     c.answer_lines-ended.result.0 c.in-Ok.talk
-    (λ t. stands (kept t.hub.store.journal.device t.hub.store.journal.header t.hub.store.journal.compaction t.hub.store.table t.hub.store.failed) (name_at t.hub.sessions t.sid) t.moments)
-    (kept first.journal.device first.journal.header first.journal.compaction first.table first.failed) c.args.moments
+    (λ t. stands (kept_of t.hub.store) (name_at t.hub.sessions t.sid) t.moments) (kept_of first) c.args.moments
     c.in-Ok.ensures.begins c.answer_lines-ended.result.1 tt (g.W.Write.contents c.args.writer.now) (g.W.Write.contents c.answer_lines-ended.new.writer)
     (g.S.LineSource.remaining c.args.source.now) c.in_ok-ended.was c.answer_lines-ended.ensures.whole
 
@@ -48,8 +45,7 @@ returns-clause-ended g c =
     let first = c.args.store in
     ended-ok g.D.Device.state g.D.Device.sector_count g.D.Device.failures g.M.Moments.gives
     c.answer_lines-ended.result.0 c.in-Ok.talk
-    (λ t. stands (kept t.hub.store.journal.device t.hub.store.journal.header t.hub.store.journal.compaction t.hub.store.table t.hub.store.failed) (name_at t.hub.sessions t.sid) t.moments)
-    (kept first.journal.device first.journal.header first.journal.compaction first.table first.failed) c.args.moments
+    (λ t. stands (kept_of t.hub.store) (name_at t.hub.sessions t.sid) t.moments) (kept_of first) c.args.moments
     c.in-Ok.ensures.begins c.answer_lines-ended.result.1 tt (g.S.LineSource.remaining c.args.source.now) (g.S.LineSource.remaining c.answer_lines-ended.new.source)
     (g.W.Write.contents c.args.writer.now) (g.W.Write.contents c.answer_lines-ended.new.writer) c.in_ok-ended.was c.answer_lines-ended.ensures.ended
 
