@@ -1,9 +1,9 @@
-use Rattle.std.proofs.Common.{◌≡◌, ◌∙◌, sym, ap, take, drop, ◌++◌, ◌∷◌, [], ◌+◌, length, subst}
-use Rattle.std.proofs.lemmas.List.{take_more, drop_more}
+use Rattle.std.proofs.Common.{◌∙◌, sym, ap, take, drop, ◌++◌, ◌∷◌, [], ◌+◌, length, subst}
+use Rattle.std.proofs.lemmas.List.{take_more}
 use Rattle.std.specs.Vec.Iter.{into_iter_items}
 use Rattle.chess_sessions.specs.Answers.{own_answer}
 use Rattle.chess_sessions.specs.Delivery.{asking_count}
-use Rattle.chess_sessions.proofs.DeliveryLemmas.{Answering, answering-none, answering-one, answering-done, one-left, room-here}
+use Rattle.chess_sessions.proofs.DeliveryLemmas.{Answering, left_from, answering-none, answering-one, answering-done, one-left, room-here}
 use Rattle.chess_sessions.proofs.sessions.Sessions.deliver.Goals as goal
 
 pub loop-line-init : goal.loop-line-init
@@ -17,8 +17,7 @@ next_answer-reply-requires c =
     let taken = c.args.taken.now in
     let i = c.loop-line.line-index in
     let t = c.line-item.result in
-    let split : drop i taken ≡ t ∷ drop (i + 1) taken =
-    drop_more taken i t c.loop-line-test.true ∙ ap (λ x. x ∷ drop (i + 1) taken) (sym c.line-item.is) in
+    let split = left_from taken i t c.loop-line-test.true (sym c.line-item.is) in
     one-left (own_answer c.args.at t.line) (length (into_iter_items c.loop-line.left))
     (asking_count c.args.at (drop (i + 1) taken))
     (c.loop-line.invariant.count ∙ ap (asking_count c.args.at) split)
@@ -28,8 +27,7 @@ give-requires c =
     let taken = c.args.taken.now in
     let i = c.loop-line.line-index in
     let t = c.line-item.result in
-    let split : drop i taken ≡ t ∷ drop (i + 1) taken =
-    drop_more taken i t c.loop-line-test.true ∙ ap (λ x. x ∷ drop (i + 1) taken) (sym c.line-item.is) in
+    let split = left_from taken i t c.loop-line-test.true (sym c.line-item.is) in
     room-here c.args.at taken i c.args.replies.items (into_iter_items c.loop-line.left) c.args.self.now c.loop-line.self t
     c.loop-line.invariant c.loop-line-test.true split
 
@@ -38,8 +36,7 @@ loop-line-preserved c =
     let taken = c.args.taken.now in
     let i = c.loop-line.line-index in
     let t = c.line-item.result in
-    let split : drop i taken ≡ t ∷ drop (i + 1) taken =
-    drop_more taken i t c.loop-line-test.true ∙ ap (λ x. x ∷ drop (i + 1) taken) (sym c.line-item.is) in
+    let split = left_from taken i t c.loop-line-test.true (sym c.line-item.is) in
     answering-one c.args.at taken i t c.args.replies.items (into_iter_items c.loop-line.left)
     (into_iter_items c.next_answer-reply.new.left) c.args.self.now c.loop-line.self
     (record c.loop-line.self { slab = c.give.new.slab }) c.given_name.result c.next_answer-reply.result c.loop-line.invariant
