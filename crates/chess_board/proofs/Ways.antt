@@ -1,6 +1,6 @@
 -- Each kind of move as steps of men over the board.
 use Rattle.std.specs.Prelude.{◌≡◌, ◌≢◌, false, List, Option, Some, None}
-use Rattle.std.proofs.Common.{arith, ap, sym, ◌∙◌}
+use Rattle.std.proofs.Common.{arith, ap, refl, sym, ◌∙◌}
 use Rattle.chess_bits.specs.declared.men.Colour.{Colour}
 use Rattle.chess_bits.specs.declared.men.Kind.{Kind}
 use Rattle.chess_bits.specs.declared.men.Kind.TheVariants.{Pawn, Rook, King}
@@ -19,9 +19,11 @@ use Rattle.chess_board.proofs.PlacementAfter.{placement_after-plain, placement_a
 use Rattle.chess_board.proofs.Candidates.{IsOnBoard-from_man, Goes, IsPlain, IsEnPassant, IsCastling}
 use Rattle.chess_board.proofs.Steps.{IsStep, others-step, length-step}
 
-pub IsStep-plain : (p : Position) (m : Move) (mover new : Kind) → IsValid p → Goes p m mover new → IsPlain p m →
-    IsStep p.placement (placement_after p m) p.side m.from m.to mover new
-IsStep-plain p m mover new valid goes plain = record {
+-- a step over the board as it stands
+IsStep-moved : (p : Position) (m : Move) (mover new : Kind) (after : List (Option Man)) → IsValid p →
+    Goes p m mover new → after ≡ moved p.placement m.from m.to (Some (p.side, new)) →
+    IsStep p.placement after p.side m.from m.to mover new
+IsStep-moved p m mover new after valid goes is = record {
   whole = valid.whole;
   from_on = goes.from_on;
   to_on = goes.to_on;
@@ -29,9 +31,15 @@ IsStep-plain p m mover new valid goes plain = record {
   free = goes.free;
   spared = goes.spared;
   same_king = goes.same_king;
-  after = placement_after-plain p m plain.no_pawn plain.no_king plain.no_queen ∙
-      ap (moved p.placement m.from m.to) goes.becomes;
+  after = is;
 }
+
+pub IsStep-plain : (p : Position) (m : Move) (mover new : Kind) → IsValid p → Goes p m mover new → IsPlain p m →
+    IsStep p.placement (placement_after p m) p.side m.from m.to mover new
+IsStep-plain p m mover new valid goes plain =
+    IsStep-moved p m mover new (placement_after p m) valid goes
+    (placement_after-plain p m plain.no_pawn plain.no_king plain.no_queen ∙
+    ap (moved p.placement m.from m.to) goes.becomes)
 
 -- the placement without the pawn taken en passant
 abbrev pub without_pawn : Position → Move → List (Option Man)
@@ -82,16 +90,7 @@ king_moved p m = moved p.placement m.from m.to (Some (p.side, King))
 
 pub IsStep-king : (p : Position) (m : Move) → IsValid p → Goes p m King King →
     IsStep p.placement (king_moved p m) p.side m.from m.to King King
-IsStep-king p m valid goes = record {
-  whole = valid.whole;
-  from_on = goes.from_on;
-  to_on = goes.to_on;
-  own = goes.own;
-  free = goes.free;
-  spared = goes.spared;
-  same_king = goes.same_king;
-  after = λ i. king_moved p m;
-}
+IsStep-king p m valid goes = IsStep-moved p m King King (king_moved p m) valid goes refl
 
 castled_rook-king_home : (side : Colour) (w : Wing) → castled_rook side w ≢ king_home side
 castled_rook-king_home side wing.King e = absurd (omega (arith, ap (λ (s : Square). s.file) e))
