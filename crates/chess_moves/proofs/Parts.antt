@@ -1,16 +1,16 @@
 -- A move by the rules of a kind is the way that the man goes, and what it becomes.
-use Rattle.std.specs.Prelude.{◌≡◌, ◌↔◌, Bool, true, List, Some, None}
+use Rattle.std.specs.Prelude.{◌≡◌, ◌⊎◌, ◌↔◌, Bool, true, List, Option, Some, None}
 use Rattle.std.proofs.Common.{inl, inr, refl}
 use Rattle.chess_bits.specs.declared.men.Kind.{Kind}
 use Rattle.chess_bits.specs.declared.men.Kind.TheVariants.{Pawn, Knight, Bishop, Rook, Queen, King}
-use Rattle.chess_bits.specs.Square.{IsOnBoard}
+use Rattle.chess_bits.specs.Square.{Square, IsOnBoard}
 use Rattle.chess_bits.specs.Table.{has, IsSetOf}
 use Rattle.chess_bits.proofs.ManLemmas.{same_kind}
 use Rattle.chess_board.specs.declared.castling.Wing.{Wing}
 use Rattle.chess_board.specs.declared.castling.Wing.TheVariants as wing
 use Rattle.chess_board.specs.declared.moves.Move.{Move}
 use Rattle.chess_board.specs.Position.{Position, man_at}
-use Rattle.chess_board.specs.Legal.{IsPieceMove, Castles, IsMoveOf, IsCandidate}
+use Rattle.chess_board.specs.Legal.{Advances, AdvancesTwo, PawnTakes, TakesEnPassant, IsPieceMove, Castles, IsMoveOf, IsCandidate}
 use Rattle.chess_moves.specs.Targets.{plain, GoesTo, Becomes}
 
 piece_of : (p : Position) (m : Move) (kind : Kind) → IsPieceMove p (plain m.from m.to) kind → m.promotion ≡ None →
@@ -40,20 +40,29 @@ plain_castles p m w castles = record {
   no_promotion = refl;
 }
 
+-- what a pawn becomes does not matter to its way
+abbrev PawnWay : Position → Move → Type 0
+PawnWay p m = Advances p m ⊎ AdvancesTwo p m ⊎ PawnTakes p m ⊎ TakesEnPassant p m
+
+same_way : (p : Position) (from to : Square) (a b : Option Kind) →
+    PawnWay p (record { from = from; to = to; promotion = a }) →
+    PawnWay p (record { from = from; to = to; promotion = b })
+same_way p from to a b way = elim way [
+  | inl one ↦ inl (record { there = one.there; empty = one.empty })
+  | inr (inl two) ↦ inr (inl (record {
+    first = two.first;
+    there = two.there;
+    crossed_empty = two.crossed_empty;
+    empty = two.empty;
+  }))
+  | inr (inr (inl takes)) ↦ inr (inr (inl (record { attacked = takes.attacked; taken = takes.taken })))
+  | inr (inr (inr passes)) ↦ inr (inr (inr (record { attacked = passes.attacked; crossed = passes.crossed })))
+]
+
 pub move_of_parts : (p : Position) (m : Move) (kind : Kind) → GoesTo p kind m.from m.to →
     Becomes p.side kind m.to m.promotion → IsMoveOf p m kind
 move_of_parts p m Pawn goes becomes = record {
-  way = elim goes [
-    | inl one ↦ inl (record { there = one.there; empty = one.empty })
-    | inr (inl two) ↦ inr (inl (record {
-      first = two.first;
-      there = two.there;
-      crossed_empty = two.crossed_empty;
-      empty = two.empty;
-    }))
-    | inr (inr (inl takes)) ↦ inr (inr (inl (record { attacked = takes.attacked; taken = takes.taken })))
-    | inr (inr (inr passes)) ↦ inr (inr (inr (record { attacked = passes.attacked; crossed = passes.crossed })))
-  ];
+  way = same_way p m.from m.to None m.promotion goes;
   promotion = becomes;
 }
 move_of_parts p m Knight goes becomes = piece_of p m Knight goes becomes
@@ -67,17 +76,7 @@ move_of_parts p m King goes becomes = elim goes [
 ]
 
 pub goes_of_move : (p : Position) (m : Move) (kind : Kind) → IsMoveOf p m kind → GoesTo p kind m.from m.to
-goes_of_move p m Pawn move = elim move.way [
-  | inl one ↦ inl (record { there = one.there; empty = one.empty })
-  | inr (inl two) ↦ inr (inl (record {
-    first = two.first;
-    there = two.there;
-    crossed_empty = two.crossed_empty;
-    empty = two.empty;
-  }))
-  | inr (inr (inl takes)) ↦ inr (inr (inl (record { attacked = takes.attacked; taken = takes.taken })))
-  | inr (inr (inr passes)) ↦ inr (inr (inr (record { attacked = passes.attacked; crossed = passes.crossed })))
-]
+goes_of_move p m Pawn move = same_way p m.from m.to m.promotion None move.way
 goes_of_move p m Knight move = plain_piece p m Knight move
 goes_of_move p m Bishop move = plain_piece p m Bishop move
 goes_of_move p m Rook move = plain_piece p m Rook move
