@@ -130,59 +130,50 @@ black_set sets mid s colour stands new is assigned made =
     made ∙ ap (λ (bits : List Bool). let m : Inside = record sets { black = bits } in m) assigned
     ∙ ap (λ (c : Colour). colour_sets sets s c stands) (sym is)
 
+-- the set of a kind, by what tells it and what changes it
+kind_set : (set_of : Inside → List Bool) (changed : Inside → List Bool → Inside) (one : Kind) →
+    ((sets : Inside) (s : Square) (colour : Colour) (stands : Bool) →
+    changed (colour_sets sets s colour stands) (put (set_of (colour_sets sets s colour stands)) s stands)
+    ≡ both_sets sets s colour one stands) →
+    (sets mid : Inside) (s : Square) (colour : Colour) (kind : Kind) (stands : Bool) (new : List Bool) →
+    kind ≡ one → mid ≡ colour_sets sets s colour stands → new ≡ put (set_of mid) s stands →
+    IsAssigned sets (changed mid new) s colour kind stands
+kind_set set_of changed one told sets mid s colour kind stands new is coloured assigned = record {
+  same = ap (changed mid) assigned
+      ∙ ap (λ (m : Inside). changed m (put (set_of m) s stands)) coloured
+      ∙ told sets s colour stands
+      ∙ ap (λ (k : Kind). both_sets sets s colour k stands) (sym is);
+}
+
 pub pawn_set : (sets mid : Inside) (s : Square) (colour : Colour) (kind : Kind) (stands : Bool) (new : List Bool) →
     kind ≡ Pawn → mid ≡ colour_sets sets s colour stands → new ≡ put mid.pawns s stands →
     IsAssigned sets (record mid { pawns = new }) s colour kind stands
-pawn_set sets mid s colour kind stands new is coloured assigned = record {
-  same = ap (λ (bits : List Bool). let m : Inside = record mid { pawns = bits } in m) assigned
-      ∙ ap (λ (m : Inside). let n : Inside = record m { pawns = put m.pawns s stands } in n) coloured
-      ∙ ap (λ (k : Kind). both_sets sets s colour k stands) (sym is);
-}
+pawn_set = kind_set (λ m. m.pawns) (λ m bits. record m { pawns = bits }) Pawn (λ sets s colour stands. refl)
 
 pub knight_set : (sets mid : Inside) (s : Square) (colour : Colour) (kind : Kind) (stands : Bool) (new : List Bool) →
     kind ≡ Knight → mid ≡ colour_sets sets s colour stands → new ≡ put mid.knights s stands →
     IsAssigned sets (record mid { knights = new }) s colour kind stands
-knight_set sets mid s colour kind stands new is coloured assigned = record {
-  same = ap (λ (bits : List Bool). let m : Inside = record mid { knights = bits } in m) assigned
-      ∙ ap (λ (m : Inside). let n : Inside = record m { knights = put m.knights s stands } in n) coloured
-      ∙ ap (λ (k : Kind). both_sets sets s colour k stands) (sym is);
-}
+knight_set = kind_set (λ m. m.knights) (λ m bits. record m { knights = bits }) Knight (λ sets s colour stands. refl)
 
 pub bishop_set : (sets mid : Inside) (s : Square) (colour : Colour) (kind : Kind) (stands : Bool) (new : List Bool) →
     kind ≡ Bishop → mid ≡ colour_sets sets s colour stands → new ≡ put mid.bishops s stands →
     IsAssigned sets (record mid { bishops = new }) s colour kind stands
-bishop_set sets mid s colour kind stands new is coloured assigned = record {
-  same = ap (λ (bits : List Bool). let m : Inside = record mid { bishops = bits } in m) assigned
-      ∙ ap (λ (m : Inside). let n : Inside = record m { bishops = put m.bishops s stands } in n) coloured
-      ∙ ap (λ (k : Kind). both_sets sets s colour k stands) (sym is);
-}
+bishop_set = kind_set (λ m. m.bishops) (λ m bits. record m { bishops = bits }) Bishop (λ sets s colour stands. refl)
 
 pub rook_set : (sets mid : Inside) (s : Square) (colour : Colour) (kind : Kind) (stands : Bool) (new : List Bool) →
     kind ≡ Rook → mid ≡ colour_sets sets s colour stands → new ≡ put mid.rooks s stands →
     IsAssigned sets (record mid { rooks = new }) s colour kind stands
-rook_set sets mid s colour kind stands new is coloured assigned = record {
-  same = ap (λ (bits : List Bool). let m : Inside = record mid { rooks = bits } in m) assigned
-      ∙ ap (λ (m : Inside). let n : Inside = record m { rooks = put m.rooks s stands } in n) coloured
-      ∙ ap (λ (k : Kind). both_sets sets s colour k stands) (sym is);
-}
+rook_set = kind_set (λ m. m.rooks) (λ m bits. record m { rooks = bits }) Rook (λ sets s colour stands. refl)
 
 pub queen_set : (sets mid : Inside) (s : Square) (colour : Colour) (kind : Kind) (stands : Bool) (new : List Bool) →
     kind ≡ Queen → mid ≡ colour_sets sets s colour stands → new ≡ put mid.queens s stands →
     IsAssigned sets (record mid { queens = new }) s colour kind stands
-queen_set sets mid s colour kind stands new is coloured assigned = record {
-  same = ap (λ (bits : List Bool). let m : Inside = record mid { queens = bits } in m) assigned
-      ∙ ap (λ (m : Inside). let n : Inside = record m { queens = put m.queens s stands } in n) coloured
-      ∙ ap (λ (k : Kind). both_sets sets s colour k stands) (sym is);
-}
+queen_set = kind_set (λ m. m.queens) (λ m bits. record m { queens = bits }) Queen (λ sets s colour stands. refl)
 
 pub king_set : (sets mid : Inside) (s : Square) (colour : Colour) (kind : Kind) (stands : Bool) (new : List Bool) →
     kind ≡ King → mid ≡ colour_sets sets s colour stands → new ≡ put mid.kings s stands →
     IsAssigned sets (record mid { kings = new }) s colour kind stands
-king_set sets mid s colour kind stands new is coloured assigned = record {
-  same = ap (λ (bits : List Bool). let m : Inside = record mid { kings = bits } in m) assigned
-      ∙ ap (λ (m : Inside). let n : Inside = record m { kings = put m.kings s stands } in n) coloured
-      ∙ ap (λ (k : Kind). both_sets sets s colour k stands) (sym is);
-}
+king_set = kind_set (λ m. m.kings) (λ m bits. record m { kings = bits }) King (λ sets s colour stands. refl)
 
 -- a square that is emptied is empty
 pub man_at-emptied : (t : Placement) (s : Square) → IsOnBoard s → man_at (put t s None) s ≡ None
