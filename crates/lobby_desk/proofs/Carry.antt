@@ -214,66 +214,53 @@ line_does : (P : Plan → Type 0) (s : Standing) (game : Option ℕ) → ((r : R
 line_does P s None none h = none refusals.BadLine
 line_does P s (Some game) none h = asked_does P s (plans.Line game) (none refusals.NoServer) (h game)
 
--- who watches after the plan for a message
-abbrev pub WatchesStay : ℕ → List Watch → Plan → Type 0
-WatchesStay c watches plan = plan_watches plan c watches ≡ watches
+-- who watches and who is told of the table is as before
+abbrev Stays : ℕ → List Watch → List ℕ → Plan → Type 0
+Stays c watches table plan = (plan_watches plan c watches ≡ watches) × (plan_table plan c table ≡ table)
 
 leave_watches : (s : Standing) (game : Option ℕ) (c : ℕ) (watches : List Watch) →
     plan_watches (numbered_plan sorts.Leave s game) c watches ≡ left_game c game watches
 leave_watches s None c watches = refl
 leave_watches s (Some game) c watches = refl
 
-pub planned_watches : (m : Bool) (sort : Sort) (s : Standing) (game : Option ℕ) (c : ℕ) (watches : List Watch) →
-    plan_watches (plan_of m sort s game) c watches ≡ (if m && is_leave_sort sort then left_game c game watches else watches)
-planned_watches false sort s game c watches = refl
-planned_watches true sorts.Read s game c watches = asked_does (WatchesStay c watches) s plans.Read refl refl
-planned_watches true sorts.Act s game c watches = act_does (WatchesStay c watches) s s.who (λ _. refl) (λ _. refl)
-planned_watches true sorts.As s game c watches = as_does (WatchesStay c watches) s s.who (λ _. refl) (λ _ _. refl)
-planned_watches true sorts.Drop s game c watches = dropped_does (WatchesStay c watches) s game (λ _. refl) (λ _ _. refl)
-planned_watches true sorts.Login s game c watches = login_does (WatchesStay c watches) s.holder (λ _. refl) (λ _. refl)
-planned_watches true sorts.Players s game c watches = refl
-planned_watches true sorts.Who s game c watches = arbiter_does (WatchesStay c watches) s.who plans.Who (λ _. refl) refl
-planned_watches true sorts.Pause s game c watches = arbiter_does (WatchesStay c watches) s.who plans.Pause (λ _. refl) refl
-planned_watches true sorts.Resume s game c watches = arbiter_does (WatchesStay c watches) s.who plans.Resume (λ _. refl) refl
-planned_watches true sorts.Link s game c watches = link_does (WatchesStay c watches) s.who false s.linked (λ _. refl) (λ _. refl)
-planned_watches true sorts.Close s game c watches = link_does (WatchesStay c watches) s.who true s.linked (λ _. refl) (λ _. refl)
-planned_watches true sorts.Lobby s game c watches = asked_does (WatchesStay c watches) s plans.Lobby refl refl
-planned_watches true sorts.LeaveLobby s game c watches = refl
-planned_watches true sorts.Watch s game c watches = watch_does (WatchesStay c watches) s game (λ _. refl) (λ _. refl)
-planned_watches true sorts.Leave s game c watches = leave_watches s game c watches
-planned_watches true sorts.Line s game c watches = line_does (WatchesStay c watches) s game (λ _. refl) (λ _. refl)
-planned_watches true sorts.Name s game c watches = refl
-planned_watches true sorts.Nothing s game c watches = refl
-
--- who is told of the table after it
-abbrev pub TableStays : ℕ → List ℕ → Plan → Type 0
-TableStays c table plan = plan_table plan c table ≡ table
-
 leave_table : (s : Standing) (game : Option ℕ) (c : ℕ) (table : List ℕ) → plan_table (numbered_plan sorts.Leave s game) c table ≡ table
 leave_table s None c table = refl
 leave_table s (Some game) c table = refl
 
+planned : (m : Bool) (sort : Sort) (s : Standing) (game : Option ℕ) (c : ℕ) (watches : List Watch) (table : List ℕ) →
+    (plan_watches (plan_of m sort s game) c watches ≡ (if m && is_leave_sort sort then left_game c game watches else watches))
+    × (plan_table (plan_of m sort s game) c table ≡ (if m && is_leave_lobby_sort sort then risen c table else table))
+planned false sort s game c watches table = (refl, refl)
+planned true sorts.Read s game c watches table = asked_does (Stays c watches table) s plans.Read (refl, refl) (refl, refl)
+planned true sorts.Act s game c watches table = act_does (Stays c watches table) s s.who (λ _. (refl, refl)) (λ _. (refl, refl))
+planned true sorts.As s game c watches table = as_does (Stays c watches table) s s.who (λ _. (refl, refl)) (λ _ _. (refl, refl))
+planned true sorts.Drop s game c watches table = dropped_does (Stays c watches table) s game (λ _. (refl, refl)) (λ _ _. (refl, refl))
+planned true sorts.Login s game c watches table = login_does (Stays c watches table) s.holder (λ _. (refl, refl)) (λ _. (refl, refl))
+planned true sorts.Players s game c watches table = (refl, refl)
+planned true sorts.Who s game c watches table = arbiter_does (Stays c watches table) s.who plans.Who (λ _. (refl, refl)) (refl, refl)
+planned true sorts.Pause s game c watches table = arbiter_does (Stays c watches table) s.who plans.Pause (λ _. (refl, refl)) (refl, refl)
+planned true sorts.Resume s game c watches table = arbiter_does (Stays c watches table) s.who plans.Resume (λ _. (refl, refl)) (refl, refl)
+planned true sorts.Link s game c watches table =
+    link_does (Stays c watches table) s.who false s.linked (λ _. (refl, refl)) (λ _. (refl, refl))
+planned true sorts.Close s game c watches table =
+    link_does (Stays c watches table) s.who true s.linked (λ _. (refl, refl)) (λ _. (refl, refl))
+planned true sorts.Lobby s game c watches table = asked_does (Stays c watches table) s plans.Lobby (refl, refl) (refl, refl)
+planned true sorts.LeaveLobby s game c watches table = (refl, refl)
+planned true sorts.Watch s game c watches table = watch_does (Stays c watches table) s game (λ _. (refl, refl)) (λ _. (refl, refl))
+planned true sorts.Leave s game c watches table = (leave_watches s game c watches, leave_table s game c table)
+planned true sorts.Line s game c watches table = line_does (Stays c watches table) s game (λ _. (refl, refl)) (λ _. (refl, refl))
+planned true sorts.Name s game c watches table = (refl, refl)
+planned true sorts.Nothing s game c watches table = (refl, refl)
+
+-- who watches after the plan for a message
+pub planned_watches : (m : Bool) (sort : Sort) (s : Standing) (game : Option ℕ) (c : ℕ) (watches : List Watch) →
+    plan_watches (plan_of m sort s game) c watches ≡ (if m && is_leave_sort sort then left_game c game watches else watches)
+planned_watches m sort s game c watches = (planned m sort s game c watches []).0
+
+-- who is told of the table after it
 pub planned_table : (m : Bool) (sort : Sort) (s : Standing) (game : Option ℕ) (c : ℕ) (table : List ℕ) →
     plan_table (plan_of m sort s game) c table ≡ (if m && is_leave_lobby_sort sort then risen c table else table)
-planned_table false sort s game c table = refl
-planned_table true sorts.Read s game c table = asked_does (TableStays c table) s plans.Read refl refl
-planned_table true sorts.Act s game c table = act_does (TableStays c table) s s.who (λ _. refl) (λ _. refl)
-planned_table true sorts.As s game c table = as_does (TableStays c table) s s.who (λ _. refl) (λ _ _. refl)
-planned_table true sorts.Drop s game c table = dropped_does (TableStays c table) s game (λ _. refl) (λ _ _. refl)
-planned_table true sorts.Login s game c table = login_does (TableStays c table) s.holder (λ _. refl) (λ _. refl)
-planned_table true sorts.Players s game c table = refl
-planned_table true sorts.Who s game c table = arbiter_does (TableStays c table) s.who plans.Who (λ _. refl) refl
-planned_table true sorts.Pause s game c table = arbiter_does (TableStays c table) s.who plans.Pause (λ _. refl) refl
-planned_table true sorts.Resume s game c table = arbiter_does (TableStays c table) s.who plans.Resume (λ _. refl) refl
-planned_table true sorts.Link s game c table = link_does (TableStays c table) s.who false s.linked (λ _. refl) (λ _. refl)
-planned_table true sorts.Close s game c table = link_does (TableStays c table) s.who true s.linked (λ _. refl) (λ _. refl)
-planned_table true sorts.Lobby s game c table = asked_does (TableStays c table) s plans.Lobby refl refl
-planned_table true sorts.LeaveLobby s game c table = refl
-planned_table true sorts.Watch s game c table = watch_does (TableStays c table) s game (λ _. refl) (λ _. refl)
-planned_table true sorts.Leave s game c table = leave_table s game c table
-planned_table true sorts.Line s game c table = line_does (TableStays c table) s game (λ _. refl) (λ _. refl)
-planned_table true sorts.Name s game c table = refl
-planned_table true sorts.Nothing s game c table = refl
+planned_table m sort s game c table = (planned m sort s game c [] table).1
 
 -- a message is answered at once where nothing goes out by its plan
 act_sent : (b : Bool) (name text : List ℕ) (rest : List (List ℕ)) (c : ℕ) (tells : List MessageValue) → tells ≡ [] →
