@@ -5,7 +5,7 @@ ghost use Rattle.board_session.specs.Field.{IsCommand, IsVisibleText};
 use std::str;
 
 /// What a line asks for.
-#[derive(Clone, Copy, Debug)]
+#[derive(Clone, Copy)]
 pub enum Command<'a> {
     /// To make the move of this text.
     Move(&'a str),

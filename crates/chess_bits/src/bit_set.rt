@@ -8,7 +8,7 @@ use crate::coordinates::Square;
 use std::marker::Model;
 
 /// A set of squares, one bit for each square by its number.
-#[derive(Clone, Copy, Debug, PartialEq, Eq)]
+#[derive(Clone, Copy, PartialEq, Eq)]
 pub struct Bits {
     word: u64,
 }
@@ -155,7 +155,7 @@ impl Bits {
 }
 
 /// The squares of a set that are still to come, by rising number.
-#[derive(Clone, Copy, Debug)]
+#[derive(Clone, Copy)]
 pub struct SquaresOf {
     rest: Bits,
 }

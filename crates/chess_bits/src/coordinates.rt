@@ -6,7 +6,7 @@ use crate::steps::Step;
 use std::marker::Model;
 
 /// A square of the board, by its number: a1 is 0, h1 is 7, a2 is 8, h8 is 63.
-#[derive(Clone, Copy, Debug, PartialEq, Eq)]
+#[derive(Clone, Copy, PartialEq, Eq)]
 pub struct Square {
     number: u8,
 }

@@ -4,7 +4,7 @@ ghost use Rattle.chess_bits.specs.Man.{other};
 use crate::steps::{NORTH, SOUTH, Step};
 
 /// The two sides (FIDE article 1.2).
-#[derive(Clone, Copy, Debug, PartialEq, Eq)]
+#[derive(Clone, Copy, PartialEq, Eq)]
 pub enum Colour {
     White,
     Black,
@@ -37,7 +37,7 @@ impl Colour {
 }
 
 /// The six kinds of men (FIDE article 2.2).
-#[derive(Clone, Copy, Debug, PartialEq, Eq)]
+#[derive(Clone, Copy, PartialEq, Eq)]
 pub enum Kind {
     Pawn,
     Knight,

@@ -20,7 +20,7 @@ use std::marker::Model;
 
 /// A valid chess position: the men, the side to move, castling rights, en passant target and counters
 /// (`docs/LAWS.md`, "Valid positions").
-#[derive(Clone, Copy, Debug)]
+#[derive(Clone, Copy)]
 pub struct Board {
     men: Men,
     side: Colour,

@@ -7,14 +7,14 @@ use bitflags::{Flag, Flags, bitflag_items};
 use chess_bits::{Colour, Square};
 
 /// The wing to which a king castles (FIDE article 3.8.2).
-#[derive(Clone, Copy, Debug, PartialEq, Eq)]
+#[derive(Clone, Copy, PartialEq, Eq)]
 pub enum Wing {
     King,
     Queen,
 }
 
 /// A set of castling rights (FIDE article 3.8.2.1), one bit for each colour and wing.
-#[derive(Clone, Copy, Debug, PartialEq, Eq)]
+#[derive(Clone, Copy, PartialEq, Eq)]
 pub struct CastlingRights(u8);
 
 bitflag_items! {

@@ -9,7 +9,7 @@ use crate::parts::{BadBoard, Parts};
 use chess_bits::{Colour, Kind, Square};
 
 /// A position that may not be valid.
-#[derive(Clone, Copy, Debug)]
+#[derive(Clone, Copy)]
 pub struct Draft {
     pub men: Men,
     pub side: Colour,

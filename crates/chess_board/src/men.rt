@@ -9,7 +9,7 @@ use chess_bits::{Bits, Colour, Kind, Square};
 use std::marker::Model;
 
 /// The men on a board, as sets of squares by colour and by kind.
-#[derive(Clone, Copy, Debug)]
+#[derive(Clone, Copy)]
 pub struct Men {
     white: Bits,
     black: Bits,

@@ -2,7 +2,7 @@ use crate::castling::CastlingRights;
 use chess_bits::{Colour, Kind, Square};
 
 /// What a board is made of, by square number (a1 is 0, h1 is 7, h8 is 63); it need not be valid.
-#[derive(Clone, Copy, Debug)]
+#[derive(Clone, Copy)]
 pub struct Parts {
     pub men: [Option<(Colour, Kind)>; 64],
     pub side: Colour,

@@ -10,7 +10,7 @@ use chess_bits::Colour;
 use std::marker::Model;
 
 /// The clock of a game. Moments are milliseconds that are handed in, and times are milliseconds.
-#[derive(Clone, Copy, Debug)]
+#[derive(Clone, Copy)]
 pub struct Clock {
     control: TimeControl,
     side: Colour,

@@ -7,7 +7,7 @@ use crate::time_control::TimeControl;
 const PENALTY: u32 = 120_000;
 
 /// A side's time.
-#[derive(Clone, Copy, Debug)]
+#[derive(Clone, Copy)]
 pub struct SideTime {
     /// The milliseconds that it held at the start of the running turn.
     pub held: u32,

@@ -4,7 +4,7 @@ ghost use Rattle.chess_clock.specs.TimeControl.{time_control, IsTimeControl, mov
 use std::marker::Model;
 
 /// The times that a game is played with, in seconds, within their ranges.
-#[derive(Clone, Copy, Debug)]
+#[derive(Clone, Copy)]
 pub struct TimeControl {
     initial: u32,
     increment: u32,

@@ -1,5 +1,5 @@
 /// What a game gives: a side wins, or it is drawn (FIDE articles 5.1 and 5.2).
-#[derive(Clone, Copy, Debug, PartialEq, Eq)]
+#[derive(Clone, Copy, PartialEq, Eq)]
 pub enum GameResult {
     White,
     Black,
@@ -7,7 +7,7 @@ pub enum GameResult {
 }
 
 /// The article of the FIDE Laws of Chess (2023) by which a game ends.
-#[derive(Clone, Copy, Debug, PartialEq, Eq)]
+#[derive(Clone, Copy, PartialEq, Eq)]
 pub enum Article {
     /// 5.1.1: checkmate.
     A511,
@@ -32,7 +32,7 @@ pub enum Article {
 }
 
 /// How a game has ended: its result, and the article that gives it.
-#[derive(Clone, Copy, Debug, PartialEq, Eq)]
+#[derive(Clone, Copy, PartialEq, Eq)]
 pub struct Ending {
     pub result: GameResult,
     pub article: Article,

@@ -10,14 +10,14 @@ use chess_end::Ending;
 use rec_codec::Name;
 
 /// Who plays a side, and whether an offer of a draw by it stands.
-#[derive(Clone, Copy, Debug)]
+#[derive(Clone, Copy)]
 pub struct Seat {
     pub name: Option<Name>,
     pub offers: bool,
 }
 
 /// The two sides of a game: the clock, who plays, what they have offered and claimed, and how the game ended.
-#[derive(Clone, Copy, Debug)]
+#[derive(Clone, Copy)]
 pub struct Sides {
     pub clock: Clock,
     pub white: Seat,

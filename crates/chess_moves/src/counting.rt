@@ -28,7 +28,7 @@ fn last_squares(side: Colour) -> Bits
 }
 
 /// A count of legal moves that is being made.
-#[derive(Clone, Copy, Debug)]
+#[derive(Clone, Copy)]
 pub struct Tally {
     /// The moves of the men that have been looked at.
     pub count: u32,

@@ -14,7 +14,7 @@ use chess_bits::{Bits, Kind, Square};
 use chess_board::Board;
 
 /// The king of the side to move, and what its men may do while it stands there.
-#[derive(Clone, Copy, Debug)]
+#[derive(Clone, Copy)]
 pub struct Masks {
     /// Where the king stands.
     pub king: Square,

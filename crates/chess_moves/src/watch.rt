@@ -10,7 +10,7 @@ use chess_bits::{Bits, Square};
 use chess_board::Board;
 
 /// What is seen from the king in a way with a slider of the opponent in it.
-#[derive(Clone, Copy, Debug)]
+#[derive(Clone, Copy)]
 pub struct Watch {
     /// The squares from the king as far as the slider, and with it.
     pub path: Bits,

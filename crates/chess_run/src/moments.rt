@@ -12,7 +12,7 @@ pub trait Moments {
 }
 
 /// Gives the moments of a list, then the last of them again and again; 0 where there is none.
-#[derive(Clone, Copy, Debug)]
+#[derive(Clone, Copy)]
 pub struct ListMoments<'a> {
     left: &'a [u64],
     last: u64,

@@ -6,7 +6,7 @@ use chess_board::{Move, Wing, castled_king};
 use chess_notation::square_named;
 
 /// What a text asks for: a man of the kind to the square, which becomes that.
-#[derive(Clone, Copy, Debug)]
+#[derive(Clone, Copy)]
 pub struct Asked {
     pub kind: Kind,
     pub to: Square,
@@ -14,7 +14,7 @@ pub struct Asked {
 }
 
 /// What a text ends with: the square reached, and what a pawn becomes there.
-#[derive(Clone, Copy, Debug)]
+#[derive(Clone, Copy)]
 pub struct Arrival {
     pub to: Square,
     pub promotion: Option<Kind>,

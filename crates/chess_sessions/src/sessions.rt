@@ -17,7 +17,7 @@ pub type Sid = usize;
 pub const SESSION_ROOM: usize = 64;
 
 /// Why a session did not begin.
-#[derive(Clone, Copy, Debug, PartialEq, Eq)]
+#[derive(Clone, Copy, PartialEq, Eq)]
 pub enum ConnectFault {
     /// There are as many sessions as there may be.
     Busy,

@@ -20,14 +20,14 @@ use std::net::{Net, TcpListener, TcpStream};
 use std::os::fd::AsRawFd;
 
 /// Whether a turn found something to do.
-#[derive(Clone, Copy, Debug, PartialEq, Eq)]
+#[derive(Clone, Copy, PartialEq, Eq)]
 pub enum Turned {
     Worked,
     Idle,
 }
 
 /// What the rests since the last turn found.
-#[derive(Clone, Copy, Debug, PartialEq, Eq)]
+#[derive(Clone, Copy, PartialEq, Eq)]
 enum Rested {
     /// There was none.
     Not,

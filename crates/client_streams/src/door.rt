@@ -8,7 +8,7 @@ use std::net::{Ipv4Addr, Net, TcpListener, TcpStream};
 use std::os::fd::{AsRawFd, RawFd};
 
 /// What a try to accept a connection found.
-#[derive(Clone, Copy, Debug, PartialEq, Eq)]
+#[derive(Clone, Copy, PartialEq, Eq)]
 pub enum Found {
     /// A connection.
     Connection,

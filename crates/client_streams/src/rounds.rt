@@ -16,7 +16,7 @@ use chess_sessions::Sessions;
 use std::io::{Read, Write};
 
 /// When clients are read for.
-#[derive(Clone, Copy, Debug)]
+#[derive(Clone, Copy)]
 pub struct Reading {
     /// The moment of the turn, in milliseconds.
     pub at: u64,

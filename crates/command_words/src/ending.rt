@@ -9,7 +9,7 @@ use std::alloc::AllocError;
 use std::process::ExitCode;
 
 /// Why a program did not do what its words ask for.
-#[derive(Debug, Drop)]
+#[derive(Drop)]
 pub enum NotDone {
     /// They ask for a text of the command line, as help, or for nothing that it does.
     Words(Error),

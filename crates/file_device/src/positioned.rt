@@ -6,7 +6,7 @@ ghost use Rattle.file_device.specs.Calls.{IsReadAt, IsWriteAt, IsSync};
 use std::io;
 
 /// Whether a file still stands where it was opened.
-#[derive(Clone, Copy, Debug, PartialEq, Eq)]
+#[derive(Clone, Copy, PartialEq, Eq)]
 pub enum Standing {
     /// It has its name still, and so many bytes.
     Named(u64),

@@ -1,7 +1,7 @@
 use sector_dev::DeviceFault;
 
 /// Why no copy can be made.
-#[derive(Clone, Copy, Debug, PartialEq, Eq)]
+#[derive(Clone, Copy, PartialEq, Eq)]
 pub enum CopyFault {
     /// No header slot of the source starts with the eight bytes of a header.
     NotOurs,

@@ -5,14 +5,14 @@ use std::str;
 
 /// How many games are on the server's table, and how many of these wait for a second player: rows with a number, of which one
 /// seat alone is empty and a name stands in the other.
-#[derive(Clone, Copy, Debug, PartialEq, Eq)]
+#[derive(Clone, Copy, PartialEq, Eq)]
 pub struct Games {
     pub all: u64,
     pub waiting: u64,
 }
 
 /// What bytes of the server have told.
-#[derive(Clone, Copy, Debug, PartialEq, Eq)]
+#[derive(Clone, Copy, PartialEq, Eq)]
 pub enum Told {
     /// The answer is not whole yet.
     Nothing,

@@ -11,7 +11,7 @@ use crate::slots::header_seen;
 use journal_copy::{Source, follows};
 
 /// What is told of a journal.
-#[derive(Clone, Copy, Debug, PartialEq, Eq)]
+#[derive(Clone, Copy, PartialEq, Eq)]
 pub struct Figures {
     /// How many commits it has had, the making of the journal among them: the number of the header in force.
     pub commits: u64,

@@ -112,7 +112,7 @@ impl Listens for Gate<'_> {
 }
 
 /// What is left to do at the entrance.
-#[derive(Clone, Copy, Debug, PartialEq, Eq)]
+#[derive(Clone, Copy, PartialEq, Eq)]
 pub enum Welcomed {
     /// Nobody waits there until it is ready.
     All,

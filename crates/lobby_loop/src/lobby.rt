@@ -22,7 +22,7 @@ use std::net::{Net, SocketAddr};
 use std::time::Duration;
 
 /// What came of a turn.
-#[derive(Clone, Copy, Debug, PartialEq, Eq)]
+#[derive(Clone, Copy, PartialEq, Eq)]
 pub enum Turned {
     /// There was something to do, and there may be more.
     Worked,

@@ -12,7 +12,7 @@ const FIGURES: &[u8] = b"GET /health ";
 pub const BOUNDS: [u64; 12] = [1, 2, 5, 10, 20, 50, 100, 200, 500, 1_000, 2_000, 5_000];
 
 /// What was counted since a lobby began. No number goes beyond 2^64 - 1.
-#[derive(Clone, Copy, Debug)]
+#[derive(Clone, Copy)]
 pub struct Counts {
     /// The moment of the turn.
     pub at: u64,

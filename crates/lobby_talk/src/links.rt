@@ -23,7 +23,7 @@ pub trait Links {
 }
 
 /// No file: no link is changed, and nothing is kept.
-#[derive(Clone, Copy, Debug)]
+#[derive(Clone, Copy)]
 pub struct NoLinks;
 
 impl Links for NoLinks {

@@ -40,7 +40,7 @@ pub enum Heard {
 }
 
 /// Why something was not said to a browser.
-#[derive(Clone, Copy, Debug, PartialEq, Eq)]
+#[derive(Clone, Copy, PartialEq, Eq)]
 pub enum Unsaid {
     /// Its socket is not open, or is being closed. Nothing has changed.
     NotOpen,

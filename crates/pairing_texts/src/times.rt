@@ -9,14 +9,14 @@ use std::alloc::{AllocError, Global};
 use text_parts::cut;
 
 /// The first period's moves, and the seconds that stand for the second.
-#[derive(Clone, Copy, Debug, PartialEq, Eq)]
+#[derive(Clone, Copy, PartialEq, Eq)]
 pub struct Period {
     pub moves: u32,
     pub seconds: u32,
 }
 
 /// The times of a game, in seconds.
-#[derive(Clone, Copy, Debug, PartialEq, Eq)]
+#[derive(Clone, Copy, PartialEq, Eq)]
 pub struct Times {
     pub initial: u32,
     pub increment: u32,

@@ -5,7 +5,7 @@ use std::num::ParseIntError;
 use std::{fmt, io};
 
 /// Why playing ends before the input does.
-#[derive(Debug, Drop)]
+#[derive(Drop)]
 pub enum Fault {
     /// A line of the input has none of the forms, or cannot be played there.
     Input,

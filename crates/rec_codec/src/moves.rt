@@ -12,7 +12,7 @@ use std::marker::Model;
 
 /// A move as records keep it: any two squares and, for a promotion, a knight, bishop, rook or queen
 /// (FIDE article 3.7.3.3). Castling is the king's move.
-#[derive(Clone, Copy, Debug, PartialEq, Eq)]
+#[derive(Clone, Copy, PartialEq, Eq)]
 pub struct StoredMove {
     code: u16,
 }
@@ -119,7 +119,7 @@ impl StoredMove {
 }
 
 /// A list of 1 to 60 moves, as a record of a snapshot keeps it.
-#[derive(Clone, Copy, Debug)]
+#[derive(Clone, Copy)]
 pub struct MoveList {
     count: u8,
     codes: [u16; 60],

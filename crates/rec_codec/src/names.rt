@@ -5,7 +5,7 @@ ghost use Rattle.rec_codec.specs.Name.{IsName, is_name_byte, padded, name_bytes}
 use std::marker::Model;
 
 /// A player's name: 1 to 16 letters A to Z or a to z, digits or `_`.
-#[derive(Clone, Copy, Debug, PartialEq, Eq)]
+#[derive(Clone, Copy, PartialEq, Eq)]
 pub struct Name {
     len: u8,
     bytes: [u8; 16],

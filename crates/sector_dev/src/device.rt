@@ -10,7 +10,7 @@ ghost use Rattle.sector_dev.specs.Crash.{left_by, fates_of, IsOfDisk};
 pub struct DeviceFault;
 
 /// What a read found.
-#[derive(Clone, Copy, Debug, PartialEq, Eq)]
+#[derive(Clone, Copy, PartialEq, Eq)]
 pub enum Got {
     /// The sector's 512 bytes.
     Whole,
@@ -27,7 +27,7 @@ pub enum Sector {
 }
 
 /// What becomes of a pending write in a crash.
-#[derive(Clone, Copy, Debug, PartialEq, Eq)]
+#[derive(Clone, Copy, PartialEq, Eq)]
 pub enum Fate {
     /// The sector is as though it had not been written.
     Lost,

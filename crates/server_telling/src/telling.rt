@@ -6,7 +6,7 @@ use std::io;
 use std::io::ErrorKind;
 
 /// What a journal had when it was opened.
-#[derive(Clone, Copy, Debug)]
+#[derive(Clone, Copy)]
 pub struct Found {
     /// Its games.
     pub games: usize,
@@ -24,7 +24,7 @@ pub struct Found {
 const MINUTE: u64 = 60_000;
 
 /// How many connections were turned away that were told of, and when the last were.
-#[derive(Clone, Copy, Debug)]
+#[derive(Clone, Copy)]
 pub struct TurnedAway {
     told: u64,
     at: Option<u64>,

@@ -10,7 +10,7 @@ use clap::Error;
 use clap::error::ErrorKind;
 
 /// What can break a run off.
-#[derive(Clone, Copy, Debug, PartialEq, Eq)]
+#[derive(Clone, Copy, PartialEq, Eq)]
 pub enum Fault {
     /// The journal's file cannot be opened, made or lengthened, or another program has it open.
     File,
