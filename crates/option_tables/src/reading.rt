@@ -1,6 +1,7 @@
 //! What was read of the words.
-ghost use Rattle.std.specs.Prelude.{◌≡◌, ◌⊎◌, None, Some, IfErr, IfOk, OnErr, OnOk, map};
+ghost use Rattle.std.specs.Prelude.{◌≡◌, ◌⊎◌, None, Some, IfErr, IfOk, IsErrAnd, OnErr, map};
 ghost use Rattle.clap.specs.Simple.{HasMatchesOf, app_of};
+ghost use Rattle.option_tables.specs.Faults.{IsOfCommand};
 ghost use Rattle.clap.specs.Values.{kind_of};
 
 use clap::error::ErrorKind;
@@ -26,7 +27,7 @@ pub fn read_or_fault<T: Drop>(
 }
 
 /// What `read` answers of what the command has of the words, the program's own name first. An `Err` is its fault, or one of the
-/// command, which is a request for help too.
+/// command, which is a request for help too. The command has a fault of words that it takes only where memory was refused.
 pub fn read_by<'a, S: AsStr, T, F>(
     alloc: Global,
     command: &mut Command<'a>,
@@ -36,8 +37,9 @@ pub fn read_by<'a, S: AsStr, T, F>(
 where
     F: FnOnce(Global, &mut Command<'a>, &ArgMatches<'a>) -> Result<T, Error>,
     requires { F.IsAlwaysCallable read }
-    ensures { OnOk result ((found : _) × HasMatchesOf (app_of command.old) (map S.text words.entry.now) found.now
-        × ((before : _) × (after : _) × F.post read alloc before found result after)) }
+    ensures { ((found : _) × HasMatchesOf (app_of command.old) (map S.text words.entry.now) found.now
+        × ((before : _) × (after : _) × F.post read alloc before found result after))
+        ⊎ IsErrAnd result (IsOfCommand (app_of command.old) (map S.text words.entry.now)) }
 {
     let matches = command.try_get_matches_from_mut(words)?;
     let answer = read(alloc, command, &matches);

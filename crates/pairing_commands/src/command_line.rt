@@ -2,7 +2,9 @@
 use crate::days::is_day;
 use clap::error::ErrorKind;
 use clap::{ArgMatches, Command, Error};
-use option_tables::{OptionText, OptionValue, WordText, command_line, read_by, read_or_fault};
+use option_tables::{
+    OptionText, OptionValue, SERVER, WordText, command_line, read_by, read_or_fault,
+};
 use std::alloc::{AllocError, Global};
 use std::net::SocketAddr;
 use trf_texts::Tournament;
@@ -143,13 +145,6 @@ const ROUND_FILE: OptionText = OptionText {
     is_required: true,
 };
 
-const SERVER_ASKED: OptionText = OptionText {
-    name: "server",
-    value: OptionValue::Text("A:P"),
-    help: "Where the game server listens",
-    is_required: true,
-};
-
 const PLAYERS_OPENED: OptionText = OptionText {
     name: "players",
     value: OptionValue::Text("FILE"),
@@ -213,11 +208,9 @@ const ARCHIVE: OptionText = OptionText {
     is_required: false,
 };
 
-const SERVER: OptionText = OptionText {
-    name: "server",
-    value: OptionValue::Text("A:P"),
-    help: "Where the game server listens",
+const SERVER_IF_ANY: OptionText = OptionText {
     is_required: false,
+    ..SERVER
 };
 
 const NAME: OptionText = OptionText {
@@ -297,7 +290,7 @@ const START: WordText = WordText {
     options: &[
         PAIRINGS,
         ROUND_FILE,
-        SERVER_ASKED,
+        SERVER,
         PLAYERS_OPENED,
         TAKE,
         AFTER,
@@ -310,7 +303,7 @@ const RESULTS: WordText = WordText {
     name: "results",
     about: "Writes the results of a round as CSV",
     help: HELP_OF_RESULTS,
-    options: &[PAIRINGS, ROUND_FILE, PLAYERS_NAMED, ARCHIVE, SERVER],
+    options: &[PAIRINGS, ROUND_FILE, PLAYERS_NAMED, ARCHIVE, SERVER_IF_ANY],
 };
 
 const TRF: WordText = WordText {
@@ -318,8 +311,20 @@ const TRF: WordText = WordText {
     about: "Writes the report of a tournament, TRF-16",
     help: HELP_OF_TRF,
     options: &[
-        PLAYERS, ROUNDS, NAME, CITY, FEDERATION, BEGINS, ENDS, KIND, ARBITER, DEPUTY, TIMES,
-        ALL_ROUNDS, ARCHIVE, SERVER,
+        PLAYERS,
+        ROUNDS,
+        NAME,
+        CITY,
+        FEDERATION,
+        BEGINS,
+        ENDS,
+        KIND,
+        ARBITER,
+        DEPUTY,
+        TIMES,
+        ALL_ROUNDS,
+        ARCHIVE,
+        SERVER_IF_ANY,
     ],
 };
 

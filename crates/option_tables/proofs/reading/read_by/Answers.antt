@@ -1,12 +1,15 @@
-use Rattle.std.proofs.Common.{map}
-use Rattle.clap.specs.Simple.{HasMatchesOf, app_of}
-use Rattle.clap.proofs.BuiltLemmas.{on_ok_always}
-use Rattle.option_tables.proofs.reading.read_by.Given as given
+use Rattle.std.proofs.Common.{inl, inr}
+use Rattle.std.proofs.lemmas.Result.{err_from_is_err_and}
+use Rattle.option_tables.specs.Faults.{IsOfCommand}
 use Rattle.option_tables.proofs.reading.read_by.Goals as goal
 
 pub returns : goal.returns
 returns g c =
-    let read : (found : _) × HasMatchesOf (app_of c.args.command.now) (map g.S.AsStr.text c.args.words.now) found.now
-    × ((before : _) × (after : _) × given.F-post g c.args.read c.args.alloc before found c.read-answer.result after)
-    = (_, c.in_ok-matches.ensures.ok.2, (_, _, c.read-answer.ensures)) in
-    on_ok_always _ read
+    inl (_, c.in_ok-matches.ensures.ok.2, (_, _, c.read-answer.ensures))
+
+pub returns-in_err-matches : goal.returns-in_err-matches
+returns-in_err-matches g c =
+    inr (let told : IsOfCommand _ _ c.in_err-matches.field-0.0 =
+    record { taken = c.in_err-matches.ensures.passes; kind = c.in_err-matches.ensures.kinds } in
+    let e = err_from_is_err_and c.from_residual.result c.from_residual.ensures.1 in
+    rw (e.1, e.2) told)
