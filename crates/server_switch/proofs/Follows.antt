@@ -12,6 +12,7 @@ use Rattle.server_switch.specs.Exchanges.{View, is_here_of, is_here, said_of, sa
 use Rattle.server_switch.specs.Runs.{Call}
 use Rattle.server_switch.specs.Story.{name_of, there, connections, lines_by, answers_by, Ticket, Reply, Awaited, reply_by, reply, Kind, Names, Games, Starts, Ask, Itself, One, awaited, stands, state, states, Story, asked_itself, lines_under, asks_under, asked_of, taken, written}
 use Rattle.server_switch.proofs.Replies.{is_self, begun_in, left_in, is_awaited}
+use Rattle.server_switch.proofs.Runs.{moved}
 use Rattle.server_switch.proofs.Tickets.{awaited_in, awaits, next_number, AreDealt}
 use Rattle.server_switch.proofs.Queues.{Holds, holds_more, last_added, last_two}
 
@@ -38,12 +39,6 @@ pub record Follows (servers : ℕ) (calls : List Call) (s : Story) (v : View) : 
 
 abbrev pub IsLastKept : List Call → Story → Type 0
 IsLastKept calls s = refusal_in (last_or None (states calls s.asks)) ≡ None
-
--- one line among the lines to all servers
-moved : (change : Standing → Standing) (place : ℕ) (s : Standing) (servers : List Standing) (o : Option Standing) →
-    changed change (suc place) (s ∷ servers) o ≡ s ∷ changed change place servers o
-moved change place s servers None = refl
-moved change place s servers (Some x) = refl
 
 pub got_own : (change : Standing → Standing) (place : ℕ) (servers : List Standing) →
     slice_get (change_at change place servers) place ≡ option_map change (slice_get servers place)

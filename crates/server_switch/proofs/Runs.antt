@@ -14,9 +14,8 @@ use Rattle.server_switch.specs.Waits.{Share, Due, Rows, Absent, Wait, Answered, 
 use Rattle.server_switch.specs.Exchanges.{View, fresh, is_here_of, is_here, said_at, Answers, Sends, name_waits, IsSame, IsOutcome, IsOpened, IsListed, Becomes, IsTold, asked, share_asked, refusal_in, without_last, IsPassedOn, with_answer, IsAnswered, whole_answer, with_line, IsHeard, with_connection, with_lost}
 use Rattle.server_switch.specs.Runs.{Call, Said, Said_too_long, Heard, Here, Gone, Wrote, Took, IsCall, IsRun, AreHere, first_answer, IsAllTold, IsFirstDue, IsUnstuck}
 
--- of two tests neither passes
--- whether servers are there
-moved : (change : Standing → Standing) (place : ℕ) (s : Standing) (servers : List Standing) (o : Option Standing) →
+-- one line among the lines to all servers
+pub moved : (change : Standing → Standing) (place : ℕ) (s : Standing) (servers : List Standing) (o : Option Standing) →
     changed change (suc place) (s ∷ servers) o ≡ s ∷ changed change place servers o
 moved change place s servers None = refl
 moved change place s servers (Some x) = refl
