@@ -42,7 +42,7 @@ impl<'a, R, D> TellingDevice<'a, R, D> {
 
 impl<R: Eprint, D: KeepsError> TellingDevice<'_, R, D> {
     // What a call gave; an operator is told of one that failed.
-    fn told<T>(&self, given: Result<T, DeviceFault>, what: &str) -> Result<T, DeviceFault>
+    fn told_of_call<T>(&self, given: Result<T, DeviceFault>, what: &str) -> Result<T, DeviceFault>
         ensures { result ≡ given }
     {
         match given {
@@ -73,21 +73,21 @@ impl<R: Eprint, D: Device + KeepsError> Device for TellingDevice<'_, R, D> {
 
     fn read(&mut self, at: u32, into: &mut [u8; 512]) -> Result<Got, DeviceFault> {
         let given = self.device.read(at, into);
-        self.told(given, "a read failed")
+        self.told_of_call(given, "a read failed")
     }
 
     fn write(&mut self, at: u32, from: &[u8; 512]) -> Result<(), DeviceFault> {
         let given = self.device.write(at, from);
-        self.told(given, "a write failed")
+        self.told_of_call(given, "a write failed")
     }
 
     fn sync(&mut self) -> Result<(), DeviceFault> {
         let given = self.device.sync();
-        self.told(given, "a sync failed")
+        self.told_of_call(given, "a sync failed")
     }
 
     fn barrier(&mut self) -> Result<(), DeviceFault> {
         let given = self.device.barrier();
-        self.told(given, "a sync failed")
+        self.told_of_call(given, "a sync failed")
     }
 }
