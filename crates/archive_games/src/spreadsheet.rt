@@ -3,7 +3,7 @@ use crate::compared::telling_parts;
 use crate::kept::Kept;
 use anyhow::{Result, anyhow, bail};
 use csv::{Terminator, Writer, WriterBuilder};
-use pgn_tags::value_of;
+use pgn_tags::{is_move, value_of};
 use std::alloc::{AllocError, Global};
 
 // The names of the columns.
@@ -26,14 +26,6 @@ const COLUMNS: [&str; 12] = [
 pub const TAGS: [&str; 8] = [
     "Event", "Site", "Date", "Round", "White", "Black", "Result", "Article",
 ];
-
-// Whether a word is a move's: it begins with a letter (PGN Standard, section 8.2.3).
-fn is_move(word: &str) -> bool {
-    match word.as_bytes() {
-        [first, ..] => first.is_ascii_alphabetic(),
-        [] => false,
-    }
-}
 
 /// How many moves a PGN has.
 pub fn plies_of(alloc: Global, pgn: &str) -> Result<usize, AllocError> {

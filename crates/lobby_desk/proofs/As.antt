@@ -11,6 +11,7 @@ use Rattle.lobby_words.specs.declared.words.Sort.{Sort}
 use Rattle.lobby_words.specs.declared.words.Sort.TheVariants as sorts
 use Rattle.lobby_words.specs.Words.{word_of, rest_of, as_line, is_message, is_message_byte, is_play_word, is_read_word, is_act_word, as_sort, own_sort, whole_sort, sort_of, is_as_sort}
 use Rattle.lobby_roster.proofs.Found.{and_first, and_second}
+use Rattle.lobby_desk.proofs.Lines.{message}
 
 -- ---- where a message asks for that, LINE is an act
 
@@ -171,9 +172,6 @@ parts text h =
       short = at_most (length text) (and_second (nat_le 1 len) (nat_le len 255) counted);
       shown = and_second (nat_le 1 len && nat_le len 255) (list_all is_message_byte text) h;
     }
-
-message : (text : List ℕ) → 1 ≤ length text → length text ≤ 255 → list_all is_message_byte text ≡ true → is_message text ≡ true
-message text some short bytes = grind (arith, nat_tests)
 
 pub as_whole : (text : List ℕ) → is_message text ≡ true → sort_of text ≡ sorts.As → is_message (as_line text) ≡ true
 as_whole text is sort =

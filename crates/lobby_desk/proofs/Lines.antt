@@ -24,7 +24,7 @@ digits_shown (c ∷ cs) h =
     and_both (is_message_byte c) (list_all is_message_byte cs) (byte_shown c (omega arith) (omega arith)) (digits_shown cs h.1)
 
 -- a text of at most 255 bytes that may stand in a message
-message : (text : List ℕ) → 1 ≤ length text → length text ≤ 255 → list_all is_message_byte text ≡ true → is_message text ≡ true
+pub message : (text : List ℕ) → 1 ≤ length text → length text ≤ 255 → list_all is_message_byte text ≡ true → is_message text ≡ true
 message text some short bytes = grind (arith, nat_tests)
 
 decimal_short : (n : ℕ) → n < 2 ^ 32 → length (decimal n) ≤ 10

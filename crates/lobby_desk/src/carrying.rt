@@ -8,10 +8,10 @@ ghost use Rattle.lobby_desk.specs.Who.{who_in, open_in_map, until_in, who_noted,
 
 use crate::present::present_rows;
 use crate::server_line::{Due, ServerLine, waiting_act};
-use crate::telling::{Kind, Message, headed, tell};
+use crate::telling::{Kind, Message, tell};
 use crate::visitors::Visitor;
 use crate::watching::{Watch, rise, unwatch};
-use lobby_roster::{Player, login_line, player_rows};
+use lobby_roster::{Player, headed, login_line, player_rows};
 use lobby_words::{Identity, Order, Plan, Refusal, as_line};
 use std::alloc::{AllocError, Global};
 use std::collections::BTreeMap;
@@ -68,7 +68,7 @@ fn own_answer(
         Plan::Resume => Ok(Some(String::from_str(alloc, "ok resume entries\n")?)),
         Plan::Order(_) => Ok(Some(String::from_str(alloc, Refusal::NotWritten.line())?)),
         Plan::LeaveLobby => Ok(Some(String::from_str(alloc, "ok leave lobby\n")?)),
-        Plan::Leave(game) => Ok(Some(headed(alloc, "ok leave ", *game)?)),
+        Plan::Leave(game) => Ok(Some(headed(alloc, "ok leave ", u64::from(*game))?)),
         _ => Ok(None),
     }
 }

@@ -2,6 +2,7 @@
 //! no sockets: messages and lines go in, and lines to the server, messages to connections and texts for the log come out.
 #![tactic(auto)]
 
+mod adding;
 mod answering;
 mod carrying;
 mod desk;

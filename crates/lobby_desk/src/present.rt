@@ -1,9 +1,10 @@
 //! Which players are there.
-ghost use Rattle.std.specs.Prelude.{◌≡◌, ◌++◌, ◌∷◌, [], IfOk, OnOk, if◌then◌else◌};
+ghost use Rattle.std.specs.Prelude.{◌≡◌, IfOk};
 ghost use Rattle.std.specs.String.{string_bytes};
 ghost use Rattle.lobby_roster.specs.Players.{is_named, is_present, present_names};
 ghost use Rattle.lobby_desk.specs.Who.{who_in, open_in_map, IsPresence};
 
+use crate::adding::add_if;
 use crate::carrying::who_acts;
 use crate::desk::open_ones;
 use crate::visitors::Visitor;
@@ -25,18 +26,6 @@ fn is_present(visitors: &BTreeMap<u64, Visitor>, connections: &[u64], name: &Nam
     ensures { result ≡ is_present (who_in visitors.now) connections.now name.now }
 {
     connections.iter().any(|one| acts_for(visitors, *one, name))
-}
-
-// Puts a name behind others, if that is so.
-fn add_if(names: &mut Vec<Name>, is_so: bool, name: Name) -> Result<(), AllocError>
-    ensures { OnOk result (names.new.items ≡ names.old.items ++ (if is_so then name ∷ [] else [])) }
-{
-    if is_so {
-        names.push(name)?;
-        Ok(())
-    } else {
-        Ok(())
-    }
 }
 
 // The names of the players for whom one of these connections acts.

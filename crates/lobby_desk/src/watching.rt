@@ -1,7 +1,8 @@
 //! Who is told of what.
-ghost use Rattle.std.specs.Prelude.{◌≡◌, ◌==◌, nat_le, length, filter, ◌++◌, [], ◌∷◌, OnOk, IfOk, if◌then◌else◌};
+ghost use Rattle.std.specs.Prelude.{◌≡◌, ◌==◌, nat_le, length, filter, OnOk, IfOk};
 ghost use Rattle.lobby_desk.specs.Watching.{is_watch, watched, games_of, at_table, watch_if, sit_if, unwatched, none_watched, risen, followers};
 
+use crate::adding::add_if;
 use std::alloc::{AllocError, Global};
 
 // The most games that a connection watches.
@@ -105,18 +106,6 @@ pub fn rise(table: &mut Vec<u64>, by: u64)
     ensures { table.new.items ≡ risen by table.old.items }
 {
     table.retain(|one| *one != by);
-}
-
-// Adds a connection, if that is so.
-fn add_if(to: &mut Vec<u64>, is_so: bool, one: u64) -> Result<(), AllocError>
-    ensures { OnOk result (to.new.items ≡ to.old.items ++ (if is_so then one ∷ [] else [])) }
-{
-    if is_so {
-        to.push(one)?;
-        Ok(())
-    } else {
-        Ok(())
-    }
 }
 
 /// The connections that watch a game, and perhaps those that are told of the table; each once.

@@ -1,6 +1,7 @@
 -- The figures of an image are those of the content that it stands for.
 use Rattle.std.proofs.Common.{◌≡◌, ◌⊎◌, ◌<◌, ◌≤◌, ◌+◌, ◌-◌, ◌*◌, ◌/◌, ◌%◌, ◌∙◌, ◌++◌, ◌∷◌, [], ℕ, zero, suc, List, length, length-append, take, drop, refl, sym, ap, subst, arith, inl, inr}
 use Rattle.std.specs.Prelude.{Option, Some, None, slice_get}
+use Rattle.std.proofs.lemmas.Option.{same_Some}
 use Rattle.sector_dev.specs.Image.{Sectors}
 use Rattle.rec_codec.specs.declared.record.Record.{Record}
 use Rattle.rec_codec.specs.declared.record.Record.TheVariants as kind
@@ -17,7 +18,6 @@ use Rattle.journal_layout.proofs.ForceLemmas.{one_in_force}
 use Rattle.lobby_figures.specs.declared.reading.Figures.{Figures}
 use Rattle.lobby_figures.specs.Figures.{IsFirstIn, IsLastIn, IsJournalsLast, IsSnapshotsFirst, HasLastMoment, AreFiguresOf}
 use Rattle.lobby_figures.specs.Contents.{IsMomentOf, IsMomentBefore, IsLastOf, AreOfContent}
-use Rattle.lobby_figures.proofs.Telling.{same_bytes}
 
 -- ------------------------------------------------------------------ lists
 
@@ -47,14 +47,14 @@ first_append (x ∷ xs) ys one is = is
 
 one_slot : (image : Sectors) (at slot : ℕ) (r s : Record) → IsSlotOf image at slot r → IsSlotOf image at slot s → r ≡ s
 one_slot image at slot r s is also =
-    let same : is.bytes ≡ also.bytes = same_bytes is.bytes also.bytes (sym is.readable ∙ also.readable) in
+    let same : is.bytes ≡ also.bytes = same_Some is.bytes also.bytes (sym is.readable ∙ also.readable) in
     one_record (take 128 (drop (128 * slot) is.bytes)) r s is.form also.form is.stands
     (ap (λ (bytes : List ℕ). take 128 (drop (128 * slot) bytes)) same ∙ also.stands)
 
 same_sector : (image : Sectors) (at : ℕ) (rs ss : List Record) → IsSectorOf image at rs → IsSectorOf image at ss → rs ≡ ss
 same_sector image at rs ss is also =
     one_sector (sector_bytes rs) rs ss is.sector also.sector refl
-    (same_bytes (sector_bytes rs) (sector_bytes ss) (sym is.bytes ∙ also.bytes))
+    (same_Some (sector_bytes rs) (sector_bytes ss) (sym is.bytes ∙ also.bytes))
 
 slots_last : (image : Sectors) (from n : ℕ) (rs : List Record) (one : Record) → SlotsHold image from n rs → 1 ≤ n
     → IsSlotOf image (from + (n - 1) / 4) ((n - 1) % 4) one → slice_get rs (length rs - 1) ≡ Some one

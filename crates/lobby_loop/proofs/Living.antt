@@ -3,6 +3,7 @@ use Rattle.std.proofs.Common.{◌≡◌, ◌≢◌, ◌≤◌, ◌<◌, ◌+◌,
 use Rattle.std.specs.List.{AllZip, AllByRecursion}
 use Rattle.std.proofs.lemmas.Bool.{cases_Bool, false≢true}
 use Rattle.std.proofs.lemmas.Bool.Decides.{eqb_tells}
+use Rattle.std.proofs.lemmas.Option.{none-some}
 use Rattle.std.specs.Prelude.{◌==◌, ◌||◌}
 use Rattle.lobby_desk.specs.declared.desk.Desk.{Desk}
 use Rattle.lobby_roster.specs.declared.players.Player.{Player}
@@ -504,13 +505,6 @@ said_behind : (d : ℕ) (how : Saying) (text : List ℕ) (ns : List (Option ℕ)
 said_behind d how text [] none = tt
 said_behind d how text (n ∷ ns) (one, all) = (said_behind_one d how text n one, said_behind d how text ns all)
 
-abbrev is_number : Option ℕ → Bool
-is_number None = false
-is_number (Some c) = true
-
-none_such_number : (c : ℕ) → None ≡ Some c → ⊥
-none_such_number c e = false≢true (ap is_number e)
-
 -- ---- browsers that are attended
 
 module _ {S : Type 0} (remaining contents : S → Option (List ℕ)) (site : Site) (came : Before S) (players : List Player) (is_paused : Bool)
@@ -556,7 +550,7 @@ module _ {S : Type 0} (remaining contents : S → Option (List ℕ)) (site : Sit
   in_opened : (done rest : List (Guest S)) (d c : ℕ) → IsIn done (None ∷ numbers rest) c → IsIn done (Some d ∷ numbers rest) c
   in_opened done rest d c (inl gone) = inl gone
   in_opened done rest d c (inr (inl one)) = inr (inl one)
-  in_opened done rest d c (inr (inr (inl none_such))) = absurd (none_such_number c none_such)
+  in_opened done rest d c (inr (inr (inl none_such))) = absurd (none-some c none_such)
   in_opened done rest d c (inr (inr (inr one))) = inr (inr (inr one))
 
   heard_as : (done rest : List (Guest S)) (heard : Option HeardOf) (at : ℕ) (number after : Option ℕ) (a b : Spot S) (s t : Talk) →

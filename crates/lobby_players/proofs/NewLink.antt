@@ -1,10 +1,11 @@
 -- A player has a new link.
 use Rattle.std.proofs.Common.{ℕ, ◌≡◌, Bool, true, false, cond, ◌||◌, List, [], ◌∷◌, refl, sym, ap, ◌∙◌, subst, Ok, Option, None, Some}
-use Rattle.std.specs.Prelude.{find, is_some, option_map, if◌then◌else◌}
+use Rattle.std.specs.Prelude.{find, option_map, if◌then◌else◌}
 use Rattle.std.specs.Str.{bytes_eq}
 use Rattle.std.specs.String.{string_bytes}
 use Rattle.std.specs.List.{All, AllZip, AllPairs, list_any, filter}
-use Rattle.std.proofs.lemmas.Bool.{false≢true, or_parts}
+use Rattle.std.proofs.lemmas.Bool.{or_parts}
+use Rattle.std.proofs.lemmas.Option.{none-some, same_Some}
 use Rattle.std.proofs.lemmas.List.Elements.{All-head, All-tail}
 use Rattle.std.proofs.lemmas.Slice.Eq.{bytes_eq-Decides}
 use Rattle.hex.specs.Hex.{decode_sized, encode_lower}
@@ -25,16 +26,6 @@ abbrev pub AreWithSum : List ℕ → List ℕ → List Player → List Player �
 AreWithSum name sum before after = AllZip (λ (old new : Player). IsWithSum (sum_given name sum old) old new) before after
 
 -- ---- one of a list
-
-abbrev or_player : Player → Option Player → Player
-or_player player None = player
-or_player player (Some other) = other
-
-same_player : (x p : Player) → Some x ≡ Some p → x ≡ p
-same_player x p is = ap (or_player x) is
-
-not_none : (p : Player) → None ≡ Some p → ⊥
-not_none p is = false≢true (ap is_some is)
 
 abbrev entry_by : List ℕ → Bool → List ℕ → List ℕ → Entry
 entry_by name is_arbiter sum full_name = record { name = name; is_arbiter = is_arbiter; sum = sum; full_name = full_name }
@@ -86,7 +77,7 @@ placed_at : (name sum : List ℕ) (p x : Player) (xs : List Player) (y : Player)
     entries_of (y ∷ ys) ≡ cond b (entry_linked name sum p ∷ entries_of xs)
     (entry_of x ∷ in_place (has_name name) (entry_linked name sum p) (entries_of xs))
 placed_at name sum p x xs y ys true here pairs found is zip next =
-    let same = same_player x p found in
+    let same = same_Some x p found in
     let called : x.name ≡ name = (bytes_eq-Decides x.name name).0 here in
     ap (λ (e : Entry). e ∷ entries_of ys)
     (same_entry (entry_of y) (entry_linked name sum p) (is.name ∙ called) (is.is_arbiter ∙ ap (λ (q : Player). q.is_arbiter) same)
@@ -101,7 +92,7 @@ placed_at name sum p x xs y ys false other pairs found is zip next =
 placed : (name sum : List ℕ) (p : Player) (before after : List Player) → AllPairs AreTwo (entries_of before) →
     find (named name) before ≡ Some p → AreWithSum name sum before after →
     entries_of after ≡ in_place (has_name name) (entry_linked name sum p) (entries_of before)
-placed name sum p [] after pairs found zip = absurd (not_none p found)
+placed name sum p [] after pairs found zip = absurd (none-some p found)
 placed name sum p (x ∷ xs) [] pairs found zip = absurd zip
 placed name sum p (x ∷ xs) (y ∷ ys) pairs found zip =
     placed_at name sum p x xs y ys (named name x) refl pairs found zip.0 zip.1
@@ -126,7 +117,7 @@ shown_at name sum p x xs y ys false other found fresh is next =
 shown_found : (name sum : List ℕ) (p : Player) (before after : List Player) → find (named name) before ≡ Some p →
     list_any (has_sum_now sum) before ≡ false → AreWithSum name sum before after →
     is_named (option_map identity_of (find (has_sum_now sum) after)) name ≡ true
-shown_found name sum p [] after found fresh zip = absurd (not_none p found)
+shown_found name sum p [] after found fresh zip = absurd (none-some p found)
 shown_found name sum p (x ∷ xs) [] found fresh zip = absurd zip
 shown_found name sum p (x ∷ xs) (y ∷ ys) found fresh zip =
     shown_at name sum p x xs y ys (named name x) refl found (or_parts _ _ fresh).0 zip.0
@@ -148,13 +139,13 @@ spelled_at : (name line : List ℕ) (x p : Player) (xs : List Player) (b : Bool)
     cond b (Some x) (find (named name) xs) ≡ Some p → (find (named name) xs ≡ Some p → IsSpelled name p) → IsSpelled name p
 spelled_at name line x p xs true here told found next = record {
   is_name = subst IsName ((bytes_eq-Decides x.name name).0 here) told.name;
-  is_full = ap (λ (q : Player). is_full_name (string_bytes q.full_name)) (sym (same_player x p found)) ∙ told.full_name;
+  is_full = ap (λ (q : Player). is_full_name (string_bytes q.full_name)) (sym (same_Some x p found)) ∙ told.full_name;
 }
 spelled_at name line x p xs false here told found next = next found
 
 spelled : (name : List ℕ) (p : Player) (lines : List (List ℕ)) (xs : List Player) → AllZip IsLineOf lines (entries_of xs) →
     find (named name) xs ≡ Some p → IsSpelled name p
-spelled name p lines [] zip found = absurd (not_none p found)
+spelled name p lines [] zip found = absurd (none-some p found)
 spelled name p [] (x ∷ xs) zip found = absurd zip
 spelled name p (line ∷ lines) (x ∷ xs) zip found =
     spelled_at name line x p xs (named name x) refl zip.0 found (λ more. spelled name p lines xs zip.1 more)
@@ -201,7 +192,7 @@ players_relinked name token sum p before after is found fresh each =
 
 none_at : (name : List ℕ) (x : Player) (xs : List Player) (b : Bool) → cond b (Some x) (find (named name) xs) ≡ None →
     (find (named name) xs ≡ None → list_any (named name) xs ≡ false) → (b || list_any (named name) xs) ≡ false
-none_at name x xs true none next = absurd (not_none x (sym none))
+none_at name x xs true none next = absurd (none-some x (sym none))
 none_at name x xs false none next = next none
 
 none_called : (name : List ℕ) (xs : List Player) → find (named name) xs ≡ None → list_any (named name) xs ≡ false

@@ -84,13 +84,13 @@ pub fn login_line(alloc: Global, who: &Identity, players: &[Player]) -> Result<S
     Ok(text)
 }
 
-// A word that ends with a space, how many there are, and a line feed.
-fn count_line(alloc: Global, word: &str, count: usize) -> Result<String, AllocError>
-    ensures { IfOk result (λ text. string_bytes text ≡ word.now ++ decimal count ++ codes "\n") }
+/// A word that ends with a space, a number, and a line feed.
+pub fn headed(alloc: Global, word: &str, number: u64) -> Result<String, AllocError>
+    ensures { IfOk result (λ text. string_bytes text ≡ word.now ++ decimal number ++ codes "\n") }
 {
     let mut buffer = Buffer::new();
     let mut text = String::from_str(alloc, word)?;
-    text.push_str(buffer.format(count))?;
+    text.push_str(buffer.format(number))?;
     text.push('\n')?;
     Ok(text)
 }
@@ -99,7 +99,7 @@ fn count_line(alloc: Global, word: &str, count: usize) -> Result<String, AllocEr
 pub fn player_rows(alloc: Global, players: &[Player]) -> Result<String, AllocError>
     ensures { IfOk result (λ text. string_bytes text ≡ players_text players.now) }
 {
-    let mut text = count_line(alloc, "ok players ", players.len())?;
+    let mut text = headed(alloc, "ok players ", players.len() as u64)?;
     for player in players {
         push_player(&mut text, player)?;
     }
@@ -130,7 +130,7 @@ fn who_front(is_paused: bool) -> &'static str
 pub fn who_text(alloc: Global, is_paused: bool, names: &[Name]) -> Result<String, AllocError>
     ensures { IfOk result (λ text. string_bytes text ≡ who_text is_paused names.now) }
 {
-    let mut text = count_line(alloc, who_front(is_paused), names.len())?;
+    let mut text = headed(alloc, who_front(is_paused), names.len() as u64)?;
     for name in names {
         push_name(&mut text, name)?;
     }

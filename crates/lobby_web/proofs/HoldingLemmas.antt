@@ -1,5 +1,6 @@
 -- What waits for a browser of which bytes are taken only where they are wanted.
-use Rattle.std.proofs.Common.{ℕ, ◌≡◌, ◌≤◌, ◌+◌, ◌⊎◌, inl, inr, List, [], ◌∷◌, ◌++◌, Bool, true, false, cond, not, ◌&&◌, length, Option, None, Some, Ok, Err, refl, sym, ap, ◌∙◌, subst, arith, length-append}
+use Rattle.std.proofs.Common.{ℕ, ◌≡◌, ◌≤◌, ◌+◌, inl, inr, List, [], ◌∷◌, ◌++◌, Bool, true, false, cond, not, ◌&&◌, length, Option, None, Some, Ok, Err, refl, sym, ap, ◌∙◌, subst, arith, length-append}
+use Rattle.std.proofs.lemmas.Bool.{cases_Bool}
 use Rattle.websocket.specs.declared.protocol.frame.coding.CloseCode.{CloseCode}
 use Rattle.websocket.specs.declared.protocol.frame.coding.OpCode.TheVariants as Op
 use Rattle.websocket.specs.declared.protocol.frame.coding.Control.TheVariants as Control
@@ -25,10 +26,6 @@ load_if false s = open_load s
 abbrev load : Socket → ℕ
 load s = load_if s.is_over s
 
-over-or-still : (over : Bool) → (over ≡ true) ⊎ (over ≡ false)
-over-or-still true = inl refl
-over-or-still false = inr refl
-
 load-over : (s : Socket) → s.is_over ≡ true → load s ≡ length s.output.items
 load-over s over = ap (λ b. load_if b s) over
 
@@ -38,14 +35,14 @@ load-still s still = ap (λ b. load_if b s) still
 -- at most what it is while nothing is over
 load-most : (s : Socket) → load s ≤ open_load s
 load-most s =
-    elim (over-or-still s.is_over) [
+    elim (cases_Bool s.is_over) [
       | inl over ↦ omega (arith, load-over s over)
       | inr still ↦ omega (arith, load-still s still)
     ]
 
 load-least : (s : Socket) → length s.output.items ≤ load s
 load-least s =
-    elim (over-or-still s.is_over) [
+    elim (cases_Bool s.is_over) [
       | inl over ↦ omega (arith, load-over s over)
       | inr still ↦ omega (arith, load-still s still)
     ]
@@ -60,7 +57,7 @@ load-kept : (old new : Socket) → new.context ≡ old.context → new.input.ite
 load-kept old new state input over less =
     let rooms : room new.context ≡ room old.context = ap room state in
     let inputs : length new.input.items ≡ length old.input.items = ap (λ l. length l) input in
-    elim (over-or-still old.is_over) [
+    elim (cases_Bool old.is_over) [
       | inl was ↦ omega (arith, load-over old was, load-over new (over ∙ was), less)
       | inr was ↦ omega (arith, load-still old was, load-still new (over ∙ was), less, rooms, inputs)
     ]
@@ -83,10 +80,10 @@ gives-load : (old new : Socket) (words : Option (List ℕ)) → Gives old new wo
 gives-load old new words gives =
     let run = run-fits old.context gives.conn old.input.items gives.rest gives.frames gives.runs in
     let sum = length-append old.output.items (replies gives.frames) in
-    elim (over-or-still old.is_over) [
+    elim (cases_Bool old.is_over) [
       | inl was ↦ load-same old new (gives.ended was).1
       | inr was ↦
-          elim (over-or-still new.is_over) [
+          elim (cases_Bool new.is_over) [
             | inl now ↦
                 let ends = gives.over now in
                 omega (arith, load-over new now, load-still old was, run, sum, closed-by ends.0 (old.output.items ++ replies gives.frames) new.output.items ends.1)
@@ -99,7 +96,7 @@ gives-load old new words gives =
 
 still-of : (s : Socket) → may_say s ≡ true → s.is_over ≡ false
 still-of s may =
-    elim (over-or-still s.is_over) [
+    elim (cases_Bool s.is_over) [
       | inl over ↦ absurd (cc (ap (λ b. not b && can_write s.context.state) over, may))
       | inr still ↦ still
     ]

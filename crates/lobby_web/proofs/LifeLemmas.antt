@@ -1,5 +1,6 @@
 -- What a socket gives over its whole life.
-use Rattle.std.proofs.Common.{ℕ, ◌≡◌, ◌⊎◌, inl, inr, List, [], ◌∷◌, ◌++◌, Bool, true, false, not, ◌&&◌, Option, None, Some, Ok, Err, refl, sym, ap, ◌∙◌, append_assoc, append-nil, subst}
+use Rattle.std.proofs.Common.{ℕ, ◌≡◌, inl, inr, List, [], ◌∷◌, ◌++◌, Bool, true, false, not, ◌&&◌, Option, None, Some, Ok, Err, refl, sym, ap, ◌∙◌, append_assoc, append-nil, subst}
+use Rattle.std.proofs.lemmas.Bool.{cases_Bool}
 use Rattle.websocket.specs.Content.{Content, text, binary, ping, pong, close}
 use Rattle.websocket.specs.Connection.{Connection, can_write}
 use Rattle.lobby_web.specs.declared.socket.Socket.{Socket}
@@ -90,10 +91,6 @@ gives-open old mid new words bytes more gives still heeds =
       stands = heeds.stands;
     }
 
-over-or-open : (over : Bool) → (over ≡ true) ⊎ (over ≡ false)
-over-or-open true = inl refl
-over-or-open false = inr refl
-
 said-same : (content : Content) (conn : Connection) → is_close content ≡ false → said_state content conn ≡ conn
 said-same (text bytes) conn h = refl
 said-same (binary bytes) conn h = refl
@@ -115,14 +112,14 @@ heeds-event (came bytes) events old mid new keeps does over heeds =
           (subst (λ (i : List ℕ). Heeds mid.context (i ++ all_bytes events) (all_texts events) new) taken.2 heeds))
     ]
 heeds-event (asked None) events old mid new keeps does over heeds =
-    elim (over-or-open mid.is_over) [
+    elim (cases_Bool mid.is_over) [
       | inl now ↦ gives-over old mid new None (all_bytes events) (all_texts events) does.1 (over now).0 (over now).1
       | inr still ↦ gives-open old mid new None (all_bytes events) (all_texts events) does.1 still heeds
     ]
 heeds-event (asked (Some Opened)) events old mid new keeps does over heeds =
     same-heeds old mid new (all_bytes events) (all_texts events) does.1.0 does.1.1 heeds
 heeds-event (asked (Some (Words found))) events old mid new keeps does over heeds =
-    elim (over-or-open mid.is_over) [
+    elim (cases_Bool mid.is_over) [
       | inl now ↦ gives-over old mid new (Some found.items) (all_bytes events) (all_texts events) does.1 (over now).0 (over now).1
       | inr still ↦ gives-open old mid new (Some found.items) (all_bytes events) (all_texts events) does.1 still heeds
     ]

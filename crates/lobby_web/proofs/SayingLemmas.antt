@@ -1,5 +1,6 @@
 -- What goes out of a socket over its whole life.
-use Rattle.std.proofs.Common.{ℕ, ◌≡◌, ◌⊎◌, inl, inr, List, [], ◌∷◌, ◌++◌, Bool, true, false, Option, None, Some, Ok, Err, refl, sym, ap, ◌∙◌, append_assoc, append-nil}
+use Rattle.std.proofs.Common.{ℕ, ◌≡◌, inl, inr, List, [], ◌∷◌, ◌++◌, Option, None, Some, Ok, Err, refl, sym, ap, ◌∙◌, append_assoc, append-nil}
+use Rattle.std.proofs.lemmas.Bool.{cases_Bool}
 use Rattle.websocket.specs.declared.protocol.frame.coding.OpCode.TheVariants as Op
 use Rattle.websocket.specs.declared.protocol.frame.coding.Control.TheVariants as Control
 use Rattle.websocket.specs.declared.protocol.frame.coding.CloseCode.{CloseCode}
@@ -93,13 +94,9 @@ closes-adds conn after input rest frames code heard old new runs (inr closed) =
       sum = closed ∙ append_assoc old (replies frames) (close_frame code);
     }
 
-over-or-still : (over : Bool) → (over ≡ true) ⊎ (over ≡ false)
-over-or-still true = inl refl
-over-or-still false = inr refl
-
 gives-adds : (old new : Socket) (words : Option (List ℕ)) (heard : Option Heard) → Gives old new words → Adds old.output.items (asked heard) new.output.items
 gives-adds old new words heard gives =
-    elim (over-or-still new.is_over) [
+    elim (cases_Bool new.is_over) [
       | inl now ↦
           let ends = gives.over now in
           closes-adds old.context gives.conn old.input.items gives.rest gives.frames ends.0 heard old.output.items new.output.items gives.runs ends.1

@@ -1,5 +1,6 @@
 -- A socket on which nothing more may be said stays so.
-use Rattle.std.proofs.Common.{ℕ, ◌≡◌, ◌⊎◌, inl, inr, List, [], ◌∷◌, drop, Option, None, Some, Ok, Err, Bool, true, false, not, ◌&&◌, refl, sym, ap, ◌∙◌}
+use Rattle.std.proofs.Common.{ℕ, ◌≡◌, inl, inr, List, [], ◌∷◌, drop, Option, None, Some, Ok, Err, Bool, true, false, not, ◌&&◌, sym, ap, ◌∙◌}
+use Rattle.std.proofs.lemmas.Bool.{cases_Bool}
 use Rattle.websocket.specs.Content.{Content}
 use Rattle.websocket.specs.Connection.{Connection, can_write}
 use Rattle.lobby_web.specs.declared.socket.Socket.{Socket}
@@ -28,19 +29,15 @@ kept-shut : (old new : Socket) → new.context ≡ old.context → new.is_over �
 kept-shut old new state over shut =
     ap (λ (c : Connection). not new.is_over && can_write c.state) state ∙ ap (λ b. not b && can_write old.context.state) over ∙ shut
 
-over-or-still : (over : Bool) → (over ≡ true) ⊎ (over ≡ false)
-over-or-still true = inl refl
-over-or-still false = inr refl
-
 still-shut : (s : Socket) → s.is_over ≡ false → may_say s ≡ false → can_write s.context.state ≡ false
 still-shut s still shut = sym (ap (λ b. not b && can_write s.context.state) still) ∙ shut
 
 gives-shut : (old new : Socket) (words : Option (List ℕ)) → Gives old new words → may_say old ≡ false → may_say new ≡ false
 gives-shut old new words gives shut =
-    elim (over-or-still old.is_over) [
+    elim (cases_Bool old.is_over) [
       | inl was ↦ over-shut new ((gives.ended was).1.3 ∙ was)
       | inr was ↦
-          elim (over-or-still new.is_over) [
+          elim (cases_Bool new.is_over) [
             | inl now ↦ over-shut new now
             | inr now ↦
                 ap (λ b. not b && can_write new.context.state) now

@@ -9,6 +9,7 @@ use Rattle.pairing_texts.specs.declared.steps.Row.{Row}
 use Rattle.lobby_words.specs.Servers.{server_of}
 use Rattle.pairing_texts.specs.Newer.{is_past, is_newer}
 use Rattle.pairing_texts.specs.Steps.{numbers_of}
+use Rattle.pairing_texts.proofs.RunsKept.{and_true}
 
 -- of three games of their servers: what is past a game that is not older is past the older one
 past_by : (s t u one game n : ℕ) → (not (s == t) || nat_lt one game) ≡ false → (not (s == u) || nat_lt one n) ≡ true →
@@ -32,10 +33,6 @@ past_all (one ∷ games) game n h k =
     (and_parts (is_past one n) (is_newer games n) k).0
 
 -- ---- one game more
-
-and_true : (x : Bool) → (x && true) ≡ x
-and_true true = refl
-and_true false = refl
 
 passed : (x a b : Bool) → (b ≡ true → a ≡ true) → (x && b) ≡ ((x && (a && true)) && b)
 passed true true b h = refl

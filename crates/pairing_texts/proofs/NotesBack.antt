@@ -79,25 +79,16 @@ board_back board rest small =
     ap (λ (t : List ℕ). number_or_0 (value_of t)) (before_at 44 (board_front ++ (58 ∷ decimal board)) rest (lacks_board board small))
     ∙ (ap number_or_0 (after_at 58 board_front (decimal board) refl) ∙ number_back board small)
 
-behind_white : (white rest : List ℕ) → is_name white ≡ true → behind_one (member_text (codes "white") (quoted white) ++ (44 ∷ rest)) ≡ rest
-behind_white white rest is = after_at 44 (member_text (codes "white") (quoted white)) rest (lacks_comma (quoted (codes "white")) white refl is)
+-- a member with a name's value, and what stands behind it
+behind_name : (word name rest : List ℕ) → Lacks 44 (quoted word) → is_name name ≡ true → behind_one (member_text word (quoted name) ++ (44 ∷ rest)) ≡ rest
+behind_name word name rest low is = after_at 44 (member_text word (quoted name)) rest (lacks_comma (quoted word) name low is)
 
-behind_black : (black rest : List ℕ) → is_name black ≡ true → behind_one (member_text (codes "black") (quoted black) ++ (44 ∷ rest)) ≡ rest
-behind_black black rest is = after_at 44 (member_text (codes "black") (quoted black)) rest (lacks_comma (quoted (codes "black")) black refl is)
-
-white_back : (white rest : List ℕ) → is_name white ≡ true →
-    name_in (unquoted (value_of (member_in (member_text (codes "white") (quoted white) ++ (44 ∷ rest))))) ≡ Some white
-white_back white rest is =
+name_back : (word name rest : List ℕ) → Lacks 44 (quoted word) → Lacks 58 (quoted word) → is_name name ≡ true →
+    name_in (unquoted (value_of (member_in (member_text word (quoted name) ++ (44 ∷ rest))))) ≡ Some name
+name_back word name rest low one is =
     ap (λ (t : List ℕ). name_in (unquoted (value_of t)))
-    (before_at 44 (member_text (codes "white") (quoted white)) rest (lacks_comma (quoted (codes "white")) white refl is))
-    ∙ quoted_back (quoted (codes "white")) white refl is
-
-black_back : (black rest : List ℕ) → is_name black ≡ true →
-    name_in (unquoted (value_of (member_in (member_text (codes "black") (quoted black) ++ (44 ∷ rest))))) ≡ Some black
-black_back black rest is =
-    ap (λ (t : List ℕ). name_in (unquoted (value_of t)))
-    (before_at 44 (member_text (codes "black") (quoted black)) rest (lacks_comma (quoted (codes "black")) black refl is))
-    ∙ quoted_back (quoted (codes "black")) black refl is
+    (before_at 44 (member_text word (quoted name)) rest (lacks_comma (quoted word) name low is))
+    ∙ quoted_back (quoted word) name one is
 
 word_by : (word rest : List ℕ) → Lacks 34 word → unquoted (34 ∷ (word ++ (34 ∷ rest))) ≡ word
 word_by word rest low = ap (front_of 34) (after_at 34 [] (word ++ (34 ∷ rest)) refl) ∙ before_at 34 word rest low
@@ -124,10 +115,10 @@ reached_back (Joined game) is = ap (λ (n : ℕ). Some (Joined n)) (number_back 
 -- where the members of a whole line are
 two_behind : (n : NoteState) → IsNote n → behind_two (whole n.board n.white n.black n.stage) ≡ from_black n.black n.stage
 two_behind n is =
-    ap behind_one (behind_board n.board (from_white n.white n.black n.stage) is.board) ∙ behind_white n.white (from_black n.black n.stage) is.white
+    ap behind_one (behind_board n.board (from_white n.white n.black n.stage) is.board) ∙ behind_name (codes "white") n.white (from_black n.black n.stage) refl is.white
 
 three_behind : (n : NoteState) → IsNote n → behind_three (whole n.board n.white n.black n.stage) ≡ end_of n.stage
-three_behind n is = ap behind_one (two_behind n is) ∙ behind_black n.black (end_of n.stage) is.black
+three_behind n is = ap behind_one (two_behind n is) ∙ behind_name (codes "black") n.black (end_of n.stage) refl is.black
 
 stage_back : (n : NoteState) → IsNote n → stage_in (whole n.board n.white n.black n.stage) ≡ Some n.stage
 stage_back n is =
@@ -153,9 +144,9 @@ likely_back n is =
     likely_by (board_in line) (white_in line) (black_in line) (stage_in line) n
     (board_back n.board rest is.board)
     (ap (λ (t : List ℕ). name_in (unquoted (value_of (member_in t)))) (behind_board n.board rest is.board)
-    ∙ white_back n.white (from_black n.black n.stage) is.white)
+    ∙ name_back (codes "white") n.white (from_black n.black n.stage) refl refl is.white)
     (ap (λ (t : List ℕ). name_in (unquoted (value_of (member_in t)))) (two_behind n is)
-    ∙ black_back n.black (end_of n.stage) is.black)
+    ∙ name_back (codes "black") n.black (end_of n.stage) refl refl is.black)
     (stage_back n is)
 
 pub note_back : (n : NoteState) → IsNote n → note_in (note_text n) ≡ Some n

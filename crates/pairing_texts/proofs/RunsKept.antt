@@ -19,7 +19,7 @@ use Rattle.pairing_texts.proofs.WholeLooks.{whole}
 
 -- ---- the games that may be the board's
 
-and_true : (x : Bool) → (x && true) ≡ x
+pub and_true : (x : Bool) → (x && true) ≡ x
 and_true true = refl
 and_true false = refl
 

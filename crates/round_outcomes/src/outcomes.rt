@@ -5,7 +5,7 @@ use archive_lines::lines_of;
 use lobby_roster::Player;
 use pairing_commands::Source;
 use pairing_texts::{Note, Pairing, Seats, game_in, last_of};
-use pgn_tags::{unescaped, value_in};
+use pgn_tags::{is_move, unescaped, value_in};
 use players_file::full_name;
 use rec_codec::Name;
 use round_games::{Shown, connect, show_game};
@@ -70,14 +70,6 @@ pub fn noted_game(notes: &[Note], board: u32) -> Option<u32> {
     match last_of(notes, board) {
         Some(note) => game_in(&note.stage),
         None => None,
-    }
-}
-
-// Whether a word of a PGN is a move: it begins with a letter.
-fn is_move(word: &str) -> bool {
-    match word.as_bytes() {
-        [first, ..] => first.is_ascii_alphabetic(),
-        [] => false,
     }
 }
 

@@ -2,11 +2,11 @@
 use Rattle.std.proofs.Common.{ℕ, zero, suc, ◌≡◌, ◌+◌, ◌-◌, ◌<◌, ◌≤◌, ◌==◌, Bool, true, false, ◌||◌, List, [], ◌∷◌, ◌++◌, length, map, take, drop, Option, Some, None, inl, inr, refl, sym, ap, subst, ◌∙◌, arith, append-nil}
 use Rattle.std.specs.Prelude.{slice_get, option_map, flat_map, codes, decimal, nat_le, not, replicate, if◌then◌else◌}
 use Rattle.std.specs.List.{list_any, last_or}
-use Rattle.std.proofs.lemmas.Bool.{ne_eqb, eqb-true, eqb-false}
+use Rattle.std.proofs.lemmas.Bool.{ne_eqb, eqb-true, eqb-false, true≢false}
 use Rattle.std.proofs.lemmas.Bool.Decides.{nat_tests}
 use Rattle.std.proofs.lemmas.List.{length-append, length-drop, map-append, length-map, length-replicate, drop-append-le}
 use Rattle.std.proofs.lemmas.Grind.{flat_map-append}
-use Rattle.std.proofs.lemmas.Option.{slice_get-map, slice_get_within}
+use Rattle.std.proofs.lemmas.Option.{slice_get-map, slice_get_within, none-some, same_Some}
 use Rattle.lobby_words.specs.Answers.{is_whole, answer, left_after}
 use Rattle.server_switch.specs.Lines.{Standing, ended, put_behind, change_at, renewed, took, gone_ahead}
 use Rattle.lobby_words.specs.Servers.{server_of}
@@ -22,15 +22,6 @@ use Rattle.server_switch.proofs.Tickets.{joined, awaited_in, awaits, waits_await
 use Rattle.server_switch.proofs.Turns.{no_less, heard_states, heard_dealt, gone_states, gone_dealt, here_states, here_dealt}
 use Rattle.server_switch.proofs.Queues.{Holds, any_done, answered_done, lost_done, text_done, holds_told, holds_more, holds_same, holds_took, drop_twice, last_more, last_added, take_done}
 use Rattle.server_switch.proofs.Follows.{Bears, Fits, next_of, Follows, IsLastKept, got_own, got_other, many_changed, is_there, dealt_more, dealt_least, fresh_reply, itself_follows, itself_last, Alike, sends_follow, sends_last}
-
-never : true ≡ false → ⊥
-never h = cc
-
-none_some : {X : Type 0} (x : X) → None ≡ Some x → ⊥
-none_some x e = cc
-
-same_some : {X : Type 0} (x y : X) → Some x ≡ Some y → x ≡ y
-same_some x y e = cc
 
 -- both, of what is known of the exchange after each call
 abbrev pub Goes : ℕ → List Call → Story → View → Type 0
@@ -96,7 +87,7 @@ first_none (suc more) from past none =
     ∙ first_none more (suc from) past (λ q low high. none q (omega (arith, low)) (omega (arith, high)))
 
 within_by : (o : Option Standing) (servers : List Standing) (q : ℕ) → slice_get servers q ≡ o → is_here_of o ≡ true → q < length servers
-within_by None servers q e h = absurd (never (sym h))
+within_by None servers q e h = absurd (true≢false (sym h))
 within_by (Some st) servers q e h = slice_get_within servers q st e
 
 opened_goes : (servers from : ℕ) (calls past : List Call) (s : Story) (line refusal : List ℕ) (old v : View) → Follows servers calls s old →
@@ -188,7 +179,7 @@ all_in true q m servers calls s e at least last =
     let long : length (s.sent q ++ codes "list" ∷ []) ≡ length (s.sent q) + 1 = length-append (s.sent q) (codes "list" ∷ []) in
     subst (λ (b : Bool). AreDealt q m calls (if b then s.sent q ++ codes "list" ∷ [] else s.sent q) (All_of (tickets_from 0 servers calls s) ∷ []))
     (sym e) (
-      (λ u has. let same : t ≡ u = same_some t u (sym own ∙ has) in (
+      (λ u has. let same : t ≡ u = same_Some t u (sym own ∙ has) in (
         subst (λ (u : Ticket). u.connection ≤ connections q calls) same (omega arith),
         λ waits. subst (λ (u : Ticket). u.number ≡ m) same (sym number),
       )),
@@ -201,7 +192,7 @@ all_in false q m servers calls s e at least last =
     at ∙ ap (λ (b : Bool). if b then Some (record { connection = connections q calls; number = length (s.sent q) }) else None) e in
     subst (λ (b : Bool). AreDealt q m calls (if b then s.sent q ++ codes "list" ∷ [] else s.sent q) (All_of (tickets_from 0 servers calls s) ∷ []))
     (sym e) (
-      (λ u has. absurd (none_some u (sym none ∙ has))),
+      (λ u has. absurd (none-some u (sym none ∙ has))),
       subst (λ (b : Bool). AreDealt q (next_number b m) calls (s.sent q) []) (sym (ap (awaited_in calls q) none)) last,
     )
 
@@ -494,18 +485,18 @@ whole_follows servers at line text past s old h stays some whole =
 -- where the last line opens a game and was refused, another server is asked
 refused_quiet : (q : ℕ) (w : Wait) (r : Refusal) → refusal_of w ≡ Some r → waits_for q w ≡ false
 refused_quiet q (Answered text) r e = refl
-refused_quiet q (Sent place) r e = absurd (none_some r e)
-refused_quiet q (Naming place) r e = absurd (none_some r e)
-refused_quiet q (Opening place line) r e = absurd (none_some r e)
+refused_quiet q (Sent place) r e = absurd (none-some r e)
+refused_quiet q (Naming place) r e = absurd (none-some r e)
+refused_quiet q (Opening place line) r e = absurd (none-some r e)
 refused_quiet q (Refused place line text) r e = refl
-refused_quiet q (Listing shares) r e = absurd (none_some r e)
+refused_quiet q (Listing shares) r e = absurd (none-some r e)
 
 minus_one : (n : ℕ) → suc (suc n) - 1 ≡ suc (suc n - 1)
 minus_one n = omega arith
 
 front_dealt : (q n : ℕ) (calls : List Call) (sent : List (List ℕ)) (asks : List Ask) (r : Refusal) →
     refusal_in (last_or None (states calls asks)) ≡ Some r → AreDealt q n calls sent asks → AreDealt q n calls sent (take (length asks - 1) asks)
-front_dealt q n calls sent [] r e dealt = absurd (none_some r e)
+front_dealt q n calls sent [] r e dealt = absurd (none-some r e)
 front_dealt q n calls sent (ask ∷ []) r e dealt =
     subst (λ (b : Bool). AreDealt q (next_number b n) calls sent []) (sym (waits_awaits calls q ask) ∙ refused_quiet q (state calls ask) r e) dealt.1
 front_dealt q n calls sent (ask ∷ other ∷ asks) r e dealt =
@@ -519,23 +510,23 @@ take_states calls (suc n) (ask ∷ asks) = ap (λ (all : List Wait). state calls
 
 without_by : (done ws : List Wait) (at : ℕ) → list_any (waits_for at) ws ≡ true →
     take (length (done ++ ws) - 1) (done ++ ws) ≡ done ++ take (length ws - 1) ws
-without_by done [] at some = absurd (never (sym some))
+without_by done [] at some = absurd (true≢false (sym some))
 without_by done (w ∷ ws) at some = take_done done w ws
 
 last_by : (done ws : List Wait) (at : ℕ) → list_any (waits_for at) ws ≡ true → last_or None (done ++ ws) ≡ last_or None ws
-last_by done [] at some = absurd (never (sym some))
+last_by done [] at some = absurd (true≢false (sym some))
 last_by done (w ∷ ws) at some = last_more None done w ws
 
 answered_last : (done ws : List Wait) (at : ℕ) (text : List ℕ) → list_any (waits_for at) ws ≡ true →
     last_or None (done ++ answered_waits at text false ws) ≡ last_or None (answered_waits at text false ws)
-answered_last done [] at text some = absurd (never (sym some))
+answered_last done [] at text some = absurd (true≢false (sym some))
 answered_last done (w ∷ ws) at text some =
     last_more None done (next_filled at text false w) (answered_waits at text (false || waits_for at w) ws)
 
 answered_take : (done ws : List Wait) (at : ℕ) (text : List ℕ) → list_any (waits_for at) ws ≡ true →
     take (length (done ++ answered_waits at text false ws) - 1) (done ++ answered_waits at text false ws)
     ≡ done ++ take (length (answered_waits at text false ws) - 1) (answered_waits at text false ws)
-answered_take done [] at text some = absurd (never (sym some))
+answered_take done [] at text some = absurd (true≢false (sym some))
 answered_take done (w ∷ ws) at text some =
     take_done done (next_filled at text false w) (answered_waits at text (false || waits_for at w) ws)
 
@@ -612,7 +603,7 @@ heard_by servers at line past s old v st true e h some named stays b done =
     done.2
 
 standing_in : (o : Option Standing) → is_here_of o ≡ true → (st : Standing) × (o ≡ Some st)
-standing_in None h = absurd (never (sym h))
+standing_in None h = absurd (true≢false (sym h))
 standing_in (Some st) h = (st, refl)
 
 fits_bears : (q : ℕ) (calls : List Call) (said : Option (List ℕ)) (sent : List (List ℕ)) (o : Option Standing) (st : Standing) → o ≡ Some st →
@@ -634,7 +625,7 @@ heard_goes servers at line past s old v h some named is_here_now done =
 gone_own_fits : (q : ℕ) (past : List Call) (said : Option (List ℕ)) (sent : List (List ℕ)) (o : Option Standing) →
     Fits q (Gone q ∷ past) said sent (option_map (λ s. renewed false) o)
 gone_own_fits q past said sent None = gone_own q past
-gone_own_fits q past said sent (Some st) = (sym (gone_own q past), λ stays. absurd (never (sym stays ∙ gone_own q past)))
+gone_own_fits q past said sent (Some st) = (sym (gone_own q past), λ stays. absurd (true≢false (sym stays ∙ gone_own q past)))
 
 gone_fits : (at q : ℕ) (past : List Call) (said : Option (List ℕ)) (sent : List (List ℕ)) (servers : List Standing) (b : Bool) → (q == at) ≡ b →
     Fits q past said sent (slice_get servers q) →
@@ -695,7 +686,7 @@ gone_goes servers at past s old v h done =
 -- a server is there
 here_own_fits : (q : ℕ) (past : List Call) (o : Option Standing) → is_away_of o ≡ true →
     Fits q (Here q ∷ past) None [] (option_map (λ s. renewed true) o)
-here_own_fits q past None away = absurd (never (sym away))
+here_own_fits q past None away = absurd (true≢false (sym away))
 here_own_fits q past (Some st) away =
     let none : lines_by q (connections q (Here q ∷ past)) (Here q ∷ past) ≡ [] =
     ap (λ (n : ℕ). lines_by q n past) (here_next q past) ∙ lines_fresh q (suc (connections q past)) past (omega arith) in
@@ -740,7 +731,7 @@ here_at_dealt at q past sent asks false e away dealt =
     (λ t. here_other at past q t other) dealt
 
 not_true : (b : Bool) → not b ≡ true → b ≡ false
-not_true true h = absurd (never (sym h))
+not_true true h = absurd (true≢false (sym h))
 not_true false h = refl
 
 away_of : (o : Option Standing) → is_away_of o ≡ true → is_here_of o ≡ false
@@ -870,7 +861,7 @@ run_named servers (call ∷ past) now h = called_named call past h.0 now h.3 (ru
 -- at first
 fresh_fits : (servers q k : ℕ) → Fits q [] None [] (slice_get (replicate servers (renewed false)) k)
 fresh_fits zero q k = refl
-fresh_fits (suc servers) q zero = (refl, λ stays. absurd (never (sym stays)))
+fresh_fits (suc servers) q zero = (refl, λ stays. absurd (true≢false (sym stays)))
 fresh_fits (suc servers) q (suc k) = fresh_fits servers q k
 
 called_goes : (servers : ℕ) (call : Call) (past : List Call) (old v : View) → IsRun servers past old → MayCome call old → IsCall call old v →
@@ -899,7 +890,7 @@ runs_go servers [] now h = (
   record {
     many = ap length h.1 ∙ length-replicate servers (renewed false);
     lines = λ q. subst (λ (all : List Standing). Fits q [] None [] (slice_get all q)) (sym h.1) (fresh_fits servers q q);
-    dealt = λ q. λ stays. absurd (never (sym stays));
+    dealt = λ q. λ stays. absurd (true≢false (sym stays));
     holds = ([], tt, sym h.0, no_less 0, h.3);
   },
   refl,
@@ -919,7 +910,7 @@ told_is servers calls now h =
 
 wire_by : (q : ℕ) (calls : List Call) (said : Option (List ℕ)) (sent : List (List ℕ)) (o : Option Standing) → Fits q calls said sent o →
     there q calls ≡ true → wire_of o ≡ drop (written q calls) (flat_map ended sent)
-wire_by q calls said sent None h stays = absurd (never (sym stays ∙ h))
+wire_by q calls said sent None h stays = absurd (true≢false (sym stays ∙ h))
 wire_by q calls said sent (Some st) h stays = (h.1 stays).4
 
 -- what goes to a server

@@ -2,27 +2,19 @@
 use Rattle.std.proofs.Common.{ℕ, zero, suc, ◌≡◌, ◌+◌, ◌-◌, ◌≤◌, ◌==◌, Bool, true, false, ◌&&◌, List, [], ◌∷◌, ◌++◌, length, drop, Option, Some, None, refl, sym, ap, subst, ◌∙◌, arith, append-nil}
 use Rattle.std.specs.Prelude.{slice_get, option_map, flat_map, codes, if◌then◌else◌}
 use Rattle.std.specs.List.{last_or}
-use Rattle.std.proofs.lemmas.Bool.{ne_eqb, eqb-true, eqb-false}
+use Rattle.std.proofs.lemmas.Bool.{ne_eqb, eqb-true, eqb-false, true≢false}
 use Rattle.std.proofs.lemmas.List.{length-append, map-append, length-set, drop-append-le}
 use Rattle.std.proofs.lemmas.Grind.{flat_map-append}
-use Rattle.std.proofs.lemmas.Option.{slice_get_past}
+use Rattle.std.proofs.lemmas.Option.{slice_get_past, none-some, same_Some}
 use Rattle.server_switch.specs.Lines.{Standing, ended, is_said, is_new, naming, said_then, changed, change_at, put_under}
 use Rattle.server_switch.specs.Waits.{Wait, Answered, Naming, refusal_of}
 use Rattle.server_switch.specs.Exchanges.{View, is_here_of, is_here, said_of, said_at, name_waits, Sends, IsOutcome, refusal_in}
 use Rattle.server_switch.specs.Runs.{Call}
 use Rattle.server_switch.specs.Story.{name_of, there, connections, lines_by, answers_by, Ticket, Reply, Awaited, reply_by, reply, Kind, Names, Games, Starts, Ask, Itself, One, awaited, stands, state, states, Story, asked_itself, lines_under, asks_under, asked_of, taken, written}
 use Rattle.server_switch.proofs.Replies.{is_self, begun_in, left_in, is_awaited}
+use Rattle.server_switch.proofs.Runs.{moved}
 use Rattle.server_switch.proofs.Tickets.{awaited_in, awaits, next_number, AreDealt}
 use Rattle.server_switch.proofs.Queues.{Holds, holds_more, last_added, last_two}
-
-never : true ≡ false → ⊥
-never h = cc
-
-none_some : {X : Type 0} (x : X) → None ≡ Some x → ⊥
-none_some x e = cc
-
-same_some : {X : Type 0} (x y : X) → Some x ≡ Some y → x ≡ y
-same_some x y e = cc
 
 -- the line to a server
 abbrev pub Bears : ℕ → List Call → Option (List ℕ) → List (List ℕ) → Standing → Type 0
@@ -47,12 +39,6 @@ pub record Follows (servers : ℕ) (calls : List Call) (s : Story) (v : View) : 
 
 abbrev pub IsLastKept : List Call → Story → Type 0
 IsLastKept calls s = refusal_in (last_or None (states calls s.asks)) ≡ None
-
--- one line among the lines to all servers
-moved : (change : Standing → Standing) (place : ℕ) (s : Standing) (servers : List Standing) (o : Option Standing) →
-    changed change (suc place) (s ∷ servers) o ≡ s ∷ changed change place servers o
-moved change place s servers None = refl
-moved change place s servers (Some x) = refl
 
 pub got_own : (change : Standing → Standing) (place : ℕ) (servers : List Standing) →
     slice_get (change_at change place servers) place ≡ option_map change (slice_get servers place)
@@ -90,7 +76,7 @@ is_there servers calls s v q h = here_fits q calls (s.said q) (s.sent q) (slice_
 
 said_fits : (q : ℕ) (calls : List Call) (said : Option (List ℕ)) (sent : List (List ℕ)) (o : Option Standing) → Fits q calls said sent o →
     there q calls ≡ true → said_of o ≡ said
-said_fits q calls said sent None h stays = absurd (never (sym stays ∙ h))
+said_fits q calls said sent None h stays = absurd (true≢false (sym stays ∙ h))
 said_fits q calls said sent (Some st) h stays = (h.1 stays).0
 
 -- the numbers of the lines that wait, with more lines
@@ -123,7 +109,7 @@ add_other : (q n : ℕ) (calls : List Call) (new : List (List ℕ)) (kind : Kind
     AreDealt q n calls new asks → AreDealt q n calls new (One kind place t ∷ asks)
 add_other q n calls new kind place t asks e dealt =
     let none : (if place == q then Some t else None) ≡ None = ap (λ (b : Bool). if b then Some t else None) e in (
-      (λ u is. absurd (none_some u (sym none ∙ is))),
+      (λ u is. absurd (none-some u (sym none ∙ is))),
       subst (λ (b : Bool). AreDealt q (next_number b n) calls new asks) (sym (ap (awaited_in calls q) none)) dealt,
     )
 
@@ -132,7 +118,7 @@ add_own : (q n : ℕ) (calls : List Call) (new : List (List ℕ)) (kind : Kind) 
     AreDealt q n calls new (One kind place t ∷ asks)
 add_own q n calls new kind place t asks e one number fresh dealt =
     let own : (if place == q then Some t else None) ≡ Some t = ap (λ (b : Bool). if b then Some t else None) e in (
-      (λ u is. let same : t ≡ u = same_some t u (sym own ∙ is) in (
+      (λ u is. let same : t ≡ u = same_Some t u (sym own ∙ is) in (
         subst (λ (u : Ticket). u.connection ≤ connections q calls) same (omega (arith, one)),
         λ waits. subst (λ (u : Ticket). u.number ≡ n) same number,
       )),
@@ -142,7 +128,7 @@ add_own q n calls new kind place t asks e one number fresh dealt =
 -- the switch itself answers
 itself_dealt : (q n : ℕ) (calls : List Call) (sent : List (List ℕ)) (text : List ℕ) → (there q calls ≡ true → n ≡ length sent) →
     AreDealt q n calls sent (Itself text ∷ [])
-itself_dealt q n calls sent text last = ((λ t is. absurd (none_some t is)), last)
+itself_dealt q n calls sent text last = ((λ t is. absurd (none-some t is)), last)
 
 pub itself_follows : (servers : ℕ) (calls : List Call) (s : Story) (text : List ℕ) (old v : View) → Follows servers calls s old →
     v.waits ≡ old.waits ++ Answered text ∷ [] → v.servers ≡ old.servers → v.told ≡ old.told → Follows servers calls (asked_itself text s) v

@@ -1,29 +1,24 @@
 -- The lines that wait, among all that the client has said.
-use Rattle.std.proofs.Common.{ℕ, zero, suc, ◌≡◌, ◌+◌, ◌-◌, ◌≤◌, Bool, true, false, ◌||◌, List, [], ◌∷◌, ◌++◌, length, take, drop, Option, Some, None, refl, sym, ap, subst, ◌∙◌, arith, append_assoc}
+use Rattle.std.proofs.Common.{ℕ, zero, suc, ◌≡◌, ◌+◌, ◌-◌, ◌≤◌, Bool, false, ◌||◌, List, [], ◌∷◌, ◌++◌, length, take, drop, Option, Some, None, refl, sym, ap, subst, ◌∙◌, arith, append_assoc}
 use Rattle.std.specs.Prelude.{if◌then◌else◌}
 use Rattle.std.specs.List.{list_any, last_or}
 use Rattle.std.proofs.lemmas.List.{length-append, length-drop, drop-append-le}
+use Rattle.std.proofs.lemmas.Option.{none-some}
 use Rattle.server_switch.specs.Waits.{Wait, Answered, Sent, Naming, Opening, Refused, Listing, waits_for, answered_waits, filled, lost_of, lost_at, lost_waits, answer_of, text_behind, text_ahead, left_behind, left_ahead}
 use Rattle.server_switch.specs.Exchanges.{View, IsTold}
-
-never : true ≡ false → ⊥
-never h = cc
 
 -- lines that are answered
 abbrev pub AreAnswered : List Wait → Type 0
 AreAnswered [] = Unit {0}
 AreAnswered (w ∷ ws) = ((text : List ℕ) × (answer_of w ≡ Some text)) × AreAnswered ws
 
-none_some : (text : List ℕ) → None ≡ Some text → ⊥
-none_some text e = cc
-
 quiet : (q : ℕ) (w : Wait) (text : List ℕ) → answer_of w ≡ Some text → waits_for q w ≡ false
 quiet q (Answered own) text e = refl
-quiet q (Sent place) text e = absurd (none_some text e)
-quiet q (Naming place) text e = absurd (none_some text e)
-quiet q (Opening place line) text e = absurd (none_some text e)
+quiet q (Sent place) text e = absurd (none-some text e)
+quiet q (Naming place) text e = absurd (none-some text e)
+quiet q (Opening place line) text e = absurd (none-some text e)
 quiet q (Refused place line own) text e = refl
-quiet q (Listing shares) text e = absurd (none_some text e)
+quiet q (Listing shares) text e = absurd (none-some text e)
 
 more_answered : (xs ys : List Wait) → AreAnswered xs → AreAnswered ys → AreAnswered (xs ++ ys)
 more_answered [] ys h k = k

@@ -1,15 +1,12 @@
 -- What servers have replied, from one thing that comes in to the next.
 use Rattle.std.proofs.Common.{ℕ, zero, suc, ◌≡◌, ◌+◌, ◌<◌, ◌≤◌, ◌==◌, Bool, true, false, ◌&&◌, List, [], ◌∷◌, ◌++◌, length, Option, Some, None, refl, sym, ap, ◌∙◌, append_assoc, append-nil, arith}
 use Rattle.std.specs.Prelude.{slice_get, if◌then◌else◌}
-use Rattle.std.proofs.lemmas.Bool.{ne_eqb, eqb-true, eqb-false, true_from_ne_false, and_parts}
+use Rattle.std.proofs.lemmas.Bool.{ne_eqb, eqb-true, eqb-false, true_from_ne_false, and_parts, true≢false}
 use Rattle.std.proofs.lemmas.List.{length-append}
-use Rattle.std.proofs.lemmas.Option.{slice_get_past}
+use Rattle.std.proofs.lemmas.Option.{slice_get_past, none-some}
 use Rattle.lobby_words.specs.Answers.{left_after}
 use Rattle.server_switch.specs.Runs.{Call, Said, Said_too_long, Heard, Here, Gone, Wrote, Took}
 use Rattle.server_switch.specs.Story.{there, connections, lines_by, whole_with, begun_with, answers_in, answers_by, Ticket, Reply, Awaited, Missed, Got, reply_by, reply}
-
-never : true ≡ false → ⊥
-never h = cc
 
 pub is_self : (n : ℕ) → (n == n) ≡ true
 is_self n = true_from_ne_false (n == n) (λ e. eqb-false n n e refl)
@@ -42,12 +39,9 @@ left_more left [] line = refl
 left_more left (x ∷ lines) line = left_more (left_after left x) lines line
 
 -- items of longer lists
-none_some : {X : Type 0} (x : X) → None ≡ Some x → ⊥
-none_some x e = cc
-
 pub got_more : {X : Type 0} (xs ys : List X) (n : ℕ) (x : X) → slice_get xs n ≡ Some x → slice_get (xs ++ ys) n ≡ Some x
-got_more [] ys zero x h = absurd (none_some x h)
-got_more [] ys (suc n) x h = absurd (none_some x h)
+got_more [] ys zero x h = absurd (none-some x h)
+got_more [] ys (suc n) x h = absurd (none-some x h)
 got_more (z ∷ xs) ys zero x h = h
 got_more (z ∷ xs) ys (suc n) x h = got_more xs ys n x h
 
@@ -83,7 +77,7 @@ lines_own place line past =
 -- no line came by a connection that has not begun
 differ : (a : Bool) (m n : ℕ) → m < n → (a && m == n) ≡ true → ⊥
 differ true m n h e = omega (arith, h, eqb-true m n e)
-differ false m n h e = never (sym e)
+differ false m n h e = true≢false (sym e)
 
 none_with : (b : Bool) (lines : List (List ℕ)) (line : List ℕ) → (b ≡ true → ⊥) → lines ≡ [] → (if b then lines ++ line ∷ [] else lines) ≡ []
 none_with true lines line refused e = absurd (refused refl)
@@ -112,8 +106,8 @@ is_awaited _ = false
 
 pub awaited_is : (r : Reply) → is_awaited r ≡ true → r ≡ Awaited
 awaited_is Awaited h = refl
-awaited_is Missed h = absurd (never (sym h))
-awaited_is (Got text) h = absurd (never (sym h))
+awaited_is Missed h = absurd (true≢false (sym h))
+awaited_is (Got text) h = absurd (true≢false (sym h))
 
 -- of a line of a server hear nothing but the lines of its connection
 pub heard_other : (at : ℕ) (line : List ℕ) (past : List Call) (q : ℕ) (t : Ticket) → (q ≡ at → ⊥) →
@@ -162,7 +156,7 @@ own_now at line past more t whole is_there e =
 
 still_by : (o : Option (List ℕ)) (xs more : List (List ℕ)) (n : ℕ) → slice_get xs n ≡ o → is_awaited (reply_by true o) ≡ false →
     reply_by true (slice_get (xs ++ more) n) ≡ reply_by true o
-still_by None xs more n e h = absurd (never h)
+still_by None xs more n e h = absurd (true≢false h)
 still_by (Some text) xs more n e h = ap (reply_by true) (got_more xs more n text e)
 
 still_in : (b : Bool) (at : ℕ) (line : List ℕ) (past : List Call) (more : List (List ℕ)) (t : Ticket) → (connections at past == t.connection) ≡ b →
@@ -182,9 +176,9 @@ heard_still at line past more t whole is_there h = still_in (connections at past
 
 -- one that waits has gone over the connection that is there
 awaited_open : (b : Bool) (o : Option (List ℕ)) → is_awaited (reply_by b o) ≡ true → b ≡ true
-awaited_open b (Some text) h = absurd (never (sym h))
+awaited_open b (Some text) h = absurd (true≢false (sym h))
 awaited_open true None h = refl
-awaited_open false None h = absurd (never (sym h))
+awaited_open false None h = absurd (true≢false (sym h))
 
 pub awaited_now : (calls : List Call) (at : ℕ) (t : Ticket) → is_awaited (reply calls at t) ≡ true → t.connection ≡ connections at calls
 awaited_now calls at t h =
@@ -240,11 +234,11 @@ gone_reply at past t =
 
 closed_still : (b : Bool) (o : Option (List ℕ)) → is_awaited (reply_by b o) ≡ false → reply_by false o ≡ reply_by b o
 closed_still b (Some text) h = refl
-closed_still true None h = absurd (never h)
+closed_still true None h = absurd (true≢false h)
 closed_still false None h = refl
 
 closed_hit : (b : Bool) (o : Option (List ℕ)) → is_awaited (reply_by b o) ≡ true → reply_by false o ≡ Missed
-closed_hit b (Some text) h = absurd (never (sym h))
+closed_hit b (Some text) h = absurd (true≢false (sym h))
 closed_hit b None h = refl
 
 pub gone_still : (at : ℕ) (past : List Call) (t : Ticket) → is_awaited (reply past at t) ≡ false → reply (Gone at ∷ past) at t ≡ reply past at t

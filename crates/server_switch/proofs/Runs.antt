@@ -2,7 +2,7 @@
 use Rattle.std.proofs.Common.{ℕ, zero, suc, ◌≡◌, ◌+◌, ◌-◌, ◌==◌, Bool, true, false, ◌||◌, List, [], ◌∷◌, ◌++◌, length, map, take, drop, Option, Some, None, inl, inr, refl, sym, ap, subst, ◌∙◌}
 use Rattle.std.specs.Prelude.{slice_get, codes, decimal, nat_le, if◌then◌else◌}
 use Rattle.std.specs.List.{list_any, last_or}
-use Rattle.std.proofs.lemmas.Bool.{ne_eqb, eqb-true, eqb-false, true_from_ne_false, or_from, or_parts}
+use Rattle.std.proofs.lemmas.Bool.{ne_eqb, eqb-true, eqb-false, true_from_ne_false, or_from, or_parts, true≢false}
 use Rattle.std.proofs.lemmas.List.Folds.{list_any-append}
 use Rattle.lobby_words.specs.Waiting.{is_list}
 use Rattle.server_switch.specs.Answers.{told, is_full, rows_told}
@@ -14,12 +14,8 @@ use Rattle.server_switch.specs.Waits.{Share, Due, Rows, Absent, Wait, Answered, 
 use Rattle.server_switch.specs.Exchanges.{View, fresh, is_here_of, is_here, said_at, Answers, Sends, name_waits, IsSame, IsOutcome, IsOpened, IsListed, Becomes, IsTold, asked, share_asked, refusal_in, without_last, IsPassedOn, with_answer, IsAnswered, whole_answer, with_line, IsHeard, with_connection, with_lost}
 use Rattle.server_switch.specs.Runs.{Call, Said, Said_too_long, Heard, Here, Gone, Wrote, Took, IsCall, IsRun, AreHere, first_answer, IsAllTold, IsFirstDue, IsUnstuck}
 
-never : true ≡ false → ⊥
-never h = cc
-
--- of two tests neither passes
--- whether servers are there
-moved : (change : Standing → Standing) (place : ℕ) (s : Standing) (servers : List Standing) (o : Option Standing) →
+-- one line among the lines to all servers
+pub moved : (change : Standing → Standing) (place : ℕ) (s : Standing) (servers : List Standing) (o : Option Standing) →
     changed change (suc place) (s ∷ servers) o ≡ s ∷ changed change place servers o
 moved change place s servers None = refl
 moved change place s servers (Some x) = refl
@@ -50,7 +46,7 @@ here_other change (s ∷ servers) (suc place) (suc q) other =
 not_before : (servers : List Standing) (place q : ℕ) → is_here_of (slice_get (change_at (λ s. renewed true) place servers) q) ≡ false →
     is_here_of (slice_get servers q) ≡ false
 not_before [] place q h = refl
-not_before (s ∷ servers) zero zero h = absurd (never h)
+not_before (s ∷ servers) zero zero h = absurd (true≢false h)
 not_before (s ∷ servers) zero (suc q) h = h
 not_before (s ∷ servers) (suc place) zero h =
     sym (ap (λ (all : List Standing). is_here_of (slice_get all zero)) (moved (λ s. renewed true) place s servers (slice_get servers place))) ∙ h
@@ -203,7 +199,7 @@ same_here old new e q away = ap (λ (all : List Standing). is_here_of (slice_get
 
 apart : (v : View) (place q : ℕ) → is_here v place ≡ true → is_here v q ≡ false → (place == q) ≡ false
 apart v place q is_there away =
-    ne_eqb place q (λ e. never (sym is_there ∙ (ap (is_here v) e ∙ away)))
+    ne_eqb place q (λ e. true≢false (sym is_there ∙ (ap (is_here v) e ∙ away)))
 
 names_quiet : (place q : ℕ) (b : Bool) (w : Wait) → (place == q) ≡ false → waits_for q w ≡ false →
     list_any (waits_for q) (name_waits place b ++ w ∷ []) ≡ false
@@ -306,7 +302,7 @@ run servers (call ∷ past) now h = called call h.0 now h.3 (run servers past h.
 
 here_by : (a b : Bool) → (b ≡ false → a ≡ false) → a ≡ true → b ≡ true
 here_by a true f h = refl
-here_by a false f h = absurd (never (sym h ∙ f refl))
+here_by a false f h = absurd (true≢false (sym h ∙ f refl))
 
 pub are_here : (servers : ℕ) (calls : List Call) (now : View) → IsRun servers calls now → AreHere now
 are_here servers calls now h = λ place waits.
@@ -361,7 +357,7 @@ due_at_by true x xs e more h = (zero, e)
 due_at_by false x xs e more h = let found = more h in (suc found.0, found.1)
 
 due_at : (shares : List Share) → list_any is_due shares ≡ true → (place : ℕ) × (is_due_at shares place ≡ true)
-due_at [] h = absurd (never (sym h))
+due_at [] h = absurd (true≢false (sym h))
 due_at (x ∷ xs) h = due_at_by (is_due x) x xs refl (due_at xs) h
 
 listing_due : (b : Bool) (shares : List Share) → list_any is_due shares ≡ b → IsDue (listing_by b shares)

@@ -2,19 +2,13 @@
 use Rattle.std.proofs.Common.{ℕ, zero, suc, ◌≡◌, ◌+◌, ◌<◌, ◌≤◌, ◌==◌, Bool, true, false, List, [], ◌∷◌, length, Option, Some, None, refl, sym, ap, subst, ◌∙◌, arith}
 use Rattle.std.specs.Prelude.{slice_get, option_map, if◌then◌else◌}
 use Rattle.std.specs.List.{list_any}
-use Rattle.std.proofs.lemmas.Bool.{eqb-true, or_parts}
+use Rattle.std.proofs.lemmas.Bool.{eqb-true, or_parts, true≢false}
 use Rattle.lobby_words.specs.Waiting.{is_list}
 use Rattle.server_switch.specs.Answers.{told, is_full, rows_told}
 use Rattle.server_switch.specs.Waits.{Share, Rows, Absent, Wait, Answered, Refused, is_due, is_due_share, is_due_at, waits_for, listing_by, listing, put_at, filled, lost_of}
 use Rattle.server_switch.specs.Runs.{Call}
 use Rattle.server_switch.specs.Story.{there, connections, Ticket, Reply, Awaited, Missed, Got, reply, Kind, Names, Games, Starts, Ask, Itself, One, All_of, awaited, missed, got, stands, share_by, share_at, shares_from, state, states}
 use Rattle.server_switch.proofs.Replies.{is_self, is_awaited, awaited_is}
-
-never : true ≡ false → ⊥
-never h = cc
-
-none_some : {X : Type 0} (x : X) → None ≡ Some x → ⊥
-none_some x e = cc
 
 -- what a line has gone to a server as
 abbrev pub joined : Option (Option Ticket) → Option Ticket
@@ -158,7 +152,7 @@ one_turned : (calls later : List Call) (kind : Kind) (q place : ℕ) (ticket : T
     awaited_in calls q (if b then Some ticket else None) ≡ true →
     ((t : Ticket) → (if b then Some ticket else None) ≡ Some t → reply later q t ≡ reply_of o) →
     stands kind place (reply later place ticket) ≡ turned o q (stands kind place (reply calls place ticket))
-one_turned calls later kind q place ticket o false e h turn = absurd (never (sym h))
+one_turned calls later kind q place ticket o false e h turn = absurd (true≢false (sym h))
 one_turned calls later kind q place ticket o true e h turn =
     subst (λ (p : ℕ). stands kind p (reply later p ticket) ≡ turned o q (stands kind p (reply calls p ticket))) (sym (eqb-true place q e))
     (ap (stands kind q) (turn ticket refl)
@@ -172,7 +166,7 @@ far_shares calls later i q tickets h other =
 
 share_turned : (calls later : List Call) (q : ℕ) (x : Option Ticket) (o : Option (List ℕ)) → is_due (share_at calls q x) ≡ true →
     ((t : Ticket) → x ≡ Some t → reply later q t ≡ reply_of o) → share_at later q x ≡ share_by q (reply_of o)
-share_turned calls later q None o h turn = absurd (never (sym h))
+share_turned calls later q None o h turn = absurd (true≢false (sym h))
 share_turned calls later q (Some t) o h turn = ap (share_by q) (turn t refl)
 
 shares_turned : (calls later : List Call) (i k q : ℕ) (tickets : List (Option Ticket)) (o : Option (List ℕ)) → q ≡ i + k →
@@ -180,7 +174,7 @@ shares_turned : (calls later : List Call) (i k q : ℕ) (tickets : List (Option 
     ((t : Ticket) → joined (slice_get tickets k) ≡ Some t → reply later q t ≡ reply_of o) →
     ((p : ℕ) (t : Ticket) → (p ≡ q → ⊥) → reply later p t ≡ reply calls p t) →
     shares_from later i tickets ≡ put_at k (share_by q (reply_of o)) (shares_from calls i tickets)
-shares_turned calls later i k q [] o e h turn other = absurd (never (sym h))
+shares_turned calls later i k q [] o e h turn other = absurd (true≢false (sym h))
 shares_turned calls later i zero q (x ∷ xs) o e h turn other =
     let same : i ≡ q = omega (arith, e) in
     let due : is_due (share_at calls q x) ≡ true = subst (λ (n : ℕ). is_due (share_at calls n x) ≡ true) same h in
@@ -193,7 +187,7 @@ shares_turned calls later i (suc k) q (x ∷ xs) o e h turn other =
 
 due_by : (b : Bool) (shares : List Share) (q : ℕ) → is_due_at shares q ≡ true → list_any is_due shares ≡ b → b ≡ true
 due_by true shares q h e = refl
-due_by false shares q h e = absurd (never (sym h ∙ none_due shares q e))
+due_by false shares q h e = absurd (true≢false (sym h ∙ none_due shares q e))
 
 due_any : (shares : List Share) (q : ℕ) → is_due_at shares q ≡ true → list_any is_due shares ≡ true
 due_any shares q h = due_by (list_any is_due shares) shares q h refl
@@ -209,7 +203,7 @@ pub turned_state : (calls later : List Call) (q : ℕ) (ask : Ask) (o : Option (
     ((t : Ticket) → IsTicket ask q t → reply later q t ≡ reply_of o) →
     ((p : ℕ) (t : Ticket) → (p ≡ q → ⊥) → reply later p t ≡ reply calls p t) →
     state later ask ≡ turned o q (state calls ask)
-turned_state calls later q (Itself text) o h turn other = absurd (never (sym h))
+turned_state calls later q (Itself text) o h turn other = absurd (true≢false (sym h))
 turned_state calls later q (One kind place ticket) o h turn other =
     one_turned calls later kind q place ticket o (place == q) refl h turn
 turned_state calls later q (All_of tickets) o h turn other =

@@ -2,15 +2,12 @@
 use Rattle.std.proofs.Common.{ℕ, suc, ◌≡◌, ◌-◌, ◌<◌, ◌≤◌, ◌==◌, Bool, true, false, ◌||◌, List, [], ◌∷◌, length, Option, Some, None, refl, sym, ap, subst, ◌∙◌, arith}
 use Rattle.std.specs.Prelude.{if◌then◌else◌}
 use Rattle.std.specs.List.{list_any}
-use Rattle.std.proofs.lemmas.Bool.{eqb-true, eqb-false}
+use Rattle.std.proofs.lemmas.Bool.{eqb-true, eqb-false, true≢false}
 use Rattle.server_switch.specs.Waits.{Wait, waits_for, filled, answered_waits, lost_of, lost_at, lost_waits}
 use Rattle.server_switch.specs.Runs.{Call, Heard, Here, Gone}
 use Rattle.server_switch.specs.Story.{there, connections, answers_by, Ticket, reply, Ask, state, states}
 use Rattle.server_switch.proofs.Replies.{is_awaited, Whole, heard_other, heard_still, heard_hit, heard_far, gone_own, gone_other, gone_still, gone_hit, here_next, here_other, here_still, away_awaits}
 use Rattle.server_switch.proofs.Tickets.{ticket_at, awaited_in, awaits, IsTicket, waits_awaits, same_state, turned_state, IsDealt, next_number, AreDealt, same_awaits}
-
-never : true ≡ false → ⊥
-never h = cc
 
 pub no_less : (n : ℕ) → n ≤ n
 no_less n = omega arith
@@ -135,7 +132,7 @@ front_dealt at line text past sent ask asks true e whole is_there dealt more res
     let hit : (t : Ticket) → IsTicket ask at t → is_awaited (reply (Heard at line ∷ past) at t) ≡ false =
     λ t is. let waits = in_some past at (ticket_at at ask) t e is in
     ap is_awaited (heard_hit at line past text t whole is_there waits ((dealt t is).1 waits)) in (
-      (λ t is. ((dealt t is).0, λ waits. absurd (never (sym waits ∙ hit t is)))),
+      (λ t is. ((dealt t is).0, λ waits. absurd (true≢false (sym waits ∙ hit t is)))),
       subst (λ (b : Bool). AreDealt at (next_number b (suc n)) (Heard at line ∷ past) sent asks)
           (sym (none_in (Heard at line ∷ past) at (ticket_at at ask) hit))
           (behind_dealt at (suc n) line text past sent asks whole is_there (less_suc (length (answers_by at (connections at past) past))) more),
@@ -145,7 +142,7 @@ front_dealt at line text past sent ask asks false e whole is_there dealt more re
     let quiet : (t : Ticket) → IsTicket ask at t → is_awaited (reply (Heard at line ∷ past) at t) ≡ false =
     λ t is. let none = in_none past at (ticket_at at ask) t e is in
     ap is_awaited (heard_still at line past (text ∷ []) t whole is_there none) ∙ none in (
-      (λ t is. ((dealt t is).0, λ waits. absurd (never (sym waits ∙ quiet t is)))),
+      (λ t is. ((dealt t is).0, λ waits. absurd (true≢false (sym waits ∙ quiet t is)))),
       subst (λ (b : Bool). AreDealt at (next_number b (suc n)) (Heard at line ∷ past) sent asks)
           (sym (none_in (Heard at line ∷ past) at (ticket_at at ask) quiet)) (rest refl),
     )
@@ -154,7 +151,7 @@ pub heard_dealt : (at : ℕ) (line text : List ℕ) (past : List Call) (sent : L
     there at past ≡ true → list_any (waits_for at) (states past asks) ≡ true →
     AreDealt at (length (answers_by at (connections at past) past)) past sent asks →
     AreDealt at (suc (length (answers_by at (connections at past) past))) (Heard at line ∷ past) sent asks
-heard_dealt at line text past sent [] whole is_there some dealt = absurd (never (sym some))
+heard_dealt at line text past sent [] whole is_there some dealt = absurd (true≢false (sym some))
 heard_dealt at line text past sent (ask ∷ asks) whole is_there some dealt =
     let n = length (answers_by at (connections at past) past) in
     front_dealt at line text past sent ask asks (awaits past at ask) refl whole is_there dealt.0 dealt.1
@@ -185,7 +182,7 @@ known_dealt : (q n m : ℕ) (calls later : List Call) (sent new : List (List ℕ
     AreDealt q n calls sent asks → AreDealt q m later new asks
 known_dealt q n m calls later sent new [] more none last dealt = last
 known_dealt q n m calls later sent new (ask ∷ asks) more none last dealt = (
-  (λ t is. (omega (arith, more, (dealt.0 t is).0), λ waits. absurd (never (sym waits ∙ none t (dealt.0 t is).0)))),
+  (λ t is. (omega (arith, more, (dealt.0 t is).0), λ waits. absurd (true≢false (sym waits ∙ none t (dealt.0 t is).0)))),
   subst (λ (b : Bool). AreDealt q (next_number b m) later new asks)
       (sym (none_in later q (ticket_at q ask) (λ t is. none t (dealt.0 t is).0)))
       (known_dealt q (next_number (awaits calls q ask) n) m calls later sent new asks more none last dealt.1),
@@ -195,7 +192,7 @@ pub gone_dealt : (at n m : ℕ) (past : List Call) (sent : List (List ℕ)) (ask
     AreDealt at m (Gone at ∷ past) sent asks
 gone_dealt at n m past sent asks dealt =
     known_dealt at n m past (Gone at ∷ past) sent sent asks (no_less (connections at past)) (λ t known. away_awaits (Gone at ∷ past) at t (gone_own at past))
-    (λ stays. absurd (never (sym stays ∙ gone_own at past))) dealt
+    (λ stays. absurd (true≢false (sym stays ∙ gone_own at past))) dealt
 
 -- a server is there again
 pub here_states : (at n : ℕ) (past : List Call) (sent : List (List ℕ)) (asks : List Ask) → there at past ≡ false → AreDealt at n past sent asks →

@@ -6,7 +6,7 @@ use Rattle.std.specs.List.{list_all, position_or_len}
 use Rattle.std.specs.Str.{bytes_eq}
 use Rattle.std.proofs.lemmas.Slice.Eq.{bytes_eq-Decides}
 use Rattle.std.specs.Str.Parse.{AllDigits}
-use Rattle.std.proofs.lemmas.Bool.{eqb-true, ne_eqb, and_parts}
+use Rattle.std.proofs.lemmas.Bool.{eqb-true, ne_eqb, and_parts, false≢true}
 use Rattle.std.proofs.lemmas.Fmt.{decimal_is_IsNumeral}
 use Rattle.std.proofs.lemmas.Str.Parse.{tells_digits}
 use Rattle.std.proofs.Math.Seq.{take-append_seam}
@@ -14,6 +14,7 @@ use Rattle.std.proofs.lemmas.List.{take-append-drop, length-take-le, append_canc
 use Rattle.std.proofs.lemmas.List.Folds.{list_all-append}
 use Rattle.std.proofs.lemmas.List.Sums.{AllPass-from_list_all, prefix_len-le-length}
 use Rattle.std.proofs.lemmas.Str.Pattern.{IsSplitOnceResult, split_after, split_parts}
+use Rattle.std.proofs.lemmas.Option.{none-some, same_Some}
 use Rattle.lobby_words.specs.Words.{word_of, is_play_word, number_in}
 use Rattle.lobby_words.proofs.Numbers.{Spells, found, number_spelled}
 use Rattle.rec_codec.specs.Name.{IsName}
@@ -26,12 +27,9 @@ use Rattle.server_switch.specs.Routes.{Way, Says, Lists, Opens, Plays, IsTail, I
 abbrev pub is_word : List ℕ → Bool
 is_word w = list_all (λ b. not (b == 32)) w
 
-never : false ≡ true → ⊥
-never h = cc
-
 free : (w : List ℕ) → is_word w ≡ true → (i : ℕ) → i < length w → get_or w i 0 ≢ 32
 free w whole i inside = λ at.
-    never (subst (λ (b : ℕ). not (b == 32) ≡ true) at (AllPass-from_list_all (λ (b : ℕ). not (b == 32)) w whole i 0 inside))
+    false≢true (subst (λ (b : ℕ). not (b == 32) ≡ true) at (AllPass-from_list_all (λ (b : ℕ). not (b == 32)) w whole i 0 inside))
 
 either : (a b : Bool) (P : Type 0) → (a ≡ true → P) → (b ≡ true → P) → (a || b) ≡ true → P
 either true b P f g h = f refl
@@ -82,7 +80,7 @@ no_open = refl
 -- a list without a space is not cut
 uncut : (line front rest : List ℕ) → is_word line ≡ true → line ≡ front ++ 32 ∷ rest → ⊥
 uncut line front rest whole e =
-    never (and_parts (is_word front) false
+    false≢true (and_parts (is_word front) false
     (sym (list_all-append (λ (b : ℕ). not (b == 32)) front (32 ∷ rest)) ∙ (ap is_word (sym e) ∙ whole))).1
 
 low : 32 < 128
@@ -119,7 +117,7 @@ position_tail (b ∷ bs) h = rw h refl
 position_by : (b : ℕ) (bs tail : List ℕ) (is : Bool) → (b == 32) ≡ is → (not is && is_word bs) ≡ true →
     (is_word bs ≡ true → position_or_len (λ x. x == 32) (bs ++ tail) ≡ length bs) →
     position_or_len (λ x. x == 32) (b ∷ (bs ++ tail)) ≡ length (b ∷ bs)
-position_by b bs tail true e whole more = absurd (never whole)
+position_by b bs tail true e whole more = absurd (false≢true whole)
 position_by b bs tail false e whole more = rw e (ap (λ (k : ℕ). 1 + k) (more whole) ∙ sym (one_more (length bs)))
 
 position_is : (w tail : List ℕ) → is_word w ≡ true → IsTail tail → position_or_len (λ x. x == 32) (w ++ tail) ≡ length w
@@ -160,18 +158,15 @@ number_found : (rest tail : List ℕ) (n : ℕ) → rest ≡ decimal n ++ tail �
 number_found rest tail n e small h =
     ap (λ (t : List ℕ). number_in (word_of t)) e ∙ (ap number_in (word_is (decimal n) tail (number_word n small) h) ∙ number_spelled n small)
 
-none_some : (n : ℕ) (o : Option ℕ) → o ≡ None → o ≡ Some n → ⊥
-none_some n o none some = cc
-
 -- a line that says a name
 name_text : (line : List ℕ) (x : Bor (List ℕ) × Bor (List ℕ)) → IsSplitOnceResult 32 line (Some x) → x.0.now ≡ codes "name" → ¬ IsName x.1.now →
     (way : Way) → ¬ IsLine way line
 name_text line x cut at none (Says name) = λ h. none (subst IsName (sym (cut_at line x cut (codes "name") name refl h.0).1) h.1)
 name_text line x cut at none Lists = λ h. uncut line x.0.now x.1.now (subst (λ (l : List ℕ). is_word l ≡ true) (sym h) refl) (parts line x cut)
-name_text line x cut at none Opens = λ h. never
+name_text line x cut at none Opens = λ h. false≢true
     (ap (λ (w : List ℕ). bytes_eq w (codes "open")) (sym at) ∙ ((bytes_eq-Decides x.0.now (codes "open")).1 (cut_at line x cut (codes "open") h.0 refl h.1).0))
 name_text line x cut at none (Plays word number tail) = λ h.
-    never (sym no_name ∙ (ap names_game (sym at ∙ (cut_at line x cut word (decimal number ++ tail) (game_word word h.1) h.0).0) ∙ h.1))
+    false≢true (sym no_name ∙ (ap names_game (sym at ∙ (cut_at line x cut word (decimal number ++ tail) (game_word word h.1) h.0).0) ∙ h.1))
 
 pub says : (line : List ℕ) (x : Bor (List ℕ) × Bor (List ℕ)) → IsSplitOnceResult 32 line (Some x) → (r : Route) → x.0.now ≡ codes "name" →
     IsNameRoute x.1.now r → IsRoute line (way_of r)
@@ -190,13 +185,13 @@ opens line x cut at = (x.1.now, parts line x cut ∙ ap (λ (w : List ℕ). w ++
 game_text : (line : List ℕ) (x : Bor (List ℕ) × Bor (List ℕ)) → IsSplitOnceResult 32 line (Some x) → names_game x.0.now ≡ true →
     number_in (word_of x.1.now) ≡ None → (way : Way) → ¬ IsLine way line
 game_text line x cut at none (Says name) = λ h.
-    never (sym no_name ∙ (ap names_game (sym (cut_at line x cut (codes "name") name refl h.0).0) ∙ at))
+    false≢true (sym no_name ∙ (ap names_game (sym (cut_at line x cut (codes "name") name refl h.0).0) ∙ at))
 game_text line x cut at none Lists = λ h. uncut line x.0.now x.1.now (subst (λ (l : List ℕ). is_word l ≡ true) (sym h) refl) (parts line x cut)
 game_text line x cut at none Opens = λ h.
-    never (sym no_open ∙ (ap names_game (sym (cut_at line x cut (codes "open") h.0 refl h.1).0) ∙ at))
+    false≢true (sym no_open ∙ (ap names_game (sym (cut_at line x cut (codes "open") h.0 refl h.1).0) ∙ at))
 game_text line x cut at none (Plays word number tail) = λ h.
-    none_some number (number_in (word_of x.1.now)) none
-    (number_found x.1.now tail number (cut_at line x cut word (decimal number ++ tail) (game_word word h.1) h.0).1 h.2 h.3)
+    none-some number (sym none
+    ∙ number_found x.1.now tail number (cut_at line x cut word (decimal number ++ tail) (game_word word h.1) h.0).1 h.2 h.3)
 
 pub plays : (line : List ℕ) (x : Bor (List ℕ) × Bor (List ℕ)) → IsSplitOnceResult 32 line (Some x) → (r : Route) → names_game x.0.now ≡ true →
     IsGameRoute x.0.now x.1.now r → IsRoute line (way_of r)
@@ -214,7 +209,7 @@ plays line x cut (routes.Name name) at h = absurd h
 
 -- a line of another word, and one that is a word
 differs : (w v : List ℕ) → bytes_eq w v ≡ false → w ≡ v → ⊥
-differs w v unlike at = never (sym unlike ∙ (bytes_eq-Decides w v).1 at)
+differs w v unlike at = false≢true (sym unlike ∙ (bytes_eq-Decides w v).1 at)
 
 pub nothing : (line : List ℕ) (x : Bor (List ℕ) × Bor (List ℕ)) → IsSplitOnceResult 32 line (Some x) → bytes_eq x.0.now (codes "name") ≡ false →
     bytes_eq x.0.now (codes "open") ≡ false → names_game x.0.now ≡ false → (way : Way) → ¬ IsLine way line
@@ -225,7 +220,7 @@ nothing line x cut no_say no_opening no_game Lists = λ h.
 nothing line x cut no_say no_opening no_game Opens = λ h.
     differs x.0.now (codes "open") no_opening (cut_at line x cut (codes "open") h.0 refl h.1).0
 nothing line x cut no_say no_opening no_game (Plays word number tail) = λ h.
-    never (sym no_game ∙ (ap names_game (cut_at line x cut word (decimal number ++ tail) (game_word word h.1) h.0).0 ∙ h.1))
+    false≢true (sym no_game ∙ (ap names_game (cut_at line x cut word (decimal number ++ tail) (game_word word h.1) h.0).0 ∙ h.1))
 
 whole_cut : (line : List ℕ) → IsSplitOnceResult 32 line None → (w rest : List ℕ) → is_word w ≡ true → line ≡ w ++ 32 ∷ rest → ⊥
 whole_cut line cut w rest whole e = split_after 32 line w rest None cut low e (free w whole)
@@ -262,14 +257,11 @@ listed line w r e h = uncut line w r (subst (λ (l : List ℕ). is_word l ≡ tr
 
 no_play : (line w v r s : List ℕ) → is_word w ≡ true → names_game w ≡ false → line ≡ w ++ 32 ∷ r → line ≡ v ++ 32 ∷ s → names_game v ≡ true → ⊥
 no_play line w v r s one none e f game =
-    never (sym none ∙ (ap names_game (words_same line w v r s one (game_word v game) e f) ∙ game))
-
-some_same : (a b : ℕ) → Some a ≡ Some b → a ≡ b
-some_same a b e = cc
+    false≢true (sym none ∙ (ap names_game (words_same line w v r s one (game_word v game) e f) ∙ game))
 
 numbers_same : (a b : ℕ) (s t rest : List ℕ) → rest ≡ decimal a ++ s → rest ≡ decimal b ++ t → a < 2 ^ 32 → b < 2 ^ 32 → IsTail s → IsTail t → a ≡ b
 numbers_same a b s t rest e f small other ends other_ends =
-    some_same a b (sym (number_found rest s a e small ends) ∙ number_found rest t b f other other_ends)
+    same_Some a b (sym (number_found rest s a e small ends) ∙ number_found rest t b f other other_ends)
 
 tails_same : (a b : ℕ) (s t : List ℕ) → decimal a ++ s ≡ decimal b ++ t → a ≡ b → s ≡ t
 tails_same a b s t e is = append_cancel_left (decimal a) s t (e ∙ ap (λ (n : ℕ). decimal n ++ t) (sym is))

@@ -1,18 +1,15 @@
 -- The answers of a server, with the numbers that its games have here.
 use Rattle.std.specs.Prelude.{ℕ, ◌==◌, Bool, List, [], ◌∷◌, ◌++◌, codes, flat_map, Option, None, Some, if◌then◌else◌}
-use Rattle.std.specs.List.{before_first, starts_with}
+use Rattle.std.specs.List.{starts_with}
 use Rattle.std.specs.Str.{bytes_eq}
 use Rattle.text_parts.specs.Parts.{parts_of}
+use Rattle.lobby_words.specs.Answers.{first_line}
 use Rattle.lobby_words.specs.Words.{word_of, rest_of}
 use Rattle.server_switch.specs.Fields.{renumbered, tail_of}
 
 -- what is told in place of an answer that is not known
 abbrev pub lost : List ℕ
 lost = codes "lost\n"
-
--- the first line of an answer
-abbrev pub first_line : List ℕ → List ℕ
-first_line answer = before_first (λ b. b == 10) answer
 
 -- An answer that names a game behind some words, with the number that the game has here. Where it has none, nothing is known.
 abbrev pub told_behind : List ℕ → Option (List ℕ) → List ℕ → List ℕ

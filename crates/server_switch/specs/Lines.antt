@@ -1,13 +1,10 @@
 -- The line to a server.
 use Rattle.std.specs.Prelude.{ℕ, Bool, false, true, List, [], ◌∷◌, ◌++◌, Option, Some, None, codes, drop, slice_get, slice_set, if◌then◌else◌}
 use Rattle.lobby_words.specs.Answers.{is_whole, answer, left_after}
+pub use Rattle.lobby_words.specs.Answers.{ended}
 use Rattle.std.specs.String.{string_bytes}
 use Rattle.server_switch.specs.declared.server_line.ServerLine.{ServerLine}
 pub use Rattle.lobby_words.specs.Naming.{is_said}
-
--- a line with the line feed that ends it
-abbrev pub ended : List ℕ → List ℕ
-ended line = line ++ 10 ∷ []
 
 -- whether a client's name is to be said to a server: it has one, and another or none was said there last
 abbrev pub is_new : Option (List ℕ) → Option (List ℕ) → Bool

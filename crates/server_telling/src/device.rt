@@ -41,10 +41,18 @@ impl<'a, R, D> TellingDevice<'a, R, D> {
 }
 
 impl<R: Eprint, D: KeepsError> TellingDevice<'_, R, D> {
-    // Tells of a call that failed.
-    fn tell(&self, what: &str) {
-        self.teller
-            .failed(self.path, what, self.device.kept_error());
+    // What a call gave; an operator is told of one that failed.
+    fn told_of_call<T>(&self, given: Result<T, DeviceFault>, what: &str) -> Result<T, DeviceFault>
+        ensures { result ≡ given }
+    {
+        match given {
+            Ok(value) => Ok(value),
+            Err(fault) => {
+                self.teller
+                    .failed(self.path, what, self.device.kept_error());
+                Err(fault)
+            }
+        }
     }
 }
 
@@ -64,42 +72,22 @@ impl<R: Eprint, D: Device + KeepsError> Device for TellingDevice<'_, R, D> {
     }
 
     fn read(&mut self, at: u32, into: &mut [u8; 512]) -> Result<Got, DeviceFault> {
-        match self.device.read(at, into) {
-            Ok(got) => Ok(got),
-            Err(fault) => {
-                self.tell("a read failed");
-                Err(fault)
-            }
-        }
+        let given = self.device.read(at, into);
+        self.told_of_call(given, "a read failed")
     }
 
     fn write(&mut self, at: u32, from: &[u8; 512]) -> Result<(), DeviceFault> {
-        match self.device.write(at, from) {
-            Ok(()) => Ok(()),
-            Err(fault) => {
-                self.tell("a write failed");
-                Err(fault)
-            }
-        }
+        let given = self.device.write(at, from);
+        self.told_of_call(given, "a write failed")
     }
 
     fn sync(&mut self) -> Result<(), DeviceFault> {
-        match self.device.sync() {
-            Ok(()) => Ok(()),
-            Err(fault) => {
-                self.tell("a sync failed");
-                Err(fault)
-            }
-        }
+        let given = self.device.sync();
+        self.told_of_call(given, "a sync failed")
     }
 
     fn barrier(&mut self) -> Result<(), DeviceFault> {
-        match self.device.barrier() {
-            Ok(()) => Ok(()),
-            Err(fault) => {
-                self.tell("a sync failed");
-                Err(fault)
-            }
-        }
+        let given = self.device.barrier();
+        self.told_of_call(given, "a sync failed")
     }
 }
