@@ -1,2 +1,4 @@
 pub mod OpenLemmas
 pub mod WidenLemmas
+mod ShownLemmas
+mod RefusedLemmas

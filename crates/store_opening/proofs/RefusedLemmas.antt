@@ -1,0 +1,57 @@
+-- Which fault a refusal is, and which limits are the same.
+use Rattle.std.proofs.Common.{ℕ, ◌≡◌, ◌∙◌, ◌<◌, ◌≤◌, Bool, true, false, sym, ap, subst, arith}
+use Rattle.std.specs.Prelude.{◌≢◌, ◌==◌, ◌&&◌, ◌↔◌, IsTrue, Result, Err, IfErr}
+use Rattle.std.proofs.lemmas.Bool.{false≢true}
+use Rattle.std.proofs.lemmas.Bool.Decides.{nat_tests}
+use Rattle.rec_codec.specs.declared.limits.Limits.{Limits}
+use Rattle.chess_entry.specs.State.{TableState}
+use Rattle.chess_table.specs.Widened.{with_limits}
+use Rattle.chess_store.specs.declared.fault.StoreFault.{StoreFault}
+use Rattle.chess_store.specs.declared.fault.StoreFault.TheVariants.{TooSmall, Worn, Failed}
+
+abbrev IsNotFailed : StoreFault → Type 0
+IsNotFailed Failed = ⊥
+IsNotFailed fault = Unit {0}
+
+abbrev IsNotSmall : StoreFault → Type 0
+IsNotSmall TooSmall = ⊥
+IsNotSmall fault = Unit {0}
+
+abbrev IsNotWorn : StoreFault → Type 0
+IsNotWorn Worn = ⊥
+IsNotWorn fault = Unit {0}
+
+-- a result that is no such fault
+pub not_failed : {T : Type 0} (r : Result T StoreFault) → IfErr r IsNotFailed → r ≡ Err Failed → ⊥
+not_failed {T} r other is = subst (λ (x : Result T StoreFault). IfErr x IsNotFailed) is other
+
+pub not_small : {T : Type 0} (r : Result T StoreFault) → IfErr r IsNotSmall → r ≡ Err TooSmall → ⊥
+not_small {T} r other is = subst (λ (x : Result T StoreFault). IfErr x IsNotSmall) is other
+
+pub not_worn_out : {T : Type 0} (r : Result T StoreFault) → IfErr r IsNotWorn → r ≡ Err Worn → ⊥
+not_worn_out {T} r other is = subst (λ (x : Result T StoreFault). IfErr x IsNotWorn) is other
+
+pub not_both : {a b : ℕ} → a < b → b ≤ a → ⊥
+not_both below least = absurd (omega arith)
+
+pub below_of : {a b : ℕ} {told : Bool} → told ≡ false → IsTrue told ↔ (a ≤ b) → b < a
+below_of {a} {b} {told} denied decides =
+    let least : a ≤ b → ⊥ = λ le. false≢true (sym denied ∙ decides.1 le) in
+    grind (arith, least)
+
+pub same_limits : (a b : Limits) → (a.games == b.games && a.plies == b.plies) ≡ true → a ≡ b
+same_limits a b equal =
+    let games : a.games ≡ b.games = grind (arith, nat_tests) in
+    let plies : a.plies ≡ b.plies = grind (arith, nat_tests) in
+    let make : ℕ → ℕ → Limits = λ games plies. record { games = games; plies = plies } in
+    ap (λ (n : ℕ). make n a.plies) games ∙ ap (λ (n : ℕ). make b.games n) plies
+
+pub other_limits : (a b : Limits) → (a.games == b.games && a.plies == b.plies) ≡ false → a ≢ b
+other_limits a b unequal same =
+    let games : a.games ≡ b.games = ap (λ (l : Limits). l.games) same in
+    let plies : a.plies ≡ b.plies = ap (λ (l : Limits). l.plies) same in
+    absurd (grind (arith, nat_tests))
+
+-- the present limits change nothing
+pub same_table : (limits : Limits) (table : TableState) → limits ≡ table.limits → table ≡ with_limits limits table
+same_table limits table same = ap (λ (l : Limits). with_limits l table) (sym same)
