@@ -1,13 +1,13 @@
 -- Which fault a refusal is, and which limits are the same.
 use Rattle.std.proofs.Common.{ℕ, ◌≡◌, ◌∙◌, ◌<◌, ◌≤◌, Bool, true, false, sym, ap, subst, arith}
-use Rattle.std.specs.Prelude.{◌≢◌, ◌==◌, ◌&&◌, ◌↔◌, IsTrue, Result, Err, IfErr}
+use Rattle.std.specs.Prelude.{◌≢◌, ◌==◌, ◌&&◌, ◌↔◌, IsTrue, Result, Err, IfOk, IfErr}
 use Rattle.std.proofs.lemmas.Bool.{false≢true}
 use Rattle.std.proofs.lemmas.Bool.Decides.{nat_tests}
 use Rattle.rec_codec.specs.declared.limits.Limits.{Limits}
 use Rattle.chess_entry.specs.State.{TableState}
 use Rattle.chess_table.specs.Widened.{with_limits}
 use Rattle.chess_store.specs.declared.fault.StoreFault.{StoreFault}
-use Rattle.chess_store.specs.declared.fault.StoreFault.TheVariants.{TooSmall, Worn, Failed}
+use Rattle.chess_store.specs.declared.fault.StoreFault.TheVariants.{TooSmall, NoMemory, Worn, Failed}
 
 abbrev IsNotFailed : StoreFault → Type 0
 IsNotFailed Failed = ⊥
@@ -55,3 +55,21 @@ other_limits a b unequal same =
 -- the present limits change nothing
 pub same_table : (limits : Limits) (table : TableState) → limits ≡ table.limits → table ≡ with_limits limits table
 same_table limits table same = ap (λ (l : Limits). with_limits l table) (sym same)
+
+-- ---- where memory was refused
+
+pub memory_ok : {T : Type 0} (r : Result T StoreFault) (e : StoreFault) (P : T → Type 0) → r ≡ Err e → IfOk r P
+memory_ok {T} r e P was = subst (λ (x : Result T StoreFault). IfOk x P) (sym was) tt
+
+pub memory_err : {T : Type 0} (r : Result T StoreFault) (e : StoreFault) (P : StoreFault → Type 0) → r ≡ Err e
+    → e ≡ NoMemory → P NoMemory → IfErr r P
+memory_err {T} r e P was is holds =
+    subst (λ (x : Result T StoreFault). IfErr x P) (sym was) (subst P (sym is) holds)
+
+pub memory_not_failed : {T : Type 0} (r : Result T StoreFault) (e : StoreFault) → r ≡ Err e → e ≡ NoMemory
+    → r ≡ Err Failed → ⊥
+memory_not_failed r e was is failed = not_failed r (memory_err r e IsNotFailed was is tt) failed
+
+pub memory_not_small : {T : Type 0} (r : Result T StoreFault) (e : StoreFault) → r ≡ Err e → e ≡ NoMemory
+    → r ≡ Err TooSmall → ⊥
+memory_not_small r e was is small = not_small r (memory_err r e IsNotSmall was is tt) small
