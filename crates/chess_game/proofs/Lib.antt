@@ -8,6 +8,7 @@ pub mod KeptGame
 pub mod Shown
 pub mod Acts
 mod Refused
+mod Offers
 pub mod StoredLemmas
 pub mod ReplayLemmas
 pub mod RestoredLemmas

@@ -1,18 +1,86 @@
 use Rattle.std.proofs.Common.{true, false, sym, ap, ◌∙◌, subst}
 use Rattle.std.specs.Prelude.{Option, is_some}
+use Rattle.std.proofs.lemmas.Result.{err_from_is_err_and}
 use Rattle.chess_board.specs.declared.moves.Move.{Move}
 use Rattle.chess_board.specs.Legal.{IsLegal}
 use Rattle.chess_end.specs.declared.ending.Ending.{Ending}
 use Rattle.chess_entry.specs.Follow.{ended, moved, claimed_wrongly}
 use Rattle.chess_game.specs.Scoresheet.{ScoresheetState, last_of}
-use Rattle.chess_game.proofs.Refused.{on_err}
+use Rattle.chess_game.proofs.Refused.{on_err, not_ok}
 use Rattle.chess_game.proofs.KeptGame.{IsGame-moved}
 use Rattle.chess_game.proofs.Shown.{Shows-kept, IsGame-kept, IsSound-shown, state_of-shown}
 use Rattle.chess_game.proofs.Acts.{HasRoom-playable, TimesFit-claim, TimesFit-turn, NotFallen-turn, IsOnWay-judged, IsGame-claimed, IsInTime-judged, IsPlayable-judged, Shows-claimed, claim-shows, granted-as, judged-granted, judged-none, judged-some}
+use Rattle.chess_game.proofs.Offers.{runs_on, runs_from, IsByAct-claimed}
 use Rattle.chess_game.proofs.games.Game.claim.Goals as goal
 
 pub is_granted-requires : goal.is_granted-requires
 is_granted-requires c = λ m e. c.requires.judgeable.stated m (sym c.stated_move-mv.ensures ∙ e)
+
+pub end-requires-clause-by_act : goal.end-requires-clause-by_act
+end-requires-clause-by_act c =
+    IsByAct-claimed c.args.claim.now.fifty c.drawn_by_claim.result c.drawn_by_claim.ensures
+
+pub claim_wrongly-requires-clause-running : goal.claim_wrongly-requires-clause-running
+claim_wrongly-requires-clause-running c =
+    let game = c.args.self.now in
+    runs_on game c.self.inside.sides (Shows-kept c.self.inside game c.self.view_is c.self.invariant).sides
+    c.requires.in_time.running.goes_on
+
+pub claim_wrongly-requires-in-Some-clause-running : goal.claim_wrongly-requires-in-Some-clause-running
+claim_wrongly-requires-in-Some-clause-running c =
+    let game = c.args.self.now in
+    runs_on game c.self.inside.sides (Shows-kept c.self.inside game c.self.view_is c.self.invariant).sides
+    c.requires.in_time.running.goes_on
+
+pub finish_turn-requires-clause-running : goal.finish_turn-requires-clause-running
+finish_turn-requires-clause-running c =
+    let game = c.args.self.now in
+    let claim = c.args.claim.now in
+    runs_on (claimed_wrongly game claim.by) c.claim_wrongly-in-Some.new.self
+    (Shows-claimed c.self.inside game claim.by c.claim_wrongly-in-Some.new.self
+    (Shows-kept c.self.inside game c.self.view_is c.self.invariant) c.claim_wrongly-in-Some.ensures).sides
+    c.requires.in_time.running.goes_on
+
+pub finish_turn-requires-clause-from_start : goal.finish_turn-requires-clause-from_start
+finish_turn-requires-clause-from_start c =
+    let game = c.args.self.now in
+    let claim = c.args.claim.now in
+    runs_from (claimed_wrongly game claim.by) c.args.at c.claim_wrongly-in-Some.new.self
+    (Shows-claimed c.self.inside game claim.by c.claim_wrongly-in-Some.new.self
+    (Shows-kept c.self.inside game c.self.view_is c.self.invariant) c.claim_wrongly-in-Some.ensures).sides
+    c.requires.in_time.running.from_start
+
+pub returns-then-is_granted-clause-refused : goal.returns-then-is_granted-clause-refused
+returns-then-is_granted-clause-refused c = tt
+
+pub returns-then-is_granted-clause-wrong : goal.returns-then-is_granted-clause-wrong
+returns-then-is_granted-clause-wrong c = tt
+
+pub returns-then-is_granted-clause-stating : goal.returns-then-is_granted-clause-stating
+returns-then-is_granted-clause-stating c = tt
+
+pub returns-in-None-clause-refused : goal.returns-in-None-clause-refused
+returns-in-None-clause-refused c = tt
+
+pub returns-in-None-clause-wrong : goal.returns-in-None-clause-wrong
+returns-in-None-clause-wrong c = tt
+
+pub returns-in-None-clause-stating : goal.returns-in-None-clause-stating
+returns-in-None-clause-stating c = tt
+
+pub returns-in_ok-ending-in-Some-clause-refused : goal.returns-in_ok-ending-in-Some-clause-refused
+returns-in_ok-ending-in-Some-clause-refused c = tt
+
+pub returns-in_ok-ending-in-Some-clause-wrong : goal.returns-in_ok-ending-in-Some-clause-wrong
+returns-in_ok-ending-in-Some-clause-wrong c = tt
+
+pub returns-in_ok-ending-in-Some-clause-stating : goal.returns-in_ok-ending-in-Some-clause-stating
+returns-in_ok-ending-in-Some-clause-stating c = tt
+
+pub returns-in_err-ending-in-Some-clause-judged : goal.returns-in_err-ending-in-Some-clause-judged
+returns-in_err-ending-in-Some-clause-judged c =
+    let e = err_from_is_err_and c.from_residual.result c.from_residual.ensures.1 in
+    not_ok c.from_residual.result e.0 _ e.1
 
 pub returns-then-is_granted-clause-judged : goal.returns-then-is_granted-clause-judged
 returns-then-is_granted-clause-judged c =

@@ -1,17 +1,39 @@
 use Rattle.std.proofs.Common.{◌<◌, List, take, sym, ap, ◌∙◌, subst}
+use Rattle.std.proofs.lemmas.List.{take_all}
+use Rattle.std.proofs.lemmas.Result.{err_from_is_err_and}
 use Rattle.chess_board.specs.declared.moves.Move.{Move}
 use Rattle.chess_board.specs.Position.{Position}
 use Rattle.chess_board.specs.Next.{next}
 use Rattle.chess_board.specs.Legal.{IsLegal}
 use Rattle.chess_game.specs.Restored.{IsReplayed}
-use Rattle.chess_game.proofs.ReplayLemmas.{IsReplayed-push, taken, HasRoom-before, IsScoresheet-not_legal, IsScoresheet-ended, none_from}
+use Rattle.chess_game.proofs.ReplayLemmas.{IsReplayed-none, IsReplayed-push, taken, HasRoom-before, IsScoresheet-not_legal, IsScoresheet-ended, none_from}
 use Rattle.chess_game.proofs.RestoredLemmas.{none_made}
+use Rattle.chess_game.proofs.Refused.{no_ok}
 use Rattle.chess_game.proofs.scoresheet.Scoresheet.replay.Goals as goal
+
+pub loop-mv-init : goal.loop-mv-init
+loop-mv-init c = IsReplayed-none c.args.start.now c.in_ok-line.line c.in_ok-line.ensures
+
+pub returns-in_err-line-clause-made : goal.returns-in_err-line-clause-made
+returns-in_err-line-clause-made c =
+    let e = err_from_is_err_and c.from_residual.result c.from_residual.ensures.1 in
+    no_ok c.from_residual.result e.0 _ e.1
+
+pub returns-in_err-line-clause-none : goal.returns-in_err-line-clause-none
+returns-in_err-line-clause-none c =
+    let e = err_from_is_err_and c.from_residual.result c.from_residual.ensures.1 in
+    no_ok c.from_residual.result e.0 _ e.1
+
+pub returns-then-is_some-clause-made : goal.returns-then-is_some-clause-made
+returns-then-is_some-clause-made c = tt
 
 pub returns-then-is_some-clause-none : goal.returns-then-is_some-clause-none
 returns-then-is_some-clause-none c =
     IsScoresheet-ended c.args.start.now c.args.moves.now c.loop-mv.mv-index c.mv-item.result c.loop-mv.line
     c.loop-mv.by_line c.loop-mv.invariant c.loop-mv-test.true c.mv-item.is (sym c.is_some.ensures ∙ c.if-is_some.true)
+
+pub returns-in_default-clause-made : goal.returns-in_default-clause-made
+returns-in_default-clause-made c = tt
 
 pub returns-in_default-clause-none : goal.returns-in_default-clause-none
 returns-in_default-clause-none c =
@@ -53,3 +75,21 @@ loop-mv-preserved c =
     c.in_ok-by_line.by_line c.loop-mv.invariant (none_from c.loop-mv.by_line (sym c.is_some.ensures ∙ c.if-is_some.false))
     (subst P c.board.ensures c.in-Some.ensures.legal) c.in_ok-by_line.ensures.pushed
     c.in_ok-by_line.ensures.ending)
+
+pub returns-in_err-by_line-clause-made : goal.returns-in_err-by_line-clause-made
+returns-in_err-by_line-clause-made c =
+    let e = err_from_is_err_and c.from_residual-in_err-by_line.result c.from_residual-in_err-by_line.ensures.1 in
+    no_ok c.from_residual-in_err-by_line.result e.0 _ e.1
+
+pub returns-in_err-by_line-clause-none : goal.returns-in_err-by_line-clause-none
+returns-in_err-by_line-clause-none c =
+    let e = err_from_is_err_and c.from_residual-in_err-by_line.result c.from_residual-in_err-by_line.ensures.1 in
+    no_ok c.from_residual-in_err-by_line.result e.0 _ e.1
+
+pub returns-clause-made : goal.returns-clause-made
+returns-clause-made c =
+    let Q : List Move → Type 0 = λ ms. IsReplayed c.args.start.now ms c.loop-mv.line c.loop-mv.by_line in
+    subst Q (take_all c.loop-mv.mv-index c.args.moves.now c.loop-mv-test.false) c.loop-mv.invariant
+
+pub returns-clause-none : goal.returns-clause-none
+returns-clause-none c = tt
