@@ -1,9 +1,14 @@
--- Games that are safe or have left the table, one more.
-use Rattle.std.proofs.Common.{ℕ, ◌≡◌, Bool, true, false, ◌||◌, ◌==◌, List, [], ◌∷◌, ◌++◌, refl, sym, ap, ◌∙◌}
-use Rattle.std.specs.Prelude.{if◌then◌else◌}
+-- Games that are safe or have left the table, one more; and what is so of a night behind a step.
+use Rattle.std.proofs.Common.{ℕ, ◌≡◌, ◌<◌, Bool, true, false, not, ◌||◌, ◌&&◌, ◌==◌, List, [], ◌∷◌, ◌++◌, Option, None, Some, length, get_or, refl, sym, ap, ◌∙◌}
+use Rattle.std.specs.Prelude.{Result, Ok, Err, IfOk, IsErr, is_some, is_none, if◌then◌else◌}
 use Rattle.std.proofs.lemmas.Bool.{false≢true}
+use Rattle.std.proofs.lemmas.Bool.Decides.{Decides-eqb}
+use Rattle.std.proofs.lemmas.List.Folds.{list_any_at}
+use Rattle.lobby_archive.specs.declared.clerk.Stage.{Stage}
+use Rattle.lobby_archive.specs.declared.clerk.Stage.TheVariants.{Asked, Found}
+use Rattle.lobby_archive.specs.Clerk.{View, IsStaged, is_asked, is_kept, asks, seen}
 use Rattle.lobby_archive.specs.Files.{contains}
-use Rattle.lobby_archive.specs.Night.{IsLater, StaysBut, AreDone}
+use Rattle.lobby_archive.specs.Night.{IsTold, IsAsking, AreSettled, AreSettledBut, IsLater, Stays, BecomesAt, StaysBut, AreDone}
 use Rattle.lobby_archive.proofs.Lists.{contains_more}
 use Rattle.lobby_archive.proofs.Runs.{same_game, either}
 
@@ -41,3 +46,92 @@ settled_more settled left settled_now left_now game games more f k all one e = �
     (λ same. ap (λ (n : ℕ). settled_now n || left_now n) (sym (same_game game g same)) ∙ one)
     (λ other. or_later (settled g) (left g) (settled_now g) (left_now g) (λ s. f g other ∙ s) (k g)
     (all g (second_of (game == g) (contains g games) other (sym (contains_more g game games) ∙ (sym (ap (contains g) e) ∙ h)))))
+
+-- what is said of an `Ok` is said of no error
+pub on_error : {T E : Type 0} (r : Result T E) (P : T → Type 0) → IsErr r → IfOk r P
+on_error (Ok x) P h = absurd (false≢true h)
+on_error (Err e) P h = tt
+
+pub here_is : (game : ℕ) → (game == game) ≡ true
+here_is game = (Decides-eqb game game).1 refl
+
+pub contains_at : (games : List ℕ) (i : ℕ) → i < length games → contains (get_or games i 0) games ≡ true
+contains_at games i h = list_any_at (λ one. one == get_or games i 0) games i 0 h (here_is (get_or games i 0))
+
+pub both : (a b : Bool) → a ≡ true → b ≡ true → (a && b) ≡ true
+both true b e h = h
+both false b e h = absurd (false≢true e)
+
+same_at : {A : Type 0} (b : Bool) (x y : A) → b ≡ true → (if b then x else y) ≡ x
+same_at true x y h = refl
+same_at false x y h = absurd (false≢true h)
+
+pub other_at : {A : Type 0} (b : Bool) (x y : A) → b ≡ false → (if b then x else y) ≡ y
+other_at true x y h = absurd (false≢true (sym h))
+other_at false x y h = refl
+
+asked_stage : (stage : Option Stage) (t : Bool) → (is_none stage && t) ≡ true →
+    (if is_none stage then (if t then Some Asked else Some Found) else stage) ≡ Some Asked
+asked_stage None true h = refl
+asked_stage None false h = absurd (false≢true h)
+asked_stage (Some x) t h = absurd (false≢true h)
+
+-- a game is seen to be over, and its PGN is asked for
+module _ (game : ℕ) (droppable : Bool) (old new : View) (asked : asks old game droppable ≡ true)
+    (step : IsStaged old game (seen old game droppable) new) where
+  new_stage : new.stage game ≡ Some Asked
+  new_stage =
+      step.stage_is game
+      ∙ (same_at (game == game) (seen old game droppable) (old.stage game) (here_is game)
+      ∙ asked_stage (old.stage game) (droppable || not (old.has game)) asked)
+
+  other_stage : (g : ℕ) → (game == g) ≡ false → new.stage g ≡ old.stage g
+  other_stage g other = step.stage_is g ∙ other_at (game == g) (seen old game droppable) (old.stage g) other
+
+  pub over_asking : (safe matched : ℕ → Bool) → IsTold old safe matched → IsAsking game new safe matched
+  over_asking safe matched told = record {
+    fresh = step.fresh ∙ told.fresh;
+    has = λ g. step.has g ∙ told.has g;
+    seen = λ g other k. told.seen g (sym (ap is_some (other_stage g other)) ∙ k);
+    matched = λ g k.
+        by_same (game == g) (matched g ≡ true)
+        (λ same. absurd (false≢true (sym (ap (λ (n : ℕ). is_kept (new.stage n)) (sym (same_game game g same)) ∙ ap is_kept new_stage) ∙ k)))
+        (λ other. told.matched g (sym (ap is_kept (other_stage g other)) ∙ k));
+    asked = ap is_asked new_stage;
+  }
+
+  pub over_settled_but : (drops : Bool) (settled : ℕ → Bool) → AreSettled old drops settled → AreSettledBut game new drops settled
+  over_settled_but drops settled h = λ d g other some kept.
+      h d g (sym (ap is_some (other_stage g other)) ∙ some) (sym (ap is_kept (other_stage g other)) ∙ kept)
+
+-- the table has not the game any more
+module _ (game : ℕ) (old new : View) (step : IsStaged old game None new) where
+  gone_stage : (g : ℕ) → (game == g) ≡ true → new.stage g ≡ None
+  gone_stage g same = step.stage_is g ∙ same_at (game == g) None (old.stage g) same
+
+  kept_stage : (g : ℕ) → (game == g) ≡ false → new.stage g ≡ old.stage g
+  kept_stage g other = step.stage_is g ∙ other_at (game == g) None (old.stage g) other
+
+  pub refused_told : (safe safe_now matched matched_now : ℕ → Bool) → IsAsking game old safe matched → Stays safe safe_now →
+      BecomesAt game false matched matched_now → IsTold new safe_now matched_now
+  refused_told safe safe_now matched matched_now h stays becomes = record {
+    fresh = step.fresh ∙ h.fresh;
+    has = λ g. step.has g ∙ (h.has g ∙ sym (stays g));
+    seen = λ g k.
+        by_same (game == g) (safe_now g ≡ true)
+        (λ same. absurd (false≢true (sym (ap is_some (gone_stage g same)) ∙ k)))
+        (λ other. stays g ∙ h.seen g other (sym (ap is_some (kept_stage g other)) ∙ k));
+    matched = λ g k.
+        by_same (game == g) (matched_now g ≡ true)
+        (λ same. absurd (false≢true (sym (ap is_kept (gone_stage g same)) ∙ k)))
+        (λ other. becomes g ∙ (other_at (game == g) false (matched g) other ∙ h.matched g (sym (ap is_kept (kept_stage g other)) ∙ k)));
+  }
+
+  pub refused_settled : (drops drops_now : Bool) (settled settled_now : ℕ → Bool) → AreSettledBut game old drops settled → drops_now ≡ drops →
+      BecomesAt game false settled settled_now → AreSettled new drops_now settled_now
+  refused_settled drops drops_now settled settled_now h same_drops becomes = λ d g some kept.
+      by_same (game == g) (settled_now g ≡ true)
+      (λ same. absurd (false≢true (sym (ap is_some (gone_stage g same)) ∙ some)))
+      (λ other. becomes g
+      ∙ (other_at (game == g) false (settled g) other
+      ∙ h (sym same_drops ∙ d) g other (sym (ap is_some (kept_stage g other)) ∙ some) (sym (ap is_kept (kept_stage g other)) ∙ kept)))
