@@ -63,7 +63,7 @@ pub fn is_listed_dead(board: &Board) -> bool
     ensures { IsTrue result ↔ IsListedDead board.now.placement }
 {
     // read for what comes with them: that the board is valid
-    let _rights = board.rights();
+    let _valid = board.rights();
     let men = board.men();
     are_kings_and_knight(men) || are_kings_and_bishops(men)
 }

@@ -179,10 +179,10 @@ ends_from_safe p k from to kind valid g king not_there not_king safe =
       },
       λ way c below slider pin. elim (cases_Bool (is_square to c)) [
         | inl same ↦ inl (is_square-true to c same)
-        | inr apart ↦ inr (stopped before_squares after_squares' k c from to (way_step way) pin.far is
-            (omega (arith, pin.positive, pin.nearer)) pin.there
-            (λ j one less. elim (cases_eq j pin.near) [
-              | inl e ↦ inl (ap (λ (i : ℕ). along i (way_step way) k) e ∙ sym pin.here)
+        | inr apart ↦ inr (stopped before_squares after_squares' k c from to (way_step way) pin.between.far is
+            (omega (arith, pin.between.positive, pin.between.nearer)) pin.between.there
+            (λ j one less. elim (cases_eq j pin.between.near) [
+              | inl e ↦ inl (ap (λ (i : ℕ). along i (way_step way) k) e ∙ sym pin.between.here)
               | inr other_place ↦ inr (pin.alone j one less other_place)
             ])
             (λ slide'. shut c slider.0 (λ e. is_square-false to c apart (sym e)) slider.1

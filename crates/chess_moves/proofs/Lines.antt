@@ -107,12 +107,7 @@ reaches_after before after k c from to d differs is on_k on_c apart ends keeps s
     let no_stop = λ (stops : Stops k c d to). no_stops stops in
     elim (passes k from d n) [
       | inl (i, one, below, here) ↦ no_stops (keeps (record {
-        near = i;
-        far = n;
-        positive = one;
-        nearer = below;
-        there = slide.there;
-        here = sym here;
+        between = record { near = i; far = n; positive = one; nearer = below; there = slide.there; here = sym here };
         alone = λ j one_j below_j other. elim (opened j one_j below_j) [
           | inl e ↦ absurd (other (differs k j i (along-between j n d k on_k (omega arith) on_n)
               (along-between i n d k on_k (omega arith) on_n) (e ∙ sym here)))

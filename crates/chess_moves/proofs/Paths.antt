@@ -231,23 +231,23 @@ pub alone_set : (occupied sliders path : List Bool) (k from : Square) (d : Step)
     has occupied from ≡ true → IsAloneBetween occupied k seen.slider from d →
     IsSetOf (between_of path occupied sliders) (λ q. q ≡ from)
 alone_set occupied sliders path k from d differs on on_from of_occupied of_sliders seen stands pin =
-    let far : pin.far ≡ seen.slide.distance =
-    differs k pin.far seen.slide.distance (subst IsOnBoard pin.there seen.on_board)
-    (subst IsOnBoard seen.slide.there seen.on_board) (sym pin.there ∙ seen.slide.there) in
+    let far : pin.between.far ≡ seen.slide.distance =
+    differs k pin.between.far seen.slide.distance (subst IsOnBoard pin.between.there seen.on_board)
+    (subst IsOnBoard seen.slide.there seen.on_board) (sym pin.between.there ∙ seen.slide.there) in
     record {
       whole = length-between path occupied sliders seen.squares.whole of_occupied of_sliders;
       exact = λ q on_q. (
         (λ here.
             let b = between_parts occupied sliders path k q d differs on_q of_occupied of_sliders seen here in
-            elim (cases_eq b.near pin.near) [
-              | inl same ↦ b.here ∙ ap (λ (i : ℕ). along i d k) same ∙ sym pin.here
+            elim (cases_eq b.near pin.between.near) [
+              | inl same ↦ b.here ∙ ap (λ (i : ℕ). along i d k) same ∙ sym pin.between.here
               | inr other ↦ absurd (false≢true
                   (sym (pin.alone b.near b.positive (omega (arith, b.nearer)) other) ∙ ap (has occupied) (sym b.here)
                   ∙ b.stands))
             ]),
-        (λ e. ap (has (between_of path occupied sliders)) (e ∙ pin.here)
-            ∙ stands_between occupied sliders path k d pin.near on of_occupied of_sliders seen pin.positive
-            (omega (arith, pin.nearer)) (ap (has occupied) (sym pin.here) ∙ stands)),
+        (λ e. ap (has (between_of path occupied sliders)) (e ∙ pin.between.here)
+            ∙ stands_between occupied sliders path k d pin.between.near on of_occupied of_sliders seen pin.between.positive
+            (omega (arith, pin.between.nearer)) (ap (has occupied) (sym pin.between.here) ∙ stands)),
       );
     }
 
@@ -259,12 +259,14 @@ set_alone occupied sliders path k from d differs on on_from of_occupied of_slide
     let b = between_parts occupied sliders path k from d differs on_from of_occupied of_sliders seen
     ((of.exact from on_from).1 refl) in
     record {
-      near = b.near;
-      far = seen.slide.distance;
-      positive = b.positive;
-      nearer = b.nearer;
-      there = seen.slide.there;
-      here = b.here;
+      between = record {
+        near = b.near;
+        far = seen.slide.distance;
+        positive = b.positive;
+        nearer = b.nearer;
+        there = seen.slide.there;
+        here = b.here;
+      };
       alone = λ j one below other.
           let here = on_path sliders path k d j on seen one below in
           false_from_ne_true (has occupied (along j d k)) (λ stands.

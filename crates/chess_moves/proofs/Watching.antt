@@ -92,11 +92,11 @@ pin_is_nearest : (p : Position) (k c from : Square) (way : ℕ) (sliders path : 
     IsAloneBetween (occupied_of p.placement) k c from (way_step way) → c ≡ seen.slider
 pin_is_nearest p k c from way sliders path w seen slider own pin =
     let on_c = slider_on p way c slider in
-    same_slider (occupied_of p.placement) sliders path k c from (way_step way) pin.far (way-differs way w.below) on_c
-    seen ((w.of.exact c on_c).1 slider) (omega (arith, pin.positive, pin.nearer)) pin.there
+    same_slider (occupied_of p.placement) sliders path k c from (way_step way) pin.between.far (way-differs way w.below) on_c
+    seen ((w.of.exact c on_c).1 slider) (omega (arith, pin.between.positive, pin.between.nearer)) pin.between.there
     (sliders_stand p way sliders w.of) (own_no_slider p way sliders from w.of own)
-    (λ j one less. elim (cases_eq j pin.near) [
-      | inl e ↦ inl (ap (λ (i : ℕ). along i (way_step way) k) e ∙ sym pin.here)
+    (λ j one less. elim (cases_eq j pin.between.near) [
+      | inl e ↦ inl (ap (λ (i : ℕ). along i (way_step way) k) e ∙ sym pin.between.here)
       | inr other_place ↦ inr (pin.alone j one less other_place)
     ])
 
@@ -191,7 +191,7 @@ none_watched p masks way sliders valid below of none holds =
     nothing_watched p masks way holds
     (λ c slider slide. check_ahead p k c way sliders w none slider slide.distance slide.positive slide.there)
     (λ from own c slider pin.
-    check_ahead p k c way sliders w none slider pin.far (omega (arith, pin.positive, pin.nearer)) pin.there)
+    check_ahead p k c way sliders w none slider pin.between.far (omega (arith, pin.between.positive, pin.between.nearer)) pin.between.there)
 
 -- a man alone between is all that stands there
 alone_there : (p : Position) (k c from : Square) (way : ℕ) (sliders path : List Bool) → Watched p k way sliders →
@@ -328,7 +328,7 @@ line_none p masks way sliders line from valid below of none king of_line =
     let w : Watched p k way sliders = record { valid = valid; king = king; below = below; of = of } in
     IsSetOf-like line (KeepsBelow p k from way) (KeepsBelow p k from (way + 1)) of_line
     (λ q on keeps. keeps_more p k from q way keeps (λ c slider pin.
-    absurd (check_ahead p k c way sliders w none slider pin.far (omega (arith, pin.positive, pin.nearer)) pin.there)))
+    absurd (check_ahead p k c way sliders w none slider pin.between.far (omega (arith, pin.between.positive, pin.between.nearer)) pin.between.there)))
     (λ q on keeps. (keeps_less p k from q way keeps).0)
 
 pub line_free : (p : Position) (masks : Masks) (way : ℕ) (sliders path line : List Bool) (from : Square) → IsValid p →

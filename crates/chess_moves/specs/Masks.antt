@@ -58,13 +58,8 @@ Stops k c direction q = (q ≡ c) ⊎ IsBetween k c q direction
 
 -- the man on `from` stands between k and c, and no other does
 pub record IsAloneBetween (occupied : List Bool) (k c from : Square) (direction : Step) : Type 0 where
-  pub near : ℕ
-  pub far : ℕ
-  pub positive : 1 ≤ near
-  pub nearer : near < far
-  pub there : c ≡ along far direction k
-  pub here : from ≡ along near direction k
-  pub alone : (j : ℕ) → 1 ≤ j → j < far → j ≢ near → has occupied (along j direction k) ≡ false
+  pub between : IsBetween k c from direction
+  pub alone : (j : ℕ) → 1 ≤ j → j < between.far → j ≢ between.near → has occupied (along j direction k) ≡ false
 
 -- A man that reaches q ends the checks of men that leap, and of sliders in the ways below n: it takes a man that leaps, and
 -- takes a slider or stands in its way.

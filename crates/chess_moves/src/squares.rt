@@ -33,7 +33,7 @@ pub fn men_of(board: &Board, colour: Colour) -> Bits
     ensures held { IsSetOf result (λ s. HoldsColour board.now s colour) }
     ensures valid { IsValid board.now }
 {
-    let _rights = board.rights();
+    let _valid = board.rights();
     board.men().of(colour)
 }
 

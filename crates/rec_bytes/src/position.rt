@@ -160,7 +160,7 @@ pub fn position_bytes(board: &Board) -> [u8; 38]
     ensures bytes { result ≡ position_bytes (Some board.now) }
     ensures valid { IsValid board.now }
 {
-    let _rights = board.rights();
+    let _valid = board.rights();
     let mut out = [0; 38];
     put(&mut out, 0, &men_bytes(board));
     put_u8(&mut out, 32, position_flags(board));
