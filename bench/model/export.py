@@ -43,7 +43,8 @@ def with_tag(pgn, name, value):
 
 
 def exported(games):
-    """The PGNs of an archive's games, in the order in which they were kept; of several games that go on with one it is the last."""
+    """The PGNs of an archive's games, in the order in which they were kept. Of several games that go on with one the last that
+    was kept is told."""
     second = {}
     for game, pgn in games:
         tags, _, _ = games_in(pgn)[0]
