@@ -713,15 +713,18 @@ def pgn(f):
             tokens.append('%d...' % p.full)
         tokens.append(san(p, m))
     tokens.append(f.result())
-    text = ''
+    return lines + in_lines(tokens) + ['']
+
+
+def in_lines(tokens):
+    """Movetext: the tokens in lines of at most 79 characters, of which each takes as many as fit."""
+    lines, text = [], ''
     for token in tokens:
         if text and len(text) + 1 + len(token) > 79:
             lines.append(text)
             text = ''
         text = text + ' ' + token if text else token
-    lines.append(text)
-    lines.append('')
-    return lines
+    return lines + [text]
 
 
 # ------------------------------------------------------------------- the lines
