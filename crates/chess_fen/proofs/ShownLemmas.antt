@@ -1,6 +1,6 @@
 -- What changes between two boards, and the texts of their ranks.
-use Rattle.std.proofs.Common.{ℕ, ◌≡◌, ◌≢◌, ◌≤◌, ◌<◌, Bool, true, false, not, ◌||◌, ◌&&◌, List, [], ◌∷◌, ◌++◌, length, get_or, set, Option, Some, None, refl, ap, sym, ◌∙◌, inl, inr, arith, append_assoc, length-append, take, replicate, ◌+◌, ◌-◌}
-use Rattle.std.specs.List.{list_any, join_with_byte}
+use Rattle.std.proofs.Common.{ℕ, ◌≡◌, ◌≢◌, ◌≤◌, ◌<◌, Bool, true, false, not, ◌||◌, ◌&&◌, List, ◌∷◌, ◌++◌, length, get_or, set, Option, Some, None, refl, ap, sym, ◌∙◌, inl, inr, arith, length-append, take, replicate, ◌+◌, ◌-◌}
+use Rattle.std.specs.List.{list_any}
 use Rattle.std.specs.Prelude.{slice_index_or, ◌==◌}
 use Rattle.std.proofs.lemmas.Bool.{cases_Bool, false≢true}
 use Rattle.std.proofs.lemmas.Bool.Decides.{Decides-eqb}
@@ -18,7 +18,7 @@ use Rattle.chess_bits.proofs.TableLemmas.{is_square-true, is_square-false, numbe
 use Rattle.chess_board.specs.Occupancy.{squares_with, is_a}
 use Rattle.chess_board.specs.Position.{Placement, man_at}
 use Rattle.chess_board.proofs.AttackLemmas.{has-squares_with}
-use Rattle.chess_notation.specs.Fen.{rank_of, ranks_of, row_text, placement_text, letter_or_zero}
+use Rattle.chess_notation.specs.Fen.{rank_of, row_text, letter_or_zero}
 use Rattle.chess_fen.specs.Shown.{HasChanges, TellsRanks, IsRankText, filled_up}
 use Rattle.chess_fen.specs.declared.shown.RankText.{RankText}
 use Rattle.chess_fen.proofs.LetterLemmas.{other_place}
@@ -145,23 +145,12 @@ same_rank old new rank h =
     (cons-same _ _ _ _ (h 5 (omega arith) (omega arith)) (cons-same _ _ _ _ (h 6 (omega arith) (omega arith))
     (cons-same _ _ _ _ (h 7 (omega arith) (omega arith)) (cons-same _ _ _ _ (h 8 (omega arith) (omega arith)) refl)))))))
 
--- ---- the ranks together
+-- ---- ranks in turn
 
-pub join_eight : (placement : Placement) →
-    ((((((((((((((row_text (rank_of placement 8) ++ (47 ∷ [])) ++ row_text (rank_of placement 7)) ++ (47 ∷ []))
-    ++ row_text (rank_of placement 6)) ++ (47 ∷ [])) ++ row_text (rank_of placement 5)) ++ (47 ∷ []))
-    ++ row_text (rank_of placement 4)) ++ (47 ∷ [])) ++ row_text (rank_of placement 3)) ++ (47 ∷ []))
-    ++ row_text (rank_of placement 2)) ++ (47 ∷ [])) ++ row_text (rank_of placement 1)) ≡ placement_text placement
-unfolding placement_text ranks_of
-join_eight placement = eight (row_text (rank_of placement 8)) (row_text (rank_of placement 7))
-    (row_text (rank_of placement 6)) (row_text (rank_of placement 5)) (row_text (rank_of placement 4))
-    (row_text (rank_of placement 3)) (row_text (rank_of placement 2)) (row_text (rank_of placement 1))
-  where
-    eight : (a b c d e f g h : List ℕ) →
-        ((((((((((((((a ++ (47 ∷ [])) ++ b) ++ (47 ∷ [])) ++ c) ++ (47 ∷ [])) ++ d) ++ (47 ∷ [])) ++ e) ++ (47 ∷ []))
-        ++ f) ++ (47 ∷ [])) ++ g) ++ (47 ∷ [])) ++ h) ≡
-        join_with_byte 47 (a ∷ b ∷ c ∷ d ∷ e ∷ f ∷ g ∷ h ∷ [])
-    eight a b c d e f g h = simp append_assoc
+-- the ranks from one up to another, which is not among them, have their texts
+abbrev pub AreTextsFrom : ℕ → ℕ → List RankText → Placement → Type 0
+AreTextsFrom from until texts placement = (rank : ℕ) (d : RankText) → from ≤ rank → rank < until →
+    IsRankText (slice_index_or texts (rank - 1) d) placement rank
 
 -- ---- for the calls
 

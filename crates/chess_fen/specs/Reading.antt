@@ -7,11 +7,12 @@ use Rattle.chess_board.specs.Parts.{IsFirstBroken}
 use Rattle.chess_fen.specs.declared.fields.FenError.{FenError}
 use Rattle.chess_fen.specs.declared.fields.FenError.TheVariants as faults
 use Rattle.chess_notation.specs.Fen.{IsPlacementText, IsFenOf, side_letter, rights_text, target_text}
+use Rattle.chess_notation.specs.Letters.{space}
 
 -- a text that is not empty and has no space
 pub record IsFenField (text : List ℕ) : Type 0 where
   pub filled : text ≢ []
-  pub unspaced : EachIndex text (λ i. slice_index text i ≢ 32)
+  pub unspaced : EachIndex text (λ i. slice_index text i ≢ space)
 
 -- the texts of the six fields (PGN Standard, section 16.1.3)
 pub record FenFields : Type 0 where
@@ -40,7 +41,7 @@ pub record HasFields (text : List ℕ) (f : FenFields) : Type 0 where
   pub target : IsFenField f.target
   pub halfmove : IsFenField f.halfmove
   pub fullmove : IsFenField f.fullmove
-  pub joined : text ≡ join_with_byte 32 (f.placement ∷ f.side ∷ f.castling ∷ f.target ∷ f.halfmove ∷ f.fullmove ∷ [])
+  pub joined : text ≡ join_with_byte space (f.placement ∷ f.side ∷ f.castling ∷ f.target ∷ f.halfmove ∷ f.fullmove ∷ [])
 
 -- What a field may say. The placement of the men on the 64 squares:
 pub record TellsPlacement (text : List ℕ) (placement : Placement) : Type 0 where

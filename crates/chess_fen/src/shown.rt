@@ -14,23 +14,10 @@ use chess_board::{Board, Men};
 use std::marker::Model;
 
 // The text of a rank, filled up to eight bytes. So many are copied at once, and then cut.
-#[derive(Drop)]
+#[derive(Clone, Copy)]
 struct RankText {
     filled: FenText,
     end: usize,
-}
-
-// The texts of the ranks.
-#[derive(Drop)]
-struct RankTexts {
-    eighth: RankText,
-    seventh: RankText,
-    sixth: RankText,
-    fifth: RankText,
-    fourth: RankText,
-    third: RankText,
-    second: RankText,
-    first: RankText,
 }
 
 /// A board and its FEN. It keeps the texts of its ranks, so that after a move only those are written anew on which a man
@@ -39,7 +26,7 @@ struct RankTexts {
 pub struct ShownBoard {
     board: Board,
     letters: [u8; 64],
-    ranks: RankTexts,
+    ranks: [RankText; 8],
     shown: FenText,
 }
 
@@ -134,20 +121,15 @@ fn rank_text(men: &Men, letters: &[u8; 64], rank: u8) -> RankText
 }
 
 // The texts of all ranks.
-fn rank_texts(men: &Men, letters: &[u8; 64]) -> RankTexts
+fn rank_texts(men: &Men, letters: &[u8; 64]) -> [RankText; 8]
     requires { AreLetters letters.now men.now }
     ensures { AreRankTexts result men.now }
 {
-    RankTexts {
-        eighth: rank_text(men, letters, 8),
-        seventh: rank_text(men, letters, 7),
-        sixth: rank_text(men, letters, 6),
-        fifth: rank_text(men, letters, 5),
-        fourth: rank_text(men, letters, 4),
-        third: rank_text(men, letters, 3),
-        second: rank_text(men, letters, 2),
-        first: rank_text(men, letters, 1),
+    let mut texts = [rank_text(men, letters, 1); 8];
+    for rank in 2..9 {
+        texts[usize::from(rank) - 1] = rank_text(men, letters, rank);
     }
+    texts
 }
 
 // Adds the squares that one of two sets has alone.
@@ -231,20 +213,28 @@ fn renew(
 }
 
 // The same of all ranks.
-fn renew_all(texts: &mut RankTexts, old: &Men, men: &Men, letters: &[u8; 64], touched: &[bool; 9])
+fn renew_all(
+    texts: &mut [RankText; 8],
+    old: &Men,
+    men: &Men,
+    letters: &[u8; 64],
+    touched: &[bool; 9],
+)
     requires texts { AreRankTexts texts.old old.now }
     requires letters { AreLetters letters.now men.now }
     requires touched { TellsRanks old.now men.now touched.now }
     ensures { AreRankTexts texts.new men.now }
 {
-    renew(&mut texts.eighth, old, men, letters, touched, 8);
-    renew(&mut texts.seventh, old, men, letters, touched, 7);
-    renew(&mut texts.sixth, old, men, letters, touched, 6);
-    renew(&mut texts.fifth, old, men, letters, touched, 5);
-    renew(&mut texts.fourth, old, men, letters, touched, 4);
-    renew(&mut texts.third, old, men, letters, touched, 3);
-    renew(&mut texts.second, old, men, letters, touched, 2);
-    renew(&mut texts.first, old, men, letters, touched, 1);
+    for rank in 1..9 {
+        renew(
+            &mut texts[usize::from(rank) - 1],
+            old,
+            men,
+            letters,
+            touched,
+            rank,
+        );
+    }
 }
 
 // Appends the text of a rank.
@@ -260,36 +250,22 @@ fn push_filled(text: &mut FenText, rank: &RankText)
     text.truncate(end);
 }
 
-// Appends the text of a rank, and what parts it from the next.
-fn push_one(text: &mut FenText, rank: &RankText)
-    requires filled { IsFilled rank.now }
-    requires room { array_string_len text.old + 9 ≤ 96 }
-    ensures bytes { text.new.bytes ≡ (text.old.bytes ++ shown_part rank.now) ++ 47 ∷ [] }
-    ensures len { array_string_len text.new ≤ array_string_len text.old + 9 }
-{
-    push_filled(text, rank);
-    push(text, '/');
-}
-
-// Writes the texts of the ranks, where nothing was.
-fn push_ranks(text: &mut FenText, _men: &Men, texts: &RankTexts)
+// Writes the texts of the ranks from 8 down to 1, where nothing was.
+fn push_ranks(text: &mut FenText, _men: &Men, texts: &[RankText; 8])
     requires nothing { text.old.bytes ≡ [] }
     requires texts { AreRankTexts texts.now _men.now }
     ensures bytes { text.new.bytes ≡ placement_text _men.now }
     ensures len { array_string_len text.new ≤ 71 }
 {
-    push_one(text, &texts.eighth);
-    push_one(text, &texts.seventh);
-    push_one(text, &texts.sixth);
-    push_one(text, &texts.fifth);
-    push_one(text, &texts.fourth);
-    push_one(text, &texts.third);
-    push_one(text, &texts.second);
-    push_filled(text, &texts.first);
+    push_filled(text, &texts[7]);
+    for rank in (1..8).rev() {
+        push(text, '/');
+        push_filled(text, &texts[rank - 1]);
+    }
 }
 
 // Writes the FEN in place of what was.
-fn write_fen(text: &mut FenText, board: &Board, ranks: &RankTexts)
+fn write_fen(text: &mut FenText, board: &Board, ranks: &[RankText; 8])
     requires { AreRankTexts ranks.now board.now.placement }
     ensures { text.new.bytes ≡ fen_of board.now }
 {

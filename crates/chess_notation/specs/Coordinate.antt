@@ -1,4 +1,4 @@
-use Rattle.std.specs.Prelude.{◌≡◌, ℕ, List, [], ◌∷◌, ◌++◌, Option, Some, None}
+use Rattle.std.specs.Prelude.{◌≡◌, ℕ, List, [], ◌++◌, Option, Some, None, codes}
 use Rattle.chess_bits.specs.declared.men.Kind.{Kind}
 use Rattle.chess_bits.specs.declared.men.Kind.TheVariants.{Pawn, Knight, Bishop, Rook, Queen, King}
 use Rattle.chess_bits.specs.Square.{IsOnBoard}
@@ -8,10 +8,10 @@ use Rattle.chess_notation.specs.Name.{square_name}
 -- The small letter of what a pawn becomes, q, r, b or n. It cannot become a king or stay a pawn (FIDE article 3.7.3.3).
 abbrev pub IsPromotionText : List ℕ → Option Kind → Type 0
 IsPromotionText text None = text ≡ []
-IsPromotionText text (Some Queen) = text ≡ 113 ∷ []
-IsPromotionText text (Some Rook) = text ≡ 114 ∷ []
-IsPromotionText text (Some Bishop) = text ≡ 98 ∷ []
-IsPromotionText text (Some Knight) = text ≡ 110 ∷ []
+IsPromotionText text (Some Queen) = text ≡ codes "q"
+IsPromotionText text (Some Rook) = text ≡ codes "r"
+IsPromotionText text (Some Bishop) = text ≡ codes "b"
+IsPromotionText text (Some Knight) = text ≡ codes "n"
 IsPromotionText text (Some King) = ⊥
 IsPromotionText text (Some Pawn) = ⊥
 

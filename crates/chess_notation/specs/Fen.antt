@@ -1,4 +1,4 @@
-use Rattle.std.specs.Prelude.{ℕ, zero, suc, ◌≡◌, ◌+◌, ◌≤◌, Bool, if◌then◌else◌, List, [], ◌∷◌, ◌++◌, map, replicate, Option, Some, None, decimal, slice_index}
+use Rattle.std.specs.Prelude.{ℕ, zero, suc, ◌≡◌, ◌+◌, ◌≤◌, Bool, if◌then◌else◌, List, [], ◌∷◌, ◌++◌, map, replicate, Option, Some, None, codes, decimal, slice_index}
 use Rattle.std.specs.List.{range_with_len, join_with_byte}
 use Rattle.chess_bits.specs.declared.men.Colour.{Colour}
 use Rattle.chess_bits.specs.declared.men.Colour.TheVariants.{White, Black}
@@ -6,7 +6,7 @@ use Rattle.chess_bits.specs.Man.{Man}
 use Rattle.chess_bits.specs.Square.{Square, IsOnBoard, number_of}
 use Rattle.chess_board.specs.Position.{Position, Placement, Rights, man_at}
 use Rattle.chess_notation.specs.Name.{square_name}
-use Rattle.chess_notation.specs.Letters.{letter_of}
+use Rattle.chess_notation.specs.Letters.{letter_of, slash, space}
 
 -- the squares of a rank, from the a-file on
 unfoldable pub rank_of : Placement → ℕ → List (Option Man)
@@ -42,7 +42,7 @@ AreRowTexts (text ∷ texts) (row ∷ rows) = IsRowText text row × AreRowTexts 
 pub record IsPlacementText (text : List ℕ) (placement : Placement) : Type 0 where
   pub texts : List (List ℕ)
   pub ranks : AreRowTexts texts (ranks_of placement)
-  pub joined : text ≡ join_with_byte 47 texts
+  pub joined : text ≡ join_with_byte slash texts
 
 -- `w` or `b` (PGN Standard, section 16.1.3.2)
 abbrev pub side_letter : Colour → ℕ
@@ -55,7 +55,7 @@ letter_if right letter = if right then letter ∷ [] else []
 
 -- `-` in place of nothing
 abbrev pub or_dash : List ℕ → List ℕ
-or_dash [] = 45 ∷ []
+or_dash [] = codes "-"
 or_dash (letter ∷ letters) = letter ∷ letters
 
 -- the letters K, Q, k and q of the rights that there are, or `-` (PGN Standard, section 16.1.3.3)
@@ -65,7 +65,7 @@ rights_text rights = or_dash (letter_if rights.white_king 75 ++ (letter_if right
 
 -- the target's name, or `-` (PGN Standard, section 16.1.3.4)
 abbrev pub target_text : Option Square → List ℕ
-target_text None = 45 ∷ []
+target_text None = codes "-"
 target_text (Some square) = square_name square
 
 -- the six fields, with one space between each two; the counters are decimal (PGN Standard, section 16.1.3)
@@ -78,7 +78,7 @@ fields placement p =
 pub record IsFenOf (text : List ℕ) (p : Position) : Type 0 where
   pub placement : List ℕ
   pub is_placement : IsPlacementText placement p.placement
-  pub joined : text ≡ join_with_byte 32 (fields placement p)
+  pub joined : text ≡ join_with_byte space (fields placement p)
 
 -- The same as functions, which compute. The text of a row after n empty squares:
 abbrev pub run_text : ℕ → List ℕ
@@ -94,10 +94,10 @@ abbrev pub row_text : List (Option Man) → List ℕ
 row_text row = row_text_after 0 row
 
 unfoldable pub placement_text : Placement → List ℕ
-placement_text placement = join_with_byte 47 (map row_text (ranks_of placement))
+placement_text placement = join_with_byte slash (map row_text (ranks_of placement))
 
 unfoldable pub fen_of : Position → List ℕ
-fen_of p = join_with_byte 32 (fields (placement_text p.placement) p)
+fen_of p = join_with_byte space (fields (placement_text p.placement) p)
 
 -- the letter of a man, and 0 for none
 abbrev pub letter_or_zero : Option Man → ℕ

@@ -11,3 +11,10 @@ cased Black capital = capital + 32
 
 abbrev pub letter_of : Man → ℕ
 letter_of man = cased man.0 (capital_of man.1)
+
+-- the signs between the ranks and between the fields of a FEN
+abbrev pub slash : ℕ
+slash = 47
+
+abbrev pub space : ℕ
+space = 32

@@ -1,4 +1,4 @@
-use Rattle.std.specs.Prelude.{ℕ, ◌+◌, ◌-◌, ◌&&◌, nat_le, if◌then◌else◌, List, [], ◌∷◌, Option, Some, None}
+use Rattle.std.specs.Prelude.{ℕ, ◌+◌, ◌-◌, ◌&&◌, nat_le, if◌then◌else◌, List, [], ◌∷◌, ◌++◌, Option, Some, None, codes}
 use Rattle.chess_bits.specs.declared.men.Kind.{Kind}
 use Rattle.chess_bits.specs.declared.men.Kind.TheVariants.{Pawn, Knight, Bishop, Rook, Queen, King}
 use Rattle.chess_bits.specs.Square.{Square}
@@ -32,4 +32,4 @@ capital_of King = 75
 -- what a pawn becomes, in a move's SAN: `=Q` and so on (PGN Standard, section 8.2.3.3)
 abbrev pub promotion_text : Option Kind → List ℕ
 promotion_text None = []
-promotion_text (Some kind) = 61 ∷ capital_of kind ∷ []
+promotion_text (Some kind) = codes "=" ++ (capital_of kind ∷ [])

@@ -1,4 +1,4 @@
-use Rattle.std.specs.Prelude.{ℕ, ◌≡◌, ◌≢◌, Bool, ◌||◌, if◌then◌else◌, List, [], ◌∷◌, ◌++◌, Option, Some, None, is_some}
+use Rattle.std.specs.Prelude.{ℕ, ◌≡◌, ◌≢◌, Bool, ◌||◌, if◌then◌else◌, List, [], ◌∷◌, ◌++◌, Option, Some, None, codes, is_some}
 use Rattle.chess_bits.specs.declared.men.Kind.{Kind}
 use Rattle.chess_bits.specs.declared.men.Kind.TheVariants.{Pawn, Knight, Bishop, Rook, Queen, King}
 use Rattle.chess_bits.specs.Square.{Square}
@@ -57,11 +57,11 @@ is_capture p m = is_some (man_at p.placement m.to) || is_en_passant p m
 
 -- `x` for a capture
 abbrev pub capture_text : Bool → List ℕ
-capture_text takes = if takes then 120 ∷ [] else []
+capture_text takes = if takes then codes "x" else []
 
 -- a pawn's capture begins with the file that it leaves
 abbrev pub pawn_origin : Bool → Square → List ℕ
-pawn_origin takes from = if takes then file_letter from ∷ 120 ∷ [] else []
+pawn_origin takes from = if takes then file_letter from ∷ codes "x" else []
 
 abbrev pub pawn_text : Position → Move → List ℕ
 pawn_text p m = pawn_origin (is_capture p m) m.from ++ (square_name m.to ++ promotion_text m.promotion)
@@ -72,8 +72,8 @@ piece_text p m kind from =
 
 -- `O-O` and `O-O-O`
 abbrev pub castling_text : Wing → List ℕ
-castling_text wing.King = 79 ∷ 45 ∷ 79 ∷ []
-castling_text wing.Queen = 79 ∷ 45 ∷ 79 ∷ 45 ∷ 79 ∷ []
+castling_text wing.King = codes "O-O"
+castling_text wing.Queen = codes "O-O-O"
 
 -- the wing to which a king castles
 abbrev pub castled_wing : Position → Move → Option Wing
@@ -121,8 +121,8 @@ Threatens p m threat.Mate = GivesCheck p m × ¬ HasLegal (next p m)
 
 abbrev pub threat_text : Threat → List ℕ
 threat_text threat.Nothing = []
-threat_text threat.Check = 43 ∷ []
-threat_text threat.Mate = 35 ∷ []
+threat_text threat.Check = codes "+"
+threat_text threat.Mate = codes "#"
 
 -- The text is the SAN of a legal move: the move, then `+` for check or `#` for mate.
 pub record IsSan (p : Position) (m : Move) (text : List ℕ) : Type 0 where

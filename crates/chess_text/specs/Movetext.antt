@@ -1,5 +1,6 @@
-use Rattle.std.specs.Prelude.{ℕ, Bool, ◌&&◌, nat_lt, nat_le, ◌≡◌, ◌≢◌, ◌≤◌, ◌<◌, List, [], ◌∷◌, ◌++◌, length}
+use Rattle.std.specs.Prelude.{ℕ, Bool, ◌&&◌, nat_lt, nat_le, ◌≡◌, ◌≢◌, ◌≤◌, ◌<◌, List, [], ◌∷◌, ◌++◌, length, codes}
 use Rattle.std.specs.List.{join_with_byte, list_all}
+use Rattle.chess_notation.specs.Letters.{space}
 
 -- a token is not empty, and fits into a line
 pub record IsToken (token : List ℕ) : Type 0 where
@@ -15,7 +16,7 @@ are_tokens tokens = list_all is_token tokens
 
 -- the text of a line of tokens, with one space between each two (PGN Standard, section 8.2.1)
 abbrev pub line_text : List (List ℕ) → List ℕ
-line_text tokens = join_with_byte 32 tokens
+line_text tokens = join_with_byte space tokens
 
 -- a line has a token, and less than 80 characters
 pub record IsLine (line : List (List ℕ)) : Type 0 where
@@ -41,7 +42,7 @@ tokens_of (line ∷ lines) = line ++ tokens_of lines
 -- each line ends with a line feed
 abbrev pub lines_text : List (List (List ℕ)) → List ℕ
 lines_text [] = []
-lines_text (line ∷ lines) = line_text line ++ (10 ∷ lines_text lines)
+lines_text (line ∷ lines) = line_text line ++ (codes "\n" ++ lines_text lines)
 
 -- the text is the tokens in lines
 pub record IsMovetext (text : List ℕ) (tokens : List (List ℕ)) : Type 0 where
@@ -55,7 +56,7 @@ pub record IsMovetext (text : List ℕ) (tokens : List (List ℕ)) : Type 0 wher
 abbrev pub joined_lines : List (List (List ℕ)) → List ℕ
 joined_lines [] = []
 joined_lines (line ∷ []) = line_text line
-joined_lines (line ∷ next ∷ lines) = line_text line ++ (10 ∷ joined_lines (next ∷ lines))
+joined_lines (line ∷ next ∷ lines) = line_text line ++ (codes "\n" ++ joined_lines (next ∷ lines))
 
 abbrev pub last_width : List (List (List ℕ)) → ℕ
 last_width [] = 0

@@ -19,7 +19,7 @@ tag name value = record { name = name; value = value }
 
 -- `[Name "Value"]` on a line of its own
 abbrev pub tag_text : Tag → List ℕ
-tag_text t = 91 ∷ (t.name ++ (32 ∷ 34 ∷ (t.value ++ (34 ∷ 93 ∷ 10 ∷ []))))
+tag_text t = codes "[" ++ (t.name ++ (codes " \"" ++ (t.value ++ codes "\"]\n")))
 
 abbrev pub tags_text : List Tag → List ℕ
 tags_text [] = []
@@ -27,7 +27,7 @@ tags_text (t ∷ tags) = tag_text t ++ tags_text tags
 
 -- a player's name, or `?` for an empty seat (PGN Standard, sections 8.1.1.5 and 8.1.1.6)
 abbrev pub player_text : Option (List ℕ) → List ℕ
-player_text None = 63 ∷ []
+player_text None = codes "?"
 player_text (Some name) = name
 
 -- what a game gave, or `*` while it goes on (PGN Standard, section 8.1.1.7)
@@ -90,14 +90,14 @@ termination_text (Some ending) = way_text ending.article
 -- `+` and the increment, where it is not 0
 abbrev pub increment_text : ℕ → List ℕ
 increment_text zero = []
-increment_text (suc n) = 43 ∷ decimal (suc n)
+increment_text (suc n) = codes "+" ++ decimal (suc n)
 
 -- The times in seconds (PGN Standard, section 9.6.1): the initial time and the increment; with a second period the
 -- number of moves of the first stands in front, and the second follows, both with the increment (this project's own).
 abbrev pub time_control_text : ℕ → ℕ → Option (ℕ × ℕ) → List ℕ
 time_control_text initial increment None = decimal initial ++ increment_text increment
 time_control_text initial increment (Some (moves, second)) =
-    decimal moves ++ (47 ∷ (decimal initial ++ (increment_text increment ++ (58 ∷ (decimal second ++ increment_text increment)))))
+    decimal moves ++ (codes "/" ++ (decimal initial ++ (increment_text increment ++ (codes ":" ++ (decimal second ++ increment_text increment)))))
 
 -- the new text is the old one with these tags
 pub record PutsSetUp (old new : List ℕ) (start : Position) : Type 0 where
@@ -140,4 +140,4 @@ pub record IsPgnOf (text : List ℕ) (h : Heading) (tokens : List (List ℕ)) : 
   pub are : AreSetUpTags h.start set_up
   pub movetext : List ℕ
   pub is_movetext : IsMovetext movetext (tokens ++ (result_text h.ending ∷ []))
-  pub joined : text ≡ tags_text (game_tags h set_up) ++ (10 ∷ (movetext ++ (10 ∷ [])))
+  pub joined : text ≡ tags_text (game_tags h set_up) ++ (codes "\n" ++ (movetext ++ codes "\n"))
