@@ -1,2 +1,3 @@
 pub mod Source
+pub mod Faults
 pub mod Copying

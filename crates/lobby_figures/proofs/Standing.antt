@@ -5,14 +5,17 @@ use Rattle.sector_dev.specs.Image.{Sectors}
 use Rattle.rec_codec.specs.declared.header.Header.{Header}
 use Rattle.journal_layout.specs.Parts.{bytes_at}
 use Rattle.journal_layout.specs.Stands.{half_start, free_start, IsOurs}
+use Rattle.journal_copy.specs.declared.fault.CopyFault.{CopyFault}
+use Rattle.journal_copy.specs.declared.fault.CopyFault.TheVariants as copy
 use Rattle.journal_copy.specs.Source.{IsSeen, IsSeenInForce, IsWritten}
+use Rattle.journal_copy.specs.Faults.{IsAtSome, IsTooLarge, IsSpoilt, IsHeaderFault}
 use Rattle.journal_copy.specs.Copying.{Follows}
 use Rattle.journal_copy.proofs.Steps.{unmoved}
 use Rattle.lobby_figures.specs.declared.fault.FiguresFault.{FiguresFault}
 use Rattle.lobby_figures.specs.declared.fault.FiguresFault.TheVariants as fault
 use Rattle.lobby_figures.specs.declared.reading.Figures.{Figures}
 use Rattle.lobby_figures.specs.Figures.{HasNoMoment, AreFiguresOf}
-use Rattle.lobby_figures.specs.Faults.{IsAtSome, IsTooLarge, IsSpoilt, HasGoneOn, IsCause}
+use Rattle.lobby_figures.specs.Faults.{HasGoneOn, IsCause, of_copy}
 
 -- a sector that the header names has at the header's moment what was read between it and one that follows
 pub stood : (image : ℕ → Sectors) (from mid high to : ℕ) (h next : Header) (at : ℕ) (bytes : List ℕ) → IsWritten image
@@ -74,6 +77,14 @@ cause_later image one from mid to count also fault same counts before cause =
     cause_wider image mid to from to count fault before le
     (subst (λ (n : ℕ). IsCause image mid to n fault) counts
     (subst (λ (i : ℕ → Sectors). IsCause i mid to also fault) same cause))
+
+-- a fault of reading the header in force is one of the figures
+pub cause_of_copy : (image : ℕ → Sectors) (from to count : ℕ) (fault : CopyFault) → IsHeaderFault image from to count fault
+    → IsCause image from to count (of_copy fault)
+cause_of_copy image from to count copy.NotOurs cause = cause
+cause_of_copy image from to count copy.Damaged cause = inl cause
+cause_of_copy image from to count copy.TooSmall cause = cause
+cause_of_copy image from to count copy.Device cause = cause
 
 -- what is so of a fault that is handed on
 pub err_of : {T E : Type 0} (r : Result T E) (fault : E) (P : E → Type 0) → IsErrAnd r (λ e. e ≡ fault) → P fault

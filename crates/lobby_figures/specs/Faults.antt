@@ -1,30 +1,21 @@
 -- Why there are no figures.
-use Rattle.std.specs.Prelude.{ℕ, ◌≡◌, ◌≢◌, ◌⊎◌, ◌<◌, ◌≤◌}
+use Rattle.std.specs.Prelude.{ℕ, ◌≢◌, ◌⊎◌}
 use Rattle.sector_dev.specs.Image.{Sectors}
 use Rattle.rec_codec.specs.declared.header.Header.{Header}
-use Rattle.journal_layout.specs.Stands.{IsInForce, IsOurs, HasNoHeader}
+use Rattle.journal_copy.specs.declared.fault.CopyFault.{CopyFault}
+use Rattle.journal_copy.specs.declared.fault.CopyFault.TheVariants as copy
 use Rattle.journal_copy.specs.Source.{IsSeenInForce, IsWritten}
+use Rattle.journal_copy.specs.Faults.{IsAtSome, IsHeaderFault}
 use Rattle.lobby_figures.specs.declared.fault.FiguresFault.{FiguresFault}
 use Rattle.lobby_figures.specs.declared.fault.FiguresFault.TheVariants as fault
 use Rattle.lobby_figures.specs.Figures.{HasNoMoment}
 
--- at some moment of these it is so
-pub record IsAtSome (P : Sectors → Type 0) (image : ℕ → Sectors) (from to : ℕ) : Type 0 where
-  pub moment : ℕ
-  pub later : from ≤ moment
-  pub earlier : moment ≤ to
-  pub holds : P (image moment)
-
--- the header in force says more sectors than so many
-pub record IsTooLarge (count : ℕ) (image : Sectors) : Type 0 where
-  pub header : Header
-  pub in_force : IsInForce image header
-  pub large : count < header.sectors
-
--- a slot starts as a header does, and there is no valid header
-pub record IsSpoilt (image : Sectors) : Type 0 where
-  pub ours : IsOurs image
-  pub none : HasNoHeader image
+-- what a fault of reading the header in force is to the figures
+abbrev pub of_copy : CopyFault → FiguresFault
+of_copy copy.NotOurs = fault.NotOurs
+of_copy copy.Damaged = fault.Damaged
+of_copy copy.TooSmall = fault.TooSmall
+of_copy copy.Device = fault.Device
 
 -- at two of these moments different headers are in force
 pub record HasGoneOn (image : ℕ → Sectors) (from to : ℕ) : Type 0 where
@@ -34,12 +25,12 @@ pub record HasGoneOn (image : ℕ → Sectors) (from to : ℕ) : Type 0 where
   pub also_seen : IsSeenInForce image from to other
   pub differ : one ≢ other
 
--- What was so at some moment of these where a journal of so many sectors has no figures. Of a read that failed nothing is
--- known.
+-- What was so at some moment of these where a journal of so many sectors has no figures: what the header's faults say, or
+-- that it tells of no last entry, or that another came into force. Of a read that failed nothing is known.
 abbrev pub IsCause : (ℕ → Sectors) → ℕ → ℕ → ℕ → FiguresFault → Type 0
-IsCause image from to count fault.NotOurs = (count < 2) ⊎ IsAtSome (λ sectors. IsOurs sectors → ⊥) image from to
+IsCause image from to count fault.NotOurs = IsHeaderFault image from to count copy.NotOurs
 IsCause image from to count fault.Damaged =
-    IsAtSome IsSpoilt image from to ⊎ (IsWritten image → IsAtSome HasNoMoment image from to)
-IsCause image from to count fault.TooSmall = IsAtSome (IsTooLarge count) image from to
+    IsHeaderFault image from to count copy.Damaged ⊎ (IsWritten image → IsAtSome HasNoMoment image from to)
+IsCause image from to count fault.TooSmall = IsHeaderFault image from to count copy.TooSmall
 IsCause image from to count fault.Changing = HasGoneOn image from to
 IsCause image from to count fault.Device = Unit {0}

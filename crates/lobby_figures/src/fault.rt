@@ -1,4 +1,5 @@
 //! Why there are no figures.
+use journal_copy::CopyFault;
 use sector_dev::DeviceFault;
 use thiserror::Error;
 
@@ -30,5 +31,21 @@ impl From<DeviceFault> for FiguresFault {
 
     fn from(_: DeviceFault) -> FiguresFault {
         FiguresFault::Device
+    }
+}
+
+impl From<CopyFault> for FiguresFault {
+    ghost use Rattle.std.specs.Prelude.{◌≡◌};
+    ghost use Rattle.lobby_figures.specs.Faults.{of_copy};
+
+    ghost from_gives = { λ fault figures. figures ≡ of_copy fault };
+
+    fn from(fault: CopyFault) -> FiguresFault {
+        match fault {
+            CopyFault::NotOurs => FiguresFault::NotOurs,
+            CopyFault::Damaged => FiguresFault::Damaged,
+            CopyFault::TooSmall => FiguresFault::TooSmall,
+            CopyFault::Device => FiguresFault::Device,
+        }
     }
 }

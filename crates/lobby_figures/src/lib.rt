@@ -11,7 +11,6 @@ mod listing;
 mod places;
 mod reading;
 mod records;
-mod slots;
 
 pub use fault::FiguresFault;
 pub use file::{JournalFile, LookFault};

@@ -1,14 +1,14 @@
 //! Reading the figures.
 ghost use Rattle.std.specs.Prelude.{◌≡◌, ◌≤◌, IfOk, IfErr};
 ghost use Rattle.journal_copy.specs.Source.{ReadsOn, IsWritten};
+ghost use Rattle.journal_copy.specs.Faults.{IsAtSome};
 ghost use Rattle.lobby_figures.specs.Figures.{AreFiguresOf};
-ghost use Rattle.lobby_figures.specs.Faults.{IsAtSome, IsCause};
+ghost use Rattle.lobby_figures.specs.Faults.{IsCause};
 
 use crate::fault::FiguresFault;
 use crate::places::telling_sector;
 use crate::records::last_moment;
-use crate::slots::header_seen;
-use journal_copy::{Source, follows};
+use journal_copy::{Source, follows, header_in_force};
 
 /// What is told of a journal.
 #[derive(Clone, Copy, PartialEq, Eq)]
@@ -27,7 +27,7 @@ fn try_figures<S: Source>(source: &mut S) -> Result<Figures, FiguresFault>
     ensures cause { S.told source.old → IfErr result
         (IsCause (S.image source.old) (S.moment source.old) (S.moment source.new) (S.sector_count source.old)) }
 {
-    let header = header_seen(source)?;
+    let header = header_in_force(source)?;
     let Some(at) = telling_sector(&header) else {
         return Ok(Figures {
             commits: header.seq,
@@ -36,7 +36,7 @@ fn try_figures<S: Source>(source: &mut S) -> Result<Figures, FiguresFault>
     };
     let mut bytes = [0u8; 512];
     source.read(at, &mut bytes)?;
-    let later = header_seen(source)?;
+    let later = header_in_force(source)?;
     if !follows(&header, &later) {
         return Err(FiguresFault::Changing);
     }

@@ -7,8 +7,8 @@ use Rattle.journal_layout.proofs.LayoutLemmas.{ends_within}
 use Rattle.journal_copy.specs.Source.{IsSeen, IsSeenInForce, IsWritten}
 use Rattle.journal_copy.specs.Copying.{Follows}
 use Rattle.lobby_figures.specs.declared.fault.FiguresFault.{FiguresFault}
-use Rattle.lobby_figures.specs.Faults.{IsCause}
-use Rattle.lobby_figures.proofs.Standing.{stood, follows_itself, seen_wider, cause_later, err_of}
+use Rattle.lobby_figures.specs.Faults.{IsCause, of_copy}
+use Rattle.lobby_figures.proofs.Standing.{stood, follows_itself, seen_wider, cause_later, cause_of_copy, err_of}
 use Rattle.lobby_figures.proofs.reading.try_figures.Given.{Over}
 use Rattle.lobby_figures.proofs.reading.try_figures.Goals.{After-last_moment}
 use Rattle.lobby_figures.proofs.reading.try_figures.Goals as goal
@@ -16,15 +16,17 @@ use Rattle.lobby_figures.proofs.reading.try_figures.Goals as goal
 pub read-requires : goal.read-requires
 read-requires g c =
     let within = ends_within c.in_ok-header.header c.in_ok-header.ensures.laid_out in
-    omega (arith, within, c.in-Some.ensures.sector.high, c.in_ok-header.ensures.within, c.header_seen.ensures.reads.size)
+    omega (arith, within, c.in-Some.ensures.sector.high, c.in_ok-header.ensures.within, c.header_in_force.ensures.reads.size)
 
 pub returns-in_err-header-clause-cause : goal.returns-in_err-header-clause-cause
 returns-in_err-header-clause-cause g c = λ told.
     let S = g.S.Source in
     let source = c.args.source.now in
-    err_of c.from_residual.result c.in_err-header.field-0.0
-    (IsCause (S.image source) (S.moment source) (S.moment c.header_seen.new.source) (S.sector_count source))
-    c.from_residual.ensures.1 (c.in_err-header.ensures.cause told)
+    let to = S.moment c.header_in_force.new.source in
+    let fault = c.in_err-header.field-0.0 in
+    err_of c.from_residual.result (of_copy fault) (IsCause (S.image source) (S.moment source) to (S.sector_count source))
+    c.from_residual.ensures.1
+    (cause_of_copy (S.image source) (S.moment source) to (S.sector_count source) fault (c.in_err-header.ensures.cause told))
 
 pub returns-in_default-clause-whole : goal.returns-in_default-clause-whole
 returns-in_default-clause-whole g c = λ told written.
@@ -50,44 +52,46 @@ pub returns-in_err-later-clause-cause : goal.returns-in_err-later-clause-cause
 returns-in_err-later-clause-cause g c = λ told.
     let S = g.S.Source in
     let source = c.args.source.now in
-    let first = c.header_seen.ensures.reads in
+    let first = c.header_in_force.ensures.reads in
     let mid = first.tells.1 told in
     let behind = c.read.ensures.told.1 mid in
+    let from = S.moment c.read.new.self in
+    let to = S.moment c.header_in_force-2.new.source in
     let fault = c.in_err-later.field-0.0 in
     let passed = first.later told in
     let since = c.read.ensures.moment mid in
-    let le : S.moment source ≤ S.moment c.read.new.self = omega (arith, passed, since) in
-    err_of c.from_residual-in_err-later.result fault
-    (IsCause (S.image source) (S.moment source) (S.moment c.header_seen-2.new.source) (S.sector_count source))
-    c.from_residual-in_err-later.ensures.1
-    (cause_later (S.image source) (S.image c.read.new.self) (S.moment source) (S.moment c.read.new.self)
-    (S.moment c.header_seen-2.new.source) (S.sector_count source) (S.sector_count c.read.new.self) fault
-    (c.read.ensures.image mid ∙ first.same told) (c.read.ensures.sectors ∙ first.size) le
-    (c.in_err-later.ensures.cause behind))
+    let le : S.moment source ≤ from = omega (arith, passed, since) in
+    err_of c.from_residual-in_err-later.result (of_copy fault)
+    (IsCause (S.image source) (S.moment source) to (S.sector_count source)) c.from_residual-in_err-later.ensures.1
+    (cause_later (S.image source) (S.image c.read.new.self) (S.moment source) from to (S.sector_count source)
+    (S.sector_count c.read.new.self) (of_copy fault) (c.read.ensures.image mid ∙ first.same told)
+    (c.read.ensures.sectors ∙ first.size) le
+    (cause_of_copy (S.image c.read.new.self) from to (S.sector_count c.read.new.self) fault
+    (c.in_err-later.ensures.cause behind)))
 
 pub returns-then-not-follows-clause-cause : goal.returns-then-not-follows-clause-cause
 returns-then-not-follows-clause-cause g c = λ told.
     let S = g.S.Source in
     let source = c.args.source.now in
-    let first = c.header_seen.ensures.reads in
+    let first = c.header_in_force.ensures.reads in
     let mid = first.tells.1 told in
     let behind = c.read.ensures.told.1 mid in
     let passed = first.later told in
     let since = c.read.ensures.moment mid in
-    let ended = c.header_seen-2.ensures.reads.later behind in
+    let ended = c.header_in_force-2.ensures.reads.later behind in
     let same = c.read.ensures.image mid ∙ first.same told in
     let h = c.in_ok-header.header in
     let next = c.in_ok-later.later in
-    let also = subst (λ (i : ℕ → Sectors). IsSeenInForce i (S.moment c.read.new.self) (S.moment c.header_seen-2.new.source)
+    let also = subst (λ (i : ℕ → Sectors). IsSeenInForce i (S.moment c.read.new.self) (S.moment c.header_in_force-2.new.source)
     next) same (c.in_ok-later.ensures.in_force behind) in
     record {
       one = h;
       other = next;
-      seen = seen_wider (S.image source) (S.moment source) (S.moment c.header_seen.new.source) (S.moment source)
-          (S.moment c.header_seen-2.new.source) h (omega arith) (omega (arith, since, ended))
+      seen = seen_wider (S.image source) (S.moment source) (S.moment c.header_in_force.new.source) (S.moment source)
+          (S.moment c.header_in_force-2.new.source) h (omega arith) (omega (arith, since, ended))
           (c.in_ok-header.ensures.in_force told);
-      also_seen = seen_wider (S.image source) (S.moment c.read.new.self) (S.moment c.header_seen-2.new.source)
-          (S.moment source) (S.moment c.header_seen-2.new.source) next (omega (arith, passed, since)) (omega arith) also;
+      also_seen = seen_wider (S.image source) (S.moment c.read.new.self) (S.moment c.header_in_force-2.new.source)
+          (S.moment source) (S.moment c.header_in_force-2.new.source) next (omega (arith, passed, since)) (omega arith) also;
       differ = λ is.
           false≢true (sym c.if-not-follows.true
           ∙ c.follows.ensures.1 (subst (λ (x : Header). Follows h x) is (follows_itself h)));
@@ -101,29 +105,29 @@ has_stood : (g : Over) (c : After-last_moment g) (told : g.S.Source.told c.args.
 has_stood g c told written =
     let S = g.S.Source in
     let source = c.args.source.now in
-    let to = S.moment c.header_seen-2.new.source in
-    let first = c.header_seen.ensures.reads in
+    let to = S.moment c.header_in_force-2.new.source in
+    let first = c.header_in_force.ensures.reads in
     let mid = first.tells.1 told in
     let behind = c.read.ensures.told.1 mid in
     let same = c.read.ensures.image mid ∙ first.same told in
     let at = c.in-Some.at in
     let bytes = c.read.new.into in
-    let got = subst (λ (i : ℕ → Sectors). IsSeen i (S.moment c.header_seen.new.source) (S.moment c.read.new.self) at bytes)
+    let got = subst (λ (i : ℕ → Sectors). IsSeen i (S.moment c.header_in_force.new.source) (S.moment c.read.new.self) at bytes)
     (first.same told) (c.in_ok-read.ensures.seen mid) in
     let later = subst (λ (i : ℕ → Sectors). IsSeenInForce i (S.moment c.read.new.self) to c.in_ok-later.later) same
     (c.in_ok-later.ensures.in_force behind) in
     let telling = c.in-Some.ensures.sector in
-    stood (S.image source) (S.moment source) (S.moment c.header_seen.new.source) (S.moment c.read.new.self) to
+    stood (S.image source) (S.moment source) (S.moment c.header_in_force.new.source) (S.moment c.read.new.self) to
     c.in_ok-header.header c.in_ok-later.later at bytes written (c.in_ok-header.ensures.in_force told) got later
     (c.follows.ensures.0 c.if-not-follows.false) telling.low telling.high
 
 -- and that was within the call
 is_within : (g : Over) (c : After-last_moment g) (told : g.S.Source.told c.args.source.now)
-    → (c.in_ok-header.ensures.in_force told).moment ≤ g.S.Source.moment c.header_seen-2.new.source
+    → (c.in_ok-header.ensures.in_force told).moment ≤ g.S.Source.moment c.header_in_force-2.new.source
 is_within g c told =
-    let mid = c.header_seen.ensures.reads.tells.1 told in
+    let mid = c.header_in_force.ensures.reads.tells.1 told in
     let seen = c.in_ok-header.ensures.in_force told in
-    omega (arith, seen.earlier, c.read.ensures.moment mid, c.header_seen-2.ensures.reads.later (c.read.ensures.told.1 mid))
+    omega (arith, seen.earlier, c.read.ensures.moment mid, c.header_in_force-2.ensures.reads.later (c.read.ensures.told.1 mid))
 
 pub returns-in_err-moment-clause-cause : goal.returns-in_err-moment-clause-cause
 returns-in_err-moment-clause-cause g c = λ told.
@@ -131,7 +135,7 @@ returns-in_err-moment-clause-cause g c = λ told.
     let source = c.args.source.now in
     let seen = c.in_ok-header.ensures.in_force told in
     let here = (goal.at.returns-in_err-moment-clause-cause g c).After-last_moment in
-    let Is = IsCause (S.image source) (S.moment source) (S.moment c.header_seen-2.new.source) (S.sector_count source) in
+    let Is = IsCause (S.image source) (S.moment source) (S.moment c.header_in_force-2.new.source) (S.sector_count source) in
     err_of c.from_residual-in_err-moment.result c.in_err-moment.field-0.0 Is c.from_residual-in_err-moment.ensures.1
     (subst (λ (f : FiguresFault). Is f) (sym c.in_err-moment.ensures.fault)
     (inr (λ written. record {
