@@ -18,10 +18,10 @@ use Rattle.chess_entry.specs.declared.commands.Command.{Command}
 use Rattle.chess_entry.specs.declared.refusals.Refusal.{Refusal}
 use Rattle.chess_entry.specs.declared.verdicts.Verdict.{Verdict}
 use Rattle.chess_entry.specs.declared.verdicts.Verdict.TheVariants.{Refuse, Enter, Read}
-use Rattle.chess_entry.specs.declared.refusals.Refusal.TheVariants.{OfferStands, NoOffer, TooEarly, AlreadyClaimed, FlagUp}
+use Rattle.chess_entry.specs.declared.refusals.Refusal.TheVariants.{OfferStands, AlreadyClaimed, FlagUp}
 use Rattle.chess_entry.specs.State.{GameState, TableState, position_of, ply_of, seat_of, is_joined, is_over, find_game}
 use Rattle.chess_entry.specs.Parsed.{Parsed}
-use Rattle.chess_entry.specs.Verdict.{Check, refuse, first_of, is_period, are_times, is_start, is_finished, is_full, is_long, is_on_move, has_offer, has_fallen, in_game, by_side, while_running, in_turn, for_move, for_stated, opening_for, opened_from, move_entered, open_verdict, join_verdict, move_verdict, offer_verdict, accept_verdict, decline_verdict, resign_verdict, claim_verdict, flag_verdict, drop_verdict, in_seat, side_of, player_verdict, name_or_none, is_read, effective, verdict}
+use Rattle.chess_entry.specs.Verdict.{Check, refuse, first_of, is_period, are_times, is_start, is_finished, is_full, is_long, is_on_move, has_offer, has_fallen, in_game, by_side, while_running, in_turn, for_move, for_stated, offered, for_accept, opening_for, opened_from, move_entered, open_verdict, join_verdict, move_verdict, offer_verdict, accept_verdict, decline_verdict, resign_verdict, claim_verdict, flag_verdict, drop_verdict, in_seat, side_of, player_verdict, name_or_none, is_read, effective, verdict}
 use Rattle.chess_entry.proofs.Allowed.{IsPlaying, IsInTime, IsAllowed}
 
 -- An entry opens a game with the next number.
@@ -192,18 +192,15 @@ offer-enters table number at game side e found h =
 accept-enters : (table : TableState) → EntersIn table accept_verdict
 accept-enters table number at game side e found h =
     runs table number game at _ e found
-    (while_running-entered game at
-    (refuse (not (seat_of (other side) game).offers) NoOffer ∷ refuse (nat_lt (ply_of game) 2) TooEarly ∷ [])
-    (Enter (entry game.number at (event.Accept side))) e h)
+    (while_running-entered game at (for_accept game side) (Enter (entry game.number at (event.Accept side))) e h)
     (λ up rest.
-    let offered = passed (not (seat_of (other side) game).offers) _ _ e rest in
-    (event.Accept side, up.playing, entered _ e (passed (nat_lt (ply_of game) 2) _ _ e offered.1).1))
+    let standing = passed (not (seat_of (other side) game).offers) _ _ e rest in
+    (event.Accept side, up.playing, entered _ e (passed (nat_lt (ply_of game) 2) _ _ e standing.1).1))
 
 decline-enters : (table : TableState) → EntersIn table decline_verdict
 decline-enters table number at game side e found h =
     runs table number game at _ e found
-    (while_running-entered game at (refuse (not (seat_of (other side) game).offers) NoOffer ∷ [])
-    (Enter (entry game.number at (event.Decline side))) e h)
+    (while_running-entered game at (offered game side) (Enter (entry game.number at (event.Decline side))) e h)
     (λ up rest.
     (event.Decline side, up.playing, entered _ e (passed (not (seat_of (other side) game).offers) _ _ e rest).1))
 

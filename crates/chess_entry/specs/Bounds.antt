@@ -11,7 +11,7 @@ use Rattle.chess_end.specs.declared.ending.Article.{Article}
 use Rattle.chess_end.specs.declared.ending.Article.TheVariants as articles
 use Rattle.chess_end.specs.declared.ending.GameResult.{GameResult}
 use Rattle.chess_end.specs.declared.ending.Ending.{Ending}
-use Rattle.chess_clock.specs.TimeControl.{IsTimeControl}
+use Rattle.chess_clock.specs.TimeControl.{TimeControl, IsTimeControl}
 use Rattle.chess_clock.specs.Held.{given_for}
 use Rattle.rec_codec.specs.Name.{IsName}
 use Rattle.chess_entry.specs.State.{GameState, ply_of, position_of, seat_of, is_joined, is_over}
@@ -30,6 +30,11 @@ abbrev pub GoesOnUntilLast : Position → List Move → Type 0
 GoesOnUntilLast start moves =
     (before : List Move) (m last : Move) (rest : List Move) → moves ≡ before ++ m ∷ last ∷ rest
     → ending_after start (before ++ m ∷ []) ≡ None
+
+-- The moves are legal, one after the other, and none but the last ends the game.
+pub record IsScoresheet (start : Position) (moves : List Move) : Type 0 where
+  pub legal : IsLegalLine start moves
+  pub goes_on : GoesOnUntilLast start moves
 
 -- the ending that the last move gives
 abbrev pub ending_by_last : Position → List Move → Option Ending
@@ -80,8 +85,7 @@ pub record IsWaiting (game : GameState) : Type 0 where
   pub black : game.black.held ≡ 1000 * game.control.initial
 
 pub record IsPlayed (game : GameState) : Type 0 where
-  pub legal : IsLegalLine game.start game.moves
-  pub goes_on : GoesOnUntilLast game.start game.moves
+  pub line : IsScoresheet game.start game.moves
   pub ending : Agrees (ending_by_last game.start game.moves) game.ending
   pub quiet_at_end : is_over game ≡ true → IsQuiet game
   pub white : IsHeldWithin game White
@@ -93,15 +97,19 @@ AreDifferent (Some white) (Some black) = white ≢ black
 AreDifferent None None = ⊥
 AreDifferent _ _ = Unit {0}
 
+-- the times, the start and the players that a game has from its opening and its join on
+pub record IsOpenedWith (times : TimeControl) (first : Position) (white black : Option (List ℕ)) : Type 0 where
+  pub control : IsTimeControl times
+  pub start : IsStart first
+  pub white_name : IfSome white IsName
+  pub black_name : IfSome black IsName
+  pub players : AreDifferent white black
+
 -- a game of at most so many moves
 pub record IsGame (plies : ℕ) (game : GameState) : Type 0 where
   pub numbered : 1 ≤ game.number
   pub number : game.number < 2 ^ 32
-  pub control : IsTimeControl game.control
-  pub start : IsStart game.start
-  pub white : IfSome game.white.name IsName
-  pub black : IfSome game.black.name IsName
-  pub players : AreDifferent game.white.name game.black.name
+  pub opened : IsOpenedWith game.control game.start game.white.name game.black.name
   pub short : ply_of game ≤ plies
   pub waiting : is_joined game ≡ false → IsWaiting game
   pub played : IsPlayed game

@@ -122,6 +122,14 @@ in_turn game side ply =
 abbrev pub for_move : TableState → GameState → Option Move → List Check
 for_move table game move = refuse (is_long table game) TooLong ∷ refuse (is_none move) BadMove ∷ []
 
+-- 11
+abbrev pub offered : GameState → Colour → List Check
+offered game side = refuse (not (seat_of (other side) game).offers) NoOffer ∷ []
+
+-- 11 and 12
+abbrev pub for_accept : GameState → Colour → List Check
+for_accept game side = offered game side ++ (refuse (nat_lt (ply_of game) 2) TooEarly ∷ [])
+
 -- ---- the entries
 
 -- what a player opens with a colour and times, from each start
@@ -174,13 +182,12 @@ offer_verdict at game side = first_of
 
 abbrev pub accept_verdict : ℕ → GameState → Colour → Verdict
 accept_verdict at game side = first_of
-    (while_running game at ++
-    (refuse (not (seat_of (other side) game).offers) NoOffer ∷ refuse (nat_lt (ply_of game) 2) TooEarly ∷ []))
+    (while_running game at ++ for_accept game side)
     (Enter (entry game.number at (event.Accept side)))
 
 abbrev pub decline_verdict : ℕ → GameState → Colour → Verdict
 decline_verdict at game side = first_of
-    (while_running game at ++ (refuse (not (seat_of (other side) game).offers) NoOffer ∷ []))
+    (while_running game at ++ offered game side)
     (Enter (entry game.number at (event.Decline side)))
 
 abbrev pub resign_verdict : ℕ → GameState → Colour → Verdict

@@ -71,7 +71,7 @@ pub HasRoom-playable : (g : Inside) (game : GameState) → Shows g game → IsGa
     → HasRoom g.line
 HasRoom-playable g game shows is room =
     let P : ScoresheetState → Type 0 = λ line. HasRoom line in
-    subst P (sym shows.line) (HasRoom-start game.start game.moves is.start room)
+    subst P (sym shows.line) (HasRoom-start game.start game.moves is.opened.start room)
 
 -- ---- a move
 

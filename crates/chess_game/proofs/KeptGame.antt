@@ -7,7 +7,6 @@ use Rattle.chess_bits.specs.declared.men.Colour.{Colour}
 use Rattle.chess_bits.specs.declared.men.Colour.TheVariants.{White, Black}
 use Rattle.chess_bits.specs.Man.{other, is_colour}
 use Rattle.chess_board.specs.declared.moves.Move.{Move}
-use Rattle.chess_board.specs.Line.{IsLegalLine}
 use Rattle.chess_clock.specs.TimeControl.{TimeControl, IsTimeControl}
 use Rattle.chess_clock.specs.Held.{given_for}
 use Rattle.chess_clock.specs.ClockState.{on_move_after, TimesFit, HasFallen, time_of}
@@ -21,7 +20,7 @@ use Rattle.chess_entry.specs.GameTimes.{left_at}
 use Rattle.chess_entry.specs.Games.{control_of}
 use Rattle.chess_entry.specs.Verdict.{has_fallen}
 use Rattle.chess_entry.specs.Follow.{new_game, joined, ended, ended_if, completed, held_after_turn, turn_ended, moved, claimed_wrongly}
-use Rattle.chess_entry.specs.Bounds.{IsStart, GoesOnUntilLast, ending_by_last, Agrees, IsByAct, claims_most, IsHeldWithin, IsQuiet, AreDifferent, IsGame}
+use Rattle.chess_entry.specs.Bounds.{IsStart, IsScoresheet, ending_by_last, Agrees, IsByAct, claims_most, IsHeldWithin, IsQuiet, AreDifferent, IsOpenedWith, IsGame}
 use Rattle.chess_game.specs.ClockFor.{clock_for}
 use Rattle.chess_game.specs.Turn.{IsRunningAt, IsInTime, IsPlayable}
 use Rattle.chess_game.proofs.LineLemmas.{IsLegalLine-push, side-position_after}
@@ -35,16 +34,11 @@ use Rattle.chess_game.proofs.ReplayLemmas.{GoesOnUntilLast-none}
 pub record IsOnWay (game : GameState) : Type 0 where
   pub numbered : 1 ≤ game.number
   pub number : game.number < 2 ^ 32
-  pub control : IsTimeControl game.control
-  pub start : IsStart game.start
-  pub white_name : IfSome game.white.name IsName
-  pub black_name : IfSome game.black.name IsName
-  pub players : AreDifferent game.white.name game.black.name
+  pub opened : IsOpenedWith game.control game.start game.white.name game.black.name
   pub short : ply_of game ≤ 20000
   pub joined : is_joined game ≡ true
   pub running : is_over game ≡ false
-  pub legal : IsLegalLine game.start game.moves
-  pub goes_on : GoesOnUntilLast game.start game.moves
+  pub line : IsScoresheet game.start game.moves
   pub white_held : IsHeldWithin game White
   pub black_held : IsHeldWithin game Black
 
@@ -55,16 +49,11 @@ pub IsOnWay-of : (game : GameState) → IsGame 20000 game → is_joined game ≡
 IsOnWay-of game is joined running = record {
   numbered = is.numbered;
   number = is.number;
-  control = is.control;
-  start = is.start;
-  white_name = is.white;
-  black_name = is.black;
-  players = is.players;
+  opened = is.opened;
   short = is.short;
   joined = joined;
   running = running;
-  legal = is.played.legal;
-  goes_on = is.played.goes_on;
+  line = is.played.line;
   white_held = is.played.white;
   black_held = is.played.black;
 }
@@ -101,16 +90,11 @@ pub IsGame-going : (game : GameState) → IsOnWay game → ending_by_last game.s
 IsGame-going game way none = record {
   numbered = way.numbered;
   number = way.number;
-  control = way.control;
-  start = way.start;
-  white = way.white_name;
-  black = way.black_name;
-  players = way.players;
+  opened = way.opened;
   short = way.short;
   waiting = λ not_so. true_not_false (is_joined game) way.joined not_so;
   played = record {
-    legal = way.legal;
-    goes_on = way.goes_on;
+    line = way.line;
     ending = agrees_none (ending_by_last game.start game.moves) game.ending none way.running;
     quiet_at_end = λ over. true_not_false (is_over game) over way.running;
     white = way.white_held;
@@ -154,16 +138,11 @@ pub IsGame-ended : (game : GameState) (at : ℕ) (e : Ending) → IsOnWay game
 IsGame-ended game at e way agrees = record {
   numbered = way.numbered;
   number = way.number;
-  control = way.control;
-  start = way.start;
-  white = way.white_name;
-  black = way.black_name;
-  players = way.players;
+  opened = way.opened;
   short = way.short;
   waiting = λ not_so. true_not_false (is_joined game) way.joined not_so;
   played = record {
-    legal = way.legal;
-    goes_on = way.goes_on;
+    line = way.line;
     ending = agrees;
     quiet_at_end = λ over. record { white = refl; black = refl; claimed = refl };
     white = less_held game.control game.white.held (seat_of White (ended game at e)).held
@@ -298,27 +277,25 @@ one_longer longer room = omega arith
 pub IsOnWay-turn : (game : GameState) (at : ℕ) (m : Move) → IsOnWay game
     → ending_by_last game.start game.moves ≡ None → IsPlayable game m → IsOnWay (turn_ended game at m)
 IsOnWay-turn game at m way none playable =
-    let Named : Option (List ℕ) → Type 0 = λ name. IfSome name IsName in
-    let AreOther : Option (List ℕ) → Type 0 = λ name. AreDifferent name game.black.name in
-    let AreOther' : Option (List ℕ) → Type 0 = λ name. AreDifferent (turn_ended game at m).white.name name in
     let white = white_name game at m in
     let black = black_name game at m in
+    let WithWhite : Option (List ℕ) → Type 0 = λ name. IsOpenedWith game.control game.start name game.black.name in
+    let WithBlack : Option (List ℕ) → Type 0 = λ name.
+    IsOpenedWith game.control game.start (turn_ended game at m).white.name name in
     let longer : length (game.moves ++ m ∷ []) ≡ ply_of game + 1 = length-append game.moves (m ∷ []) in
     let room = playable.room in
     record {
       numbered = way.numbered;
       number = way.number;
-      control = way.control;
-      start = way.start;
-      white_name = subst Named (sym white) way.white_name;
-      black_name = subst Named (sym black) way.black_name;
-      players = subst AreOther' (sym black) (subst AreOther (sym white) way.players);
+      opened = subst WithBlack (sym black) (subst WithWhite (sym white) way.opened);
       short = one_longer longer room;
       joined = ap (λ (name : Option (List ℕ)). is_some name && is_some (turn_ended game at m).black.name) white
           ∙ ap (λ (name : Option (List ℕ)). is_some game.white.name && is_some name) black ∙ way.joined;
       running = way.running;
-      legal = IsLegalLine-push game.start game.moves m way.legal playable.legal;
-      goes_on = GoesOnUntilLast-push game.start game.moves m way.goes_on none;
+      line = record {
+        legal = IsLegalLine-push game.start game.moves m way.line.legal playable.legal;
+        goes_on = GoesOnUntilLast-push game.start game.moves m way.line.goes_on none;
+      };
       white_held = white_turned game at m way.white_held;
       black_held = black_turned game at m way.black_held;
     }
@@ -358,9 +335,9 @@ claims-few game side short =
 pub TimesFit-on_way : (game : GameState) → IsOnWay game → TimesFit (clock_for game)
 TimesFit-on_way game way =
     let white = given_for-at_most game.control (completed game.start.side White (ply_of game)) (claims_most game Black)
-    way.control (completed-at_most game.start.side White (ply_of game) way.short) (claims-few game Black way.short) in
+    way.opened.control (completed-at_most game.start.side White (ply_of game) way.short) (claims-few game Black way.short) in
     let black = given_for-at_most game.control (completed game.start.side Black (ply_of game)) (claims_most game White)
-    way.control (completed-at_most game.start.side Black (ply_of game) way.short) (claims-few game White way.short) in
+    way.opened.control (completed-at_most game.start.side Black (ply_of game) way.short) (claims-few game White way.short) in
     record { white_fits = fits way.white_held white; black_fits = fits way.black_held black }
 
 Decides-nat_le : (a b : ℕ) → a ≤ b → nat_le a b ≡ true
@@ -445,16 +422,11 @@ IsOnWay-claimed_with : (game : GameState) (white_held : ℕ) (white_offers : Boo
 IsOnWay-claimed_with game white_held white_offers black_held black_offers way white black = record {
   numbered = way.numbered;
   number = way.number;
-  control = way.control;
-  start = way.start;
-  white_name = way.white_name;
-  black_name = way.black_name;
-  players = way.players;
+  opened = way.opened;
   short = way.short;
   joined = way.joined;
   running = way.running;
-  legal = way.legal;
-  goes_on = way.goes_on;
+  line = way.line;
   white_held = white;
   black_held = black;
 }
@@ -510,11 +482,13 @@ IsGame-new number opening numbered fits control start named =
     record {
       numbered = numbered;
       number = fits;
-      control = control;
-      start = start;
-      white = taken_named White opening.colour opening.name named;
-      black = taken_named Black opening.colour opening.name named;
-      players = (one_taken opening.colour opening.name).0;
+      opened = record {
+        control = control;
+        start = start;
+        white_name = taken_named White opening.colour opening.name named;
+        black_name = taken_named Black opening.colour opening.name named;
+        players = (one_taken opening.colour opening.name).0;
+      };
       short = omega arith;
       waiting = λ not_so. record {
         unmoved = refl;
@@ -525,8 +499,7 @@ IsGame-new number opening numbered fits control start named =
         black = refl;
       };
       played = record {
-        legal = tt;
-        goes_on = GoesOnUntilLast-none opening.start;
+        line = record { legal = tt; goes_on = GoesOnUntilLast-none opening.start };
         ending = tt;
         quiet_at_end = λ over. quiet;
         white = initial_at_most (completed opening.start.side White 0) (claims_most (new_game number opening) Black);

@@ -5,9 +5,9 @@ use Rattle.chess_bits.specs.declared.men.Colour.{Colour}
 use Rattle.chess_bits.specs.declared.men.Colour.TheVariants.{White, Black}
 use Rattle.chess_end.specs.declared.ending.Ending.{Ending}
 use Rattle.chess_entry.specs.State.{GameState, is_joined, is_over}
-use Rattle.chess_entry.specs.Outcome.{claimed_draw}
+use Rattle.chess_entry.specs.Outcome.{claimed_draw, resigned}
 use Rattle.chess_entry.specs.Follow.{with_offer}
-use Rattle.chess_entry.specs.Bounds.{IsQuiet, IsByAct, IsGame}
+use Rattle.chess_entry.specs.Bounds.{IsQuiet, IsWaiting, IsByAct, IsGame}
 use Rattle.chess_game.specs.declared.games.Game.TheInside.{Inside}
 use Rattle.chess_game.specs.declared.sides.Sides.{Sides}
 use Rattle.chess_game.specs.Sides.{offering}
@@ -27,7 +27,7 @@ runs_from game at sides same from =
     let P : Sides → Type 0 = λ s. s.clock.since ≤ at in
     subst P (sym same) from
 
--- ---- a correct claim
+-- ---- an ending by an act
 
 pub IsByAct-claimed : (fifty : Bool) (e : Ending) → e ≡ claimed_draw fifty → IsByAct e.article e.result
 IsByAct-claimed fifty e is =
@@ -37,65 +37,61 @@ IsByAct-claimed fifty e is =
       draw true = refl
       draw false = refl
 
+pub IsByAct-resigned : (by : Colour) (e : Ending) → e ≡ resigned by → IsByAct e.article e.result
+IsByAct-resigned by e is =
+    let P : Ending → Type 0 = λ x. IsByAct x.article x.result in
+    subst P (sym is) (decided by) where
+      decided : (by : Colour) → IsByAct (resigned by).article (resigned by).result
+      decided White = λ same. cc
+      decided Black = λ same. cc
+
 -- ---- offers
 
 quiet_declined : (game : GameState) (of : Colour) → IsQuiet game → IsQuiet (with_offer game of false)
 quiet_declined game White is = record { white = refl; black = is.black; claimed = is.claimed }
 quiet_declined game Black is = record { white = is.white; black = refl; claimed = is.claimed }
 
--- an offer that does not stand any more changes nothing else
-pub IsGame-declined : (game : GameState) (of : Colour) → IsGame 20000 game → IsGame 20000 (with_offer game of false)
-IsGame-declined game of is = record {
+-- an offer changes nothing else
+IsGame-with_offer : (plies : ℕ) (game : GameState) (of : Colour) (offers : Bool) → IsGame plies game
+    → (is_joined game ≡ false → IsWaiting (with_offer game of offers))
+    → (is_over game ≡ true → IsQuiet (with_offer game of offers)) → IsGame plies (with_offer game of offers)
+IsGame-with_offer plies game of offers is waiting quiet = record {
   numbered = is.numbered;
   number = is.number;
-  control = is.control;
-  start = is.start;
-  white = is.white;
-  black = is.black;
-  players = is.players;
+  opened = is.opened;
   short = is.short;
-  waiting = λ not_so.
-      let waits = is.waiting not_so in
-      record {
-        unmoved = waits.unmoved;
-        goes_on = waits.goes_on;
-        unstarted = waits.unstarted;
-        quiet = quiet_declined game of waits.quiet;
-        white = waits.white;
-        black = waits.black;
-      };
+  waiting = waiting;
   played = record {
-    legal = is.played.legal;
-    goes_on = is.played.goes_on;
+    line = is.played.line;
     ending = is.played.ending;
-    quiet_at_end = λ over. quiet_declined game of (is.played.quiet_at_end over);
+    quiet_at_end = quiet;
     white = is.played.white;
     black = is.played.black;
   };
 }
 
--- nor does one in a game that goes on
-pub IsGame-offered : (game : GameState) (of : Colour) → IsGame 20000 game → is_joined game ≡ true → is_over game ≡ false
-    → IsGame 20000 (with_offer game of true)
-IsGame-offered game of is joined running = record {
-  numbered = is.numbered;
-  number = is.number;
-  control = is.control;
-  start = is.start;
-  white = is.white;
-  black = is.black;
-  players = is.players;
-  short = is.short;
-  waiting = λ not_so. absurd (false≢true (sym not_so ∙ joined));
-  played = record {
-    legal = is.played.legal;
-    goes_on = is.played.goes_on;
-    ending = is.played.ending;
-    quiet_at_end = λ over. absurd (false≢true (sym running ∙ over));
-    white = is.played.white;
-    black = is.played.black;
-  };
-}
+-- an offer that does not stand any more
+pub IsGame-declined : (game : GameState) (of : Colour) → IsGame 20000 game → IsGame 20000 (with_offer game of false)
+IsGame-declined game of is =
+    IsGame-with_offer 20000 game of false is
+    (λ not_so.
+    let waits = is.waiting not_so in
+    record {
+      unmoved = waits.unmoved;
+      goes_on = waits.goes_on;
+      unstarted = waits.unstarted;
+      quiet = quiet_declined game of waits.quiet;
+      white = waits.white;
+      black = waits.black;
+    })
+    (λ over. quiet_declined game of (is.played.quiet_at_end over))
+
+-- an offer, or none any more, in a game that goes on
+pub IsGame-offered : (plies : ℕ) (game : GameState) (of : Colour) (offers : Bool) → IsGame plies game
+    → is_joined game ≡ true → is_over game ≡ false → IsGame plies (with_offer game of offers)
+IsGame-offered plies game of offers is joined running =
+    IsGame-with_offer plies game of offers is (λ not_so. absurd (false≢true (sym not_so ∙ joined)))
+    (λ over. absurd (false≢true (sym running ∙ over)))
 
 offering-shown : (game : GameState) (of : Colour) (offers : Bool)
     → offering of offers (sides_for game) ≡ sides_for (with_offer game of offers)

@@ -15,9 +15,9 @@ use Rattle.chess_end.specs.Computing.{is_checkmate, is_stalemate, is_listed_dead
 use Rattle.chess_entry.specs.State.{position_after}
 use Rattle.chess_entry.specs.Outcome.{ending_after}
 use Rattle.chess_entry.specs.Verdict.{is_finished_at}
-use Rattle.chess_entry.specs.Bounds.{IsStart, GoesOnUntilLast, ending_by_last}
+use Rattle.chess_entry.specs.Bounds.{IsStart, GoesOnUntilLast, IsScoresheet, ending_by_last}
 use Rattle.chess_game.specs.Scoresheet.{ScoresheetState, last_of, with_move, HasRoom}
-use Rattle.chess_game.specs.Restored.{IsScoresheet, IsReplayed}
+use Rattle.chess_game.specs.Restored.{IsReplayed}
 use Rattle.chess_game.proofs.LineLemmas.{IsLegalLine-push, halfmove-at_most, fullmove-at_most}
 use Rattle.chess_game.proofs.KeptLine.{last_split, GoesOnUntilLast-push, ending_by_last-pushed}
 

@@ -8,14 +8,14 @@ use Rattle.chess_end.specs.declared.ending.Ending.{Ending}
 use Rattle.rec_codec.specs.declared.record.Seat.{Seat as StoredSeat}
 use Rattle.rec_codec.specs.declared.record.Head.{Head}
 use Rattle.chess_entry.specs.State.{SeatState, GameState}
-use Rattle.chess_entry.specs.Bounds.{IsGame}
+use Rattle.chess_entry.specs.Bounds.{IsScoresheet, IsGame}
 use Rattle.chess_entry.specs.Snapshot.{IsSeatOf, IsHeadOf}
 use Rattle.chess_entry.proofs.OneMeaning.{same_parts_of_seat, same_parts_of_game}
 use Rattle.chess_game.specs.declared.games.Game.TheInside.{Inside}
 use Rattle.chess_game.specs.Scoresheet.{ScoresheetState}
 use Rattle.chess_game.specs.ClockFor.{sides_for}
 use Rattle.chess_game.specs.GameInside.{state_of}
-use Rattle.chess_game.specs.Restored.{seat_named, game_named, MayBeOpened, IsScoresheet, IsReplayed, MayStand, IsRestored, NamesNoGame}
+use Rattle.chess_game.specs.Restored.{seat_named, game_named, MayBeOpened, IsReplayed, MayStand, IsRestored, NamesNoGame}
 use Rattle.chess_game.proofs.Shown.{Shows, state_of-shown}
 
 -- ---- no other game has the head and the moves
@@ -57,17 +57,7 @@ NamesNoGame-unsound head moves unsound game is same is_game =
 -- ---- what holds of every game, in the order in which it is asked
 
 pub MayBeOpened-game : (game : GameState) → IsGame 20000 game → MayBeOpened game
-MayBeOpened-game game is = record {
-  control = is.control;
-  start = is.start;
-  white = is.white;
-  black = is.black;
-  players = is.players;
-  short = is.short;
-}
-
-pub IsScoresheet-game : (game : GameState) → IsGame 20000 game → IsScoresheet game.start game.moves
-IsScoresheet-game game is = record { legal = is.played.legal; goes_on = is.played.goes_on }
+MayBeOpened-game game is = record { opened = is.opened; short = is.short }
 
 pub MayStand-game : (game : GameState) → IsGame 20000 game → MayStand game
 MayStand-game game is = record {
@@ -78,19 +68,14 @@ MayStand-game game is = record {
 
 pub IsGame-asked : (game : GameState) → 1 ≤ game.number → game.number < 2 ^ 32 → MayBeOpened game
     → IsScoresheet game.start game.moves → MayStand game → IsGame 20000 game
-IsGame-asked game numbered number opened line stand = record {
+IsGame-asked game numbered number may line stand = record {
   numbered = numbered;
   number = number;
-  control = opened.control;
-  start = opened.start;
-  white = opened.white;
-  black = opened.black;
-  players = opened.players;
-  short = opened.short;
+  opened = may.opened;
+  short = may.short;
   waiting = stand.waiting;
   played = record {
-    legal = line.legal;
-    goes_on = line.goes_on;
+    line = line;
     ending = stand.ends.ending;
     quiet_at_end = stand.ends.quiet;
     white = stand.held.0;

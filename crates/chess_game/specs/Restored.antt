@@ -1,16 +1,14 @@
 -- A game that the records of a snapshot name, of which nothing is taken on trust.
-use Rattle.std.specs.Prelude.{◌≡◌, ◌≤◌, false, true, List, Option, IfSome}
+use Rattle.std.specs.Prelude.{◌≡◌, ◌≤◌, false, true, List, Option}
 use Rattle.chess_bits.specs.declared.men.Colour.TheVariants.{White, Black}
 use Rattle.chess_board.specs.declared.moves.Move.{Move}
 use Rattle.chess_board.specs.Position.{Position}
-use Rattle.chess_board.specs.Line.{IsLegalLine}
-use Rattle.chess_clock.specs.TimeControl.{time_control, IsTimeControl}
+use Rattle.chess_clock.specs.TimeControl.{time_control}
 use Rattle.chess_end.specs.declared.ending.Ending.{Ending}
 use Rattle.rec_codec.specs.declared.record.Seat.{Seat as StoredSeat}
 use Rattle.rec_codec.specs.declared.record.Head.{Head}
-use Rattle.rec_codec.specs.Name.{IsName}
 use Rattle.chess_entry.specs.State.{SeatState, GameState, ply_of, is_joined, is_over}
-use Rattle.chess_entry.specs.Bounds.{IsStart, GoesOnUntilLast, ending_by_last, Agrees, IsHeldWithin, IsQuiet, IsWaiting, AreDifferent, IsGame}
+use Rattle.chess_entry.specs.Bounds.{IsScoresheet, ending_by_last, Agrees, IsHeldWithin, IsQuiet, IsWaiting, IsOpenedWith, IsGame}
 use Rattle.chess_entry.specs.Snapshot.{ending_told, IsHeadOf}
 use Rattle.chess_game.specs.Scoresheet.{ScoresheetState}
 
@@ -33,17 +31,8 @@ game_named head moves = record {
 
 -- what a game of at most 20,000 moves has from its opening and its join on
 pub record MayBeOpened (game : GameState) : Type 0 where
-  pub control : IsTimeControl game.control
-  pub start : IsStart game.start
-  pub white : IfSome game.white.name IsName
-  pub black : IfSome game.black.name IsName
-  pub players : AreDifferent game.white.name game.black.name
+  pub opened : IsOpenedWith game.control game.start game.white.name game.black.name
   pub short : ply_of game ≤ 20000
-
--- The moves are legal, one after the other, and none but the last ends the game.
-pub record IsScoresheet (start : Position) (moves : List Move) : Type 0 where
-  pub legal : IsLegalLine start moves
-  pub goes_on : GoesOnUntilLast start moves
 
 -- the line of some moves, and the ending that the last of them gives
 pub record IsReplayed (first : Position) (made : List Move) (line : ScoresheetState) (by_line : Option Ending) : Type 0 where

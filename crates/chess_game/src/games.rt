@@ -3,8 +3,7 @@ ghost use Rattle.chess_bits.specs.Man.{other};
 ghost use Rattle.chess_clock.specs.TimeControl.{time_control, IsTimeControl};
 ghost use Rattle.chess_entry.specs.State.{position_of, ply_of, seat_of, is_joined, is_over};
 ghost use Rattle.chess_entry.specs.Story.{stated};
-ghost use Rattle.chess_entry.specs.Outcome.{ending_after, is_granted, claimed_draw, agreed, resigned, flag_fallen};
-ghost use Rattle.chess_end.specs.Ending.{won_by};
+ghost use Rattle.chess_entry.specs.Outcome.{ending_after, is_granted, agreed, resigned, flag_fallen};
 ghost use Rattle.chess_board.specs.declared.moves.Move.{Move};
 ghost use Rattle.chess_entry.specs.Games.{control_of};
 ghost use Rattle.chess_entry.specs.Follow.{fresh_seat, new_game, joined, moved, with_offer, ended, claim_judged};
@@ -15,6 +14,7 @@ ghost use Rattle.chess_game.specs.ClockFor.{seat_for};
 ghost use Rattle.chess_game.specs.Restored.{IsRestored, NamesNoGame};
 ghost use Rattle.chess_game.specs.Turn.{IsRunningAt, IsInTime, IsPlayable, IsJudgeable, left_in};
 
+use crate::endings::{agreed, drawn_by_claim, resigned};
 use crate::restored::{is_counted, may_be_opened, may_stand, sides_named};
 use crate::scoresheet::Scoresheet;
 use crate::sides::{Seat, Sides};
@@ -22,7 +22,7 @@ use crate::stored::{stored_ending, stored_seat};
 use chess_bits::Colour;
 use chess_board::{Board, Move};
 use chess_clock::Clock;
-use chess_end::{Article, Ending, GameResult, flag_result};
+use chess_end::{Ending, flag_result};
 use rec_codec::{Claim, GameNumber, Head, Name, Opening};
 use std::alloc::{AllocError, Global};
 use std::marker::Model;
@@ -55,16 +55,6 @@ impl Model for Game {
     ghost invariant = { IsSound };
 }
 
-// The result of a game that the side wins.
-fn win_of(side: Colour) -> GameResult
-    ensures { result ≡ won_by side }
-{
-    match side {
-        Colour::White => GameResult::White,
-        Colour::Black => GameResult::Black,
-    }
-}
-
 // The move that a claim states, if it states one.
 fn stated_move(claim: &Claim) -> Option<Move>
     ensures { result ≡ claim.now.mv }
@@ -72,16 +62,6 @@ fn stated_move(claim: &Claim) -> Option<Move>
     match claim.mv {
         None => None,
         Some(mv) => Some(mv.get()),
-    }
-}
-
-// The draw by a correct claim: by the fifty-move rule (FIDE article 9.3), or else by a third occurrence (9.2).
-fn drawn_by_claim(fifty: bool) -> Ending
-    ensures { result ≡ claimed_draw fifty }
-{
-    Ending {
-        result: GameResult::Draw,
-        article: if fifty { Article::A93 } else { Article::A92 },
     }
 }
 
@@ -400,13 +380,7 @@ impl Game {
         requires { IsRunningAt self.old at }
         ensures { self.new ≡ ended self.old at agreed }
     {
-        self.end(
-            at,
-            Ending {
-                result: GameResult::Draw,
-                article: Article::A523,
-            },
-        );
+        self.end(at, agreed());
     }
 
     /// The side resigns, which always loses (FIDE article 5.1.2).
@@ -414,13 +388,7 @@ impl Game {
         requires { IsRunningAt self.old at }
         ensures { self.new ≡ ended self.old at (resigned colour) }
     {
-        self.end(
-            at,
-            Ending {
-                result: win_of(colour.other()),
-                article: Article::A512,
-            },
-        );
+        self.end(at, resigned(colour));
     }
 
     /// The flag of the side to move has fallen (FIDE article 6.9).

@@ -2,11 +2,13 @@
 //! of `chess_entry`, whose definitions the contracts cite.
 #![tactic(auto)]
 
+mod endings;
 mod games;
 mod restored;
 mod scoresheet;
 mod sides;
 mod stored;
 
+pub use endings::{agreed, drawn_by_claim, resigned};
 pub use games::{Game, Times};
 pub use scoresheet::is_finished;

@@ -4,8 +4,8 @@ ghost use Rattle.chess_board.specs.Next.{next};
 ghost use Rattle.chess_board.specs.Legal.{IsLegal};
 ghost use Rattle.chess_entry.specs.Outcome.{ending_after, is_granted};
 ghost use Rattle.chess_entry.specs.Verdict.{is_finished_at};
-ghost use Rattle.chess_entry.specs.Bounds.{IsStart};
-ghost use Rattle.chess_game.specs.Restored.{IsScoresheet, IsReplayed};
+ghost use Rattle.chess_entry.specs.Bounds.{IsStart, IsScoresheet};
+ghost use Rattle.chess_game.specs.Restored.{IsReplayed};
 ghost use Rattle.chess_game.specs.Scoresheet.{ScoresheetState, last_of, HasRoom, with_move};
 
 use chess_board::{Board, Move};
@@ -34,8 +34,8 @@ pub struct Scoresheet {
 
 impl Model for Scoresheet {
     ghost use Rattle.chess_entry.specs.Verdict.{is_finished_at};
-    ghost use Rattle.chess_entry.specs.Bounds.{IsStart};
-    ghost use Rattle.chess_game.specs.Restored.{IsScoresheet, IsReplayed};
+    ghost use Rattle.chess_entry.specs.Bounds.{IsStart, IsScoresheet};
+    ghost use Rattle.chess_game.specs.Restored.{IsReplayed};
     ghost use Rattle.chess_game.specs.Scoresheet.{ScoresheetState};
     ghost use Rattle.chess_entry.specs.Verdict.{is_finished_at};
     ghost use Rattle.chess_game.specs.ScoresheetInside.{scoresheet_of, IsSoundScoresheet};

@@ -10,7 +10,7 @@ invariant_of-self c =
     IsSound-shown _ (with_offer game c.args.colour true)
     (Shows-offering c.self.inside game c.args.colour true c.set_offer.new.self
     (Shows-kept c.self.inside game c.self.view_is c.self.invariant) c.set_offer.ensures)
-    (IsGame-offered game c.args.colour (IsGame-kept c.self.inside game c.self.view_is c.self.invariant)
+    (IsGame-offered 20000 game c.args.colour true (IsGame-kept c.self.inside game c.self.view_is c.self.invariant)
     c.requires.joined c.requires.goes_on)
 
 pub returns : goal.returns

@@ -2,14 +2,13 @@ use Rattle.std.proofs.Common.{refl, sym, ◌∙◌}
 use Rattle.std.proofs.lemmas.Bool.{false≢true}
 use Rattle.chess_game.specs.Restored.{game_named}
 use Rattle.chess_game.proofs.Shown.{IsSound-shown}
-use Rattle.chess_game.proofs.RestoredLemmas.{NamesNoGame-unsound, IsScoresheet-game, MayStand-game, IsGame-asked, Shows-named, IsRestored-shown, none_made}
+use Rattle.chess_game.proofs.RestoredLemmas.{NamesNoGame-unsound, MayStand-game, IsGame-asked, Shows-named, IsRestored-shown, none_made}
 use Rattle.chess_game.proofs.games.Game.restore.Goals as goal
 
 pub returns-in_default-clause-none : goal.returns-in_default-clause-none
 returns-in_default-clause-none c =
-    let game = game_named c.args.head.now c.args.moves.now in
     NamesNoGame-unsound c.args.head.now c.args.moves.now
-    (λ is. none_made c.in_ok-replayed.field-0 c.in_default.not-Some c.in_ok-replayed.ensures.none (IsScoresheet-game game is))
+    (λ is. none_made c.in_ok-replayed.field-0 c.in_default.not-Some c.in_ok-replayed.ensures.none is.played.line)
 
 pub returns-then-not-may_stand-clause-none : goal.returns-then-not-may_stand-clause-none
 returns-then-not-may_stand-clause-none c =
