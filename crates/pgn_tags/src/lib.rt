@@ -1,10 +1,10 @@
-//! The tags of a game's PGN, and which of its words are moves.
+//! The tags of a game's PGN, and which of its lines are tags and which of its words moves.
 #![tactic(auto)]
 
 mod dates;
-mod moves;
+mod lines;
 mod tags;
 
 pub use dates::is_date;
-pub use moves::is_move;
+pub use lines::{is_move, is_tag};
 pub use tags::{unescaped, value_in, value_of, with_tag};

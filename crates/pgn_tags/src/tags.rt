@@ -1,4 +1,5 @@
 //! The tags of a game's PGN.
+use crate::lines::is_tag;
 use std::alloc::{AllocError, Global};
 use text_parts::{before, parts};
 
@@ -40,7 +41,7 @@ const FIRST: [&str; 7] = [
 // first.
 fn is_behind(line: &str, front: &str) -> bool {
     let head = before(line, ' ');
-    !line.starts_with('[') || (!FIRST.contains(&head) && head > front)
+    !is_tag(line) || (!FIRST.contains(&head) && head > front)
 }
 
 /// A PGN with one tag more, whose value is a number: behind the seven that come first, where its name has its place in the order

@@ -1,6 +1,9 @@
-//! Connections to a server that are being made, for programs that wait for several sockets at once.
+//! Connections that are being made to a server, and what it says that none was accepted, for programs that wait for
+//! several sockets at once.
 #![tactic(auto)]
 
+mod accepting;
 mod calls;
 
+pub use accepting::{AcceptFault, accept_fault};
 pub use calls::{call, is_made};

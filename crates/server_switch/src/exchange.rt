@@ -49,13 +49,6 @@ fn lines_of(alloc: Global, servers: usize) -> Result<Vec<ServerLine>, AllocError
     Ok(lines)
 }
 
-// The line to the server at a place.
-fn line_at(servers: &[ServerLine], place: usize) -> Option<&ServerLine>
-    ensures { option_map (λ server. standing_of server.now) result ≡ slice_get (map standing_of servers.entry.now) place }
-{
-    servers.get(place)
-}
-
 impl Exchange {
     /// A client that has said nothing, and servers that are not there.
     pub fn new(alloc: Global, servers: usize) -> Result<Exchange, AllocError>
@@ -102,12 +95,19 @@ impl Exchange {
         any_waits(&self.queue, place)
     }
 
+    // The line to the server at a place.
+    fn line_at(&self, place: usize) -> Option<&ServerLine>
+        ensures { option_map (λ server. standing_of server.now) result ≡ slice_get (view self.entry.now).servers place }
+    {
+        let servers = self.servers.as_slice();
+        servers.get(place)
+    }
+
     /// What is to go to a server; of none nothing is.
     pub fn wire(&self, place: usize) -> &[u8]
         ensures { result.now ≡ wire_at (view self.now) place }
     {
-        let servers = self.servers.as_slice();
-        match line_at(servers, place) {
+        match self.line_at(place) {
             Some(server) => {
                 let wire = server.wire.as_slice();
                 wire
@@ -145,8 +145,7 @@ impl Exchange {
     pub fn is_away(&self, place: usize) -> bool
         ensures { result ≡ is_away (view self.now) place }
     {
-        let servers = self.servers.as_slice();
-        match line_at(servers, place) {
+        match self.line_at(place) {
             Some(server) => !server.is_here,
             None => false,
         }
@@ -156,8 +155,7 @@ impl Exchange {
     fn is_here(&self, place: usize) -> bool
         ensures { result ≡ is_here (view self.now) place }
     {
-        let servers = self.servers.as_slice();
-        match line_at(servers, place) {
+        match self.line_at(place) {
             Some(server) => server.is_here,
             None => false,
         }
