@@ -76,7 +76,7 @@ fn time_shown(game: &Game, colour: Colour, at: u64) -> u64
     ensures { result ≡ time_shown game.now colour at }
 {
     // The game's bounds: what a side holds before the join is the initial time.
-    let _number = game.number();
+    let _numbered = game.number();
     u64::from(game.left(colour, at))
 }
 
@@ -132,7 +132,7 @@ fn pgn_between<'a>(
 {
     let times = game.times();
     // The game's bounds: the counters have room before each move.
-    let _number = game.number();
+    let _numbered = game.number();
     let text = GameText {
         white,
         black,

@@ -91,6 +91,6 @@ pub fn know_name(who: &Option<Name>)
     ensures { IfSome who.now IsName }
 {
     if let Some(name) = who {
-        let _name = name.as_str();
+        let _named = name.as_str();
     }
 }

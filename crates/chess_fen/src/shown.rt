@@ -71,7 +71,7 @@ impl ShownBoard {
     pub fn set(&mut self, board: Board)
         ensures { self.new ≡ board }
     {
-        let _whole = (self.board.rights(), board.rights());
+        let _valid = (self.board.rights(), board.rights());
         let changed = changes(self.board.men(), board.men());
         let touched = reletter(&mut self.letters, self.board.men(), board.men(), changed);
         renew_all(
