@@ -1,21 +1,19 @@
 -- A game's line in the archive, which is an object of JSON.
-use Rattle.std.specs.Prelude.{ℕ, Bool, false, ◌==◌, ◌||◌, ◌&&◌, not, nat_le, List, [], ◌∷◌, ◌++◌, codes, decimal, Option, Some, None, drop, if◌then◌else◌}
+use Rattle.std.specs.Prelude.{ℕ, Bool, false, ◌==◌, ◌||◌, ◌&&◌, not, nat_le, List, ◌++◌, codes, decimal, Option, Some, None, drop, if◌then◌else◌}
 use Rattle.std.specs.List.{list_all, before_first, after_first}
 use Rattle.std.specs.Str.{bytes_eq}
 use Rattle.json_text.specs.Strings.{escaped, unescaped_from}
 use Rattle.lobby_words.specs.Words.{number_in}
 
--- `{"game"`
 abbrev pub front : List ℕ
-front = 123 ∷ 34 ∷ (codes "game" ++ (34 ∷ []))
+front = codes "{\"game\""
 
--- `,"pgn":"`
 abbrev pub middle : List ℕ
-middle = 44 ∷ 34 ∷ (codes "pgn" ++ (34 ∷ 58 ∷ 34 ∷ []))
+middle = codes ",\"pgn\":\""
 
 -- `{"game":7,"pgn":".."}`
 abbrev pub line_of : ℕ → List ℕ → List ℕ
-line_of game pgn = front ++ (58 ∷ (decimal game ++ (middle ++ (escaped pgn ++ (34 ∷ 125 ∷ [])))))
+line_of game pgn = front ++ (codes ":" ++ (decimal game ++ (middle ++ (escaped pgn ++ codes "\"}"))))
 
 -- a line feed, or no control character of ASCII: these alone have an escape here, or need none in JSON
 abbrev pub is_text_byte : ℕ → Bool

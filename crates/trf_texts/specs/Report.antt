@@ -5,9 +5,12 @@ use Rattle.trf_texts.specs.declared.cells.Meeting.{Meeting}
 use Rattle.trf_texts.specs.declared.columns.Tournament.{Tournament}
 use Rattle.trf_texts.specs.Cells.{cell_in}
 
+abbrev pub space : ℕ
+space = 32
+
 -- a text at the right of so many columns
 unfoldable pub at_right : ℕ → List ℕ → List ℕ
-at_right width text = replicate (width - length text) 32 ++ text
+at_right width text = replicate (width - length text) space ++ text
 
 -- a byte with which a character of UTF-8 begins
 abbrev pub begins : ℕ → Bool
@@ -15,21 +18,21 @@ begins b = not (b / 64 == 2)
 
 -- a text's first characters, as many as there is room for, and spaces in the room that is left
 abbrev pub at_left : ℕ → List ℕ → List ℕ
-at_left room [] = replicate room 32
+at_left room [] = replicate room space
 at_left zero (b ∷ bs) = if begins b then [] else b ∷ at_left zero bs
 at_left (suc room) (b ∷ bs) = if begins b then b ∷ at_left room bs else b ∷ at_left (suc room) bs
 
 -- no control character, which would spoil the lines
 abbrev pub plain_byte : ℕ → ℕ
-plain_byte b = if nat_lt b 32 then 32 else b
+plain_byte b = if nat_lt b space then space else b
 
 -- columns 1 to 3 and from 5 on
 abbrev pub line_of : List ℕ → List ℕ → List ℕ
-line_of id text = id ++ (32 ∷ (map plain_byte text ++ (10 ∷ [])))
+line_of id text = id ++ (codes " " ++ (map plain_byte text ++ codes "\n"))
 
 -- points with one digit behind the point
 unfoldable pub points_text : ℕ → List ℕ
-points_text halves = decimal (halves / 2) ++ (46 ∷ (if halves % 2 == 0 then 48 ∷ [] else 53 ∷ []))
+points_text halves = decimal (halves / 2) ++ (codes "." ++ (if halves % 2 == 0 then codes "0" else codes "5"))
 
 -- the opponent in four columns, 0000 without one
 unfoldable pub opponent_text : ℕ → List ℕ
@@ -37,7 +40,7 @@ opponent_text n = if n == 0 then codes "0000" else at_right 4 (decimal n)
 
 -- a round in ten columns: two spaces, the opponent, a space, the colour, a space, the result
 unfoldable pub cell_text : Cell → List ℕ
-cell_text cell = 32 ∷ 32 ∷ (opponent_text cell.opponent ++ (32 ∷ cell.colour ∷ 32 ∷ cell.sign ∷ []))
+cell_text cell = codes "  " ++ (opponent_text cell.opponent ++ (codes " " ++ (cell.colour ∷ (codes " " ++ (cell.sign ∷ [])))))
 
 abbrev pub cells_text : ℕ → List (List Meeting) → List ℕ
 cells_text n rounds = flat_map (λ round. cell_text (cell_in n round)) rounds
@@ -61,16 +64,16 @@ better_than halves (other ∷ others) = (if nat_lt halves other then 1 else 0) +
 -- and the date of birth, 10 to 13 and 49 to 79, are not known.
 unfoldable pub front_text : ℕ → List ℕ → List ℕ
 front_text n name =
-    codes "001 " ++ (at_right 4 (decimal n) ++ (replicate 6 32 ++ (at_left 33 (map plain_byte name) ++ replicate 33 32)))
+    codes "001 " ++ (at_right 4 (decimal n) ++ (replicate 6 space ++ (at_left 33 (map plain_byte name) ++ replicate 33 space)))
 
 -- Columns 81 to 89: the points, and the place among players of all these half points.
 unfoldable pub standing_text : List (List Meeting) → List ℕ → ℕ → List ℕ
 standing_text rounds all n =
-    at_right 4 (points_text (halves_in n rounds)) ++ (32 ∷ at_right 4 (decimal (better_than (halves_in n rounds) all + 1)))
+    at_right 4 (points_text (halves_in n rounds)) ++ (codes " " ++ at_right 4 (decimal (better_than (halves_in n rounds) all + 1)))
 
 -- The line of a player among these: columns 92 to 99 have the first round, and so on.
 unfoldable pub player_line : List (List Meeting) → List ℕ → ℕ → List ℕ → List ℕ
-player_line rounds all n name = front_text n name ++ (standing_text rounds all n ++ (cells_text n rounds ++ (10 ∷ [])))
+player_line rounds all n name = front_text n name ++ (standing_text rounds all n ++ (cells_text n rounds ++ codes "\n"))
 
 -- the lines of players, numbered from this on
 abbrev pub players_text : List (List Meeting) → List ℕ → ℕ → List (List ℕ) → List ℕ
