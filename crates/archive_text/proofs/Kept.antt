@@ -2,7 +2,8 @@
 use Rattle.std.proofs.Common.{ℕ, ◌≡◌, Bool, true, false, cond, List, [], ◌∷◌, ◌++◌, codes, Option, None, Some, refl, sym, ap, ◌∙◌}
 use Rattle.std.specs.Prelude.{if◌then◌else◌, filter}
 use Rattle.std.proofs.lemmas.List.Elements.{filter-append}
-use Rattle.archive_text.specs.Moves.{is_move, clock_text, clock_tokens, again_tokens, move_tokens, told_tokens, first_clock, next_clocks, is_known}
+use Rattle.pgn_tags.specs.Pgn.{is_move}
+use Rattle.archive_text.specs.Moves.{clock_text, clock_tokens, again_tokens, move_tokens, told_tokens, first_clock, next_clocks, is_known}
 
 no_move : (token : List ℕ) → is_move token ≡ false → filter is_move (token ∷ []) ≡ []
 no_move token h = ap (λ (b : Bool). cond b (token ∷ []) []) h

@@ -4,7 +4,8 @@ use Rattle.text_parts.specs.Parts.{parts_of}
 use Rattle.chess_text.specs.Movetext.{are_tokens, IsMovetext}
 use Rattle.archive_text.specs.declared.heading.Heading.{Heading}
 use Rattle.archive_text.specs.Tags.{told_tags}
-use Rattle.archive_text.specs.Moves.{is_move, tokens_of, told_tokens}
+use Rattle.pgn_tags.specs.Pgn.{is_move}
+use Rattle.archive_text.specs.Moves.{tokens_of, told_tokens}
 
 -- the moves of a text and the result, with the clocks
 abbrev pub archive_tokens : List ℕ → List (Option ℕ) → List (List ℕ)

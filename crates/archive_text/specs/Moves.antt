@@ -1,12 +1,7 @@
 -- The moves of a game as the archive has them.
-use Rattle.std.specs.Prelude.{ℕ, ◌/◌, ◌%◌, ◌+◌, Bool, true, false, List, [], ◌∷◌, ◌++◌, codes, decimal, Option, Some, None, flat_map, slice_index, if◌then◌else◌}
-use Rattle.std.specs.Char.{is_ascii_alphabetic}
+use Rattle.std.specs.Prelude.{ℕ, ◌/◌, ◌%◌, ◌+◌, Bool, true, false, List, [], ◌∷◌, ◌++◌, codes, decimal, Option, Some, None, flat_map, if◌then◌else◌}
 use Rattle.text_parts.specs.Parts.{parts_of}
-use Rattle.archive_text.specs.Tags.{is_tag}
-
--- a move begins with a letter; the number of a move, and the result, do not (PGN Standard, section 8.2)
-abbrev pub is_move : List ℕ → Bool
-is_move token = is_ascii_alphabetic (slice_index token 0)
+use Rattle.pgn_tags.specs.Pgn.{is_tag, is_move}
 
 -- the tokens of the lines that are no tags
 abbrev pub tokens_of_line : List ℕ → List (List ℕ)

@@ -1,12 +1,9 @@
 -- The tags of a game as the archive has them.
-use Rattle.std.specs.Prelude.{ℕ, Bool, ◌||◌, ◌==◌, List, [], ◌∷◌, ◌++◌, codes, Option, Some, None, flat_map, slice_index, if◌then◌else◌}
+use Rattle.std.specs.Prelude.{ℕ, ◌||◌, ◌==◌, List, [], ◌∷◌, ◌++◌, codes, Option, Some, None, flat_map, if◌then◌else◌}
 use Rattle.std.specs.List.{before_first}
 use Rattle.std.specs.Str.{bytes_eq}
+use Rattle.pgn_tags.specs.Pgn.{is_tag}
 use Rattle.archive_text.specs.declared.heading.Heading.{Heading}
-
--- a tag's line begins with `[` (PGN Standard, section 8.1.1)
-abbrev pub is_tag : List ℕ → Bool
-is_tag line = slice_index line 0 == 91
 
 -- what stands before the value: `[Name`
 abbrev pub head_of : List ℕ → List ℕ

@@ -2,20 +2,10 @@
 ghost use Rattle.std.specs.Prelude.{◌≡◌, ◌++◌, ◌∷◌, [], ◌<◌, Bool, false, IfOk, OnOk, map};
 ghost use Rattle.archive_text.specs.Moves as spec;
 
-use crate::tags::is_tag;
 use itoa::Buffer;
+use pgn_tags::{is_move, is_tag};
 use std::alloc::{AllocError, Global};
 use text_parts::parts;
-
-// Whether a token is a move.
-fn is_move(token: &str) -> bool
-    ensures { result ≡ spec.is_move token.now }
-{
-    match token.as_bytes().first() {
-        Some(byte) => byte.is_ascii_alphabetic(),
-        None => false,
-    }
-}
 
 // The tokens of a line.
 fn push_tokens<'a>(

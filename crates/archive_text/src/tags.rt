@@ -3,15 +3,9 @@ ghost use Rattle.std.specs.Prelude.{◌≡◌, ◌++◌, ◌∷◌, [], OnOk, ma
 ghost use Rattle.archive_text.specs.Tags as spec;
 
 use crate::heading::Heading;
+use pgn_tags::is_tag;
 use std::alloc::AllocError;
 use text_parts::before;
-
-/// Whether a line is a tag.
-pub fn is_tag(line: &str) -> bool
-    ensures { result ≡ spec.is_tag line.now }
-{
-    line.as_bytes().first() == Some(&b'[')
-}
 
 // What stands before a tag's value.
 fn head_of(line: &str) -> &str

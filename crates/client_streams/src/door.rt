@@ -1,7 +1,9 @@
 //! Where connections come from.
-ghost use Rattle.std.specs.Prelude.{◌≡◌, ◌<◌, ◌+◌, ◌-◌, ◌^◌, ◌↔◌, ◌⊎◌, false, Some, None, IsSome, IfSome, IfNone, IfOk, OnErr};
+ghost use Rattle.std.specs.Prelude.{◌≡◌, ◌<◌, ◌+◌, ◌-◌, ◌^◌, ◌↔◌, false, Some, None, IsSome, IfSome, IfNone, IfOk, OnErr};
+ghost use Rattle.server_calls.specs.Accepting.{IsLost};
 ghost use Rattle.client_streams.specs.Doors.{IsAsked};
 
+use server_calls::{AcceptFault, accept_fault};
 use std::io;
 use std::io::ErrorKind;
 use std::net::{Ipv4Addr, Net, TcpListener, TcpStream};
@@ -23,19 +25,13 @@ pub enum Found {
 /// What a fault of `accept` says.
 pub fn found_of(fault: ErrorKind) -> Found
     ensures nobody { result ≡ Found.Nobody ↔ (fault ≡ ErrorKind.WouldBlock) }
-    ensures lost { result ≡ Found.Lost ↔ ((fault ≡ ErrorKind.ConnectionAborted) ⊎ (fault ≡ ErrorKind.ConnectionReset)
-        ⊎ (fault ≡ ErrorKind.Interrupted)) }
+    ensures lost { result ≡ Found.Lost ↔ IsLost fault }
     ensures refused { result ≡ Found.Connection → ⊥ }
 {
-    if fault == ErrorKind::WouldBlock {
-        Found::Nobody
-    } else if fault == ErrorKind::ConnectionAborted
-        || fault == ErrorKind::ConnectionReset
-        || fault == ErrorKind::Interrupted
-    {
-        Found::Lost
-    } else {
-        Found::Refused
+    match accept_fault(fault) {
+        AcceptFault::Nobody => Found::Nobody,
+        AcceptFault::Lost => Found::Lost,
+        AcceptFault::Refused => Found::Refused,
     }
 }
 

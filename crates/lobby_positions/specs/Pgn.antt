@@ -1,10 +1,10 @@
 -- What is read of a game's PGN: the start, and the words that name its moves.
-use Rattle.std.specs.Prelude.{ℕ, ◌≡◌, ◌<◌, Bool, true, false, ◌==◌, List, [], ◌∷◌, ◌++◌, codes, Option, Some, None, if◌then◌else◌, find, filter, flat_map, slice_index}
-use Rattle.std.specs.Char.{is_ascii_alphabetic}
+use Rattle.std.specs.Prelude.{ℕ, ◌≡◌, ◌<◌, Bool, true, false, ◌==◌, List, [], ◌∷◌, ◌++◌, codes, Option, Some, None, if◌then◌else◌, find, filter, flat_map}
 use Rattle.std.specs.List.{before_first, after_first}
 use Rattle.std.specs.Str.{bytes_eq}
 use Rattle.std.specs.Option.{option_map}
 use Rattle.text_parts.specs.Parts.{parts_of}
+use Rattle.pgn_tags.specs.Pgn.{is_tag, is_move}
 use Rattle.chess_board.specs.declared.moves.Move.{Move}
 use Rattle.chess_board.specs.Position.{Position, IsValid}
 use Rattle.chess_board.specs.Initial.{initial}
@@ -15,10 +15,6 @@ use Rattle.chess_notation.specs.Fen.{IsFenOf}
 
 abbrev pub lines_of : List ℕ → List (List ℕ)
 lines_of text = parts_of 10 text
-
--- a tag's line begins with `[` (PGN Standard, section 8.1.1)
-abbrev pub is_tag : List ℕ → Bool
-is_tag line = slice_index line 0 == 91
 
 -- the line `[FEN ".."]`
 abbrev pub is_fen_tag : List ℕ → Bool
@@ -37,12 +33,8 @@ abbrev pub StartsAt : Option (List ℕ) → Position → Type 0
 StartsAt None p = p ≡ initial
 StartsAt (Some fen) p = IsValid p × IsFenOf fen p
 
--- A move's word begins with a letter; the numbers of moves and the result do not (PGN Standard, section 8.2).
-abbrev pub is_word : List ℕ → Bool
-is_word token = is_ascii_alphabetic (slice_index token 0)
-
 abbrev pub words_of_line : List ℕ → List (List ℕ)
-words_of_line line = if is_tag line then [] else filter is_word (parts_of 32 line)
+words_of_line line = if is_tag line then [] else filter is_move (parts_of 32 line)
 
 -- the words that name moves, in their order: those of the lines that are no tags
 abbrev pub words_of : List (List ℕ) → List (List ℕ)

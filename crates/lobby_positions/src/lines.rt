@@ -2,22 +2,14 @@
 ghost use Rattle.std.specs.Prelude.{◌≡◌, ◌++◌, ◌∷◌, [], map, filter, Some, IfOk, OnOk, IfSome};
 ghost use Rattle.std.specs.Option.{option_map};
 ghost use Rattle.chess_board.specs.Position.{Position};
-ghost use Rattle.lobby_positions.specs.Pgn.{is_tag, is_fen_tag, value_of, fen_in, StartsAt, is_word, words_of_line, words_of};
+ghost use Rattle.pgn_tags.specs.Pgn.{is_move};
+ghost use Rattle.lobby_positions.specs.Pgn.{is_fen_tag, value_of, fen_in, StartsAt, words_of_line, words_of};
 
 use chess_board::Board;
 use chess_fen::fen_read;
+use pgn_tags::{is_move, is_tag};
 use std::alloc::{AllocError, Global};
 use text_parts::{before, behind, parts};
-
-// Whether a line is a tag's.
-fn is_tag(line: &str) -> bool
-    ensures { result ≡ is_tag line.now }
-{
-    match line.as_bytes() {
-        [] => false,
-        [first, ..] => *first == b'[',
-    }
-}
 
 // Whether a line is that of a tag FEN.
 fn is_fen_tag(line: &str) -> bool
@@ -64,21 +56,11 @@ pub fn start_of(lines: &[&str]) -> Option<Board>
     }
 }
 
-// Whether a word may name a move.
-fn is_word(word: &str) -> bool
-    ensures { result ≡ is_word word.now }
-{
-    match word.as_bytes() {
-        [] => false,
-        [first, ..] => first.is_ascii_alphabetic(),
-    }
-}
-
 // Appends a word that may name a move.
 fn push_word<'a>(words: &mut Vec<&'a str>, word: &'a str) -> Result<(), AllocError>
-    ensures { OnOk result (map (λ word. word.now) words.new.items ≡ map (λ word. word.now) words.old.items ++ filter is_word (word.entry.now ∷ [])) }
+    ensures { OnOk result (map (λ word. word.now) words.new.items ≡ map (λ word. word.now) words.old.items ++ filter is_move (word.entry.now ∷ [])) }
 {
-    if is_word(word) {
+    if is_move(word) {
         words.push(word)?;
     }
     Ok(())

@@ -1,7 +1,7 @@
 use Rattle.std.proofs.Common.{ℕ, ◌+◌, List, [], ◌∷◌, ◌++◌, get_or, map, take, sym, ap, ◌∙◌, append_assoc}
 use Rattle.std.specs.Borrow.{Bor}
 use Rattle.std.specs.List.{filter}
-use Rattle.lobby_positions.specs.Pgn.{is_word}
+use Rattle.pgn_tags.specs.Pgn.{is_move}
 use Rattle.text_parts.proofs.Items.{items_more}
 use Rattle.lobby_positions.proofs.Found.{filter_more}
 use Rattle.lobby_positions.proofs.lines.push_words.Goals as goal
@@ -16,7 +16,7 @@ loop-token-preserved c =
     let old = map now c.args.words.now.items in
     let front = take i (map now items) in
     c.in_ok-push_word.ensures
-    ∙ (ap (λ (ws : List (List ℕ)). ws ++ filter is_word (word ∷ [])) c.loop-token.invariant
-    ∙ (append_assoc old (filter is_word front) (filter is_word (word ∷ []))
+    ∙ (ap (λ (ws : List (List ℕ)). ws ++ filter is_move (word ∷ [])) c.loop-token.invariant
+    ∙ (append_assoc old (filter is_move front) (filter is_move (word ∷ []))
     ∙ (ap (λ (ws : List (List ℕ)). old ++ ws) (sym (filter_more front word))
-    ∙ ap (λ (ws : List (List ℕ)). old ++ filter is_word ws) (sym (items_more items i d c.loop-token-test.true)))))
+    ∙ ap (λ (ws : List (List ℕ)). old ++ filter is_move ws) (sym (items_more items i d c.loop-token-test.true)))))
