@@ -231,19 +231,9 @@ const EVIDENCE: WordText = WordText {
     options: &[GAME, ITS_LOG],
 };
 
-// (Each has a function of its own, since each step of a function that has texts tells of all their bytes. Help lists them in the
-// order of `command`.)
-fn serve_word() -> WordText {
-    SERVE
-}
-
-fn player_word() -> WordText {
-    PLAYER
-}
-
-fn evidence_word() -> WordText {
-    EVIDENCE
-}
+// The words in the order in which help lists them. (Each step of a function tells of all bytes of its constants, but not of those of
+// a static.)
+static WORDS: [WordText; 3] = [SERVE, PLAYER, EVIDENCE];
 
 /// The lobby's command line.
 pub fn command<'a>(alloc: Global) -> Result<Command<'a>, AllocError> {
@@ -251,13 +241,17 @@ pub fn command<'a>(alloc: Global) -> Result<Command<'a>, AllocError> {
         alloc,
         "chess-lobby",
         "The lobby of a chess club: players and spectators come by a browser.",
-        &[serve_word(), player_word(), evidence_word()],
+        &WORDS,
     )
 }
 
 /// Reads the words, the program's own name first. An `Err` is a usage fault, or a request for help.
 pub fn read_words<'a>(alloc: Global, words: &'a [String]) -> Result<Word<'a>, Error> {
-    read_by(alloc, &mut command(alloc)?, words, word_given)
+    let mut command = command(alloc)?;
+    let word = read_by(alloc, &mut command, words, word_given);
+    // (it goes by a call: here all its parts would be let go)
+    drop(command);
+    word
 }
 
 fn word_given<'a>(
@@ -295,10 +289,10 @@ fn serving_of<'a>(alloc: Global, values: &ArgMatches<'a>) -> Result<Option<Word<
         server,
         address: SocketAddr::new(address, values.get_one("port").unwrap_or(PORT)),
         page: values.get_str("page").unwrap_or("page"),
-        hosts: Vec::from_slice(alloc, values.get_strs("host").unwrap_or(&[]))?,
         live: values.get_str("live"),
-        journals: Vec::from_slice(alloc, values.get_strs("journal").unwrap_or(&[]))?,
         log: values.get_str("log"),
+        hosts: Vec::from_slice(alloc, values.get_strs("host").unwrap_or(&[]))?,
+        journals: Vec::from_slice(alloc, values.get_strs("journal").unwrap_or(&[]))?,
     })))
 }
 
