@@ -4,7 +4,6 @@ use Rattle.std.proofs.Common.{ap, sym, subst, ◌∙◌, refl, inl, inr, arith}
 use Rattle.std.proofs.lemmas.Bool.{leb-false, eqb-true, cases_Bool}
 use Rattle.arrayvec.specs.ArrayString.{ArrayString}
 use Rattle.chess_bits.specs.declared.men.Colour.{Colour}
-use Rattle.chess_bits.specs.Man.{other}
 use Rattle.chess_board.specs.declared.moves.Move.{Move}
 use Rattle.chess_board.specs.Position.{Position}
 use Rattle.chess_board.specs.Legal.{EachOf}
@@ -16,12 +15,12 @@ use Rattle.rec_codec.specs.Records.{entry}
 use Rattle.chess_entry.specs.declared.commands.Act.{Act}
 use Rattle.chess_entry.specs.declared.commands.Act.TheVariants as act
 use Rattle.chess_entry.specs.declared.commands.Command.{Command}
-use Rattle.chess_entry.specs.declared.refusals.Refusal.TheVariants.{NoName, BadMoment, AlreadyClaimed, OfferStands, NoOffer, TooEarly, FlagUp, NotOver, Taken, SamePlayer, BadTime, BadFen, Finished, TooManyGames}
+use Rattle.chess_entry.specs.declared.refusals.Refusal.TheVariants.{NoName, BadMoment, AlreadyClaimed, OfferStands, FlagUp, NotOver, Taken, SamePlayer, BadTime, BadFen, Finished, TooManyGames}
 use Rattle.chess_entry.specs.declared.verdicts.Verdict.{Verdict}
 use Rattle.chess_entry.specs.declared.verdicts.Verdict.TheVariants.{Refuse, Enter, Read}
-use Rattle.chess_entry.specs.State.{GameState, TableState, ply_of, seat_of, is_joined, is_over, find_game}
+use Rattle.chess_entry.specs.State.{GameState, TableState, ply_of, is_joined, is_over, find_game}
 use Rattle.chess_entry.specs.Parsed.{Parsed, IsMoveParsed, bytes_of}
-use Rattle.chess_entry.specs.Verdict.{Check, refuse, first_of, are_times, is_start, is_finished, is_full, is_long, is_read, has_offer, in_game, by_side, while_running, in_turn, for_move, for_stated, opening_for, opened_from, move_entered, join_verdict, move_verdict, offer_verdict, accept_verdict, decline_verdict, resign_verdict, claim_verdict, flag_verdict, drop_verdict, in_seat, side_of, player_verdict, name_or_none, effective, verdict, IsParsed}
+use Rattle.chess_entry.specs.Verdict.{Check, refuse, first_of, are_times, is_start, is_finished, is_full, is_long, is_read, has_offer, in_game, by_side, while_running, in_turn, for_move, for_stated, offered, for_accept, opening_for, opened_from, move_entered, join_verdict, move_verdict, offer_verdict, accept_verdict, decline_verdict, resign_verdict, claim_verdict, flag_verdict, drop_verdict, in_seat, side_of, player_verdict, name_or_none, effective, verdict, IsParsed}
 use Rattle.chess_entry.specs.Table.{IsTable, IsOnTable}
 use Rattle.chess_entry.proofs.Entering.{find_game-number}
 use Rattle.chess_game.specs.Turn.{IsPlayable}
@@ -206,14 +205,11 @@ player-comes table at name parsed (act.Offer game) is says =
     found (tt, tt) (λ none. comes table game at g (event.Offer side) found tt))
 player-comes table at name parsed (act.Accept game) is says =
     Enters-in_seat (Comes table) table name game (accept_verdict at) (λ g side found.
-    running table game at g
-    (refuse (not (seat_of (other side) g).offers) NoOffer ∷ refuse (nat_lt (ply_of g) 2) TooEarly ∷ [])
-    (Enter (entry g.number at (event.Accept side)))
+    running table game at g (for_accept g side) (Enter (entry g.number at (event.Accept side)))
     found (tt, (tt, tt)) (λ none. comes table game at g (event.Accept side) found tt))
 player-comes table at name parsed (act.Decline game) is says =
     Enters-in_seat (Comes table) table name game (decline_verdict at) (λ g side found.
-    running table game at g (refuse (not (seat_of (other side) g).offers) NoOffer ∷ [])
-    (Enter (entry g.number at (event.Decline side)))
+    running table game at g (offered g side) (Enter (entry g.number at (event.Decline side)))
     found (tt, tt) (λ none. comes table game at g (event.Decline side) found tt))
 player-comes table at name parsed (act.Resign game) is says =
     Enters-in_seat (Comes table) table name game (resign_verdict at) (λ g side found.

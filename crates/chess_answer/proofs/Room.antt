@@ -31,7 +31,7 @@ low_halfmove p goes_on =
 
 pub HasRoom-game : (game : GameState) → IsGame 20000 game → HasRoom game.start game.moves
 HasRoom-game game is =
-    let low = low_halfmove game.start is.start.goes_on in
-    let number = is.start.number in
+    let low = low_halfmove game.start is.opened.start.goes_on in
+    let number = is.opened.start.number in
     let short = is.short in
     HasRoom-few game.start game.moves (omega arith) (omega arith)

@@ -2,7 +2,7 @@ ghost use Rattle.std.specs.Prelude.{◌≡◌, ◌≤◌, ◌+◌, [], ◌∷◌
 ghost use Rattle.arrayvec.specs.ArrayString.{array_string_len};
 ghost use Rattle.chess_entry.specs.State.{position_of, ply_of};
 ghost use Rattle.chess_entry.specs.Story.{stated};
-ghost use Rattle.chess_entry.specs.Outcome.{ending, is_granted, claimed_draw, resigned, flag_fallen};
+ghost use Rattle.chess_entry.specs.Outcome.{is_granted, flag_fallen};
 ghost use Rattle.chess_board.specs.declared.moves.Move.{Move};
 ghost use Rattle.chess_board.specs.Next.{next};
 ghost use Rattle.chess_board.specs.Legal.{IsLegal};
@@ -14,9 +14,9 @@ ghost use Rattle.chess_answer.specs.Acts.{named_text, free_side, TellsMove, Tell
 use crate::fields::{AnswerLine, accepted, begun, push_ending, push_field, push_number};
 use chess_bits::Colour;
 use chess_board::{Board, Move};
-use chess_end::{Article, Ending, GameResult, flag_result};
+use chess_end::{Ending, flag_result};
 use chess_entry::{Entry, Event, GameNumber, Name};
-use chess_game::Game;
+use chess_game::{Game, agreed, drawn_by_claim, resigned};
 use chess_san::{write, write_made};
 use std::alloc::AllocError;
 
@@ -109,40 +109,6 @@ pub fn play_answered(game: &mut Game, at: u64, mv: Move) -> Result<AnswerLine, A
     Ok(text)
 }
 
-// A draw by an article.
-fn drawn(article: Article) -> Ending
-    ensures { result ≡ ending GameResult.Draw article }
-{
-    Ending {
-        result: GameResult::Draw,
-        article,
-    }
-}
-
-// The draw of a correct claim: by the fifty-move rule (FIDE article 9.3), or else by a third occurrence (9.2).
-fn drawn_by_claim(fifty: bool) -> Ending
-    ensures { result ≡ claimed_draw fifty }
-{
-    if fifty {
-        drawn(Article::A93)
-    } else {
-        drawn(Article::A92)
-    }
-}
-
-// What a game gives in which a side has resigned (FIDE article 5.1.2).
-fn resigned(by: Colour) -> Ending
-    ensures { result ≡ resigned by }
-{
-    Ending {
-        result: match by {
-            Colour::White => GameResult::Black,
-            Colour::Black => GameResult::White,
-        },
-        article: Article::A512,
-    }
-}
-
 // The answer to a claim, for the position that stands or for the one that a stated move would bring.
 fn claim_line(game: &Game, fifty: bool, mv: Option<Move>) -> AnswerLine
     requires { (m : Move) → mv ≡ Some m → IsPlayable game.now m }
@@ -195,7 +161,7 @@ pub fn act_line(game: &Game, entry: &Entry) -> AnswerLine
         Event::Join(_) => join_line(game),
         Event::Move(made) => move_line(game, &made.mv.get()),
         Event::Offer(_) => told("offer", game),
-        Event::Accept(_) => ended_line("accept", game, drawn(Article::A523)),
+        Event::Accept(_) => ended_line("accept", game, agreed()),
         Event::Decline(_) => told("decline", game),
         Event::Resign(by) => ended_line("resign", game, resigned(*by)),
         Event::Claim(claim) => match &claim.mv {

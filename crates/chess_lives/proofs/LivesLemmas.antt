@@ -244,7 +244,7 @@ fails_opening life fault failures after (inr stop) ends = record {
 are_legal : (table : TableState) (games : List GameState) → EachOf (IsOnTable table) games
     → EachOf HasLegalMoves games
 are_legal table [] each = tt
-are_legal table (game ∷ games) each = (each.0.game.played.legal, are_legal table games each.1)
+are_legal table (game ∷ games) each = (each.0.game.played.line.legal, are_legal table games each.1)
 
 -- a life at whose end a crash left this image
 pub record IsLivedTo (limits : Limits) (k : List Entry) (failures : ℕ) (life : Life) (report : LifeReport) (after : ℕ)

@@ -11,7 +11,6 @@ use Rattle.chess_bits.specs.declared.men.Colour.{Colour}
 use Rattle.chess_bits.specs.declared.men.Colour.TheVariants.{White, Black}
 use Rattle.chess_bits.specs.declared.men.Kind.{Kind}
 use Rattle.chess_bits.specs.declared.men.Kind.TheVariants.{Pawn, Knight, Bishop, Rook, Queen, King}
-use Rattle.chess_bits.specs.Man.{other}
 use Rattle.chess_board.specs.declared.moves.Move.{Move}
 use Rattle.chess_board.specs.Position.{Position, IsValid}
 use Rattle.chess_board.specs.Legal.{IsLegal}
@@ -34,10 +33,10 @@ use Rattle.chess_entry.specs.declared.commands.Act.TheVariants as act
 use Rattle.chess_entry.specs.declared.commands.Command.{Command}
 use Rattle.chess_entry.specs.declared.verdicts.Verdict.{Verdict}
 use Rattle.chess_entry.specs.declared.verdicts.Verdict.TheVariants.{Refuse, Enter}
-use Rattle.chess_entry.specs.declared.refusals.Refusal.TheVariants.{OfferStands, NoOffer, TooEarly, AlreadyClaimed, FlagUp}
-use Rattle.chess_entry.specs.State.{GameState, TableState, position_of, ply_of, seat_of, is_joined, find_game}
+use Rattle.chess_entry.specs.declared.refusals.Refusal.TheVariants.{OfferStands, AlreadyClaimed, FlagUp}
+use Rattle.chess_entry.specs.State.{GameState, TableState, position_of, ply_of, is_joined, find_game}
 use Rattle.chess_entry.specs.Parsed.{Parsed, parsed, IsMoveParsed}
-use Rattle.chess_entry.specs.Verdict.{Check, refuse, first_of, has_offer, in_game, by_side, while_running, in_turn, for_move, for_stated, move_entered, join_verdict, move_verdict, offer_verdict, accept_verdict, decline_verdict, resign_verdict, claim_verdict, flag_verdict, drop_verdict, in_seat, side_of, is_named, player_verdict, is_read, verdict, IsParsed}
+use Rattle.chess_entry.specs.Verdict.{Check, refuse, first_of, has_offer, in_game, by_side, while_running, in_turn, for_move, for_stated, offered, for_accept, move_entered, join_verdict, move_verdict, offer_verdict, accept_verdict, decline_verdict, resign_verdict, claim_verdict, flag_verdict, drop_verdict, in_seat, side_of, is_named, player_verdict, is_read, verdict, IsParsed}
 use Rattle.chess_entry.specs.Bounds.{AreDifferent}
 use Rattle.chess_entry.specs.Table.{IsTable, IsOnTable, IsEnteredOn}
 use Rattle.chess_entry.proofs.Entering.{passed, find_game-number}
@@ -201,7 +200,7 @@ module _ (table : TableState) (e : Entry) (from : table.moment ≤ e.moment) (to
     number = find_game-number e.game table.games game found
 
     seated : is_joined game ≡ true → (side : Colour) → Player game side
-    seated = player game on.game.white on.game.black on.game.players
+    seated = player game on.game.opened.white_name on.game.opened.black_name on.game.opened.players
 
     -- who makes an act of a running game
     acts : (side : Colour) (a : Act) (v : GameState → Colour → Verdict) → is_read a ≡ false
@@ -258,13 +257,10 @@ module _ (table : TableState) (e : Entry) (from : table.moment ≤ e.moment) (to
         (joined_by (refuse (has_offer game) OfferStands ∷ []) (Enter (entry game.number e.moment (event.Offer by))) h) h
     comes (event.Accept by) legal named h =
         acts by (act.Accept e.game) (accept_verdict e.moment) refl (refl, refl) (λ name. refl)
-        (joined_by
-        (refuse (not (seat_of (other by) game).offers) NoOffer ∷ refuse (nat_lt (ply_of game) 2) TooEarly ∷ [])
-        (Enter (entry game.number e.moment (event.Accept by))) h) h
+        (joined_by (for_accept game by) (Enter (entry game.number e.moment (event.Accept by))) h) h
     comes (event.Decline by) legal named h =
         acts by (act.Decline e.game) (decline_verdict e.moment) refl (refl, refl) (λ name. refl)
-        (joined_by (refuse (not (seat_of (other by) game).offers) NoOffer ∷ [])
-        (Enter (entry game.number e.moment (event.Decline by))) h) h
+        (joined_by (offered game by) (Enter (entry game.number e.moment (event.Decline by))) h) h
     comes (event.Resign by) legal named h =
         acts by (act.Resign e.game) (resign_verdict e.moment) refl (refl, refl) (λ name. refl)
         (joined_by [] (Enter (entry game.number e.moment (event.Resign by))) h) h
@@ -279,7 +275,7 @@ module _ (table : TableState) (e : Entry) (from : table.moment ≤ e.moment) (to
         acts (position_of game).side (act.Flag e.game) (flag_verdict e.moment) refl (refl, refl) (λ name. refl)
         (joined_by [] (Refuse FlagUp) h) h
     comes event.Drop legal named h =
-        let p = somebody game on.game.white on.game.black on.game.players in
+        let p = somebody game on.game.opened.white_name on.game.opened.black_name on.game.opened.players in
         enters p.1.name (act.Drop e.game) (parsed None None) p.1.named refl (refl, refl)
         (at_seat p.1.name game p.0 (drop_verdict e.moment) found p.1.sits h)
 

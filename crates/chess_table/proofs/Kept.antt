@@ -14,11 +14,7 @@ pub IsGame-within : (m n : ℕ) (game : GameState) → IsGame m game → ply_of 
 IsGame-within m n game is short = record {
   numbered = is.numbered;
   number = is.number;
-  control = is.control;
-  start = is.start;
-  white = is.white;
-  black = is.black;
-  players = is.players;
+  opened = is.opened;
   short = short;
   waiting = is.waiting;
   played = is.played;

@@ -22,10 +22,10 @@ use Rattle.chess_entry.specs.declared.commands.Act.{Act}
 use Rattle.chess_entry.specs.declared.commands.Act.TheVariants as act
 use Rattle.chess_entry.specs.declared.verdicts.Verdict.{Verdict}
 use Rattle.chess_entry.specs.declared.verdicts.Verdict.TheVariants.{Refuse, Enter, Read}
-use Rattle.chess_entry.specs.declared.refusals.Refusal.TheVariants.{OfferStands, NoOffer, TooEarly, AlreadyClaimed, FlagUp}
+use Rattle.chess_entry.specs.declared.refusals.Refusal.TheVariants.{OfferStands, AlreadyClaimed, FlagUp}
 use Rattle.chess_entry.specs.State.{GameState, TableState, position_of, ply_of, seat_of, is_joined, is_over, find_game}
 use Rattle.chess_entry.specs.Parsed.{Parsed, IsStartParsed, IsMoveParsed, bytes_of}
-use Rattle.chess_entry.specs.Verdict.{Check, refuse, first_of, are_times, is_start, is_finished, is_full, is_long, is_on_move, has_offer, has_fallen, in_game, by_side, while_running, in_turn, for_move, for_stated, opening_for, opened_from, move_entered, open_verdict, join_verdict, move_verdict, offer_verdict, accept_verdict, decline_verdict, resign_verdict, claim_verdict, flag_verdict, drop_verdict, in_seat, side_of, player_verdict, name_or_none, is_read, effective, verdict, IsParsed}
+use Rattle.chess_entry.specs.Verdict.{Check, refuse, first_of, are_times, is_start, is_finished, is_full, is_long, is_on_move, has_offer, has_fallen, in_game, by_side, while_running, in_turn, for_move, for_stated, offered, for_accept, opening_for, opened_from, move_entered, open_verdict, join_verdict, move_verdict, offer_verdict, accept_verdict, decline_verdict, resign_verdict, claim_verdict, flag_verdict, drop_verdict, in_seat, side_of, player_verdict, name_or_none, is_read, effective, verdict, IsParsed}
 use Rattle.chess_entry.specs.Games.{control_of}
 use Rattle.chess_entry.specs.Bounds.{IsStart}
 use Rattle.chess_entry.specs.Table.{IsTable, IsOnTable, IsEnteredOn}
@@ -217,12 +217,10 @@ module _ (table : TableState) (is : IsTable table) (at : ℕ) (from : table.mome
 
   accept-enters : (number : ℕ) → EntersIn (accept_verdict at) number
   accept-enters number game side e found h =
-      runs number game
-      (refuse (not (seat_of (other side) game).offers) NoOffer ∷ refuse (nat_lt (ply_of game) 2) TooEarly ∷ [])
-      (Enter (entry game.number at (event.Accept side))) e found h
+      runs number game (for_accept game side) (Enter (entry game.number at (event.Accept side))) e found h
       (λ up rest.
-      let offered = passed (not (seat_of (other side) game).offers) _ _ e rest in
-      let late = passed (nat_lt (ply_of game) 2) _ _ e offered.1 in (
+      let standing = passed (not (seat_of (other side) game).offers) _ _ e rest in
+      let late = passed (nat_lt (ply_of game) 2) _ _ e standing.1 in (
         event.Accept side,
         record { ready = up.running; short = tt },
         entered _ e late.1,
@@ -231,13 +229,12 @@ module _ (table : TableState) (is : IsTable table) (at : ℕ) (from : table.mome
 
   decline-enters : (number : ℕ) → EntersIn (decline_verdict at) number
   decline-enters number game side e found h =
-      runs number game (refuse (not (seat_of (other side) game).offers) NoOffer ∷ [])
-      (Enter (entry game.number at (event.Decline side))) e found h
+      runs number game (offered game side) (Enter (entry game.number at (event.Decline side))) e found h
       (λ up rest.
-      let offered = passed (not (seat_of (other side) game).offers) _ _ e rest in (
+      let standing = passed (not (seat_of (other side) game).offers) _ _ e rest in (
         event.Decline side,
         record { ready = up.running; short = tt },
-        entered _ e offered.1,
+        entered _ e standing.1,
         h,
       ))
 
@@ -453,16 +450,13 @@ module _ (table : TableState) (is : IsTable table) (at : ℕ) (from : table.mome
       (λ rest. entered _ x (passed (has_offer game) _ _ x rest).1)
   which game (event.Accept by) x h =
       or-fallen game.number (event.Accept by) x
-      (ran game
-      (refuse (not (seat_of (other by) game).offers) NoOffer ∷ refuse (nat_lt (ply_of game) 2) TooEarly ∷ [])
-      (Enter (entry game.number at (event.Accept by))) x h)
+      (ran game (for_accept game by) (Enter (entry game.number at (event.Accept by))) x h)
       (λ rest.
-      let offered = passed (not (seat_of (other by) game).offers) _ _ x rest in
-      entered _ x (passed (nat_lt (ply_of game) 2) _ _ x offered.1).1)
+      let standing = passed (not (seat_of (other by) game).offers) _ _ x rest in
+      entered _ x (passed (nat_lt (ply_of game) 2) _ _ x standing.1).1)
   which game (event.Decline by) x h =
       or-fallen game.number (event.Decline by) x
-      (ran game (refuse (not (seat_of (other by) game).offers) NoOffer ∷ [])
-      (Enter (entry game.number at (event.Decline by))) x h)
+      (ran game (offered game by) (Enter (entry game.number at (event.Decline by))) x h)
       (λ rest. entered _ x (passed (not (seat_of (other by) game).offers) _ _ x rest).1)
   which game (event.Resign by) x h =
       or-fallen game.number (event.Resign by) x (ran game [] (Enter (entry game.number at (event.Resign by))) x h)

@@ -2,7 +2,6 @@
 use Rattle.std.specs.Prelude.{ℕ, ◌≡◌, ◌&&◌, not, nat_lt, Bool, true, false, if◌then◌else◌, List, [], ◌∷◌, ◌++◌, Option, Some, None, is_none, is_some}
 use Rattle.std.proofs.Common.{ap, sym, subst, refl}
 use Rattle.chess_bits.specs.declared.men.Colour.{Colour}
-use Rattle.chess_bits.specs.Man.{other}
 use Rattle.chess_board.specs.declared.moves.Move.{Move}
 use Rattle.chess_board.specs.Position.{Position}
 use Rattle.rec_codec.specs.declared.record.Event.TheVariants as event
@@ -11,12 +10,12 @@ use Rattle.rec_codec.specs.Records.{entry}
 use Rattle.chess_entry.specs.declared.commands.Act.{Act}
 use Rattle.chess_entry.specs.declared.commands.Act.TheVariants as act
 use Rattle.chess_entry.specs.declared.commands.Command.{Command}
-use Rattle.chess_entry.specs.declared.refusals.Refusal.TheVariants.{NoName, BadMoment, AlreadyClaimed, OfferStands, NoOffer, TooEarly, FlagUp, NotOver, Taken, SamePlayer, BadTime, BadFen, Finished, TooManyGames}
+use Rattle.chess_entry.specs.declared.refusals.Refusal.TheVariants.{NoName, BadMoment, AlreadyClaimed, OfferStands, FlagUp, NotOver, Taken, SamePlayer, BadTime, BadFen, Finished, TooManyGames}
 use Rattle.chess_entry.specs.declared.verdicts.Verdict.{Verdict}
 use Rattle.chess_entry.specs.declared.verdicts.Verdict.TheVariants.{Refuse, Enter, Read}
-use Rattle.chess_entry.specs.State.{GameState, TableState, ply_of, seat_of, is_joined, is_over, find_game}
+use Rattle.chess_entry.specs.State.{GameState, TableState, ply_of, is_joined, is_over, find_game}
 use Rattle.chess_entry.specs.Parsed.{Parsed}
-use Rattle.chess_entry.specs.Verdict.{Check, refuse, first_of, are_times, is_start, is_finished, is_full, has_offer, is_read, in_game, by_side, while_running, in_turn, for_move, for_stated, opening_for, opened_from, move_entered, in_seat, side_of, player_verdict, name_or_none, effective, move_verdict, offer_verdict, accept_verdict, decline_verdict, resign_verdict, claim_verdict, flag_verdict, drop_verdict, join_verdict}
+use Rattle.chess_entry.specs.Verdict.{Check, refuse, first_of, are_times, is_start, is_finished, is_full, has_offer, is_read, in_game, by_side, while_running, in_turn, for_move, for_stated, offered, for_accept, opening_for, opened_from, move_entered, in_seat, side_of, player_verdict, name_or_none, effective, move_verdict, offer_verdict, accept_verdict, decline_verdict, resign_verdict, claim_verdict, flag_verdict, drop_verdict, join_verdict}
 use Rattle.chess_table.specs.Reading.{IsRead}
 
 -- what holds where a verdict is a read
@@ -113,12 +112,11 @@ player-reads table at name parsed (act.Offer game) =
     (Enter (entry g.number at (event.Offer side))) (tt, (tt, (tt, (tt, tt)))) tt)
 player-reads table at name parsed (act.Accept game) =
     in_seat-reads table name game (accept_verdict at)
-    (λ g side. first_of-reads ⊥
-    (while_running g at ++ (refuse (not (seat_of (other side) g).offers) NoOffer ∷ refuse (nat_lt (ply_of g) 2) TooEarly ∷ []))
+    (λ g side. first_of-reads ⊥ (while_running g at ++ for_accept g side)
     (Enter (entry g.number at (event.Accept side))) (tt, (tt, (tt, (tt, (tt, tt))))) tt)
 player-reads table at name parsed (act.Decline game) =
     in_seat-reads table name game (decline_verdict at)
-    (λ g side. first_of-reads ⊥ (while_running g at ++ (refuse (not (seat_of (other side) g).offers) NoOffer ∷ []))
+    (λ g side. first_of-reads ⊥ (while_running g at ++ offered g side)
     (Enter (entry g.number at (event.Decline side))) (tt, (tt, (tt, (tt, tt)))) tt)
 player-reads table at name parsed (act.Resign game) =
     in_seat-reads table name game (resign_verdict at) (λ g side. first_of-reads ⊥ (while_running g at)

@@ -1,23 +1,16 @@
 -- The checks of a command, one group after another.
-use Rattle.std.specs.Prelude.{ℕ, not, List, [], ◌∷◌, Option, Some, None, if◌then◌else◌}
+use Rattle.std.specs.Prelude.{ℕ, List, [], ◌∷◌, Option, Some, None, if◌then◌else◌}
 use Rattle.chess_bits.specs.declared.men.Colour.{Colour}
-use Rattle.chess_bits.specs.Man.{other}
 use Rattle.chess_board.specs.Position.{Position}
 use Rattle.rec_codec.specs.declared.record.Opening.{Opening}
 use Rattle.chess_entry.specs.declared.verdicts.Verdict.{Verdict}
-use Rattle.chess_entry.specs.declared.refusals.Refusal.TheVariants.{NoOffer}
-use Rattle.chess_entry.specs.State.{GameState, seat_of}
-use Rattle.chess_entry.specs.Verdict.{Check, opening_for, refuse}
+use Rattle.chess_entry.specs.Verdict.{Check, opening_for}
 use Rattle.chess_game.specs.declared.games.Times.{Times}
 
 -- the verdict of the first check that applies, if one does
 abbrev pub stopped_by : List Check → Option Verdict
 stopped_by [] = None
 stopped_by (c ∷ checks) = if c.applies then Some c.verdict else stopped_by checks
-
--- an offer of the opponent stands
-abbrev pub offered : GameState → Colour → List Check
-offered game side = refuse (not (seat_of (other side) game).offers) NoOffer ∷ []
 
 -- what a player opens with a colour and the times together, from each start
 abbrev pub opening_from : Colour → Times → List ℕ → Position → Opening

@@ -9,10 +9,10 @@ ghost use Rattle.chess_entry.specs.declared.verdicts.Verdict.{Verdict};
 ghost use Rattle.chess_entry.specs.declared.verdicts.Verdict.TheVariants.{Refuse, Enter};
 ghost use Rattle.chess_entry.specs.State.{TableState, find_game, seat_of};
 ghost use Rattle.chess_entry.specs.Parsed.{Parsed, parsed, bytes_of};
-ghost use Rattle.chess_entry.specs.Verdict.{while_running, in_turn, for_move, for_stated, are_times, in_game, by_side, side_of, is_full, has_offer, open_verdict, join_verdict, move_verdict, offer_verdict, accept_verdict, decline_verdict, resign_verdict, claim_verdict, flag_verdict, drop_verdict, player_verdict, verdict, is_read, IsVerdict};
+ghost use Rattle.chess_entry.specs.Verdict.{while_running, in_turn, for_move, for_stated, offered, are_times, in_game, by_side, side_of, is_full, has_offer, open_verdict, join_verdict, move_verdict, offer_verdict, accept_verdict, decline_verdict, resign_verdict, claim_verdict, flag_verdict, drop_verdict, player_verdict, verdict, is_read, IsVerdict};
 ghost use Rattle.chess_entry.specs.Table.{IsEnteredOn};
 ghost use Rattle.chess_table.specs.Entered.{OnEnter};
-ghost use Rattle.chess_table.specs.Checks.{stopped_by, offered, opening_from};
+ghost use Rattle.chess_table.specs.Checks.{stopped_by, opening_from};
 ghost use Rattle.chess_table.specs.Asked.{game_of, asked_verdict, IsAskedBy, AsksNoSeat};
 ghost use Rattle.chess_table.specs.Parsing.{IsTheStart, IsTheMove, IsTheParsed};
 

@@ -7,8 +7,7 @@ use Rattle.chess_entry.specs.declared.refusals.Refusal.TheVariants.{TooEarly}
 use Rattle.chess_entry.specs.declared.verdicts.Verdict.{Verdict}
 use Rattle.chess_entry.specs.declared.verdicts.Verdict.TheVariants.{Enter}
 use Rattle.chess_entry.specs.State.{ply_of}
-use Rattle.chess_entry.specs.Verdict.{Check, refuse, while_running}
-use Rattle.chess_table.specs.Checks.{offered}
+use Rattle.chess_entry.specs.Verdict.{Check, refuse, while_running, offered}
 use Rattle.chess_table.proofs.CheckLemmas.{stops, passes, applies, skipped}
 use Rattle.chess_table.proofs.judging.accept_verdict.Goals as goal
 

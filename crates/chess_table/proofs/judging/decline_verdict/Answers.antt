@@ -3,8 +3,7 @@ use Rattle.rec_codec.specs.declared.record.Event.TheVariants as event
 use Rattle.rec_codec.specs.Records.{entry}
 use Rattle.chess_entry.specs.declared.verdicts.Verdict.{Verdict}
 use Rattle.chess_entry.specs.declared.verdicts.Verdict.TheVariants.{Enter}
-use Rattle.chess_entry.specs.Verdict.{Check, while_running}
-use Rattle.chess_table.specs.Checks.{offered}
+use Rattle.chess_entry.specs.Verdict.{Check, while_running, offered}
 use Rattle.chess_table.proofs.CheckLemmas.{stops_last, passes_last}
 use Rattle.chess_table.proofs.judging.decline_verdict.Goals as goal
 

@@ -1,6 +1,5 @@
 use Rattle.std.proofs.Common.{sym, ◌∙◌}
-use Rattle.chess_entry.specs.Verdict.{while_running}
-use Rattle.chess_table.specs.Checks.{offered}
+use Rattle.chess_entry.specs.Verdict.{while_running, offered}
 use Rattle.chess_table.proofs.CheckLemmas.{stopped-first, stopped-second}
 use Rattle.chess_table.proofs.judging.while_offered.Goals as goal
 

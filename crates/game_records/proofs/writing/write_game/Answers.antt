@@ -8,7 +8,7 @@ pub put_moves-requires : goal.put_moves-requires
 put_moves-requires c =
     let game = c.args.game.now in
     subst (λ (ms : List Move). AllBecome ms) (sym c.moves.ensures)
-    (AllBecome-legal game.start game.moves c.number.ensures.game.played.legal)
+    (AllBecome-legal game.start game.moves c.number.ensures.game.played.line.legal)
 
 pub returns-clause-written : goal.returns-clause-written
 returns-clause-written c =
