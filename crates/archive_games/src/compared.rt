@@ -1,5 +1,6 @@
 //! Whether a game of the table is the one that the archive has under its number.
 use archive_file::{game_of, pgn_of};
+use pgn_tags::is_tag;
 use std::alloc::{AllocError, Global};
 use text_parts::parts;
 
@@ -36,7 +37,7 @@ pub fn telling_parts<'a>(alloc: Global, pgn: &'a str) -> Result<Vec<&'a str>, Al
     let mut telling = Vec::new(alloc);
     let mut is_comment = false;
     for line in parts(alloc, pgn, '\n')?.as_slice() {
-        if !line.starts_with('[') {
+        if !is_tag(line) {
             is_comment = push_words(&mut telling, alloc, line, is_comment)?;
         } else if !is_of_the_call(line) {
             telling.push(*line)?;
