@@ -1,6 +1,6 @@
 -- What is done at a browser's connection is told on.
 use Rattle.std.proofs.Common.{◌≡◌, ◌≢◌, ◌≤◌, ℕ, Bool, true, false, inl, inr, List, [], ◌∷◌, ◌++◌, Option, None, Some, filter, cond, length, take, refl, ap, sym, ◌∙◌, subst, append_assoc, append-nil, length-append, arith, Vec, Global}
-use Rattle.std.specs.Prelude.{◌==◌, IsUtf8, if◌then◌else◌}
+use Rattle.std.specs.Prelude.{◌⊎◌, ◌==◌, IsUtf8, if◌then◌else◌}
 use Rattle.std.specs.List.{AllZip}
 use Rattle.std.specs.String.{string_bytes}
 use Rattle.std.specs.Io.KnownBytes.{Consumes, Appends}
@@ -238,6 +238,14 @@ module _ {S : Type 0} (remaining contents : S → Option (List ℕ)) (site : Sit
     told = told_same n steps out was.past (d ∷ was.past) (quiet was.past).told was.told;
   }
 
+  -- where its socket was tried for nothing
+  tried_more : (steps : List Step) (out : List MessageValue) (n : Option ℕ) (old new : Guest S) → new.browser ≡ old.browser →
+      Consumes (remaining old.stream) (remaining new.stream) [] ⊎ Appends (contents old.stream) (contents new.stream) [] →
+      Served steps out n (spot old) → Served steps out n (spot new)
+  tried_more steps out n old new browser tried was =
+      done_more steps out n Tried (spot old) (spot new) (λ past. record { opened = refl; given = refl; told = refl; late = λ so_far. so_far }) tt
+      (ap (λ (b : Browser). b.stage) browser, tried) was
+
   -- where its connection and its socket are as they were
   stays_at : (steps : List Step) (out : List MessageValue) (n : Option ℕ) (old new : Guest S) → new.browser ≡ old.browser →
       new.stream ≡ old.stream → Served steps out n (spot old) → Served steps out n (spot new)
@@ -255,12 +263,8 @@ module _ {S : Type 0} (remaining contents : S → Option (List ℕ)) (site : Sit
       Served steps out old.number (spot old) → Served steps out new.number (spot new)
   served_read steps out old new reads was =
       subst (λ (n : Option ℕ). Served steps out n (spot new)) (sym reads.number) (elim reads.takes [
-        | inl none ↦ done_more steps out old.number Tried (spot old) (spot new)
-            (λ past. record { opened = refl; given = refl; told = refl; late = λ so_far. so_far }) tt (
-              ap (λ (b : Browser). b.stage) none.0,
-              inl (subst (λ (l : List ℕ). Consumes (remaining old.stream) (remaining new.stream) l)
-                  none.1 reads.consumed),
-            ) was
+        | inl none ↦ tried_more steps out old.number old new none.0
+            (inl (subst (λ (l : List ℕ). Consumes (remaining old.stream) (remaining new.stream) l) none.1 reads.consumed)) was
         | inr takes ↦ done_more steps out old.number (Took site reads.taken) (spot old) (spot new)
             (λ past. record { opened = refl; given = refl; told = refl; late = λ so_far. so_far }) refl (reads.consumed, takes.0, takes.1) was
       ])
@@ -278,11 +282,8 @@ module _ {S : Type 0} (remaining contents : S → Option (List ℕ)) (site : Sit
       Served steps out old.number (spot old) → Served steps out new.number (spot new)
   served_written steps out old new written was =
       subst (λ (n : Option ℕ). Served steps out n (spot new)) (sym written.number) (elim written.goes [
-        | inl none ↦ done_more steps out old.number Tried (spot old) (spot new)
-            (λ past. record { opened = refl; given = refl; told = refl; late = λ so_far. so_far }) tt (
-              ap (λ (b : Browser). b.stage) none.0,
-              inr (subst (λ (k : ℕ). Appends (contents old.stream) (contents new.stream) (take k (pending old.browser.stage))) none.1 written.written),
-            ) was
+        | inl none ↦ tried_more steps out old.number old new none.0
+            (inr (subst (λ (k : ℕ). Appends (contents old.stream) (contents new.stream) (take k (pending old.browser.stage))) none.1 written.written)) was
         | inr writes ↦ done_more steps out old.number (Wrote site (take written.count (pending old.browser.stage))) (spot old) (spot new)
             (λ past. record { opened = refl; given = refl; told = refl; late = λ so_far. so_far }) refl
             (written.count, written.within, refl, written.written, writes) was

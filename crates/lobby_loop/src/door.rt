@@ -1,12 +1,12 @@
 //! Where browsers come in.
-ghost use Rattle.std.specs.Prelude.{◌≡◌, ◌↔◌, ◌⊎◌, List};
+ghost use Rattle.std.specs.Prelude.{List};
 ghost use Rattle.lobby_loop.specs.Turning.{Admits, AreAdmitted};
 
 use crate::hall::Hall;
 use mio::net::{TcpListener, TcpStream};
 use mio::{Interest, Registry, Token};
+use server_calls::{AcceptFault, accept_fault};
 use std::io;
-use std::io::ErrorKind;
 use std::net::{Net, SocketAddr};
 
 /// What a try to accept a connection found.
@@ -19,32 +19,6 @@ pub enum Found<S> {
     Lost,
     /// One may wait, and the system has no descriptor or no memory for it.
     Refused,
-}
-
-/// What a fault of `accept` says.
-#[derive(Clone, Copy)]
-pub enum Fault {
-    Nobody,
-    Lost,
-    Refused,
-}
-
-/// What a fault of `accept` says.
-pub fn fault_of(kind: ErrorKind) -> Fault
-    ensures nobody { result ≡ Fault.Nobody ↔ (kind ≡ ErrorKind.WouldBlock) }
-    ensures lost { result ≡ Fault.Lost ↔ ((kind ≡ ErrorKind.ConnectionAborted) ⊎ (kind ≡ ErrorKind.ConnectionReset)
-        ⊎ (kind ≡ ErrorKind.Interrupted)) }
-{
-    if kind == ErrorKind::WouldBlock {
-        Fault::Nobody
-    } else if kind == ErrorKind::ConnectionAborted
-        || kind == ErrorKind::ConnectionReset
-        || kind == ErrorKind::Interrupted
-    {
-        Fault::Lost
-    } else {
-        Fault::Refused
-    }
 }
 
 /// Where connections are accepted.
@@ -92,10 +66,10 @@ impl Listens for Gate<'_> {
         let stream = match self.listener.accept() {
             Ok((stream, _)) => stream,
             Err(error) => {
-                return match fault_of(error.kind()) {
-                    Fault::Nobody => Found::Nobody,
-                    Fault::Lost => Found::Lost,
-                    Fault::Refused => Found::Refused,
+                return match accept_fault(error.kind()) {
+                    AcceptFault::Nobody => Found::Nobody,
+                    AcceptFault::Lost => Found::Lost,
+                    AcceptFault::Refused => Found::Refused,
                 };
             }
         };

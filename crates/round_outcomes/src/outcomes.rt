@@ -5,7 +5,7 @@ use archive_lines::lines_of;
 use lobby_roster::Player;
 use pairing_commands::Source;
 use pairing_texts::{Note, Pairing, Seats, game_in, last_of};
-use pgn_tags::{is_move, unescaped, value_in};
+use pgn_tags::{is_move, is_tag, unescaped, value_in};
 use players_file::full_name;
 use rec_codec::Name;
 use round_games::{Shown, connect, show_game};
@@ -86,7 +86,7 @@ fn moves_among(words: &[&str]) -> u32 {
 
 // How many moves stand in a line that is no tag's.
 fn moves_in(alloc: Global, line: &str) -> Result<u32, AllocError> {
-    if line.starts_with("[") {
+    if is_tag(line) {
         return Ok(0);
     }
     let words = parts(alloc, line, ' ')?;
