@@ -451,8 +451,13 @@ module _ {S A : Type 0} (Same : A → A → Type 0) (same : (a : A) → Same a a
         }
 
     -- before the first
-    pub done_none : (clients : List (Client S)) (s t : A) → Same s t → IsDoneTo Same Done 0 clients clients s t
-    done_none clients s t stays = record { each = (refl, stays); same = λ d k from. refl; whole = refl }
+    pub done_none : (clients items : List (Client S)) (s t : A) → items ≡ clients → Same s t →
+        IsDoneTo Same Done 0 clients items s t
+    done_none clients items s t is stays = record {
+      each = (refl, stays);
+      same = λ d k from. ap (λ (l : List (Client S)). get_or l k d) is;
+      whole = ap (λ (l : List (Client S)). length l) is;
+    }
 
     -- and for all
     pub done_all : (i : ℕ) (old items : List (Client S)) (s t : A) → length items ≤ i → IsDoneTo Same Done i old items s t →

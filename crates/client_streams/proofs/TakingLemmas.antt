@@ -1,5 +1,5 @@
 -- What comes from a peer is held back, and goes to its session.
-use Rattle.std.proofs.Common.{◌≡◌, ◌≢◌, ◌∙◌, ◌≤◌, ◌<◌, ◌+◌, ◌⊎◌, ℕ, true, false, List, [], ◌++◌, Option, None, Some, IfSome, length, drop, refl, sym, subst, ap, inl, inr, append-nil, arith}
+use Rattle.std.proofs.Common.{◌≡◌, ◌≢◌, ◌∙◌, ◌≤◌, ◌<◌, ◌+◌, ◌⊎◌, ℕ, true, false, List, [], ◌∷◌, ◌++◌, Option, None, Some, IfSome, length, drop, refl, sym, subst, ap, inl, inr, append-nil, arith}
 use Rattle.std.specs.Prelude.{◌-◌, ◌^◌, min, IsSome, IsSomeAnd}
 use Rattle.std.proofs.lemmas.Bool.{cases_Bool, false≢true}
 use Rattle.std.specs.Io.KnownBytes.{Keeps}
@@ -37,6 +37,10 @@ pub some_all : {A : Type 0} (P : A → Type 0) (m : Option A) → ((x : A) → P
 some_all P None all = tt
 some_all P (Some x) all = all x
 
+pub some_more : {A : Type 0} (P Q : A → Type 0) (m : Option A) → ((x : A) → P x → Q x) → IfSome m P → IfSome m Q
+some_more P Q None more holds = tt
+some_more P Q (Some x) more holds = more x holds
+
 -- it is not open
 pub some_closed : {A : Type 0} (P : A → Type 0) (m : Option A) → (IsSome m → ⊥) → IfSome m P
 some_closed P None closed = tt
@@ -65,6 +69,16 @@ pub up_lines : (unsent keeps : List ℕ) (m n : Option SessionState) (count : �
     IfSome m (λ s. count ≡ length s.heard.bytes) → 0 < count → IfSome m (λ s. IsHeldUp unsent keeps s n)
 up_lines unsent keeps None n count is some = tt
 up_lines unsent keeps (Some s) n count is some = inr (inl (some_bytes s.heard.bytes count is some))
+
+no_bytes : (bytes : List ℕ) (count : ℕ) → count ≡ length bytes → count ≤ 0 → bytes ≡ []
+no_bytes [] count is none = refl
+no_bytes (b ∷ bytes) count is none = absurd (omega (arith, is, none))
+
+-- no line of its session waits
+pub none_lines : (m : Option SessionState) (count : ℕ) → IfSome m (λ s. count ≡ length s.heard.bytes) → count ≤ 0 →
+    IfSome m (λ s. s.heard.bytes ≡ [])
+none_lines None count is none = tt
+none_lines (Some s) count is none = no_bytes s.heard.bytes count is none
 
 -- ---- for how many turns it waits
 

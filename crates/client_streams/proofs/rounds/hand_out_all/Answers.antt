@@ -1,9 +1,26 @@
 -- One client more is written to.
-use Rattle.std.proofs.Common.{◌<◌, length, arith}
+use Rattle.std.proofs.Common.{◌<◌, List, length, subst, sym, ◌∙◌, arith}
+use Rattle.std.proofs.lemmas.Bool.{false≢true}
+use Rattle.std.proofs.lemmas.List.{with_items_is}
 use Rattle.chess_sessions.specs.Session.{IsUnchanged}
-use Rattle.client_streams.specs.Rounds.{IsWritten}
-use Rattle.client_streams.proofs.RoundLemmas.{unchanged-refl, written_after, done_further}
+use Rattle.client_streams.specs.declared.client.Client.{Client}
+use Rattle.client_streams.specs.Rounds.{AreEach, IsWritten}
+use Rattle.client_streams.proofs.RoundLemmas.{unchanged-refl, written_after, done_none, done_further, done_all}
 use Rattle.client_streams.proofs.rounds.hand_out_all.Goals as goal
+
+pub loop-client-init : goal.loop-client-init
+loop-client-init g c = record {
+  done = done_none IsUnchanged unchanged-refl (IsWritten g.S.Write.contents) c.args.clients.now.items
+      c.deref_mut-client-items.result.now c.args.sessions.now c.args.sessions.now c.deref_mut-client-items.ensures.value
+      (unchanged-refl c.args.sessions.now);
+  more = λ is. absurd (false≢true is);
+}
+
+pub bounds-client-items-client-index : goal.bounds-client-items-client-index
+bounds-client-items-client-index g c = omega (arith, c.loop-client-test.true, c.loop-client.auto.client-items)
+
+pub loop-client-smaller : goal.loop-client-smaller
+loop-client-smaller g c = omega (arith, c.loop-client-test.true)
 
 pub loop-client-preserved : goal.loop-client-preserved
 loop-client-preserved g c =
@@ -17,3 +34,19 @@ loop-client-preserved g c =
           c.args.sessions.now c.loop-client.sessions c.write_for-any.new.sessions lt so_far.done c.write_for-any.ensures;
       more = λ is. omega (arith, lt, so_far.done.whole);
     }
+
+pub returns-clause-written : goal.returns-clause-written
+returns-clause-written g c =
+    let clients = c.args.clients.now in
+    let items = c.loop-client.client-items in
+    let so_far = c.loop-client.invariant.done in
+    let old = c.args.sessions.now in
+    let new = c.loop-client.sessions in
+    let Done = IsWritten g.S.Write.contents in
+    subst (λ (l : List (Client g.row.S.Denot)). AreEach IsUnchanged Done clients.items l old new)
+    (sym (with_items_is clients items (so_far.whole ∙ sym clients.ok.0)))
+    (done_all IsUnchanged unchanged-refl Done c.loop-client.client-index clients.items items old new
+    (omega (arith, c.loop-client-test.false, c.loop-client.auto.client-items)) so_far)
+
+pub returns-clause-more : goal.returns-clause-more
+returns-clause-more g c = c.loop-client.invariant.more

@@ -1,11 +1,35 @@
 -- One client more is read for.
 use Rattle.std.proofs.Common.{◌<◌, ◌+◌, ℕ, List, length, set, ap, subst, sym, ◌∙◌, arith}
+use Rattle.std.proofs.lemmas.Bool.{false≢true}
 use Rattle.std.proofs.lemmas.List.{with_items_is}
 use Rattle.client_streams.specs.declared.client.Client.{Client}
 use Rattle.client_streams.specs.Rounds.{intake, Holds, AreEach, IsRead}
 use Rattle.client_streams.specs.Clients.{IsLongest}
-use Rattle.client_streams.proofs.RoundLemmas.{IsDoneTo, holds-refl, read_after, done_further, done_all}
+use Rattle.client_streams.proofs.RoundLemmas.{IsDoneTo, holds-refl, read_after, done_none, done_further, done_all}
 use Rattle.client_streams.proofs.rounds.take_in_all.Goals as goal
+
+pub loop-client-init : goal.loop-client-init
+loop-client-init g c =
+    let clients = c.args.clients.now.items in
+    let sessions = c.args.sessions.now in
+    let items = c.deref_mut-client-items.result.now in
+    let room = c.new-room.result in
+    let start = intake sessions 1 in
+    let Done = IsRead g.S.Read.remaining c.args.reading.silence c.args.reading.at room.longest in
+    record {
+      done = subst (λ (n : ℕ). IsDoneTo Holds Done 0 clients items start (intake sessions n)) (sym c.new-room.ensures.lines)
+          (done_none Holds holds-refl Done clients items start start c.deref_mut-client-items.ensures.value (holds-refl start));
+      longest = subst (λ (n : ℕ). IsLongest sessions clients n) (sym c.new-room.ensures.longest)
+          (subst (λ (l : List (Client g.row.S.Denot)). IsLongest sessions l c.longest_wait.result) c.deref.ensures.value
+          c.longest_wait.ensures);
+      more = λ is. absurd (false≢true is);
+    }
+
+pub bounds-client-items-client-index : goal.bounds-client-items-client-index
+bounds-client-items-client-index g c = omega (arith, c.loop-client-test.true, c.loop-client.auto.client-items)
+
+pub loop-client-smaller : goal.loop-client-smaller
+loop-client-smaller g c = omega (arith, c.loop-client-test.true)
 
 pub loop-client-preserved : goal.loop-client-preserved
 loop-client-preserved g c =
@@ -55,3 +79,6 @@ returns-clause-read g c =
           (done_all Holds holds-refl Done c.loop-client.client-index clients.items items old new
           (omega (arith, c.loop-client-test.false, c.loop-client.auto.client-items)) so_far),
     )
+
+pub returns-clause-more : goal.returns-clause-more
+returns-clause-more g c = c.loop-client.invariant.more

@@ -1,12 +1,24 @@
 -- The session is given the portion, or nothing.
-use Rattle.std.proofs.Common.{inl, refl, rules, arith}
+use Rattle.std.proofs.Common.{ap, inl, length, length-append, refl, rules, arith}
 use Rattle.chess_sessions.specs.Session.{session_at}
 use Rattle.std.proofs.lemmas.Bool.{false≢true}
 use Rattle.client_streams.specs.Incoming.{held}
 use Rattle.client_streams.specs.Sending.{waiting}
-use Rattle.client_streams.proofs.TakingLemmas.{gives-none-up, gives-none-yet, gives-closed, gives-fed, up_lines, cut-off, most-left, heard_open}
+use Rattle.client_streams.proofs.TakingLemmas.{gives-none-up, gives-none-yet, gives-closed, gives-fed, up_lines, none_lines, cut-off, most-left, heard_open}
 use Rattle.client_streams.proofs.RoundLemmas.{not_closed}
 use Rattle.client_streams.proofs.client.Client.hand_on.Goals as goal
+
+pub feed-requires-clause-small : goal.feed-requires-clause-small
+feed-requires-clause-small g c =
+    omega (arith, c.args.self.now.incoming.few, simp length-append at (ap length c.portion-portion.ensures.portion.order))
+
+pub feed-requires-clause-portion : goal.feed-requires-clause-portion
+feed-requires-clause-portion g c = c.portion-portion.ensures.portion.given
+
+pub feed-requires-clause-alone : goal.feed-requires-clause-alone
+feed-requires-clause-alone g c =
+    none_lines (session_at c.args.sessions.now c.args.self.now.sid) c.waiting.result c.waiting.ensures
+    (omega (arith, c.if-waiting-gt0.false))
 
 pub returns-then-waiting-gt0-clause-gives : goal.returns-then-waiting-gt0-clause-gives
 returns-then-waiting-gt0-clause-gives g c =
@@ -53,6 +65,10 @@ returns-else-feed-clause-gives g c =
 
 -- who is not refused memory is not closed
 
+pub returns-then-waiting-gt0-clause-reason : goal.returns-then-waiting-gt0-clause-reason
+returns-then-waiting-gt0-clause-reason g c =
+    not_closed (session_at c.args.sessions.now c.args.self.now.sid) _ c.requires
+
 pub returns-then-not-admit-clause-reason : goal.returns-then-not-admit-clause-reason
 returns-then-not-admit-clause-reason g c =
     not_closed (session_at c.args.sessions.now c.args.self.now.sid) _ c.requires
@@ -78,3 +94,11 @@ returns-then-feed-clause-refused g c =
 
 pub returns-else-feed-clause-refused : goal.returns-else-feed-clause-refused
 returns-else-feed-clause-refused g c = λ none. inl c.if-feed.ensures.refused
+
+-- the others stay
+
+pub returns-then-feed-clause-others : goal.returns-then-feed-clause-others
+returns-then-feed-clause-others g c = c.feed.ensures.others
+
+pub returns-else-feed-clause-others : goal.returns-else-feed-clause-others
+returns-else-feed-clause-others g c = c.feed.ensures.others

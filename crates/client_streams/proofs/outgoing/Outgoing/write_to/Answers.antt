@@ -1,7 +1,32 @@
-use Rattle.std.proofs.Common.{◌≡◌, ◌-◌, ◌+◌, ◌++◌, length, sym, ap, ◌∙◌, subst, take, drop, take-append-drop, arith}
+-- A front of what waited was written, and the rest waits on.
+use Rattle.std.proofs.Common.{◌≡◌, ◌≤◌, ◌-◌, ◌+◌, ◌++◌, ◌∙◌, ℕ, List, Option, length, refl, sym, ap, subst, take, drop, take-append-drop, arith}
 use Rattle.std.specs.Io.KnownBytes.{Appends}
-use Rattle.std.proofs.lemmas.List.{take_rest, drop-drop, length-drop}
+use Rattle.std.proofs.lemmas.Bool.{false≢true}
+use Rattle.std.proofs.lemmas.List.{take_rest, drop-drop, drop_all, length-drop}
+use Rattle.client_streams.specs.Sending.{HandsOn}
 use Rattle.client_streams.proofs.outgoing.Outgoing.write_to.Goals as goal
+
+front_of : (before after : Option (List ℕ)) (items rest : List ℕ) (from count : ℕ) →
+    Appends before after (take count (drop from items)) → drop (from + count) items ≡ rest →
+    HandsOn before after (drop from items) rest
+front_of before after items rest from count appended left = record {
+  front = take count (drop from items);
+  appended = appended;
+  split = sym (take-append-drop count (drop from items)) ∙ ap (λ l. take count (drop from items) ++ l)
+      (drop-drop count from items ∙ left);
+}
+
+pub returns-then-is_empty-clause-front : goal.returns-then-is_empty-clause-front
+returns-then-is_empty-clause-front g c =
+    let items = c.args.self.now.text.items in
+    let from = c.args.self.now.sent in
+    let count = c.transmit-written.result.count in
+    let old = g.W.Write.contents c.args.writer.now.stream in
+    let new = g.W.Write.contents c.transmit-written.new.self.stream in
+    let text = ap (λ l. take (length l - from) (drop from l)) c.deref.ensures.value ∙ take_rest items from in
+    front_of old new items _ from count
+    (subst (λ l. Appends old new (take count l)) text c.transmit-written.ensures.front)
+    (c.is_empty.ensures.0 c.if-is_empty.true ∙ sym c.clear.ensures.nothing)
 
 pub returns-else-is_empty-clause-front : goal.returns-else-is_empty-clause-front
 returns-else-is_empty-clause-front g c =
@@ -10,14 +35,9 @@ returns-else-is_empty-clause-front g c =
     let count = c.transmit-written.result.count in
     let old = g.W.Write.contents c.args.writer.now.stream in
     let new = g.W.Write.contents c.transmit-written.new.self.stream in
-    record {
-      front = take count (drop from items);
-      appended = subst (λ l. Appends old new (take count l))
-          (ap (λ l. take (length l - from) (drop from l)) c.deref.ensures.value ∙ take_rest items from)
-          c.transmit-written.ensures.front;
-      split = sym (take-append-drop count (drop from items)) ∙ ap (λ l. take count (drop from items) ++ l)
-          (drop-drop count from items);
-    }
+    let text = ap (λ l. take (length l - from) (drop from l)) c.deref.ensures.value ∙ take_rest items from in
+    front_of old new items _ from count
+    (subst (λ l. Appends old new (take count l)) text c.transmit-written.ensures.front) refl
 
 pub returns-then-is_empty-clause-all : goal.returns-then-is_empty-clause-all
 returns-then-is_empty-clause-all g c =
@@ -30,3 +50,29 @@ returns-then-is_empty-clause-all g c =
     let none : length items - (from + count) ≡ 0 =
     sym (length-drop (from + count) items) ∙ ap length (c.is_empty.ensures.0 c.if-is_empty.true) in
     (λ all. c.clear.ensures.nothing, λ empty. c.transmit-written.ensures.all.1 (omega (arith, none, here, text, c.transmit-written.ensures.within)))
+
+pub returns-else-is_empty-clause-all : goal.returns-else-is_empty-clause-all
+returns-else-is_empty-clause-all g c =
+    let items = c.args.self.now.text.items in
+    let from = c.args.self.now.sent in
+    let count = c.transmit-written.result.count in
+    let text : length (take (length items - from) (drop from items)) ≡ length items - from =
+    ap length (take_rest items from) ∙ length-drop from items in
+    let here = ap (λ l. length (take (length l - from) (drop from l))) c.deref.ensures.value in (
+      λ all.
+          let whole : length items ≤ from + count = omega (arith, here, text, c.transmit-written.ensures.all.0 all) in
+          drop_all (from + count) items whole,
+      λ empty. absurd (false≢true (sym c.if-is_empty.false ∙ c.is_empty.ensures.1 empty)),
+    )
+
+pub returns-then-is_empty-clause-room : goal.returns-then-is_empty-clause-room
+returns-then-is_empty-clause-room g c = λ nothing. c.clear.ensures.room
+
+pub returns-else-is_empty-clause-room : goal.returns-else-is_empty-clause-room
+returns-else-is_empty-clause-room g c = λ empty. absurd (false≢true (sym c.if-is_empty.false ∙ c.is_empty.ensures.1 empty))
+
+pub returns-then-is_empty-clause-failed : goal.returns-then-is_empty-clause-failed
+returns-then-is_empty-clause-failed g c = λ fault. c.transmit-written.ensures.failed fault
+
+pub returns-else-is_empty-clause-failed : goal.returns-else-is_empty-clause-failed
+returns-else-is_empty-clause-failed g c = λ fault. c.transmit-written.ensures.failed fault
