@@ -257,7 +257,11 @@ pub fn command<'a>(alloc: Global) -> Result<Command<'a>, AllocError> {
 
 /// Reads the words, the program's own name first. An `Err` is a usage fault, or a request for help.
 pub fn read_words<'a>(alloc: Global, words: &'a [String]) -> Result<Word<'a>, Error> {
-    read_by(alloc, &mut command(alloc)?, words, word_given)
+    let mut command = command(alloc)?;
+    let word = read_by(alloc, &mut command, words, word_given);
+    // (it goes by a call: here all its parts would be let go)
+    drop(command);
+    word
 }
 
 fn word_given<'a>(
@@ -295,10 +299,10 @@ fn serving_of<'a>(alloc: Global, values: &ArgMatches<'a>) -> Result<Option<Word<
         server,
         address: SocketAddr::new(address, values.get_one("port").unwrap_or(PORT)),
         page: values.get_str("page").unwrap_or("page"),
-        hosts: Vec::from_slice(alloc, values.get_strs("host").unwrap_or(&[]))?,
         live: values.get_str("live"),
-        journals: Vec::from_slice(alloc, values.get_strs("journal").unwrap_or(&[]))?,
         log: values.get_str("log"),
+        hosts: Vec::from_slice(alloc, values.get_strs("host").unwrap_or(&[]))?,
+        journals: Vec::from_slice(alloc, values.get_strs("journal").unwrap_or(&[]))?,
     })))
 }
 
