@@ -87,11 +87,12 @@ module _ {D T : Type 0} (state : D → State) (sector_count failures : D → ℕ
   module _ (old new : D) (given : Result (Unit {0}) JournalFault) {failed : Bool} {Limited : Type 0}
       (tried : IsTried state sector_count failures old new given failed Limited) where
     -- the commit was made
-    pub made_so : (x : T) → is_err given ≡ false → CallTried {T = T} state sector_count failures old new (Ok x) false
-    made_so x made = record {
+    pub made_so : (x : T) (now : Bool) → now ≡ false → is_err given ≡ false
+        → CallTried {T = T} state sector_count failures old new (Ok x) now
+    made_so x now works made = record {
       model = tried.model;
       sectors = tried.size;
-      works = refl;
+      works = works;
       fails = tt;
       cause = same_of given (failures old) (failures new) made tried.count;
       cause_err = tt;
