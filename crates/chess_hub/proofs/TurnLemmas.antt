@@ -1,5 +1,5 @@
 -- What a batch and a turn leave.
-use Rattle.std.specs.Prelude.{ℕ, ◌≡◌, ◌↔◌, Bool, true, List, [], ◌∷◌, length, Option, None, Result, Ok, Err, OnOk, IfErr, IsSomeAnd}
+use Rattle.std.specs.Prelude.{ℕ, ◌≡◌, Bool, true, List, [], ◌∷◌, length, Option, None, Result, Ok, Err, OnOk, IfErr, IsSomeAnd}
 use Rattle.std.proofs.Common.{refl, sym, subst, arith}
 use Rattle.std.specs.Option.{MatchOption}
 use Rattle.rec_codec.specs.declared.header.Header.{Header}
@@ -17,6 +17,7 @@ use Rattle.chess_sessions.specs.Delivery.{Answered, AllAnswered, HasAnswered, ow
 use Rattle.chess_store.specs.declared.fault.StoreFault.{StoreFault}
 use Rattle.chess_store.specs.Batch.{IsAnswered}
 use Rattle.chess_store.specs.Faults as faults
+use Rattle.chess_store.specs.Calling.{CallTried}
 use Rattle.table_commits.specs.Means.{MeansEither, IsKept}
 use Rattle.chess_store.proofs.RunLemmas.{same_leaves}
 use Rattle.chess_store.proofs.CallLemmas.{ok_was}
@@ -50,71 +51,66 @@ pub counts_of : (fault : StoreFault) (made : HubFault) (old new : ℕ) → made 
     → faults.CountsFault fault old new → CountsFault made old new
 counts_of fault made old new is holds = subst (λ (f : HubFault). CountsFault f old new) (sym is) holds
 
-module _ {T : Type 0} where
-  pub lasts_refused : (made : Result T HubFault) (y : HubFault) (fault : StoreFault) (old new : State) (header : Header)
-      (compaction : Compaction) (before after : TableState) → made ≡ Err y → y ≡ Store fault
+module _ {T : Type 0} {old new : State} {header : Header} {compaction : Compaction} {before after : TableState} where
+  pub lasts_refused : (made : Result T HubFault) (y : HubFault) (fault : StoreFault) → made ≡ Err y → y ≡ Store fault
       → LeavesOnly old new (MeansEither before after)
       → faults.UnlessDevice fault (IsKept new header compaction after)
       → TurnLasts made old new header compaction before after
-  lasts_refused made y fault old new header compaction before after is same leaves kept =
+  lasts_refused made y fault is same leaves kept =
       subst (λ (r : Result T HubFault). TurnLasts r old new header compaction before after) (sym is) (record {
         any_moment = leaves;
         kept = tt;
         kept_err = unless_of fault y (IsKept new header compaction after) same kept;
       })
 
-  pub tried_refused : {D : Type 0} (state : D → State) (sector_count failures : D → ℕ) (old new : D)
-      (made : Result T HubFault) (y : HubFault) (fault : StoreFault) (before after : TableState)
-      (failed new_failed : Bool) → made ≡ Err y → y ≡ Store fault
-      → ((state new).keeps_model ↔ (state old).keeps_model) → sector_count new ≡ sector_count old
+  pub lasts_answered : (given : Result T StoreFault) (x : T) → given ≡ Ok x
+      → LeavesOnly old new (MeansEither before after)
+      → OnOk given (IsKept new header compaction after)
+      → TurnLasts {T = T} (Ok x) old new header compaction before after
+  lasts_answered given x was leaves kept = record {
+    any_moment = leaves;
+    kept = ok_was given x (IsKept new header compaction after) was kept;
+    kept_err = tt;
+  }
+
+module _ {T D : Type 0} {state : D → State} {sector_count failures : D → ℕ} {old new : D} {before after : TableState}
+    {failed new_failed : Bool} where
+  pub tried_refused : (made : Result T HubFault) (y : HubFault) (fault : StoreFault) → made ≡ Err y → y ≡ Store fault
+      → CallTried {T = T} state sector_count failures old new (Err fault) new_failed
       → after.limits ≡ before.limits → IsTable after → (after ≡ before → new ≡ old)
-      → (faults.IsDevice fault → new_failed ≡ true)
       → faults.UnlessDevice fault ((new ≡ old) × (after ≡ before) × (new_failed ≡ failed))
-      → faults.CountsFault fault (failures old) (failures new)
       → TurnTried state sector_count failures old new made before after failed new_failed
-  tried_refused state sector_count failures old new made y fault before after failed new_failed is same model size limits
-      bounds idle fails unchanged counts =
+  tried_refused made y fault is same tried limits bounds idle unchanged =
       subst (λ (r : Result T HubFault). TurnTried state sector_count failures old new r before after failed new_failed)
       (sym is) (record {
-        model = model;
-        size = size;
+        model = tried.model;
+        size = tried.sectors;
         limits = limits;
         bounds = bounds;
         idle = idle;
         works = tt;
-        fails = fails_of fault y (new_failed ≡ true) same fails;
+        fails = fails_of fault y (new_failed ≡ true) same tried.fails;
         unchanged = unless_of fault y ((new ≡ old) × (after ≡ before) × (new_failed ≡ failed)) same unchanged;
         cause = tt;
-        cause_err = counts_of fault y (failures old) (failures new) same counts;
+        cause_err = counts_of fault y (failures old) (failures new) same tried.cause_err;
       })
 
-  -- nothing was asked of the store
-  pub lasts_same : (made : Result T HubFault) (y : HubFault) (sectors : ℕ) (now : State) (header : Header)
-      (compaction : Compaction) (table : TableState) → IsCoherent sectors now → made ≡ Err y → y ≡ NoMemory
-      → IsKept now header compaction table → TurnLasts made now now header compaction table table
-  lasts_same made y sectors now header compaction table coherent is same kept =
+-- nothing was asked of the store
+module _ {T : Type 0} {now : State} {header : Header} {compaction : Compaction} {table : TableState} (sectors : ℕ)
+    (coherent : IsCoherent sectors now) (kept : IsKept now header compaction table) where
+  pub lasts_same : (made : Result T HubFault) (y : HubFault) → made ≡ Err y → y ≡ NoMemory
+      → TurnLasts made now now header compaction table table
+  lasts_same made y is same =
       subst (λ (r : Result T HubFault). TurnLasts r now now header compaction table table) (sym is) (record {
-        any_moment = same_leaves sectors now now header compaction table table coherent refl kept;
+        any_moment = same_leaves sectors now table coherent refl kept;
         kept = tt;
         kept_err = subst (λ (f : HubFault). UnlessDevice f (IsKept now header compaction table)) (sym same) kept;
       })
 
-  pub lasts_idle : (x : T) (sectors : ℕ) (now : State) (header : Header) (compaction : Compaction) (table : TableState)
-      → IsCoherent sectors now → IsKept now header compaction table
-      → TurnLasts {T = T} (Ok x) now now header compaction table table
-  lasts_idle x sectors now header compaction table coherent kept = record {
-    any_moment = same_leaves sectors now now header compaction table table coherent refl kept;
+  pub lasts_idle : (x : T) → TurnLasts {T = T} (Ok x) now now header compaction table table
+  lasts_idle x = record {
+    any_moment = same_leaves sectors now table coherent refl kept;
     kept = kept;
-    kept_err = tt;
-  }
-
-  pub lasts_answered : (given : Result T StoreFault) (x : T) (old new : State) (header : Header) (compaction : Compaction)
-      (before after : TableState) → given ≡ Ok x → LeavesOnly old new (MeansEither before after)
-      → OnOk given (IsKept new header compaction after)
-      → TurnLasts {T = T} (Ok x) old new header compaction before after
-  lasts_answered given x old new header compaction before after was leaves kept = record {
-    any_moment = leaves;
-    kept = ok_was given x (IsKept new header compaction after) was kept;
     kept_err = tt;
   }
 
@@ -128,12 +124,11 @@ turn_fault NoMemory Same P Q more is = absurd is
 turn_fault LineTooLong Same P Q more is = is
 turn_fault (Store refused) Same P Q more is = more refused is
 
-module _ {S T : Type 0} where
-  pub lasts_passed : (given : Result S HubFault) (made : Result T HubFault) (fault y : HubFault) (old new : State)
-      (header : Header) (compaction : Compaction) (before after : TableState) → given ≡ Err fault → made ≡ Err y
-      → y ≡ fault → TurnLasts given old new header compaction before after
+module _ {S T : Type 0} {old new : State} {header : Header} {compaction : Compaction} {before after : TableState} where
+  pub lasts_passed : (given : Result S HubFault) (made : Result T HubFault) (fault y : HubFault) → given ≡ Err fault
+      → made ≡ Err y → y ≡ fault → TurnLasts given old new header compaction before after
       → TurnLasts made old new header compaction before after
-  lasts_passed given made fault y old new header compaction before after was is same lasts =
+  lasts_passed given made fault y was is same lasts =
       let l : TurnLasts {T = S} (Err fault) old new header compaction before after =
       subst (λ (r : Result S HubFault). TurnLasts r old new header compaction before after) was lasts in
       subst (λ (r : Result T HubFault). TurnLasts r old new header compaction before after) (sym is) (record {
@@ -142,11 +137,10 @@ module _ {S T : Type 0} where
         kept_err = subst (λ (f : HubFault). UnlessDevice f (IsKept new header compaction after)) (sym same) l.kept_err;
       })
 
-  pub lasts_done : (given : Result S HubFault) (x : S) (z : T) (old new : State) (header : Header)
-      (compaction : Compaction) (before after : TableState) → given ≡ Ok x
+  pub lasts_done : (given : Result S HubFault) (x : S) (z : T) → given ≡ Ok x
       → TurnLasts given old new header compaction before after
       → TurnLasts {T = T} (Ok z) old new header compaction before after
-  lasts_done given x z old new header compaction before after was lasts =
+  lasts_done given x z was lasts =
       let l : TurnLasts {T = S} (Ok x) old new header compaction before after =
       subst (λ (r : Result S HubFault). TurnLasts r old new header compaction before after) was lasts in
       record {
@@ -155,12 +149,14 @@ module _ {S T : Type 0} where
         kept_err = tt;
       }
 
-  pub tried_passed : {D : Type 0} (state : D → State) (sector_count failures : D → ℕ) (old new : D)
-      (made : Result T HubFault) (fault y : HubFault) (before after : TableState) (failed new_failed : Bool)
+module _ {S T : Type 0} where
+  pub tried_passed : {D : Type 0} {state : D → State} {sector_count failures : D → ℕ} {old new : D}
+      {before after : TableState} {failed new_failed : Bool} (made : Result T HubFault) (fault y : HubFault)
       → made ≡ Err y → y ≡ fault
       → TurnTried {T = S} state sector_count failures old new (Err fault) before after failed new_failed
       → TurnTried state sector_count failures old new made before after failed new_failed
-  tried_passed state sector_count failures old new made fault y before after failed new_failed is same tried =
+  tried_passed {state = state} {sector_count = sector_count} {failures = failures} {old = old} {new = new}
+      {before = before} {after = after} {failed = failed} {new_failed = new_failed} made fault y is same tried =
       subst (λ (r : Result T HubFault). TurnTried state sector_count failures old new r before after failed new_failed)
       (sym is) (record {
         model = tried.model;

@@ -3,3 +3,4 @@ pub mod Turning
 pub mod Calls
 pub mod Sessions
 pub mod Law
+pub mod Storing

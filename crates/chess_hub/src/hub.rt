@@ -6,9 +6,9 @@ ghost use Rattle.chess_sessions.specs.Delivery.{HaveRoom, asking_count};
 ghost use Rattle.chess_sessions.specs.Turn.{AreTakenAs, turn_lines, waiting_of};
 ghost use Rattle.chess_sessions.specs.Session.{said, fresh, session_at, session_count, Changes, IsUnchanged, due, first_due, given_one};
 ghost use Rattle.chess_store.specs.Batch.{AreAnswered};
-ghost use Rattle.chess_store.specs.Kept.{IsStoreKept};
 ghost use Rattle.chess_hub.specs.Faults.{IsConnectFault, IsFeedFault, refusals_after};
-ghost use Rattle.chess_hub.specs.Turning.{HasTurned, AsksFor, MayBeAsked, AreRefused, IsTurnFault, TurnLasts, TurnTried};
+ghost use Rattle.chess_hub.specs.Storing.{StoreMayBeAsked, StoreRefuses, StoreLasts, StoreTried};
+ghost use Rattle.chess_hub.specs.Turning.{HasTurned, AsksFor, IsTurnFault};
 
 use crate::fault::HubFault;
 use chess_answer::Reply;
@@ -52,14 +52,11 @@ fn ask<D: Device>(
         AreAnswered store.old.table commands.now replies.items store.new.table) }
     ensures count { IfOk result (λ replies. length replies.items ≡ length commands.now) }
     ensures quiet { commands.now ≡ [] → store.new ≡ store.old }
-    ensures works { OnOk result (MayBeAsked store.old.failed store.old.journal.header.seq
-        store.old.table.entries commands.now) }
-    ensures fault { IfErr result (λ fault. IsTurnFault fault ⊥ (λ refused. AreRefused refused
-        store.old.journal.header.seq store.old.failed store.old.table store.new.table commands.now)) }
-    ensures lasts { IsStoreKept store.old → TurnLasts result (D.state store.old.journal.device) (D.state store.new.journal.device)
-        store.new.journal.header store.new.journal.compaction store.old.table store.new.table }
-    ensures tried { TurnTried D.state D.sector_count D.failures store.old.journal.device store.new.journal.device result
-        store.old.table store.new.table store.old.failed store.new.failed }
+    ensures works { OnOk result (StoreMayBeAsked store.old commands.now) }
+    ensures fault { IfErr result (λ fault. IsTurnFault fault ⊥
+        (λ refused. StoreRefuses store.old store.new refused commands.now)) }
+    ensures lasts { StoreLasts store.old store.new result }
+    ensures tried { StoreTried store.old store.new result }
     ensures counts { refusals.new ≡ refusals_after result refusals.old }
 {
     // With it, the table's bounds are known.
@@ -185,19 +182,13 @@ impl<D: Device> Hub<D> {
             self.old.store.table self.new.store.table) }
         ensures quiet { OnOk result (AsksFor at most self.old.sessions
             (λ commands. commands ≡ [] → self.new.store ≡ self.old.store)) }
-        ensures works { OnOk result (AsksFor at most self.old.sessions (MayBeAsked self.old.store.failed
-            self.old.store.journal.header.seq self.old.store.table.entries)) }
+        ensures works { OnOk result (AsksFor at most self.old.sessions (StoreMayBeAsked self.old.store)) }
         ensures unchanged { OnErr result (IsUnchanged self.old.sessions self.new.sessions) }
         ensures fault { IfErr result (λ fault. IsTurnFault fault (self.new.store ≡ self.old.store)
-            (λ refused. AsksFor at most self.old.sessions (AreRefused refused self.old.store.journal.header.seq
-            self.old.store.failed self.old.store.table self.new.store.table))) }
-        ensures lasts { IsStoreKept self.old.store
-            → TurnLasts result (D.state self.old.store.journal.device) (D.state self.new.store.journal.device)
-            self.new.store.journal.header self.new.store.journal.compaction self.old.store.table self.new.store.table }
+            (λ refused. AsksFor at most self.old.sessions (StoreRefuses self.old.store self.new.store refused))) }
+        ensures lasts { StoreLasts self.old.store self.new.store result }
         ensures counts { self.new.refusals ≡ refusals_after result self.old.refusals }
-        ensures tried { TurnTried D.state D.sector_count D.failures self.old.store.journal.device
-            self.new.store.journal.device result self.old.store.table self.new.store.table self.old.store.failed
-            self.new.store.failed }
+        ensures tried { StoreTried self.old.store self.new.store result }
     {
         // With it, the table's bounds are known.
         let _limits = self.store.limits();

@@ -3,7 +3,6 @@ use Rattle.std.proofs.Common.{◌≡◌, ℕ, suc, ◌≤◌, List, [], ◌∷�
 use Rattle.std.specs.Prelude.{◌⊎◌, Bool, option_map, is_some, count_by, IsErrOf, OnOk, slice_index_or}
 use Rattle.std.specs.Io.KnownBytes.{Appends}
 use Rattle.slab.specs.Slab.{get}
-use Rattle.sector_dev.specs.declared.device.Device.{Ghosts}
 use Rattle.sector_dev.specs.Device.{State}
 use Rattle.chess_sessions.specs.declared.sessions.Session.{Session}
 use Rattle.chess_sessions.specs.declared.sessions.Sessions.{Sessions}
@@ -11,13 +10,12 @@ use Rattle.chess_sessions.specs.Session.{shown, session_at, session_count}
 use Rattle.line_loop.specs.declared.answerer.LoopFault.{LoopFault}
 use Rattle.line_loop.specs.declared.answerer.LoopFault.TheVariants as loop
 use Rattle.line_loop.specs.Texts.{IsRun, IsText, AnswersAll, FindsNone, IsOfSource, Ended}
-use Rattle.chess_store.specs.declared.store.Store.{Store}
 use Rattle.chess_hub.specs.declared.fault.HubFault.{HubFault}
 use Rattle.chess_hub.specs.declared.fault.HubFault.TheVariants.{Busy, NoMemory, LineTooLong, Store as OfStore}
 use Rattle.chess_run.specs.declared.running.RunFault.{RunFault}
 use Rattle.chess_run.specs.declared.running.RunFault.TheVariants as faults
 use Rattle.chess_hub.specs.Faults.{IsConnectFault}
-use Rattle.chess_run.specs.Running.{Kept, kept, Standing, stands, AnswersLine, RefusesLine, of_loop, IsRunText, RunsOn, RunEnds, RunIsOfSource}
+use Rattle.chess_run.specs.Running.{Kept, Standing, stands, AnswersLine, RefusesLine, of_loop, IsRunText, RunsOn, RunEnds, RunIsOfSource}
 
 -- ---- the same, seen through a map of states
 
@@ -105,10 +103,6 @@ module _ {S T : Type 0} (A : S → List ℕ → List ℕ → S → Type 0) (B : 
     }
 
 -- ---- the run's own words
-
--- what a run sees of this store
-abbrev pub kept_of : {D : Type 0} {ghosts : Ghosts D} → Store D ghosts → Kept D
-kept_of store = kept store.journal.device store.journal.header store.journal.compaction store.table store.failed
 
 pub stands-is : {D M : Type 0} (a b : Kept D) (x y : Option (List ℕ)) (moments : M) → a ≡ b → x ≡ y →
     stands a x moments ≡ stands b y moments

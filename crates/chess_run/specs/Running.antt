@@ -4,20 +4,23 @@ use Rattle.std.specs.Io.KnownBytes.{Appends}
 use Rattle.session_lines.specs.Lines.{IsUnfinished}
 use Rattle.session_lines.specs.Heard.{heard}
 use Rattle.chess_entry.specs.declared.commands.Command.{Command}
+use Rattle.sector_dev.specs.declared.device.Device.{Ghosts}
 use Rattle.sector_dev.specs.Device.{State}
 use Rattle.chess_entry.specs.State.{TableState}
 use Rattle.chess_line.specs.declared.lines.Request.{Request}
 use Rattle.chess_sessions.specs.declared.sessions.Sessions.{Sessions}
 use Rattle.chess_sessions.specs.Session.{Said, SessionState, session_at}
 use Rattle.chess_sessions.specs.Turn.{IsReading}
-use Rattle.chess_sessions.specs.Answers.{given_name, renamed, asked}
+use Rattle.chess_sessions.specs.Answers.{given_name, renamed, asked, name_at}
 use Rattle.rec_codec.specs.declared.header.Header.{Header}
 use Rattle.sector_journal.specs.declared.compactions.Compaction.{Compaction}
 use Rattle.chess_store.specs.declared.fault.StoreFault.{StoreFault}
+use Rattle.chess_store.specs.declared.store.Store.{Store}
 use Rattle.table_commits.specs.Means.{IsKept}
 use Rattle.line_loop.specs.declared.answerer.LoopFault.{LoopFault}
 use Rattle.line_loop.specs.declared.answerer.LoopFault.TheVariants as loop
 use Rattle.line_loop.specs.Texts.{IsText, Ended}
+use Rattle.chess_hub.specs.declared.hub.Hub.{Hub}
 use Rattle.chess_hub.specs.declared.fault.HubFault.{HubFault}
 use Rattle.chess_hub.specs.declared.fault.HubFault.TheVariants.{NoMemory, Store as OfStore}
 use Rattle.chess_run.specs.declared.running.RunFault.{RunFault}
@@ -39,9 +42,14 @@ pub record Kept (D : Type 0) : Type 0 where
   pub table : TableState
   pub failed : Bool
 
-abbrev pub kept : {D : Type 0} → D → Header → Compaction → TableState → Bool → Kept D
-kept device header compaction table failed =
-    record { device = device; header = header; compaction = compaction; table = table; failed = failed }
+abbrev pub kept : {D : Type 0} {ghosts : Ghosts D} → Store D ghosts → Kept D
+kept store = record {
+  device = store.journal.device;
+  header = store.journal.header;
+  compaction = store.journal.compaction;
+  table = store.table;
+  failed = store.failed;
+}
 
 -- where a run stands between two lines: the store, the session's name, and the moments that are left
 pub record Standing (D M : Type 0) : Type 0 where
@@ -51,6 +59,10 @@ pub record Standing (D M : Type 0) : Type 0 where
 
 abbrev pub stands : {D M : Type 0} → Kept D → Option (List ℕ) → M → Standing D M
 stands store name moments = record { store = store; name = name; moments = moments }
+
+-- where a hub stands whose lines are those of this session
+abbrev pub standing : {D M : Type 0} {ghosts : Ghosts D} → Hub D ghosts → ℕ → M → Standing D M
+standing hub sid moments = stands (kept hub.store) (name_at hub.sessions sid) moments
 
 -- what a turn does to the store and its device
 pub record Serves {D : Type 0} (state : D → State) (sector_count failures : D → ℕ) (old new : Kept D)

@@ -57,18 +57,14 @@ pub fn run<S: LineSource, W: Write, D: Device + Drop, M: Moments + Drop>(
 ) -> Result<(), RunFault>
     // What is written is the text of what was read, and nothing else.
     ensures whole { OnOk result (IfSome (S.remaining source.old) (IsRunText D.state D.sector_count D.failures M.gives
-        (kept store.journal.device store.journal.header store.journal.compaction store.table store.failed) moments
-        (W.contents writer.old) (W.contents writer.new))) }
+        (kept store) moments (W.contents writer.old) (W.contents writer.new))) }
     ensures long { IsErrOf result RunFault.LineTooLong → IfSome (S.remaining source.old) (IsRunText D.state
-        D.sector_count D.failures M.gives
-        (kept store.journal.device store.journal.header store.journal.compaction store.table store.failed) moments
-        (W.contents writer.old) (W.contents writer.new)) }
+        D.sector_count D.failures M.gives (kept store) moments (W.contents writer.old) (W.contents writer.new)) }
 
     // Also of a source that does not tell its bytes: all lines that were read are answered. Where a write failed
     // something that they call for is not written; where the hub refused a line the answers to those before it are.
     ensures ended { RunEnds D.state D.sector_count D.failures M.gives result (S.remaining source.old)
-        (S.remaining source.new) (W.contents writer.old) (W.contents writer.new)
-        (kept store.journal.device store.journal.header store.journal.compaction store.table store.failed) moments }
+        (S.remaining source.new) (W.contents writer.old) (W.contents writer.new) (kept store) moments }
     ensures end { OnOk result (IsAtEnd (S.remaining source.new)) }
     ensures cause { RunIsOfSource result (S.has_failed source.old) (S.has_failed source.new) }
 {

@@ -4,8 +4,9 @@ ghost use Rattle.std.specs.Io.BufRead.{strip_last};
 ghost use Rattle.session_lines.specs.Lines.{IsUnfinished};
 ghost use Rattle.chess_sessions.specs.Session.{said};
 ghost use Rattle.chess_sessions.specs.Answers.{name_at};
-ghost use Rattle.chess_hub.specs.Turning.{MayBeAsked, AreRefused, IsTurnFault};
-ghost use Rattle.chess_run.specs.Running.{Serves, IsAlone, IsTalking, IsAsking, IsTold, LineAsksFor, asks, kept, stands};
+ghost use Rattle.chess_hub.specs.Storing.{StoreMayBeAsked, StoreRefuses};
+ghost use Rattle.chess_hub.specs.Turning.{IsTurnFault};
+ghost use Rattle.chess_run.specs.Running.{Serves, IsAlone, IsTalking, IsAsking, IsTold, LineAsksFor, asks, kept, stands, standing};
 
 use crate::moments::Moments;
 use chess_answer::Reply;
@@ -30,11 +31,8 @@ pub(crate) fn begin<D: Device + Drop, M: Moments + Drop>(
     moments: M,
 ) -> Result<Talk<D, M>, HubFault>
     ensures talks { IfOk result (λ talk. IsTalking talk.hub.sessions talk.sid) }
-    ensures begins { IfOk result (λ talk. stands
-        (kept talk.hub.store.journal.device talk.hub.store.journal.header talk.hub.store.journal.compaction talk.hub.store.table talk.hub.store.failed)
-        (name_at talk.hub.sessions talk.sid) talk.moments
-        ≡ stands (kept store.journal.device store.journal.header store.journal.compaction store.table store.failed) None
-        moments) }
+    ensures begins { IfOk result (λ talk.
+        standing talk.hub talk.sid talk.moments ≡ stands (kept store) None moments) }
     ensures fault { IfErr result (λ fault. fault ≡ HubFault.NoMemory) }
 {
     let mut hub = Hub::new(alloc, store);
@@ -61,19 +59,15 @@ fn take_turn<D: Device>(hub: &mut Hub<D>, sid: Sid, at: u64) -> Result<Reply, Hu
         → IsAlone hub.old.sessions sid (asks name part) → IsTold at name (strip_last 13 part) (said reply)
         hub.old.store.table hub.new.store.table hub.new.sessions sid) }
     ensures works { OnOk result ((name : Option (List ℕ)) (part : List ℕ) → IsUnfinished part
-        → IsAlone hub.old.sessions sid (asks name part) → LineAsksFor at name (strip_last 13 part)
-        (MayBeAsked hub.old.store.failed hub.old.store.journal.header.seq hub.old.store.table.entries)) }
-    ensures serves { OnOk result (Serves D.state D.sector_count D.failures
-        (kept hub.old.store.journal.device hub.old.store.journal.header hub.old.store.journal.compaction hub.old.store.table hub.old.store.failed)
-        (kept hub.new.store.journal.device hub.new.store.journal.header hub.new.store.journal.compaction hub.new.store.table hub.new.store.failed) (Ok tt)) }
+        → IsAlone hub.old.sessions sid (asks name part)
+        → LineAsksFor at name (strip_last 13 part) (StoreMayBeAsked hub.old.store)) }
+    ensures serves { OnOk result
+        (Serves D.state D.sector_count D.failures (kept hub.old.store) (kept hub.new.store) (Ok tt)) }
     ensures fault { IfErr result (λ fault. (name : Option (List ℕ)) (part : List ℕ) → IsUnfinished part
         → IsAlone hub.old.sessions sid (asks name part) → IsTurnFault fault (hub.new.store ≡ hub.old.store)
-        (λ refused. LineAsksFor at name (strip_last 13 part) (AreRefused refused hub.old.store.journal.header.seq
-        hub.old.store.failed hub.old.store.table hub.new.store.table))) }
+        (λ refused. LineAsksFor at name (strip_last 13 part) (StoreRefuses hub.old.store hub.new.store refused))) }
     ensures serves_err { IfErr result (λ fault.
-        Serves D.state D.sector_count D.failures
-        (kept hub.old.store.journal.device hub.old.store.journal.header hub.old.store.journal.compaction hub.old.store.table hub.old.store.failed)
-        (kept hub.new.store.journal.device hub.new.store.journal.header hub.new.store.journal.compaction hub.new.store.table hub.new.store.failed) (Err fault)) }
+        Serves D.state D.sector_count D.failures (kept hub.old.store) (kept hub.new.store) (Err fault)) }
 {
     hub.turn(at, 1)?;
     match hub.output(sid) {
@@ -83,26 +77,17 @@ fn take_turn<D: Device>(hub: &mut Hub<D>, sid: Sid, at: u64) -> Result<Reply, Hu
 }
 
 impl<D: Device, M: Moments> Answerer for Talk<D, M> {
-    ghost use Rattle.chess_run.specs.Running.{IsTalking, kept, stands, AnswersLine, RefusesLine};
-    ghost use Rattle.chess_sessions.specs.Answers.{name_at};
+    ghost use Rattle.chess_run.specs.Running.{IsTalking, standing, AnswersLine, RefusesLine};
 
     type Fault = HubFault;
 
     ghost is_ready = { λ t. IsTalking t.hub.sessions t.sid };
 
-    ghost answers = { λ old line text new.
-        AnswersLine D.state D.sector_count D.failures M.gives (stands
-        (kept old.hub.store.journal.device old.hub.store.journal.header old.hub.store.journal.compaction old.hub.store.table old.hub.store.failed)
-        (name_at old.hub.sessions old.sid) old.moments) line text (stands
-        (kept new.hub.store.journal.device new.hub.store.journal.header new.hub.store.journal.compaction new.hub.store.table new.hub.store.failed)
-        (name_at new.hub.sessions new.sid) new.moments) };
+    ghost answers = { λ old line text new. AnswersLine D.state D.sector_count D.failures M.gives
+        (standing old.hub old.sid old.moments) line text (standing new.hub new.sid new.moments) };
 
-    ghost breaks = { λ old line fault new.
-        RefusesLine D.state D.sector_count D.failures M.gives (stands
-        (kept old.hub.store.journal.device old.hub.store.journal.header old.hub.store.journal.compaction old.hub.store.table old.hub.store.failed)
-        (name_at old.hub.sessions old.sid) old.moments) line fault (stands
-        (kept new.hub.store.journal.device new.hub.store.journal.header new.hub.store.journal.compaction new.hub.store.table new.hub.store.failed)
-        (name_at new.hub.sessions new.sid) new.moments) };
+    ghost breaks = { λ old line fault new. RefusesLine D.state D.sector_count D.failures M.gives
+        (standing old.hub old.sid old.moments) line fault (standing new.hub new.sid new.moments) };
 
     fn answer(&mut self, line: &[u8], said: &mut Answer) -> Result<(), HubFault> {
         hear(&mut self.hub, self.sid, line)?;

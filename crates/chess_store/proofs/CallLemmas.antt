@@ -1,11 +1,14 @@
 -- What follows from the result of a call.
-use Rattle.std.specs.Prelude.{◌≡◌, ◌≤◌, ℕ, Result, Ok, Err, OnOk, OnErr, IfErr, is_err, true, false}
-use Rattle.std.proofs.Common.{sym, subst}
+use Rattle.std.specs.Prelude.{◌≡◌, ◌≤◌, ℕ, Bool, Result, Ok, Err, OnOk, OnErr, IfErr, is_err, true, false}
+use Rattle.std.proofs.Common.{refl, sym, subst}
 use Rattle.std.proofs.lemmas.Bool.{false≢true}
-use Rattle.sector_dev.specs.Device.{CountsFailure, HasRisen}
+use Rattle.sector_dev.specs.Device.{State, CountsFailure, HasRisen}
+use Rattle.sector_journal.specs.declared.fault.JournalFault.{JournalFault}
+use Rattle.table_commits.specs.Committing.{IsTried}
 use Rattle.chess_store.specs.declared.fault.StoreFault.{StoreFault}
 use Rattle.chess_store.specs.declared.fault.StoreFault.TheVariants.{Exists, TooSmall, NotOurs, Damaged, Device, NoMemory, Worn, Failed}
-use Rattle.chess_store.specs.Faults.{IsDevice, UnlessDevice}
+use Rattle.chess_store.specs.Faults.{IsDevice, UnlessDevice, CountsFault}
+use Rattle.chess_store.specs.Calling.{CallTried}
 
 -- what holds of a call's `Ok`, where it gave one
 pub ok_was : {T E : Type 0} (r : Result T E) (x : T) (P : Type 0) → r ≡ Ok x → OnOk r P → P
@@ -43,3 +46,66 @@ unless_device (Err Damaged) P device = absurd device
 unless_device (Err NoMemory) P device = absurd device
 unless_device (Err Worn) P device = absurd device
 unless_device (Err Failed) P device = absurd device
+
+-- ---- what a call does to the device
+
+module _ {D T : Type 0} (state : D → State) (sector_count failures : D → ℕ) where
+  -- the device is not called
+  pub refused_so : (device : D) (fault : StoreFault) (failed : Bool) → (IsDevice fault → ⊥)
+      → CountsFault fault (failures device) (failures device)
+      → CallTried {T = T} state sector_count failures device device (Err fault) failed
+  refused_so device fault failed other same = record {
+    model = (λ keeps. keeps, λ keeps. keeps);
+    sectors = refl;
+    works = tt;
+    fails = λ is. absurd (other is);
+    cause = tt;
+    cause_err = same;
+  }
+
+  -- the same where this fault is that of a call inside, which left the device
+  pub refused_by : (old new : D) (made : Result T StoreFault) (y fault : StoreFault) (failed : Bool) → new ≡ old
+      → made ≡ Err y → y ≡ fault → (IsDevice fault → ⊥) → CountsFault fault (failures old) (failures old)
+      → CallTried state sector_count failures old new made failed
+  refused_by old new made y fault failed left is same other counts =
+      subst (λ (d : D). CallTried state sector_count failures old d made failed) (sym left)
+      (subst (λ (r : Result T StoreFault). CallTried state sector_count failures old old r failed) (sym is)
+      (subst (λ (f : StoreFault). CallTried {T = T} state sector_count failures old old (Err f) failed) (sym same)
+      (refused_so old fault failed other counts)))
+
+  pub quiet_so : (device : D) (x : T) (failed : Bool) → failed ≡ false
+      → CallTried {T = T} state sector_count failures device device (Ok x) failed
+  quiet_so device x failed works = record {
+    model = (λ keeps. keeps, λ keeps. keeps);
+    sectors = refl;
+    works = works;
+    fails = tt;
+    cause = refl;
+    cause_err = tt;
+  }
+
+  module _ (old new : D) (given : Result (Unit {0}) JournalFault) {failed : Bool} {Limited : Type 0}
+      (tried : IsTried state sector_count failures old new given failed Limited) where
+    -- the commit was made
+    pub made_so : (x : T) (now : Bool) → now ≡ false → is_err given ≡ false
+        → CallTried {T = T} state sector_count failures old new (Ok x) now
+    made_so x now works made = record {
+      model = tried.model;
+      sectors = tried.size;
+      works = works;
+      fails = tt;
+      cause = same_of given (failures old) (failures new) made tried.count;
+      cause_err = tt;
+    }
+
+    -- the device failed
+    pub failed_so : (pending : ℕ) → is_err given ≡ true
+        → CallTried {T = T} state sector_count failures old new (Err (Device pending)) true
+    failed_so pending err = record {
+      model = tried.model;
+      sectors = tried.size;
+      works = tt;
+      fails = λ is. refl;
+      cause = tt;
+      cause_err = risen_of given (failures old) (failures new) err tried.count;
+    }

@@ -1,3 +1,4 @@
 pub mod Batch
 pub mod Faults
 pub mod Kept
+pub mod Calling

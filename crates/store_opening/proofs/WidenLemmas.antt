@@ -25,10 +25,10 @@ use Rattle.chess_entry.specs.Snapshot.{IsSnapshotOf, IsMeaning}
 use Rattle.chess_entry.proofs.MeaningMore.{AreEnteredOn-none, IsMeaning-of}
 use Rattle.chess_table.specs.Widened.{with_limits}
 use Rattle.chess_table.proofs.Kept.{IsTable-widen}
-use Rattle.table_commits.specs.Means.{MeansEither, IsKept}
-use Rattle.table_commits.specs.Committing.{IsBatch, Lasts}
-use Rattle.store_opening.specs.Widening.{IsWidened}
-use Rattle.table_commits.proofs.CommitLemmas.{lasts_by, kept_idle, meaning_limits, device_alone, fails_so, counts_so, limited_err_so}
+use Rattle.table_commits.specs.Means.{MeansEither, IsKept, IsJournalKept}
+use Rattle.table_commits.specs.Committing.{IsBatch, JournalLasts}
+use Rattle.store_opening.specs.Widening.{IsWidenTried, SnapshotLasts}
+use Rattle.table_commits.proofs.CommitLemmas.{lasts_by, kept_idle, meaning_limits, tried_so, limits_of, limited_err_so}
 
 -- ---- the table
 
@@ -65,34 +65,34 @@ records_within limits wider games plies =
 
 -- ---- one commit
 
-pub widen_lasts : (result : Result (Unit {0}) JournalFault) (old new : State) (header next : Header)
-    (compaction ended : Compaction) (limits : Limits) (snapshot : List Record) → IsInRange Two limits
-    → header.limits.games ≤ limits.games → header.limits.plies ≤ limits.plies
-    → ((base tail : List Record) → Keeps old (content header base tail) → LeavesOnly old new
-    (ShowsOr (content header base tail) (content (widened_header header limits (length snapshot)) snapshot [])))
-    → ((base tail : List Record) → Keeps old (content header base tail)
-    → OnOk result (Keeps new (content next snapshot [])))
-    → OnOk result (next ≡ widened_header header limits (length snapshot))
-    → OnOk result (IsIdle ended)
-    → (table : TableState) → IsTable table → IsSnapshotOf table snapshot → IsKept old header compaction table
-    → Lasts result old new next ended table (with_limits limits table)
-widen_lasts result old new header next compaction ended limits snapshot range games plies any ok is_next idle table sound taken kept =
-    let same = meaning_limits header.limits kept.base kept.tail table kept.means in
-    let widened = widened_header header limits (length snapshot) in
-    let means : IsMeaning limits snapshot [] (with_limits limits table) =
-    wider_means limits table snapshot sound range
-    (subst (λ (l : Limits). l.games ≤ limits.games) (sym same) games)
-    (subst (λ (l : Limits). l.plies ≤ limits.plies) (sym same) plies) taken in
-    lasts_by result old new header next ended table (with_limits limits table) (content header kept.base kept.tail)
-    (content widened snapshot []) kept.means means (any kept.base kept.tail kept.keeps)
-    (kept_idle result new next widened ended (with_limits limits table) snapshot [] means
-    (ok kept.base kept.tail kept.keeps) is_next idle)
+module _ {D : Type 0} {ghosts : Ghosts D} (old new : Journal D ghosts) (result : Result (Unit {0}) JournalFault) where
+  pub widen_lasts : (limits : Limits) (snapshot : List Record) → IsInRange Two limits
+      → old.header.limits.games ≤ limits.games → old.header.limits.plies ≤ limits.plies
+      → ((base tail : List Record) → Keeps (ghosts.state old.device) (content old.header base tail)
+      → LeavesOnly (ghosts.state old.device) (ghosts.state new.device) (ShowsOr (content old.header base tail)
+      (content (widened_header old.header limits (length snapshot)) snapshot [])))
+      → ((base tail : List Record) → Keeps (ghosts.state old.device) (content old.header base tail)
+      → OnOk result (Keeps (ghosts.state new.device) (content new.header snapshot [])))
+      → OnOk result (new.header ≡ widened_header old.header limits (length snapshot))
+      → OnOk result (IsIdle new.compaction) → SnapshotLasts old new result snapshot (with_limits limits)
+  widen_lasts limits snapshot range games plies any ok is_next idle table sound taken kept =
+      let header = old.header in
+      let same = meaning_limits header.limits kept.base kept.tail table kept.means in
+      let widened = widened_header header limits (length snapshot) in
+      let means : IsMeaning limits snapshot [] (with_limits limits table) =
+      wider_means limits table snapshot sound range
+      (subst (λ (l : Limits). l.games ≤ limits.games) (sym same) games)
+      (subst (λ (l : Limits). l.plies ≤ limits.plies) (sym same) plies) taken in
+      lasts_by old new result table (with_limits limits table) (content header kept.base kept.tail)
+      (content widened snapshot []) kept.means means (any kept.base kept.tail kept.keeps)
+      (kept_idle old new result widened (with_limits limits table) snapshot [] means
+      (ok kept.base kept.tail kept.keeps) is_next idle)
 
 -- no entry
-pub empty_batch : (now : State) (header : Header) (compaction : Compaction) (records : List Record) (table : TableState)
+pub empty_batch : {now : State} {header : Header} {compaction : Compaction} {table : TableState} (records : List Record)
     → records ≡ [] → IsTable table → IsKept now header compaction table
     → IsBatch now header compaction records table table
-empty_batch now header compaction records table none sound kept = record {
+empty_batch {table = table} records none sound kept = record {
   kept = kept;
   sound = sound;
   entries = [];
@@ -128,54 +128,40 @@ never : {T E : Type 0} (r : Result T E) (P : Type 0) → OnOk r ⊥ → OnOk r P
 never (Ok x) P no_proof = absurd no_proof
 never (Err e) P no_proof = tt
 
--- the first fails
-pub first_lasts : (result given : Result (Unit {0}) JournalFault) (old mid : State) (header : Header)
-    (compaction : Compaction) (table wider : TableState) → OnOk result ⊥
-    → Lasts given old mid header compaction table table → Lasts result old mid header compaction table wider
-first_lasts result given old mid header compaction table wider failed first = record {
-  any_moment = record {
-    later = first.any_moment.later;
-    each = λ c since. one_of table wider c (first.any_moment.each c since);
-    before = λ t c earlier since. elim (first.any_moment.before t c earlier since) [
-      | inl was ↦ inl was
-      | inr has ↦ inr (one_of table wider c has)
-    ];
-  };
-  kept = never result (IsKept mid header compaction wider) failed;
-}
+module _ {D : Type 0} {ghosts : Ghosts D} (old mid : Journal D ghosts) (result given : Result (Unit {0}) JournalFault)
+    (table wider : TableState) (first : JournalLasts old mid given table table) where
+  -- the first fails
+  pub first_lasts : OnOk result ⊥ → JournalLasts old mid result table wider
+  first_lasts failed = record {
+    any_moment = record {
+      later = first.any_moment.later;
+      each = λ c since. one_of table wider c (first.any_moment.each c since);
+      before = λ t c earlier since. elim (first.any_moment.before t c earlier since) [
+        | inl was ↦ inl was
+        | inr has ↦ inr (one_of table wider c has)
+      ];
+    };
+    kept = never result (IsJournalKept mid wider) failed;
+  }
 
--- both are made
-pub both_last : (result given : Result (Unit {0}) JournalFault) (old mid new : State) (between header : Header)
-    (half compaction : Compaction) (table wider : TableState)
-    → Lasts given old mid between half table table → Lasts result mid new header compaction table wider
-    → Lasts result old new header compaction table wider
-both_last result given old mid new between header half compaction table wider first second = record {
-  any_moment = two_leaves old mid new (MeansEither table table) (MeansEither table wider) (MeansEither table wider)
-      (one_of table wider) (λ c has. has) first.any_moment second.any_moment;
-  kept = second.kept;
-}
+  -- both are made
+  pub both_last : (new : Journal D ghosts) → JournalLasts mid new result table wider
+      → JournalLasts old new result table wider
+  both_last new second = record {
+    any_moment = two_leaves (ghosts.state old.device) (ghosts.state mid.device) (ghosts.state new.device)
+        (MeansEither table table) (MeansEither table wider) (MeansEither table wider) (one_of table wider) (λ c has. has)
+        first.any_moment second.any_moment;
+    kept = second.kept;
+  }
 
 -- ---- what a widening does whatever the journal holds
-
-limited_so : {T E : Type 0} (r : Result T E) (next h : Header) (limits : Limits) → h.limits ≡ limits
-    → OnOk r (next ≡ h) → OnOk r (next.limits ≡ limits)
-limited_so (Ok x) next h limits same is = ap (λ (k : Header). k.limits) is ∙ same
-limited_so (Err e) next h limits same is = tt
 
 module _ {D : Type 0} {ghosts : Ghosts D} (old new : Journal D ghosts) (widened : Header) {IsShort : Type 0} where
   pub widened_by : (result : Result (Unit {0}) JournalFault) → IsCommitted old new result IsShort → ¬ IsShort
       → old.failed ≡ false → old.header.seq ≢ 2 ^ 64 - 1 → OnOk result (new.header ≡ widened)
-      → IsWidened ghosts.state ghosts.sector_count ghosts.failures old.device new.device result old.header.limits
-      widened.limits new.header.limits new.failed
+      → IsWidenTried old new result widened.limits
   widened_by result committed enough works number is =
-      let device = device_alone old new result committed enough works number in
-      record {
-        model = committed.model;
-        size = committed.sectors;
-        limited = limited_so result new.header widened widened.limits refl is;
-        limited_err = limited_err_so result new.header old.header committed.header_err;
-        fault = device;
-        works = committed.works;
-        fails = fails_so result (new.failed ≡ true) device committed.fails;
-        count = counts_so result (ghosts.failures old.device) (ghosts.failures new.device) device committed.cause;
-      }
+      tried_so old new result _ committed enough works number (
+        limits_of result new.header widened widened.limits refl is,
+        limited_err_so result new.header old.header committed.header_err,
+      )

@@ -18,9 +18,9 @@ one_table = λ image one other a b.
     (subst (λ (c : Content). IsMeaning c.header.limits c.base c.tail one) same a.means) b.means
 
 -- each image of a store that is kept means its table
-pub kept_means : (now : State) (header : Header) (compaction : Compaction) (table : TableState)
+pub kept_means : {now : State} {header : Header} {compaction : Compaction} {table : TableState}
     → IsKept now header compaction table → AllMean now table
-kept_means now header compaction table kept = λ image is. record {
+kept_means {header = header} kept = λ image is. record {
   content = content header kept.base kept.tail;
   shows = kept.keeps.all image is;
   means = kept.means;

@@ -5,27 +5,18 @@ use Rattle.chess_hub.proofs.hub.ask.Goals as goal
 
 pub returns-then-is_empty-clause-lasts : goal.returns-then-is_empty-clause-lasts
 returns-then-is_empty-clause-lasts g c = λ kept.
-    let s = c.args.store.now in
-    lasts_idle c.new.result (g.D.Device.sector_count s.journal.device) (g.D.Device.state s.journal.device)
-    s.journal.header s.journal.compaction s.table (g.met.D.Device.coherent s.journal.device) kept
+    let device = c.args.store.now.journal.device in
+    lasts_idle (g.D.Device.sector_count device) (g.met.D.Device.coherent device) kept c.new.result
 
 pub returns-in-Err-clause-lasts : goal.returns-in-Err-clause-lasts
 returns-in-Err-clause-lasts g c = λ kept.
-    let s = c.args.store.now in
-    let n = c.submit.new.self in
-    let state = g.D.Device.state in
-    lasts_refused (Err (Store c.in-Err.fault)) (Store c.in-Err.fault) c.in-Err.fault (state s.journal.device)
-    (state n.journal.device) n.journal.header n.journal.compaction s.table n.table refl refl
+    lasts_refused (Err (Store c.in-Err.fault)) (Store c.in-Err.fault) c.in-Err.fault refl refl
     (c.submit.ensures.any_moment kept) (c.in-Err.ensures.kept_err kept)
 
 pub returns-in-Err-clause-tried : goal.returns-in-Err-clause-tried
 returns-in-Err-clause-tried g c =
-    let s = c.args.store.now in
-    let n = c.submit.new.self in
-    tried_refused g.D.Device.state g.D.Device.sector_count g.D.Device.failures s.journal.device n.journal.device
-    (Err (Store c.in-Err.fault)) (Store c.in-Err.fault) c.in-Err.fault s.table n.table s.failed n.failed refl refl
-    c.submit.ensures.model c.submit.ensures.sectors c.submit.ensures.limits c.submit.ensures.bounds
-    c.submit.ensures.idle c.in-Err.ensures.fails c.in-Err.ensures.unchanged c.in-Err.ensures.cause_err
+    tried_refused (Err (Store c.in-Err.fault)) (Store c.in-Err.fault) c.in-Err.fault refl refl c.in-Err.ensures.tried
+    c.submit.ensures.limits c.submit.ensures.bounds c.submit.ensures.idle c.in-Err.ensures.unchanged
 
 pub returns-in-Ok-clause-count : goal.returns-in-Ok-clause-count
 returns-in-Ok-clause-count g c =
@@ -35,9 +26,5 @@ returns-in-Ok-clause-count g c =
 
 pub returns-in-Ok-clause-lasts : goal.returns-in-Ok-clause-lasts
 returns-in-Ok-clause-lasts g c = λ kept.
-    let s = c.args.store.now in
-    let n = c.submit.new.self in
-    let state = g.D.Device.state in
-    lasts_answered c.submit.result c.in-Ok.replies (state s.journal.device) (state n.journal.device)
-    n.journal.header n.journal.compaction s.table n.table c.in-Ok.is (c.submit.ensures.any_moment kept)
+    lasts_answered c.submit.result c.in-Ok.replies c.in-Ok.is (c.submit.ensures.any_moment kept)
     (c.submit.ensures.kept kept)

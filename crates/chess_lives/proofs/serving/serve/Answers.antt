@@ -1,7 +1,7 @@
 use Rattle.std.proofs.Common.{◌∙◌, ◌↔◌, ap, ◌≡◌, ℕ, sym, subst, arith, map}
 use Rattle.chess_entry.specs.State.{TableState}
 use Rattle.table_commits.proofs.MeansLemmas.{one_table}
-use Rattle.table_commits.specs.Means.{IsKept}
+use Rattle.chess_store.specs.Kept.{IsStoreKept}
 use Rattle.chess_lives.specs.Serving.{IsServed}
 use Rattle.chess_lives.proofs.ServingLemmas.{judged-entries, served-opened, served-refused, unopened, opening_fault}
 use Rattle.chess_lives.specs.Serving.{CountsEnd}
@@ -32,7 +32,7 @@ returns-in-Ok-clause-served g c = λ model table means.
     one_table reads store.table table (c.in-Ok.ensures.means model)
     (means reads ((g.met.D.Device.coherent device).reads_are_image model)) in
     let served = served-opened store.table batches submitted (failures store.journal.device)
-    (IsKept (state store.journal.device) store.journal.header store.journal.compaction store.table) (state left)
+    (IsStoreKept store) (state left)
     (failures left) c.shown-begun.result report c.submit_all-submitted.ensures.tallied (c.in-Ok.ensures.kept model)
     c.limits-limits.ensures.table c.shown-begun.ensures c.report_of.ensures.opened c.report_of.ensures.acknowledged c.report_of.ensures.accepted
     c.report_of.ensures.unsent

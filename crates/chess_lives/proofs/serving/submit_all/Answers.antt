@@ -6,6 +6,7 @@ use Rattle.chess_answer.specs.declared.reads.Reply.{Reply}
 use Rattle.chess_store.specs.declared.fault.StoreFault.{StoreFault}
 use Rattle.chess_store.specs.Batch.{IsAnswered, IsWornOut, act_count}
 use Rattle.chess_store.specs.Faults.{UnlessDevice, CountsFault, MayLast}
+use Rattle.chess_store.specs.Kept.{IsStoreKept}
 use Rattle.table_commits.specs.Means.{MeansEither, IsKept}
 use Rattle.table_commits.proofs.MeansLemmas.{kept_means}
 use Rattle.chess_lives.specs.Courses.{IsSubmittable, is_unsent}
@@ -49,7 +50,7 @@ loop-batch-preserved g c =
     c.unsent.ensures ∙ ap (λ (rs : List Reply). count_by is_unsent rs) c.deref-in-Ok.ensures.value in
     let done = map (λ b. b.items) (take c.loop-batch.batch-index c.args.batches.now) in
     record {
-      works = e.works;
+      works = e.tried.works;
       so_far = subst (λ (all : List (List Command)). SoFar c.args.store.now.table all c.submit.new.self.table
           c.shown-count-in-Ok.result c.saturating_add-refused.result)
           (sym (take_map-more (λ b. b.items) c.args.batches.now c.loop-batch.batch-index c.batch-item.result
@@ -59,9 +60,9 @@ loop-batch-preserved g c =
           replies answered.entries inv.so_far told c.shown-count-in-Ok.ensures
           (c.saturating_add-refused.ensures ∙ ap (λ (n : ℕ). min (c.loop-batch.refused + n) (2 ^ 64 - 1)) counted));
       kept = λ kept. e.kept (inv.kept kept);
-      unfailed = e.cause ∙ inv.unfailed;
-      model = (λ model. inv.model.0 (c.submit.ensures.model.0 model), λ model. c.submit.ensures.model.1 (inv.model.1 model));
-      sectors = c.submit.ensures.sectors ∙ inv.sectors;
+      unfailed = e.tried.cause ∙ inv.unfailed;
+      model = (λ model. inv.model.0 (e.tried.model.0 model), λ model. e.tried.model.1 (inv.model.1 model));
+      sectors = e.tried.sectors ∙ inv.sectors;
     }
 
 pub returns-clause-tallied : goal.returns-clause-tallied
@@ -69,16 +70,13 @@ returns-clause-tallied g c =
     let inv = c.loop-batch.invariant in
     let device = c.args.store.now.journal.device in
     let store = c.loop-batch.store in
-    let WasKept = IsKept (g.D.Device.state device) c.args.store.now.journal.header c.args.store.now.journal.compaction
-    c.args.store.now.table in
-    tallied-all c.args.store.now.table (g.D.Device.failures device) WasKept (g.D.Device.state store.journal.device)
+    tallied-all c.args.store.now.table (g.D.Device.failures device) (IsStoreKept c.args.store.now) (g.D.Device.state store.journal.device)
     (g.D.Device.failures store.journal.device) (map (λ b. b.items) c.args.batches.now) store.table c.loop-batch.count
     c.loop-batch.refused
     (subst (λ (bs : List _). SoFar c.args.store.now.table (map (λ b. b.items) bs) store.table c.loop-batch.count
     c.loop-batch.refused) (take_all c.loop-batch.batch-index c.args.batches.now c.loop-batch-test.false) inv.so_far)
     inv.unfailed
-    (λ was. kept_means (g.D.Device.state store.journal.device) store.journal.header store.journal.compaction store.table
-    (inv.kept was))
+    (λ was. kept_means (inv.kept was))
 
 pub returns-in-Err-clause-tallied : goal.returns-in-Err-clause-tallied
 returns-in-Err-clause-tallied g c =
@@ -86,8 +84,7 @@ returns-in-Err-clause-tallied g c =
     let device = c.args.store.now.journal.device in
     let store = c.loop-batch.store in
     let new = c.submit.new.self in
-    let WasKept = IsKept (g.D.Device.state device) c.args.store.now.journal.header c.args.store.now.journal.compaction
-    c.args.store.now.table in
+    let WasKept = IsStoreKept c.args.store.now in
     let around = around-at (λ b. b.items) c.args.batches.now c.loop-batch.batch-index c.batch-item.result
     c.loop-batch-test.true c.batch-item.is in
     let last : MayLast c.in-Err.fault store.table c.batch-item.result.items new.table =
@@ -102,7 +99,7 @@ returns-in-Err-clause-tallied g c =
     around.rest c.batch-item.result.items store.table new.table c.loop-batch.count c.loop-batch.refused
     (g.D.Device.failures store.journal.device) c.in-Err.fault inv.so_far c.in-Err.ensures.fault
     (λ is. let failed : store.failed ≡ true = c.submit.ensures.failed.0 (c.in-Err.is ∙ ap (λ (f : StoreFault). Err f) is) in cc)
-    last c.in-Err.ensures.cause_err inv.unfailed
+    last c.in-Err.ensures.tried.cause_err inv.unfailed
     (λ was is.
     let worn = (c.submit.ensures.worn.0 (c.in-Err.is ∙ ap (λ (f : StoreFault). Err f) is)).1 in
     let same = subst (λ (f : StoreFault). UnlessDevice f ((new.journal.device ≡ store.journal.device)
@@ -117,7 +114,7 @@ returns-in-Err-clause-tallied g c =
     let kept = inv.kept was in
     leaves_now (g.D.Device.sector_count new.journal.device) (g.D.Device.state store.journal.device)
     (g.D.Device.state new.journal.device) (MeansEither store.table new.table)
-    (g.met.D.Device.coherent new.journal.device) (c.submit.ensures.model.1 kept.keeps.model)
+    (g.met.D.Device.coherent new.journal.device) (c.submit.ensures.tried.model.1 kept.keeps.model)
     (c.submit.ensures.any_moment kept)))
 
 pub returns-in-Err-clause-fault : goal.returns-in-Err-clause-fault
@@ -130,7 +127,7 @@ returns-in-Err-clause-fault g c =
 pub returns-in-Err-clause-counts : goal.returns-in-Err-clause-counts
 returns-in-Err-clause-counts g c =
     subst (λ (n : ℕ). CountsFault c.in-Err.fault n (g.D.Device.failures c.submit.new.self.journal.device))
-    c.loop-batch.invariant.unfailed c.in-Err.ensures.cause_err
+    c.loop-batch.invariant.unfailed c.in-Err.ensures.tried.cause_err
 
 pub returns-in-Err-clause-room : goal.returns-in-Err-clause-room
 returns-in-Err-clause-room g c =

@@ -1,5 +1,5 @@
 use Rattle.std.proofs.Common.{◌≡◌, ◌↔◌, false, map, take}
-use Rattle.table_commits.specs.Means.{IsKept}
+use Rattle.chess_store.specs.Kept.{IsStoreKept}
 use Rattle.chess_lives.proofs.ServingLemmas.{SoFar}
 use Rattle.chess_lives.proofs.serving.submit_all.Given as goal
 
@@ -11,9 +11,7 @@ invariant-loop-batch g l =
     record {
       works : l.store.failed ≡ false;
       so_far : SoFar l.fn.store.table (map (λ b. b.items) (take l.batch-index l.batches)) l.store.table l.count l.refused;
-      kept : IsKept (state l.fn.store.journal.device) l.fn.store.journal.header l.fn.store.journal.compaction
-          l.fn.store.table
-          → IsKept (state l.store.journal.device) l.store.journal.header l.store.journal.compaction l.store.table;
+      kept : IsStoreKept l.fn.store → IsStoreKept l.store;
       unfailed : failures l.store.journal.device ≡ failures l.fn.store.journal.device;
       model : (state l.store.journal.device).keeps_model ↔ (state l.fn.store.journal.device).keeps_model;
       sectors : sector_count l.store.journal.device ≡ sector_count l.fn.store.journal.device;

@@ -1,9 +1,8 @@
 -- What the loop over lines says of a session is said of the run.
 use Rattle.std.proofs.Common.{refl, inr}
 use Rattle.std.proofs.lemmas.Result.{err_from_is_err_and}
-use Rattle.chess_sessions.specs.Answers.{name_at}
-use Rattle.chess_run.specs.Running.{stands}
-use Rattle.chess_run.proofs.RunLemmas.{kept_of, whole-run, long-run, ended-ok, ended-err, of_source}
+use Rattle.chess_run.specs.Running.{kept, standing}
+use Rattle.chess_run.proofs.RunLemmas.{whole-run, long-run, ended-ok, ended-err, of_source}
 use Rattle.chess_run.proofs.running.run.Goals as goal
 
 pub returns-in-Err-clause-ended : goal.returns-in-Err-clause-ended
@@ -11,41 +10,37 @@ returns-in-Err-clause-ended g c = inr (c.in-Err.ensures.fault, record { read = r
 
 pub returns-in_err-ended-clause-long : goal.returns-in_err-ended-clause-long
 returns-in_err-ended-clause-long g c =
-    let first = c.args.store in
     let e = err_from_is_err_and c.from_residual.result c.from_residual.ensures.1 in
     long-run g.D.Device.state g.D.Device.sector_count g.D.Device.failures g.M.Moments.gives
     c.answer_lines-ended.result.0 c.in-Ok.talk
-    (λ t. stands (kept_of t.hub.store) (name_at t.hub.sessions t.sid) t.moments) (kept_of first) c.args.moments
+    (λ t. standing t.hub t.sid t.moments) (kept c.args.store) c.args.moments
     c.in-Ok.ensures.begins c.answer_lines-ended.result.1 c.in_err-ended.field-0.0 c.from_residual.result e.0 (g.W.Write.contents c.args.writer.now)
     (g.W.Write.contents c.answer_lines-ended.new.writer) (g.S.LineSource.remaining c.args.source.now)
     c.in_err-ended.was e.1 e.2 c.answer_lines-ended.ensures.long
 
 pub returns-in_err-ended-clause-ended : goal.returns-in_err-ended-clause-ended
 returns-in_err-ended-clause-ended g c =
-    let first = c.args.store in
     let e = err_from_is_err_and c.from_residual.result c.from_residual.ensures.1 in
     ended-err g.D.Device.state g.D.Device.sector_count g.D.Device.failures g.M.Moments.gives
     c.answer_lines-ended.result.0 c.in-Ok.talk
-    (λ t. stands (kept_of t.hub.store) (name_at t.hub.sessions t.sid) t.moments) (kept_of first) c.args.moments
+    (λ t. standing t.hub t.sid t.moments) (kept c.args.store) c.args.moments
     c.in-Ok.ensures.begins c.answer_lines-ended.result.1 c.in_err-ended.field-0.0 c.from_residual.result e.0 (g.S.LineSource.remaining c.args.source.now)
     (g.S.LineSource.remaining c.answer_lines-ended.new.source) (g.W.Write.contents c.args.writer.now)
     (g.W.Write.contents c.answer_lines-ended.new.writer) c.in_err-ended.was e.1 e.2 c.answer_lines-ended.ensures.ended
 
 pub returns-clause-whole : goal.returns-clause-whole
 returns-clause-whole g c =
-    let first = c.args.store in
     whole-run g.D.Device.state g.D.Device.sector_count g.D.Device.failures g.M.Moments.gives
     c.answer_lines-ended.result.0 c.in-Ok.talk
-    (λ t. stands (kept_of t.hub.store) (name_at t.hub.sessions t.sid) t.moments) (kept_of first) c.args.moments
+    (λ t. standing t.hub t.sid t.moments) (kept c.args.store) c.args.moments
     c.in-Ok.ensures.begins c.answer_lines-ended.result.1 tt (g.W.Write.contents c.args.writer.now) (g.W.Write.contents c.answer_lines-ended.new.writer)
     (g.S.LineSource.remaining c.args.source.now) c.in_ok-ended.was c.answer_lines-ended.ensures.whole
 
 pub returns-clause-ended : goal.returns-clause-ended
 returns-clause-ended g c =
-    let first = c.args.store in
     ended-ok g.D.Device.state g.D.Device.sector_count g.D.Device.failures g.M.Moments.gives
     c.answer_lines-ended.result.0 c.in-Ok.talk
-    (λ t. stands (kept_of t.hub.store) (name_at t.hub.sessions t.sid) t.moments) (kept_of first) c.args.moments
+    (λ t. standing t.hub t.sid t.moments) (kept c.args.store) c.args.moments
     c.in-Ok.ensures.begins c.answer_lines-ended.result.1 tt (g.S.LineSource.remaining c.args.source.now) (g.S.LineSource.remaining c.answer_lines-ended.new.source)
     (g.W.Write.contents c.args.writer.now) (g.W.Write.contents c.answer_lines-ended.new.writer) c.in_ok-ended.was c.answer_lines-ended.ensures.ended
 

@@ -1,5 +1,5 @@
 -- Nobody had a session before.
-use Rattle.std.proofs.Common.{◌≡◌, ◌∙◌, None, refl, sym, subst}
+use Rattle.std.proofs.Common.{◌≡◌, ◌∙◌, None, sym, ap, subst}
 use Rattle.std.specs.Prelude.{IfErr}
 use Rattle.std.proofs.lemmas.Result.{err_from_is_err_and}
 use Rattle.chess_hub.specs.declared.fault.HubFault.TheVariants.{NoMemory}
@@ -23,10 +23,8 @@ returns-clause-begins g c =
     let first = c.args.store in
     let name = alone-name hub.sessions sid (waits None) (alone-first c.new-hub.result.sessions hub.sessions sid
     (waits None) c.new-hub.ensures.none c.in_ok-sid.ensures.opened) in
-    let same = subst (λ store. (kept store.journal.device store.journal.header store.journal.compaction store.table store.failed) ≡ (kept first.journal.device first.journal.header first.journal.compaction first.table first.failed))
-    (sym (c.connect.ensures.store ∙ c.new-hub.ensures.store)) refl in
-    stands-is (kept hub.store.journal.device hub.store.journal.header hub.store.journal.compaction hub.store.table hub.store.failed)
-    (kept first.journal.device first.journal.header first.journal.compaction first.table first.failed) (name_at hub.sessions sid) None c.args.moments same name
+    let same = ap (λ store. kept store) (c.connect.ensures.store ∙ c.new-hub.ensures.store) in
+    stands-is (kept hub.store) (kept first) (name_at hub.sessions sid) None c.args.moments same name
 
 pub returns-in_err-sid-clause-fault : goal.returns-in_err-sid-clause-fault
 returns-in_err-sid-clause-fault g c =

@@ -1,7 +1,8 @@
 use Rattle.std.proofs.Common.{◌≡◌, sym, subst, Ok, IfErr}
 use Rattle.std.proofs.lemmas.Result.{err_from_is_err_and}
 use Rattle.std.specs.Io.BufRead.{strip_last}
-use Rattle.chess_hub.specs.Turning.{MayBeAsked, IsTurnFault, AreRefused}
+use Rattle.chess_hub.specs.Storing.{StoreMayBeAsked, StoreRefuses}
+use Rattle.chess_hub.specs.Turning.{IsTurnFault}
 use Rattle.chess_run.specs.Running.{asks, kept, Serves, IsAlone, IsTold, LineAsksFor}
 use Rattle.session_lines.specs.Lines.{IsUnfinished}
 use Rattle.chess_sessions.specs.Session.{said}
@@ -38,19 +39,15 @@ returns-clause-told g c = λ name part u h.
 pub returns-clause-works : goal.returns-clause-works
 returns-clause-works g c = λ name part u h.
     asks-line c.args.at c.args.sid name part c.args.hub.now.sessions u h
-    (MayBeAsked c.args.hub.now.store.failed c.args.hub.now.store.journal.header.seq c.args.hub.now.store.table.entries)
-    c.in_ok-turn.ensures.works
+    (StoreMayBeAsked c.args.hub.now.store) c.in_ok-turn.ensures.works
 
 pub returns-clause-serves : goal.returns-clause-serves
 returns-clause-serves g c =
     let old = c.args.hub.now.store in
     let mid = c.turn.new.self.store in
-    subst (λ store. Serves g.D.Device.state g.D.Device.sector_count g.D.Device.failures (kept old.journal.device
-    old.journal.header old.journal.compaction old.table old.failed) (kept store.journal.device store.journal.header
-    store.journal.compaction store.table store.failed) (Ok tt)) (sym c.in-Some.ensures.store)
-    (serves-as g.D.Device.state g.D.Device.sector_count g.D.Device.failures (kept old.journal.device old.journal.header
-    old.journal.compaction old.table old.failed) (kept mid.journal.device mid.journal.header mid.journal.compaction
-    mid.table mid.failed) c.turn.result c.turn.ensures.lasts c.turn.ensures.tried (Ok tt) c.in_ok-turn.was)
+    subst (λ store. Serves g.D.Device.state g.D.Device.sector_count g.D.Device.failures (kept old) (kept store) (Ok tt))
+    (sym c.in-Some.ensures.store)
+    (serves-as g.D.Device.state g.D.Device.sector_count g.D.Device.failures (kept old) (kept mid) c.turn.result c.turn.ensures.lasts c.turn.ensures.tried (Ok tt) c.in_ok-turn.was)
 
 pub returns-in_err-turn-clause-fault : goal.returns-in_err-turn-clause-fault
 returns-in_err-turn-clause-fault g c =
@@ -59,22 +56,17 @@ returns-in_err-turn-clause-fault g c =
     let new = c.turn.new.self in
     subst (λ r. IfErr r (λ fault. (name : _) (part : _) → IsUnfinished part → IsAlone old.sessions c.args.sid
     (asks name part) → IsTurnFault fault (new.store ≡ old.store) (λ refused. LineAsksFor c.args.at name
-    (strip_last 13 part) (AreRefused refused old.store.journal.header.seq old.store.failed old.store.table
-    new.store.table)))) (sym e.1)
+    (strip_last 13 part) (StoreRefuses old.store new.store refused)))) (sym e.1)
     (λ name part u h. subst (λ fault. IsTurnFault fault (new.store ≡ old.store) (λ refused. LineAsksFor c.args.at name
-    (strip_last 13 part) (AreRefused refused old.store.journal.header.seq old.store.failed old.store.table
-    new.store.table))) (sym e.2)
+    (strip_last 13 part) (StoreRefuses old.store new.store refused))) (sym e.2)
     (fault-map c.in_err-turn.field-0.0 (new.store ≡ old.store) _ _
     (λ refused is. asks-line c.args.at c.args.sid name part old.sessions u h
-    (AreRefused refused old.store.journal.header.seq old.store.failed old.store.table new.store.table) is)
+    (StoreRefuses old.store new.store refused) is)
     c.in_err-turn.ensures.fault))
 
 pub returns-in_err-turn-clause-serves_err : goal.returns-in_err-turn-clause-serves_err
 returns-in_err-turn-clause-serves_err g c =
     let e = err_from_is_err_and c.from_residual.result c.from_residual.ensures.1 in
-    let old = c.args.hub.now.store in
-    let new = c.turn.new.self.store in
-    serves-err g.D.Device.state g.D.Device.sector_count g.D.Device.failures (kept old.journal.device old.journal.header
-    old.journal.compaction old.table old.failed) (kept new.journal.device new.journal.header new.journal.compaction
-    new.table new.failed) c.turn.result c.turn.ensures.lasts c.turn.ensures.tried c.from_residual.result
+    serves-err g.D.Device.state g.D.Device.sector_count g.D.Device.failures (kept c.args.hub.now.store)
+    (kept c.turn.new.self.store) c.turn.result c.turn.ensures.lasts c.turn.ensures.tried c.from_residual.result
     c.in_err-turn.field-0.0 e.0 c.in_err-turn.was e.1 e.2

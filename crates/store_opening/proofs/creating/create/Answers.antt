@@ -4,9 +4,8 @@ use Rattle.store_opening.proofs.creating.create.Goals as goal
 
 pub returns-in-Ok-clause-kept : goal.returns-in-Ok-clause-kept
 returns-in-Ok-clause-kept g c = λ model.
-    let j = c.in-Ok.journal in
-    created_kept (g.D.Device.state j.device) j.header j.compaction c.new.result c.args.limits c.requires
-    c.in-Ok.ensures.header c.new.ensures (c.in-Ok.ensures.keeps model) c.in-Ok.ensures.idle
+    created_kept c.args.limits c.requires c.in-Ok.ensures.header c.new.ensures (c.in-Ok.ensures.keeps model)
+    c.in-Ok.ensures.idle
 
 pub returns-in-Ok-clause-means : goal.returns-in-Ok-clause-means
 returns-in-Ok-clause-means g c = λ model image is.

@@ -6,18 +6,14 @@ use Rattle.store_opening.proofs.widening.switch_halves.Goals as goal
 
 pub returns-clause-lasts : goal.returns-clause-lasts
 returns-clause-lasts g c = λ table sound taken kept.
-    let state = g.D.Device.state in
-    let j = c.args.journal.now in
-    let n = c.switch.new.self in
-    switch_lasts c.switch.result (state j.device) (state n.device) j.header n.header j.compaction n.compaction
-    c.args.snapshot.now [] c.switch.ensures.any_moment c.switch.ensures.ok
-    c.switch.ensures.header c.switch.ensures.compaction table table taken
-    (empty_batch (state j.device) j.header j.compaction [] table refl sound kept)
+    switch_lasts c.args.journal.now c.switch.new.self c.switch.result c.args.snapshot.now []
+    c.switch.ensures.any_moment c.switch.ensures.ok c.switch.ensures.header c.switch.ensures.compaction table table taken
+    (empty_batch [] refl sound kept)
 
 pub returns-clause-tried : goal.returns-clause-tried
 returns-clause-tried g c =
     let j = c.args.journal.now in
     let n = c.switch.new.self in
     tried_by j n c.switch.result c.switch.ensures.committed (λ short. short) c.requires.works c.requires.number
-    (limits_of c.switch.result j.header n.header (switched_header j.header (length c.args.snapshot.now) 0) refl
+    (limits_of c.switch.result n.header (switched_header j.header (length c.args.snapshot.now) 0) j.header.limits refl
     c.switch.ensures.header)

@@ -16,12 +16,8 @@ widen-requires-clause-can g c =
 
 pub returns-clause-lasts : goal.returns-clause-lasts
 returns-clause-lasts g c =
-    let state = g.D.Device.state in
-    let j = c.args.journal.now in
-    let n = c.widen.new.self in
     let can = c.requires.can in
-    widen_lasts c.widen.result (state j.device) (state n.device) j.header n.header j.compaction n.compaction c.args.limits
-    c.args.snapshot.now can.range can.games can.plies c.widen.ensures.any_moment
+    widen_lasts c.args.journal.now c.widen.new.self c.widen.result c.args.limits c.args.snapshot.now can.range can.games can.plies c.widen.ensures.any_moment
     c.widen.ensures.ok c.widen.ensures.header c.widen.ensures.compaction
 
 pub returns-clause-tried : goal.returns-clause-tried

@@ -9,23 +9,15 @@ use Rattle.store_opening.proofs.widening.widen_to.Goals as goal
 
 pub returns-in_err-switch_halves-in-One-clause-lasts : goal.returns-in_err-switch_halves-in-One-clause-lasts
 returns-in_err-switch_halves-in-One-clause-lasts g c = λ table sound taken kept.
-    let state = g.D.Device.state in
-    let j = c.args.journal.now in
-    let n = c.switch_halves.new.journal in
     let e = err_from_is_err_and c.from_residual.result c.from_residual.ensures.1 in
-    first_lasts c.from_residual.result c.switch_halves.result (state j.device) (state n.device) n.header n.compaction table
-    (with_limits c.args.limits table)
+    first_lasts c.args.journal.now c.switch_halves.new.journal c.from_residual.result c.switch_halves.result table
+    (with_limits c.args.limits table) (c.switch_halves.ensures.lasts table sound taken kept)
     (subst (λ (r : Result (Unit {0}) JournalFault). OnOk r ⊥) (sym e.1) tt)
-    (c.switch_halves.ensures.lasts table sound taken kept)
 
 pub returns-in_ok-switch_halves-in-One-clause-lasts : goal.returns-in_ok-switch_halves-in-One-clause-lasts
 returns-in_ok-switch_halves-in-One-clause-lasts g c = λ table sound taken kept.
-    let state = g.D.Device.state in
-    let j = c.args.journal.now in
-    let m = c.switch_halves.new.journal in
-    let n = c.widen_once-in-One.new.journal in
     let first = c.switch_halves.ensures.lasts table sound taken kept in
     let made = ok_was c.switch_halves.result _ _ c.in_ok-switch_halves-in-One.was first.kept in
-    both_last c.widen_once-in-One.result c.switch_halves.result (state j.device) (state m.device) (state n.device)
-    m.header n.header m.compaction n.compaction table (with_limits c.args.limits table) first
+    both_last c.args.journal.now c.switch_halves.new.journal c.widen_once-in-One.result c.switch_halves.result table
+    (with_limits c.args.limits table) first c.widen_once-in-One.new.journal
     (c.widen_once-in-One.ensures.lasts table sound taken made)

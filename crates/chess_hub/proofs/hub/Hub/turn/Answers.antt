@@ -8,15 +8,15 @@ use Rattle.chess_sessions.specs.Delivery.{HaveRoom}
 use Rattle.chess_store.specs.Batch.{AreAnswered}
 use Rattle.chess_store.specs.declared.fault.StoreFault.{StoreFault}
 use Rattle.chess_hub.specs.declared.fault.HubFault.TheVariants.{NoMemory}
-use Rattle.chess_hub.specs.Turning.{AsksFor, AreRefused}
+use Rattle.chess_hub.specs.Storing.{StoreRefuses}
+use Rattle.chess_hub.specs.Turning.{AsksFor}
 use Rattle.chess_hub.proofs.TurnLemmas.{lasts_same, lasts_passed, lasts_done, tried_passed, fault_passed, answered_since}
 use Rattle.chess_hub.proofs.hub.Hub.turn.Goals as goal
 
 pub returns-in_default-clause-lasts : goal.returns-in_default-clause-lasts
 returns-in_default-clause-lasts g c = λ kept.
-    let s = c.args.self.now.store in
-    lasts_same (Err NoMemory) NoMemory (g.D.Device.sector_count s.journal.device) (g.D.Device.state s.journal.device)
-    s.journal.header s.journal.compaction s.table (g.met.D.Device.coherent s.journal.device) refl refl kept
+    let device = c.args.self.now.store.journal.device in
+    lasts_same (g.D.Device.sector_count device) (g.met.D.Device.coherent device) kept (Err NoMemory) NoMemory refl refl
 
 pub returns-in_err-replies-clause-fault : goal.returns-in_err-replies-clause-fault
 returns-in_err-replies-clause-fault g c =
@@ -27,37 +27,28 @@ returns-in_err-replies-clause-fault g c =
     let e = err_from_is_err_and r.result r.ensures.1 in
     let asked : c.deref.result.now ≡ commands_of at (name_at s.sessions) taken =
     c.deref.ensures.value ∙ c.in-Ok.ensures.commands in
-    let Was : StoreFault → Type 0 = λ refused. AreRefused refused s.store.journal.header.seq s.store.failed s.store.table
-    c.ask.new.store.table c.deref.result.now in
-    let Is : StoreFault → Type 0 = λ refused. AsksFor at c.args.most s.sessions (AreRefused refused
-    s.store.journal.header.seq s.store.failed s.store.table c.ask.new.store.table) in
+    let Was : StoreFault → Type 0 = λ refused. StoreRefuses s.store c.ask.new.store refused c.deref.result.now in
+    let Is : StoreFault → Type 0 = λ refused. AsksFor at c.args.most s.sessions
+    (StoreRefuses s.store c.ask.new.store refused) in
     let more : (refused : StoreFault) → Was refused → Is refused = λ refused is. record {
       taken = taken;
       lines = c.in-Ok.ensures.lines;
-      those = subst (λ (cs : List Command). AreRefused refused s.store.journal.header.seq s.store.failed s.store.table
-          c.ask.new.store.table cs) asked is;
+      those = subst (λ (cs : List Command). StoreRefuses s.store c.ask.new.store refused cs) asked is;
     } in
     fault_passed c.ask.result r.result c.in_err-replies.field-0.0 e.0 _ Was Is c.in_err-replies.was e.1 e.2
     c.ask.ensures.fault more
 
 pub returns-in_err-replies-clause-lasts : goal.returns-in_err-replies-clause-lasts
 returns-in_err-replies-clause-lasts g c = λ kept.
-    let s = c.args.self.now.store in
-    let n = c.ask.new.store in
-    let state = g.D.Device.state in
     let r = c.from_residual in
     let e = err_from_is_err_and r.result r.ensures.1 in
-    lasts_passed c.ask.result r.result c.in_err-replies.field-0.0 e.0 (state s.journal.device) (state n.journal.device)
-    n.journal.header n.journal.compaction s.table n.table c.in_err-replies.was e.1 e.2 (c.ask.ensures.lasts kept)
+    lasts_passed c.ask.result r.result c.in_err-replies.field-0.0 e.0 c.in_err-replies.was e.1 e.2
+    (c.ask.ensures.lasts kept)
 
 pub returns-in_err-replies-clause-tried : goal.returns-in_err-replies-clause-tried
 returns-in_err-replies-clause-tried g c =
-    let s = c.args.self.now.store in
-    let n = c.ask.new.store in
     let e = err_from_is_err_and c.from_residual.result c.from_residual.ensures.1 in
-    tried_passed g.D.Device.state g.D.Device.sector_count g.D.Device.failures s.journal.device n.journal.device
-    c.from_residual.result c.in_err-replies.field-0.0 e.0 s.table n.table s.failed n.failed e.1 e.2
-    c.in_err-replies.ensures.tried
+    tried_passed c.from_residual.result c.in_err-replies.field-0.0 e.0 e.1 e.2 c.in_err-replies.ensures.tried
 
 pub returns-in_err-replies-clause-counts : goal.returns-in_err-replies-clause-counts
 returns-in_err-replies-clause-counts g c =
@@ -93,8 +84,4 @@ returns-clause-turned g c =
 
 pub returns-clause-lasts : goal.returns-clause-lasts
 returns-clause-lasts g c = λ kept.
-    let s = c.args.self.now.store in
-    let n = c.ask.new.store in
-    let state = g.D.Device.state in
-    lasts_done c.ask.result c.in_ok-replies.replies tt (state s.journal.device) (state n.journal.device)
-    n.journal.header n.journal.compaction s.table n.table c.in_ok-replies.was (c.ask.ensures.lasts kept)
+    lasts_done c.ask.result c.in_ok-replies.replies tt c.in_ok-replies.was (c.ask.ensures.lasts kept)

@@ -1,9 +1,9 @@
-use Rattle.std.proofs.Common.{◌≡◌, refl, sym, subst, IfErr}
+use Rattle.std.proofs.Common.{◌≡◌, sym, ap, subst, IfErr}
 use Rattle.std.proofs.lemmas.Result.{err_from_is_err_and}
 use Rattle.std.specs.Io.BufRead.{strip_last}
 use Rattle.chess_sessions.specs.Answers.{name_at}
 use Rattle.chess_hub.specs.declared.fault.HubFault.{HubFault}
-use Rattle.chess_run.specs.Running.{kept, stands, RefusesLine}
+use Rattle.chess_run.specs.Running.{kept, standing, RefusesLine}
 use Rattle.chess_run.proofs.TalkLemmas.{answers-line, refuses-line}
 use Rattle.chess_run.proofs.talk.TalkAnswerer.answer.Goals as goal
 
@@ -25,11 +25,9 @@ returns-clause-answered g c =
     let new = c.take_turn.new.hub.store in
     let name = name_at s.hub.sessions s.sid in
     answers-line g.D.Device.state g.D.Device.sector_count g.D.Device.failures g.M.Moments.gives
-    (kept old.journal.device old.journal.header old.journal.compaction old.table old.failed)
-    (kept mid.journal.device mid.journal.header mid.journal.compaction mid.table mid.failed)
-    (kept new.journal.device new.journal.header new.journal.compaction new.table new.failed)
-    name c.take_turn.new.hub.sessions s.sid c.next.result s.moments c.next.new.self (strip_last 13 c.args.line.now)
-    (subst (λ store. (kept store.journal.device store.journal.header store.journal.compaction store.table store.failed) ≡ (kept old.journal.device old.journal.header old.journal.compaction old.table old.failed)) (sym c.hear.ensures.store) refl)
+    (kept old) (kept mid) (kept new) name c.take_turn.new.hub.sessions s.sid c.next.result s.moments c.next.new.self
+    (strip_last 13 c.args.line.now)
+    (ap (λ store. kept store) c.hear.ensures.store)
     c.in_ok-reply.reply c.next.ensures
     (c.in_ok-reply.ensures.told name c.args.line.now c.requires.unfinished c.in_ok-hear.ensures.heard)
     (c.in_ok-reply.ensures.works name c.args.line.now c.requires.unfinished c.in_ok-hear.ensures.heard)
@@ -52,20 +50,16 @@ returns-in_err-reply-clause-broken g c =
     let new = c.take_turn.new.hub.store in
     let name = name_at s.hub.sessions s.sid in
     let text = strip_last 13 c.args.line.now in
-    let after = stands (kept new.journal.device new.journal.header new.journal.compaction new.table new.failed)
-    (name_at c.take_turn.new.hub.sessions s.sid) c.next.new.self in
-    let before = stands (kept old.journal.device old.journal.header old.journal.compaction old.table old.failed) name s.moments in
+    let after = standing c.take_turn.new.hub s.sid c.next.new.self in
+    let before = standing s.hub s.sid s.moments in
     subst (λ r. IfErr r (λ fault. RefusesLine g.D.Device.state g.D.Device.sector_count g.D.Device.failures
     g.M.Moments.gives before text fault after)) (sym e.1)
     (subst (λ (f : HubFault). RefusesLine g.D.Device.state g.D.Device.sector_count g.D.Device.failures
     g.M.Moments.gives before text f after) (sym e.2)
     (refuses-line g.D.Device.state g.D.Device.sector_count g.D.Device.failures g.M.Moments.gives
-    (kept old.journal.device old.journal.header old.journal.compaction old.table old.failed)
-    (kept mid.journal.device mid.journal.header mid.journal.compaction mid.table mid.failed)
-    (kept new.journal.device new.journal.header new.journal.compaction new.table new.failed)
-    name c.take_turn.new.hub.sessions s.sid c.next.result s.moments c.next.new.self text
-    (subst (λ store. (kept store.journal.device store.journal.header store.journal.compaction store.table store.failed) ≡ (kept old.journal.device old.journal.header old.journal.compaction old.table old.failed)) (sym c.hear.ensures.store) refl)
+    (kept old) (kept mid) (kept new) name c.take_turn.new.hub.sessions s.sid c.next.result s.moments c.next.new.self text
+    (ap (λ store. kept store) c.hear.ensures.store)
     c.in_err-reply.field-0.0 c.next.ensures (new ≡ mid)
-    (λ same. subst (λ store. (kept store.journal.device store.journal.header store.journal.compaction store.table store.failed) ≡ (kept mid.journal.device mid.journal.header mid.journal.compaction mid.table mid.failed)) (sym same) refl)
+    (λ same. ap (λ store. kept store) same)
     (c.in_err-reply.ensures.fault name c.args.line.now c.requires.unfinished c.in_ok-hear.ensures.heard)
     c.in_err-reply.ensures.serves_err))
