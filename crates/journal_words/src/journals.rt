@@ -13,7 +13,7 @@ use rec_codec::{Limits, need};
 use sector_dev::{Device, Got};
 use server_telling::{Teller, TellingDevice};
 use server_words::{Formatting, Tables};
-use server_work::{Fault, open_file, open_on, printed, told};
+use server_work::{Fault, open_file, open_on, opened, printed, told};
 use std::alloc::Global;
 use std::fs::{File, FileType};
 use std::io::{ErrorKind, Read};
@@ -30,13 +30,8 @@ pub(crate) fn make_file<R: Files<File = File> + Eprint>(
 ) -> Result<FileDevice, Fault>
     ensures { IfErr result (λ fault. fault ≡ Fault.File) }
 {
-    match FileDevice::create(rt, path, sectors) {
-        Ok(device) => Ok(device),
-        Err(error) => {
-            teller.not_opened(path, "it cannot be made or lengthened", &error);
-            Err(Fault::File)
-        }
-    }
+    let gave = FileDevice::create(rt, path, sectors);
+    opened(teller, path, "it cannot be made or lengthened", gave)
 }
 
 // Makes a device a journal of the empty table within the limits.

@@ -13,7 +13,7 @@ use rec_codec::Header;
 use sector_dev::{CrashDevice, Device, MemoryDevice};
 use server_telling::{Teller, TellingDevice, TellingWriter};
 use server_words::Copying;
-use server_work::{Fault, open_on, printed, told};
+use server_work::{Fault, open_on, opened, printed, told};
 use std::alloc::Global;
 use std::fs::File;
 use std::io::Write;
@@ -42,13 +42,8 @@ fn open_source<R: Files<File = File> + Eprint>(
 ) -> Result<FileSource, Fault>
     ensures { IfErr result (λ fault. fault ≡ Fault.File) }
 {
-    match FileSource::open(rt, journal) {
-        Ok(source) => Ok(source),
-        Err(error) => {
-            teller.not_opened(journal, "it cannot be opened", &error);
-            Err(Fault::File)
-        }
-    }
+    let gave = FileSource::open(rt, journal);
+    opened(teller, journal, "it cannot be opened", gave)
 }
 
 // The header that is in force in a file.

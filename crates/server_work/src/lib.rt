@@ -9,5 +9,5 @@ mod telling;
 
 pub use ends::{End, Fault, end_of_words, end_of_work, name, status};
 pub use memory::play_board;
-pub use opening::{open_file, open_on};
+pub use opening::{open_file, open_on, opened};
 pub use telling::{found_in, printed, told};

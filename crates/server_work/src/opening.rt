@@ -9,7 +9,26 @@ use sector_dev::Device;
 use server_telling::Teller;
 use std::alloc::Global;
 use std::fs::File;
+use std::io;
 use std::rt::Files;
+
+/// What the opening, or the making, of a journal's file gave. Of a failure an operator is told.
+pub fn opened<T, R: Eprint>(
+    teller: &Teller<'_, R>,
+    path: &str,
+    what: &str,
+    gave: io::Result<T>,
+) -> Result<T, Fault>
+    ensures { IfErr result (λ fault. fault ≡ Fault.File) }
+{
+    match gave {
+        Ok(file) => Ok(file),
+        Err(error) => {
+            teller.not_opened(path, what, &error);
+            Err(Fault::File)
+        }
+    }
+}
 
 /// The device in a journal's file that is there.
 pub fn open_file<R: Files<File = File> + Eprint>(
@@ -19,13 +38,8 @@ pub fn open_file<R: Files<File = File> + Eprint>(
 ) -> Result<FileDevice, Fault>
     ensures { IfErr result (λ fault. fault ≡ Fault.File) }
 {
-    match FileDevice::open(rt, journal) {
-        Ok(device) => Ok(device),
-        Err(error) => {
-            teller.not_opened(journal, "it cannot be opened", &error);
-            Err(Fault::File)
-        }
-    }
+    let gave = FileDevice::open(rt, journal);
+    opened(teller, journal, "it cannot be opened", gave)
 }
 
 /// The store that a device holds.
