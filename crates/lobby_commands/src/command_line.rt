@@ -231,9 +231,19 @@ const EVIDENCE: WordText = WordText {
     options: &[GAME, ITS_LOG],
 };
 
-// The words in the order in which help lists them. (Each step of a function tells of all bytes of its constants, but not of those of
-// a static.)
-static WORDS: [WordText; 3] = [SERVE, PLAYER, EVIDENCE];
+// (Each has a function of its own, since each step of a function that has texts tells of all their bytes. Help lists them in the
+// order of `command`.)
+fn serve_word() -> WordText {
+    SERVE
+}
+
+fn player_word() -> WordText {
+    PLAYER
+}
+
+fn evidence_word() -> WordText {
+    EVIDENCE
+}
 
 /// The lobby's command line.
 pub fn command<'a>(alloc: Global) -> Result<Command<'a>, AllocError> {
@@ -241,7 +251,7 @@ pub fn command<'a>(alloc: Global) -> Result<Command<'a>, AllocError> {
         alloc,
         "chess-lobby",
         "The lobby of a chess club: players and spectators come by a browser.",
-        &WORDS,
+        &[serve_word(), player_word(), evidence_word()],
     )
 }
 

@@ -328,12 +328,22 @@ const TRF: WordText = WordText {
     ],
 };
 
-// The words in the order in which help lists them. (Each step of a function tells of all bytes of its constants, but not of those of
-// a static.)
-static WORDS: [WordText; 3] = [START, RESULTS, TRF];
+// (Each has a function of its own, since each step of a function that has texts tells of all their bytes. Help lists them in the
+// order of `command`.)
+fn start_word() -> WordText {
+    START
+}
+
+fn results_word() -> WordText {
+    RESULTS
+}
+
+fn trf_word() -> WordText {
+    TRF
+}
 
 // Which options are days.
-static DAYS: [&str; 2] = ["begins", "ends"];
+const DAYS: [&str; 2] = ["begins", "ends"];
 
 /// The program's command line.
 pub fn command<'a>(alloc: Global) -> Result<Command<'a>, AllocError> {
@@ -341,7 +351,7 @@ pub fn command<'a>(alloc: Global) -> Result<Command<'a>, AllocError> {
         alloc,
         "chess-pairings",
         "The rounds of a chess league.",
-        &WORDS,
+        &[start_word(), results_word(), trf_word()],
     )
 }
 
@@ -359,23 +369,13 @@ fn word_given<'a>(
     command: &mut Command<'a>,
     matches: &ArgMatches<'a>,
 ) -> Result<Word<'a>, Error> {
-    take_days(alloc, command, matches)?;
-    read_or_fault(command, word_of(alloc, matches)?, NOT_TAKEN)
-}
-
-// What is said of words that ask for nothing that the program does.
-static NOT_TAKEN: &str =
-    "an address, a board, a game, a server or a round's files are none, or neither --archive nor --server is given";
-
-// Fails where the tournament's first or last day is given and is none.
-fn take_days(
-    alloc: Global,
-    command: &mut Command<'_>,
-    matches: &ArgMatches<'_>,
-) -> Result<(), Error> {
     match no_day_told(alloc, matches)? {
         Some(told) => Err(command.error(ErrorKind::InvalidValue, told.as_str())?),
-        None => Ok(()),
+        None => read_or_fault(
+            command,
+            word_of(alloc, matches)?,
+            "an address, a board, a game, a server or a round's files are none, or neither --archive nor --server is given",
+        ),
     }
 }
 
