@@ -287,7 +287,11 @@ pub fn command<'a>(alloc: Global) -> Result<Command<'a>, AllocError> {
 
 /// Reads the words, the program's own name first. An `Err` is a usage fault, or a request for help.
 pub fn read_words<'a>(alloc: Global, words: &'a [String]) -> Result<Word<'a>, Error> {
-    read_by(alloc, &mut command(alloc)?, words, word_given)
+    let mut command = command(alloc)?;
+    let word = read_by(alloc, &mut command, words, word_given);
+    // (it goes by a call: here all its parts would be let go)
+    drop(command);
+    word
 }
 
 fn word_given<'a>(
