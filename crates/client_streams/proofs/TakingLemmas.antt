@@ -37,10 +37,6 @@ pub some_all : {A : Type 0} (P : A → Type 0) (m : Option A) → ((x : A) → P
 some_all P None all = tt
 some_all P (Some x) all = all x
 
-pub some_more : {A : Type 0} (P Q : A → Type 0) (m : Option A) → ((x : A) → P x → Q x) → IfSome m P → IfSome m Q
-some_more P Q None more holds = tt
-some_more P Q (Some x) more holds = more x holds
-
 -- it is not open
 pub some_closed : {A : Type 0} (P : A → Type 0) (m : Option A) → (IsSome m → ⊥) → IfSome m P
 some_closed P None closed = tt
