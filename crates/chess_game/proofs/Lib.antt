@@ -8,7 +8,7 @@ pub mod KeptGame
 pub mod Shown
 pub mod Acts
 mod Refused
-mod Offers
+pub mod Offers
 pub mod StoredLemmas
 pub mod ReplayLemmas
 pub mod RestoredLemmas

@@ -80,7 +80,8 @@ or_last false b h = h
 low_number : (n : ℕ) → nat_le 150 n ≡ false → n < 150
 low_number n low = grind (arith, nat_tests)
 
-low_halfmove : (p : Position) → is_finished_at p ≡ false → p.halfmove < 150
+-- a start that is not over has a halfmove clock below that of article 9.6.2
+pub low_halfmove : (p : Position) → is_finished_at p ≡ false → p.halfmove < 150
 low_halfmove p goes_on =
     low_number p.halfmove
     (or_last (is_checkmate p || is_stalemate p || is_listed_dead p.placement) (nat_le 150 p.halfmove) goes_on)
