@@ -1,5 +1,5 @@
 //! A journal's file that is opened.
-ghost use Rattle.std.specs.Prelude.{◌≡◌, IfErr};
+ghost use Rattle.std.specs.Prelude.{◌≡◌, Ok, IfOk, IfErr, OnErr, IsErrOf};
 ghost use Rattle.server_work.specs.Faults.{IsOpenFault};
 
 use crate::ends::Fault;
@@ -19,7 +19,9 @@ pub fn opened<T, R: Eprint>(
     what: &str,
     gave: io::Result<T>,
 ) -> Result<T, Fault>
-    ensures { IfErr result (λ fault. fault ≡ Fault.File) }
+    ensures opened { IfOk gave (λ file. result ≡ Ok file) }
+    ensures failed { OnErr gave (IsErrOf result Fault.File) }
+    ensures fault { IfErr result (λ fault. fault ≡ Fault.File) }
 {
     match gave {
         Ok(file) => Ok(file),
