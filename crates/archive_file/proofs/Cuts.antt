@@ -6,7 +6,7 @@ use Rattle.std.proofs.lemmas.Bool.{and_from, and_parts}
 use Rattle.std.proofs.lemmas.Option.{none-some, cond_some}
 use Rattle.std.proofs.lemmas.Slice.Eq.{bytes_eq-Decides}
 use Rattle.text_parts.proofs.Cuts.{before_at, after_at}
-use Rattle.decimal_text.proofs.Digits.{lacks_below}
+use Rattle.text_parts.proofs.Digits.{lacks_below}
 use Rattle.json_text.specs.Strings.{escaped, unescaped_from}
 use Rattle.json_text.proofs.Texts.{back}
 use Rattle.lobby_words.specs.Words.{number_in}

@@ -1,7 +1,7 @@
 -- The number that a field tells.
 use Rattle.std.proofs.Common.{ℕ, ◌≡◌, ◌^◌, ◌∙◌, List, Option, None, Some, IfSome, decimal, sym, ap, subst, arith}
-use Rattle.decimal_text.specs.Numbers.{number_below}
-use Rattle.decimal_text.proofs.Spelled.{Spells, found, number_spelled}
+use Rattle.text_parts.specs.Numbers.{number_below}
+use Rattle.text_parts.proofs.Spelled.{Spells, found, number_spelled}
 use Rattle.chess_line.specs.Fields.{IsNumber}
 
 told_by : (text : List ℕ) (o : Option ℕ) → IfSome o (Spells (2 ^ 32) text) → IfSome o (λ n. IsNumber n × (text ≡ decimal n))

@@ -27,7 +27,7 @@ pub fn number_named(text: &str) -> Option<u32>
     ensures some { IfSome result (λ n. IsNumber n × (text.now ≡ decimal n)) }
     ensures every { (n : ℕ) → IsNumber n → text.now ≡ decimal n → result ≡ Some n }
 {
-    decimal_text::number_of_32_bits(text)
+    text_parts::number_of_32_bits(text)
 }
 
 /// The number of the first field, and what follows the space after it.

@@ -1,9 +1,9 @@
 -- The number that a text spells.
 use Rattle.std.proofs.Common.{ℕ, ◌≡◌, ◌<◌, ◌≤◌, ◌^◌, List, Option, None, Some, IfSome, decimal, arith}
-use Rattle.decimal_text.specs.Numbers.{number_below}
-use Rattle.decimal_text.proofs.Spelled as decimals
+use Rattle.text_parts.specs.Numbers.{number_below}
+use Rattle.text_parts.proofs.Spelled as decimals
 use Rattle.lobby_words.specs.Words.{number_in}
-pub use Rattle.decimal_text.proofs.Digits.{own}
+pub use Rattle.text_parts.proofs.Digits.{own}
 
 -- a number that is found is small, and spelled so
 abbrev pub Spells : List ℕ → ℕ → Type 0

@@ -218,7 +218,7 @@ pub fn sort_of(text: &str) -> Sort
 pub fn number_named(text: &str) -> Option<u32>
     ensures { result ≡ words.number_in text.now }
 {
-    decimal_text::number_of_32_bits(text)
+    text_parts::number_of_32_bits(text)
 }
 
 /// The same, and 0 where a text spells no number.

@@ -1,7 +1,7 @@
 -- Numbers below 2 ^ 32, as they are spelled.
 use Rattle.std.proofs.Common.{ℕ, ◌≡◌, ◌<◌, ◌^◌, decimal, ap, arith}
 use Rattle.text_parts.proofs.Cuts.{Lacks}
-use Rattle.decimal_text.proofs.Digits as digits
+use Rattle.text_parts.proofs.Digits as digits
 use Rattle.lobby_words.specs.Words.{or_0, number_or_0}
 use Rattle.lobby_words.proofs.Numbers.{number_spelled}
 

@@ -6,7 +6,7 @@ use Rattle.std.specs.Str.{bytes_eq}
 use Rattle.std.proofs.lemmas.Bool.Decides.{nat_tests}
 use Rattle.std.proofs.lemmas.Slice.Eq.{bytes_eq-Decides}
 use Rattle.text_parts.proofs.Cuts.{Lacks, lacks_more, lacks_both, before_at, after_at, before_whole, after_none}
-use Rattle.decimal_text.specs.Numbers.{number_below}
+use Rattle.text_parts.specs.Numbers.{number_below}
 use Rattle.lobby_words.specs.Words.{number_in, or_0, number_or_0}
 use Rattle.pairing_texts.specs.declared.times.Times.{Times}
 use Rattle.pairing_texts.specs.declared.times.Period.{Period}

@@ -2,8 +2,8 @@
 use Rattle.std.proofs.Common.{ℕ, ◌≡◌, ◌≤◌, ◌^◌, ◌∙◌, List, Option, None, Some, IfSome, decimal, sym, ap, subst, arith}
 use Rattle.std.specs.Prelude.{◌≢◌, IfNone}
 use Rattle.std.proofs.lemmas.Option.{none-some}
-use Rattle.decimal_text.specs.Numbers.{number_below}
-use Rattle.decimal_text.proofs.Spelled.{Spells, found, number_spelled}
+use Rattle.text_parts.specs.Numbers.{number_below}
+use Rattle.text_parts.proofs.Spelled.{Spells, found, number_spelled}
 
 named_by : (text : List ℕ) (o : Option ℕ) → IfSome o (Spells (2 ^ 8) text) → IfSome o (λ n. text ≡ decimal n)
 named_by text None h = tt

@@ -33,7 +33,7 @@ fn depth_named(digits: &str) -> Option<u8>
     ensures named { IfSome result (λ depth. digits.now ≡ decimal depth) }
     ensures none { IfNone result ((depth : ℕ) → depth ≤ 255 → digits.now ≢ decimal depth) }
 {
-    match decimal_text::number_named(digits) {
+    match text_parts::number_named(digits) {
         Some(number) => below_8_bits(number),
         None => None,
     }

@@ -1,3 +1,5 @@
 pub mod FirstPart
 pub mod Cuts
 pub mod Items
+pub mod Digits
+pub mod Spelled

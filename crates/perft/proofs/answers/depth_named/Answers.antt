@@ -1,5 +1,5 @@
 use Rattle.std.proofs.Common.{◌∙◌, ◌^◌, None, sym, arith}
-use Rattle.decimal_text.proofs.Spelled.{none_lower, some_lower}
+use Rattle.text_parts.proofs.Spelled.{none_lower, some_lower}
 use Rattle.perft.proofs.Depths.{named_none, named_some}
 use Rattle.perft.proofs.answers.depth_named.Goals as goal
 

@@ -7,8 +7,8 @@ use Rattle.std.proofs.lemmas.Bool.Decides.{nat_tests}
 use Rattle.std.proofs.lemmas.Fmt.{digits_value-decimal}
 use Rattle.std.proofs.lemmas.Option.{none-some, same_Some}
 use Rattle.std.proofs.lemmas.Slice.Eq.{bytes_eq-Decides}
-use Rattle.decimal_text.specs.Numbers.{number_below}
-use Rattle.decimal_text.proofs.Digits.{own}
+use Rattle.text_parts.specs.Numbers.{number_below}
+use Rattle.text_parts.proofs.Digits.{own}
 
 and_both : (a b : Bool) → a ≡ true → b ≡ true → (a && b) ≡ true
 and_both true b h k = k

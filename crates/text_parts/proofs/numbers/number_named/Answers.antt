@@ -1,6 +1,6 @@
 use Rattle.std.proofs.Common.{arith}
-use Rattle.decimal_text.proofs.Spelled.{number_read}
-use Rattle.decimal_text.proofs.numbers.number_named.Goals as goal
+use Rattle.text_parts.proofs.Spelled.{number_read}
+use Rattle.text_parts.proofs.numbers.number_named.Goals as goal
 
 pub returns : goal.returns
 returns c =

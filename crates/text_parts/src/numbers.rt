@@ -1,6 +1,6 @@
 //! The number that a text spells.
 ghost use Rattle.std.specs.Prelude.{ℕ, ◌≡◌, ◌<◌, ◌^◌, Some, IfSome, SomeIff, decimal};
-ghost use Rattle.decimal_text.specs.Numbers.{number_below, number_in};
+ghost use Rattle.text_parts.specs.Numbers.{number_below, number_in};
 
 use itoa::Buffer;
 

@@ -1,6 +1,6 @@
 use Rattle.std.proofs.Common.{◌∙◌, ◌^◌, sym, arith}
-use Rattle.decimal_text.proofs.Spelled.{none_lower, some_lower}
-use Rattle.decimal_text.proofs.numbers.number_of_32_bits.Goals as goal
+use Rattle.text_parts.proofs.Spelled.{none_lower, some_lower}
+use Rattle.text_parts.proofs.numbers.number_of_32_bits.Goals as goal
 
 pub returns-in-Some : goal.returns-in-Some
 returns-in-Some c =
