@@ -7,8 +7,8 @@ use Rattle.std.proofs.lemmas.Option.{none-some, cond_some}
 use Rattle.std.proofs.lemmas.Slice.Eq.{bytes_eq-Decides}
 use Rattle.text_parts.proofs.Cuts.{before_at, after_at}
 use Rattle.text_parts.proofs.Digits.{lacks_below}
-use Rattle.json_text.specs.Strings.{escaped, unescaped_from}
-use Rattle.json_text.proofs.Texts.{back}
+use Rattle.text_parts.specs.Strings.{escaped, unescaped_from}
+use Rattle.text_parts.proofs.Texts.{back}
 use Rattle.lobby_words.specs.Words.{number_in}
 use Rattle.lobby_words.proofs.Numbers.{number_spelled}
 use Rattle.archive_file.specs.Line.{front, line_of, is_text, number_at, pgn_in, is_line_of, if_spelled, game_in}

@@ -3,3 +3,4 @@ pub mod Cuts
 pub mod Items
 pub mod Digits
 pub mod Spelled
+pub mod Texts

@@ -1,6 +1,6 @@
 //! What is promised of strings.
 ghost use Rattle.std.specs.Prelude.{◌≡◌, ◌++◌, ◌∷◌, ℕ, List, false};
-ghost use Rattle.json_text.specs.Strings.{escaped, unescaped_from, behind_from};
+ghost use Rattle.text_parts.specs.Strings.{escaped, unescaped_from, behind_from};
 
 /// A text that was put into a string is found there as it was, and behind it what stands behind its quote.
 pub fn law_of_strings()

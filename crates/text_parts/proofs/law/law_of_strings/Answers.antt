@@ -1,5 +1,5 @@
-use Rattle.json_text.proofs.Texts.{back, behind}
-use Rattle.json_text.proofs.law.law_of_strings.Goals as goal
+use Rattle.text_parts.proofs.Texts.{back, behind}
+use Rattle.text_parts.proofs.law.law_of_strings.Goals as goal
 
 pub returns-clause-text : goal.returns-clause-text
 returns-clause-text c = λ text rest. back text rest

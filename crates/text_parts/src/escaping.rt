@@ -1,6 +1,6 @@
 //! The text in a string.
 ghost use Rattle.std.specs.Prelude.{◌≡◌, ◌++◌, false, IfOk, OnOk};
-ghost use Rattle.json_text.specs.Strings as spec;
+ghost use Rattle.text_parts.specs.Strings as spec;
 
 use std::alloc::{AllocError, Global};
 

@@ -1,6 +1,6 @@
 use Rattle.std.proofs.Common.{◌≡◌, length, false}
-use Rattle.json_text.specs.Strings.{behind_from}
-use Rattle.json_text.proofs.escaping.behind_string.Given as goal
+use Rattle.text_parts.specs.Strings.{behind_from}
+use Rattle.text_parts.proofs.escaping.behind_string.Given as goal
 
 abbrev pub decreases-loop-rest : goal.decreases-loop-rest
 decreases-loop-rest l = length l.rest

@@ -1,6 +1,6 @@
 use Rattle.std.proofs.Common.{◌≡◌, ◌++◌, drop, false}
-use Rattle.json_text.specs.Strings.{unescaped_from}
-use Rattle.json_text.proofs.escaping.unescaped.Given as goal
+use Rattle.text_parts.specs.Strings.{unescaped_from}
+use Rattle.text_parts.proofs.escaping.unescaped.Given as goal
 
 abbrev pub invariant-loop-byte : goal.invariant-loop-byte
 invariant-loop-byte l =

@@ -1,7 +1,7 @@
 -- A text that is escaped comes back, and what stands behind it.
 use Rattle.std.proofs.Common.{ℕ, ◌≡◌, ◌==◌, Bool, true, false, List, [], ◌∷◌, ◌++◌, refl, sym, ap, ◌∙◌}
 use Rattle.std.proofs.lemmas.Bool.Decides.{Decides-eqb}
-use Rattle.json_text.specs.Strings.{escaped_byte, escaped, plain_byte, unescaped_from, behind_from}
+use Rattle.text_parts.specs.Strings.{escaped_byte, escaped, plain_byte, unescaped_from, behind_from}
 
 abbrev Back : List ℕ → List ℕ → Type 0
 Back text rest = unescaped_from false (escaped text ++ (34 ∷ rest)) ≡ text
