@@ -2,7 +2,7 @@
 use archive_text::Heading;
 use clap::error::ErrorKind;
 use clap::{ArgMatches, Command, Error};
-use option_tables::{
+use command_words::{
     OptionText, OptionValue, SERVER, WordText, command_line, read_by, read_or_fault,
 };
 use pgn_tags::is_date;

@@ -1,7 +1,6 @@
 //! The words of the command line, with the text of their help.
 use clap::{ArgMatches, Command, Error};
-use command_words::VERSION;
-use option_tables::{OptionText, OptionValue, arguments, read_or_fault};
+use command_words::{OptionText, OptionValue, VERSION, arguments, read_or_fault};
 use server_switch::SERVERS_MOST;
 use std::alloc::{AllocError, Global};
 use std::net::{IpAddr, Ipv4Addr, SocketAddr};

@@ -4,9 +4,13 @@
 mod arguments;
 mod ending;
 mod given;
+mod options;
+mod reading;
 mod version;
 
 pub use arguments::{flag, option};
 pub use ending::{NotDone, end_of};
 pub use given::words_given;
+pub use options::{OptionText, OptionValue, SERVER, WordText, arguments, command_line};
+pub use reading::{read_by, read_or_fault};
 pub use version::VERSION;

@@ -1,6 +1,6 @@
 //! The words of the command line, with the texts of their help.
 use clap::{ArgMatches, Command, Error};
-use option_tables::{
+use command_words::{
     OptionText, OptionValue, SERVER, WordText, command_line, read_by, read_or_fault,
 };
 use std::alloc::{AllocError, Global};

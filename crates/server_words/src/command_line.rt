@@ -1,6 +1,6 @@
 //! The command line: each word with its values and its help.
 use clap::Command;
-use option_tables::{OptionText, OptionValue, WordText, command_line};
+use command_words::{OptionText, OptionValue, WordText, command_line};
 use std::alloc::{AllocError, Global};
 
 const HELP_OF_BOARD: &str = "\

@@ -1,7 +1,7 @@
 //! What was read of the words.
 ghost use Rattle.std.specs.Prelude.{◌≡◌, ◌⊎◌, None, Some, IfErr, IfOk, IsErrAnd, OnErr, map};
 ghost use Rattle.clap.specs.Simple.{HasMatchesOf, app_of};
-ghost use Rattle.option_tables.specs.Faults.{IsOfCommand};
+ghost use Rattle.command_words.specs.Faults.{IsOfCommand};
 ghost use Rattle.clap.specs.Values.{kind_of};
 
 use clap::error::ErrorKind;

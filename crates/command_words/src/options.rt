@@ -1,7 +1,7 @@
 //! Options, and words with their options, as tables.
 use clap::builder::ValueParser;
 use clap::{Arg, ArgAction, Command};
-use command_words::{VERSION, flag, option};
+use crate::{VERSION, flag, option};
 use std::alloc::{AllocError, Global};
 
 /// What stands behind the name of an option; the text is what the help calls it.

@@ -1,7 +1,7 @@
 use Rattle.std.proofs.Common.{inl, inr}
 use Rattle.std.proofs.lemmas.Result.{err_from_is_err_and}
-use Rattle.option_tables.specs.Faults.{IsOfCommand}
-use Rattle.option_tables.proofs.reading.read_by.Goals as goal
+use Rattle.command_words.specs.Faults.{IsOfCommand}
+use Rattle.command_words.proofs.reading.read_by.Goals as goal
 
 pub returns : goal.returns
 returns g c =
