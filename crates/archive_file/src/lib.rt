@@ -6,10 +6,12 @@ mod behind;
 mod faults;
 mod law;
 mod line;
+mod lines;
 mod reading;
 
 pub use archive::{Archive, games_of};
 pub use behind::look_behind;
 pub use faults::Fault;
 pub use law::law_of_lines;
+pub use lines::{end_last_line, lines_of};
 pub use reading::{game_of, pgn_of};

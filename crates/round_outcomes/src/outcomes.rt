@@ -1,7 +1,6 @@
 //! What came of games: in the archive, and on the table.
 use anyhow::{Context, Result, bail};
-use archive_file::{game_of, pgn_of};
-use archive_lines::lines_of;
+use archive_file::{game_of, lines_of, pgn_of};
 use lobby_roster::Player;
 use pairing_commands::Source;
 use pairing_texts::{Note, Pairing, Seats, game_in, last_of};
