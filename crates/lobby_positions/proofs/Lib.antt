@@ -1,3 +1,4 @@
 pub mod Played
 pub mod Spelled
 pub mod Found
+pub mod Naming

@@ -6,7 +6,7 @@ use Rattle.chess_board.specs.Next.{next}
 use Rattle.chess_board.specs.Line.{position_after}
 use Rattle.chess_notation.specs.San.{IsSan}
 use Rattle.chess_notation.specs.Fen.{fen_of}
-use Rattle.lobby_moves.specs.Telling.{coordinate_of}
+use Rattle.lobby_positions.specs.Telling.{coordinate_of}
 use Rattle.lobby_positions.specs.Answer.{row, rows, AreSans, AreRows, PutsRow, PutsRows, IsLineAnswer}
 
 sans_more : (p : Position) (moves : List Move) (sans : List (List ℕ)) (m : Move) (san : List ℕ) → AreSans p moves sans →

@@ -5,7 +5,7 @@ use Rattle.chess_board.specs.Position.{Position}
 use Rattle.chess_board.specs.Next.{next}
 use Rattle.chess_notation.specs.San.{IsSan}
 use Rattle.chess_notation.specs.Fen.{fen_of}
-use Rattle.lobby_moves.specs.Telling.{coordinate_of}
+use Rattle.lobby_positions.specs.Telling.{coordinate_of}
 
 -- `N SAN MOVE FEN`: after how many moves, the last of them as SAN and by its squares, and the position
 abbrev pub row : ℕ → List ℕ → List ℕ → Position → List ℕ

@@ -1,2 +1,3 @@
 pub mod Pgn
 pub mod Answer
+pub mod Telling

@@ -5,5 +5,7 @@ mod answer;
 mod lines;
 mod playing;
 mod rows;
+mod telling;
 
 pub use answer::line_answer;
+pub use telling::{moves_line, push_move};

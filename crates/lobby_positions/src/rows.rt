@@ -10,7 +10,7 @@ use chess_board::{Board, Move};
 use chess_fen::fen_write;
 use chess_san::write;
 use itoa::Buffer;
-use lobby_moves::push_move;
+use crate::push_move;
 use std::alloc::{AllocError, Global};
 
 // Appends a number.

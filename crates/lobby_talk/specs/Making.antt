@@ -5,7 +5,7 @@ use Rattle.std.specs.String.{string_bytes}
 use Rattle.chess_board.specs.declared.moves.Move.{Move}
 use Rattle.chess_board.specs.Position.{Position, IsValid}
 use Rattle.chess_notation.specs.Fen.{IsFenOf}
-use Rattle.lobby_moves.specs.Telling.{TellsMoves}
+use Rattle.lobby_positions.specs.Telling.{TellsMoves}
 use Rattle.lobby_positions.specs.Pgn.{TellsGame}
 use Rattle.lobby_positions.specs.Answer.{IsLineAnswer}
 use Rattle.lobby_desk.specs.declared.telling.Kind.{Kind}

@@ -6,8 +6,7 @@ ghost use Rattle.lobby_talk.specs.Making.{IsWithMoves, IsOfLine, IsFinished, IsM
 ghost use Rattle.lobby_talk.specs.Making as making;
 
 use lobby_desk::{Kind, Message};
-use lobby_moves::moves_line;
-use lobby_positions::line_answer;
+use lobby_positions::{line_answer, moves_line};
 use std::alloc::{AllocError, Global};
 use text_parts::{before, behind};
 

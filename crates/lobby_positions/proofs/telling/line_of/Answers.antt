@@ -2,9 +2,9 @@ use Rattle.std.proofs.Common.{ap, sym, ◌∙◌, ◌++◌, ℕ, List, map, code
 use Rattle.std.proofs.lemmas.List.Elements.{All-same}
 use Rattle.std.specs.String.{string_bytes}
 use Rattle.chess_board.specs.declared.moves.Move.{Move}
-use Rattle.lobby_moves.specs.Telling.{spaced, coordinate_of, IsBetweenSquares}
-use Rattle.lobby_moves.proofs.Naming.{tells}
-use Rattle.lobby_moves.proofs.telling.line_of.Goals as goal
+use Rattle.lobby_positions.specs.Telling.{spaced, coordinate_of, IsBetweenSquares}
+use Rattle.lobby_positions.proofs.Naming.{tells}
+use Rattle.lobby_positions.proofs.telling.line_of.Goals as goal
 
 pub returns : goal.returns
 returns c =

@@ -12,7 +12,7 @@ use Rattle.chess_board.specs.Legal.{IsLegal, IsMoveOf, IsPromotion, IsPromotionK
 use Rattle.chess_moves.specs.Moves.{IsListOfLegalMoves}
 use Rattle.chess_notation.specs.Coordinate.{IsPromotionText, IsCoordinateOf}
 use Rattle.std.proofs.lemmas.List.{take_more, map-append}
-use Rattle.lobby_moves.specs.Telling.{spaced, check_sign, TellsMoves, promotion_letter, small_letter, coordinate_of, IsBetweenSquares}
+use Rattle.lobby_positions.specs.Telling.{spaced, check_sign, TellsMoves, promotion_letter, small_letter, coordinate_of, IsBetweenSquares}
 
 -- one text more at the end
 pub spaced-push : (texts : List (List ℕ)) (text : List ℕ) → spaced (texts ++ text ∷ []) ≡ spaced texts ++ (32 ∷ text)

@@ -5,7 +5,7 @@ ghost use Rattle.chess_bits.specs.Square.{IsOnBoard};
 ghost use Rattle.chess_board.specs.Position.{Position, IsValid};
 ghost use Rattle.chess_notation.specs.Name.{square_name};
 ghost use Rattle.chess_notation.specs.Fen.{IsFenOf};
-ghost use Rattle.lobby_moves.specs.Telling.{check_sign, promotion_letter, coordinate_of, spaced, IsBetweenSquares, TellsMoves};
+ghost use Rattle.lobby_positions.specs.Telling.{check_sign, promotion_letter, coordinate_of, spaced, IsBetweenSquares, TellsMoves};
 
 use chess_bits::{Kind, Square};
 use chess_board::{Board, Move};

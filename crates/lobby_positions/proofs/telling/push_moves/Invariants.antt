@@ -1,8 +1,8 @@
 use Rattle.std.proofs.Common.{◌≡◌, ◌++◌, take, map}
 use Rattle.std.specs.List.{All}
 use Rattle.std.specs.String.{string_bytes}
-use Rattle.lobby_moves.specs.Telling.{spaced, coordinate_of, IsBetweenSquares}
-use Rattle.lobby_moves.proofs.telling.push_moves.Given as goal
+use Rattle.lobby_positions.specs.Telling.{spaced, coordinate_of, IsBetweenSquares}
+use Rattle.lobby_positions.proofs.telling.push_moves.Given as goal
 
 abbrev pub invariant-loop-mv : goal.invariant-loop-mv
 invariant-loop-mv l = record {

@@ -4,9 +4,9 @@ use Rattle.std.proofs.lemmas.List.{take_more}
 use Rattle.std.proofs.Common.{ap, sym, ◌∙◌, ◌∷◌, [], ◌≡◌, ◌<◌, length, List, ℕ}
 use Rattle.std.specs.String.{string_bytes}
 use Rattle.chess_board.specs.declared.moves.Move.{Move}
-use Rattle.lobby_moves.specs.Telling.{spaced, coordinate_of, IsBetweenSquares}
-use Rattle.lobby_moves.proofs.Naming.{spaced_more, put_more}
-use Rattle.lobby_moves.proofs.telling.push_moves.Goals as goal
+use Rattle.lobby_positions.specs.Telling.{spaced, coordinate_of, IsBetweenSquares}
+use Rattle.lobby_positions.proofs.Naming.{spaced_more, put_more}
+use Rattle.lobby_positions.proofs.telling.push_moves.Goals as goal
 
 pub loop-mv-preserved : goal.loop-mv-preserved
 loop-mv-preserved c =
