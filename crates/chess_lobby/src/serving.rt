@@ -10,7 +10,7 @@ use anyhow::{Context, Result};
 use lobby_commands::Serving;
 use lobby_loop::{ActLog, Entrance, Lobby, NoActLog, Turned};
 use lobby_roster::Player;
-use monotonic_clock::Moments;
+use server_calls::Moments;
 use players_file::Entries;
 use std::fs::File;
 use std::hash::RandomState;

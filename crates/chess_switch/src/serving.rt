@@ -2,7 +2,7 @@
 use crate::command_line::Serving;
 use crate::hall::Hall;
 use anyhow::Result;
-use monotonic_clock::Moments;
+use server_calls::Moments;
 use std::net::{Net, SocketAddr};
 use std::rt::Clock;
 

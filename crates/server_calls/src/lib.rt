@@ -4,6 +4,8 @@
 
 mod accepting;
 mod calls;
+mod moments;
 
 pub use accepting::{AcceptFault, accept_fault};
 pub use calls::{call, is_made};
+pub use moments::Moments;
