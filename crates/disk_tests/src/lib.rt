@@ -5,11 +5,19 @@
 #[cfg(test)]
 mod callers;
 #[cfg(test)]
+mod compactions;
+#[cfg(test)]
+mod contents;
+#[cfg(test)]
 mod copies;
+#[cfg(test)]
+mod cycles;
 #[cfg(test)]
 mod fake_files;
 #[cfg(test)]
 mod files;
+#[cfg(test)]
+mod memory;
 #[cfg(test)]
 mod memory_device;
 #[cfg(test)]
