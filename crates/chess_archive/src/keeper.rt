@@ -7,7 +7,7 @@ ghost use Rattle.chess_archive.specs.Games.{games_over_in, is_at};
 
 use crate::asking::{Knowledge, pgn_of};
 use crate::reading::games_kept;
-use adjourned::{Ended, first_half, is_opened_for};
+use act_log::{Ended, first_half, is_opened_for};
 use anyhow::{Context, Result, anyhow, bail};
 use archive_file::Archive;
 use archive_games::{Kept, has_game, push_ended};

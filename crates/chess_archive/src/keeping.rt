@@ -11,7 +11,7 @@ use crate::keeper::{Counts, Done, Keeper, NOTHING, Onlookers};
 use crate::rows::{games_over, rows_of};
 use crate::sources::Sources;
 use crate::telling::{Work, go_on};
-use adjourned::in_order;
+use act_log::in_order;
 use anyhow::{Context, Result};
 use archive_file::{Archive, end_last_line, lines_of};
 use lobby_archive::look;

@@ -2,7 +2,7 @@
 #![tactic(auto)]
 
 #[cfg(test)]
-mod archive;
+mod headings;
 #[cfg(test)]
 mod clerk;
 #[cfg(test)]

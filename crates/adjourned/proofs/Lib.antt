@@ -1,2 +1,0 @@
-mod Later
-mod Placed

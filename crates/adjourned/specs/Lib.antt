@@ -1,2 +1,0 @@
-pub mod Log
-pub mod Halves
