@@ -7,11 +7,25 @@ mod acts;
 #[cfg(test)]
 mod archive;
 #[cfg(test)]
+mod clerk;
+#[cfg(test)]
+mod club_files;
+#[cfg(test)]
 mod cuts;
 #[cfg(test)]
 mod database;
 #[cfg(test)]
 mod dates;
+#[cfg(test)]
+mod figures;
+#[cfg(test)]
+mod headings;
+#[cfg(test)]
+mod moves;
+#[cfg(test)]
+mod players;
+#[cfg(test)]
+mod positions;
 #[cfg(test)]
 mod report;
 #[cfg(test)]
