@@ -2,12 +2,16 @@
 #![tactic(auto)]
 
 mod causes;
+mod command_line;
 mod ends;
 mod memory;
 mod opening;
 mod telling;
+mod words;
 
+pub use command_line::command;
 pub use ends::{End, Fault, end_of_words, end_of_work, name, status};
 pub use memory::play_board;
 pub use opening::{open_file, open_on, opened};
 pub use telling::{found_in, printed, told};
+pub use words::{Copying, Formatting, Serving, Tables, Word, read_words};

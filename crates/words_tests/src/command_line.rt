@@ -1,7 +1,7 @@
 //! The words of the command line.
 use clap::error::ErrorKind;
 use command_words::VERSION;
-use server_words::{Formatting, Word, read_words};
+use server_work::{Formatting, Word, read_words};
 use std::alloc::Global;
 use std::process::Abort;
 

@@ -3,7 +3,7 @@ use rec_codec::Limits;
 use sector_dev::MemoryDevice;
 use server_playing::serve_store;
 use server_telling::Teller;
-use server_words::Serving;
+use server_work::Serving;
 use std::alloc::Global;
 use std::cell::Cell;
 use std::fmt::Display;
