@@ -1,4 +1,4 @@
-//! An archive of games in a file of records: a line a game, each game once.
+//! An archive of games in a file of records: a line a game, each game once; and these lines for those who only read them.
 #![tactic(auto)]
 
 mod archive;

@@ -1,7 +1,7 @@
 //! The lines of an archive's file. Opening an archive cuts off what stands behind its last line, so a file that is no archive
 //! is refused before.
-use anyhow::{Context, Result};
 use crate::{game_of, games_of, look_behind};
+use anyhow::{Context, Result};
 use night_files::{AppendedFile, NamedFile, cut_lines, whole_length};
 use std::alloc::Global;
 use std::fs;

@@ -3,9 +3,9 @@ ghost use Rattle.std.specs.Prelude.{◌≡◌, true, Some, IfOk};
 ghost use Rattle.archive_file.specs.Line as spec;
 
 use crate::line::{FRONT, is_text, line_of};
-use text_parts::{before, behind, cut, unescaped};
 use lobby_words::number_named;
 use std::alloc::{AllocError, Global};
+use text_parts::{before, behind, cut, unescaped};
 
 // How many bytes of a line are behind its first comma and before its PGN: `"pgn":"`.
 const NAME_BYTES: usize = 7;

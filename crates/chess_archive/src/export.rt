@@ -2,8 +2,8 @@
 use crate::command_line::{Exporting, Form};
 use crate::reading::games_kept;
 use anyhow::Result;
-use archive_games::{Halves, Kept, database_of_games, halves_of, pgn_continued, rows_of_games};
 use archive_file::lines_of;
+use archive_games::{Halves, Kept, database_of_games, halves_of, pgn_continued, rows_of_games};
 use sqlite_file::Database;
 use std::io::{self, Write};
 use std::rt::Files;

@@ -5,7 +5,9 @@ use clap::Error;
 use command_words::words_given;
 use journal_words::{copy_journal, format, show_games, widen};
 use server_playing::{run_journal, serve, tell_drill};
-use server_work::{End, Fault, Word, command, end_of_words, end_of_work, name, play_board, read_words, status};
+use server_work::{
+    End, Fault, Word, command, end_of_words, end_of_work, name, play_board, read_words, status,
+};
 use std::process::ExitCode;
 
 fn main(rt: HostRuntime) -> ExitCode {

@@ -1,4 +1,5 @@
-//! What the command lines of programs share: the words that were given, how an argument is made, and how a program ends.
+//! What the command lines of programs share: the words that were given, the options of each word as a table, and how a program
+//! ends.
 #![tactic(auto)]
 
 mod arguments;

@@ -1,7 +1,8 @@
 //! Options, and words with their options, as tables.
+use crate::arguments::{flag, option};
+use crate::version::VERSION;
 use clap::builder::ValueParser;
 use clap::{Arg, ArgAction, Command};
-use crate::{VERSION, flag, option};
 use std::alloc::{AllocError, Global};
 
 /// What stands behind the name of an option; the text is what the help calls it.

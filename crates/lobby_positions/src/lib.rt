@@ -1,4 +1,5 @@
-//! The positions of a game, from its PGN: the answer to `line G`.
+//! What the lobby tells of positions: the legal moves of the side to move, and all positions of a game, from its PGN, as the
+//! answer to `line G`.
 #![tactic(auto)]
 
 mod answer;

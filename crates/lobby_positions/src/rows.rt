@@ -6,11 +6,11 @@ ghost use Rattle.chess_notation.specs.Fen.{fen_of};
 ghost use Rattle.lobby_positions.specs.Pgn.{IsPlayable};
 ghost use Rattle.lobby_positions.specs.Answer.{row, PutsRow, PutsRows, IsLineAnswer};
 
+use crate::telling::push_move;
 use chess_board::{Board, Move};
 use chess_fen::fen_write;
 use chess_san::write;
 use itoa::Buffer;
-use crate::push_move;
 use std::alloc::{AllocError, Global};
 
 // Appends a number.

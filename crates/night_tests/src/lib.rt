@@ -1,5 +1,5 @@
-//! Tests of the files and texts of a night, and of the switch before its servers, by what their crates export alone: so none of
-//! these is proved twice.
+//! Tests of the files and texts of a night and of a lobby, and of the switch before its servers, by what their crates export
+//! alone: so none of these is proved twice.
 #![tactic(auto)]
 
 #[cfg(test)]

@@ -1,5 +1,5 @@
-//! Connections that are being made to a server, and what it says that none was accepted, for programs that wait for
-//! several sockets at once.
+//! What programs that wait for several sockets at once ask of the system: a connection to a server, whether none was accepted
+//! and why, and the time by the clock that is never set.
 #![tactic(auto)]
 
 mod accepting;

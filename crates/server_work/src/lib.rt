@@ -1,4 +1,5 @@
-//! How a run of the program ends, what an operator is told, how a journal's file is opened, and the word that needs none.
+//! What the words of the program's command line ask for, how a run of it ends, what an operator is told, how a journal's file is
+//! opened, and the word that needs none.
 #![tactic(auto)]
 
 mod causes;

@@ -1,4 +1,4 @@
-//! A text in parts, as in lines or in words.
+//! What stands in a text: its parts, as lines or words, a number in decimal digits, a string of JSON.
 #![tactic(auto)]
 
 mod cutting;
