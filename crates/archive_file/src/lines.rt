@@ -1,6 +1,8 @@
 //! The lines of an archive's file. Opening an archive cuts off what stands behind its last line, so a file that is no archive
 //! is refused before.
-use crate::{game_of, games_of, look_behind};
+use crate::archive::games_of;
+use crate::behind::look_behind;
+use crate::reading::game_of;
 use anyhow::{Context, Result};
 use night_files::{AppendedFile, NamedFile, cut_lines, whole_length};
 use std::alloc::Global;

@@ -2,14 +2,14 @@
 //! ends.
 #![tactic(auto)]
 
-mod arguments;
+mod argument;
 mod ending;
 mod given;
 mod options;
 mod reading;
 mod version;
 
-pub use arguments::{flag, option};
+pub use argument::{flag, option};
 pub use ending::{NotDone, end_of};
 pub use given::words_given;
 pub use options::{OptionText, OptionValue, SERVER, WordText, arguments, command_line};

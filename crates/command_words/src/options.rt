@@ -1,5 +1,5 @@
 //! Options, and words with their options, as tables.
-use crate::arguments::{flag, option};
+use crate::argument::{flag, option};
 use crate::version::VERSION;
 use clap::builder::ValueParser;
 use clap::{Arg, ArgAction, Command};
