@@ -17,7 +17,7 @@ mod fake_files;
 #[cfg(test)]
 mod files;
 #[cfg(test)]
-mod memory;
+mod journal_memory;
 #[cfg(test)]
 mod memory_device;
 #[cfg(test)]
