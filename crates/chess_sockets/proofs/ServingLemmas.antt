@@ -11,7 +11,7 @@ use Rattle.chess_sessions.specs.Session.{Said, Changes, IsUnchanged}
 use Rattle.chess_hub.specs.Calls.{Call, Closed, Fed, Given}
 use Rattle.chess_hub.specs.Law.{HubState, Steps, Stays}
 use Rattle.client_streams.specs.declared.client.Client.{Client}
-use Rattle.client_streams.specs.declared.door.Door.{Door}
+use Rattle.server_calls.specs.declared.door.Door.{Door}
 use Rattle.client_streams.specs.Rounds as rounds
 use Rattle.client_streams.specs.Rounds.{AreEach, IsSent, AreGivenTo, IsGivenOut, IsRead, IsWritten, intake, Holds}
 use Rattle.chess_sockets.specs.Serving.{state_of, LeadsOn, IsLedBy, IsOfReading, IsOfWriting, AreRead, AreWritten, Welcomes, AreCounted, IsWelcomed, IsAskedFor}

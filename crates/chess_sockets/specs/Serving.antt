@@ -12,9 +12,9 @@ use Rattle.chess_hub.specs.Turning.{AsksFor}
 use Rattle.chess_sockets.specs.declared.server.Rested.{Rested}
 use Rattle.chess_sockets.specs.declared.server.Rested.TheVariants.{Calm}
 use Rattle.client_streams.specs.declared.client.Client.{Client}
-use Rattle.client_streams.specs.declared.door.Door.{Door}
-use Rattle.client_streams.specs.declared.door.Found.TheVariants.{Nobody}
-use Rattle.client_streams.specs.Doors.{IsAsked}
+use Rattle.server_calls.specs.declared.door.Door.{Door}
+use Rattle.server_calls.specs.declared.door.Found.TheVariants.{Nobody}
+use Rattle.server_calls.specs.Doors.{IsAsked}
 use Rattle.client_streams.specs.Closings.{IsSound}
 use Rattle.client_streams.specs.Incoming.{held}
 use Rattle.client_streams.specs.Rounds as rounds

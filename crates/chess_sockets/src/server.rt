@@ -8,11 +8,9 @@ ghost use Rattle.chess_sockets.specs.Serving.{state_of, Welcomes, IsWelcomed, Is
 ghost use Rattle.chess_sockets.specs.Turns.{EndsServing, IsRefusal, IsTurnRefusal};
 
 use chess_hub::{Hub, HubFault};
-use client_streams::{
-    Client, Door, Found, Listens, Reading, Watch, hand_out_all, may_wait, next_connection,
-    take_in_all,
-};
+use client_streams::{Client, Reading, hand_out_all, take_in_all};
 use sector_dev::Device;
+use server_calls::{Door, Found, Listens, Watch, may_wait, next_connection};
 use std::alloc::Global;
 use std::io;
 use std::io::{Read, Write};

@@ -1,4 +1,3 @@
-pub mod Doors
 pub mod Pieces
 pub mod Portions
 pub mod Incoming

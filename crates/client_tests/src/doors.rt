@@ -1,5 +1,5 @@
 //! Listeners whose tries fail.
-use client_streams::{Found, Listens, found_of, next_connection};
+use server_calls::{Found, Listens, found_of, next_connection};
 use std::io::Error;
 
 /// A listener that answers tries by these error numbers of Linux, 0 being a connection, and then that none waits.

@@ -1,5 +1,5 @@
 //! What the system refuses to watch.
-use client_streams::Watch;
+use server_calls::Watch;
 use std::os::fd::RawFd;
 
 // What is watched, and whether all of it can be. No file has the number -1.

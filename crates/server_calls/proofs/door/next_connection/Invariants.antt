@@ -1,6 +1,6 @@
 -- No connection was given so far, and each try is counted.
 use Rattle.std.proofs.Common.{◌≡◌, ◌≤◌}
-use Rattle.client_streams.proofs.door.next_connection.Given as goal
+use Rattle.server_calls.proofs.door.next_connection.Given as goal
 
 abbrev pub invariant-loop : goal.invariant-loop
 invariant-loop g l = (g.L.Listens.given_so_far l.door ≡ g.L.Listens.given_so_far l.fn.door)

@@ -1,9 +1,9 @@
 //! Where connections come from.
 ghost use Rattle.std.specs.Prelude.{◌≡◌, ◌<◌, ◌+◌, ◌-◌, ◌^◌, ◌↔◌, false, Some, None, IsSome, IfSome, IfNone, IfOk, OnErr};
 ghost use Rattle.server_calls.specs.Accepting.{IsLost};
-ghost use Rattle.client_streams.specs.Doors.{IsAsked};
+ghost use Rattle.server_calls.specs.Doors.{IsAsked};
 
-use server_calls::{AcceptFault, accept_fault};
+use crate::accepting::{AcceptFault, accept_fault};
 use std::io;
 use std::io::ErrorKind;
 use std::net::{Ipv4Addr, Net, TcpListener, TcpStream};
@@ -45,8 +45,8 @@ pub fn may_wait(found: Found) -> bool
 /// Where connections are accepted.
 pub trait Listens {
     ghost use Rattle.std.specs.Prelude.{ℕ, ◌≡◌, ◌+◌, ◌↔◌, IsSome, IfSome, IfNone};
-    ghost use Rattle.client_streams.specs.declared.door.Found.{Found};
-    ghost use Rattle.client_streams.specs.Doors.{IsAsked};
+    ghost use Rattle.server_calls.specs.declared.door.Found.{Found};
+    ghost use Rattle.server_calls.specs.Doors.{IsAsked};
 
     type Stream: Drop;
 
