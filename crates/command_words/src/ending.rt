@@ -1,17 +1,19 @@
 //! How a program ends.
 ghost use Rattle.std.specs.Prelude.{◌≡◌, IsOk, IfErr};
 ghost use Rattle.std.specs.Process.{exit_status};
-ghost use Rattle.command_words.specs.Ending.{status_of};
+ghost use Rattle.clap.specs.Values.{kind_of};
+ghost use Rattle.command_words.specs.Ending.{status_of, status_of_text};
 
 use anyhow::Result;
 use clap::Error;
+use clap::error::ErrorKind;
 use std::alloc::AllocError;
 use std::process::ExitCode;
 
 /// Why a program did not do what its words ask for.
 #[derive(Drop)]
 pub enum NotDone {
-    /// They ask for a text of the command line, as help, or for nothing that it does.
+    /// They ask for a text of the command line, as help, or for nothing that it does; or memory for them was refused.
     Words(Error),
     /// The work broke off.
     Work(anyhow::Error),
@@ -35,8 +37,19 @@ impl From<anyhow::Error> for NotDone {
     }
 }
 
+// How a program ends that did nothing, with a text of its command line.
+fn status_after(text: &Error) -> ExitCode
+    ensures { exit_status result ≡ status_of_text (kind_of text.now) }
+{
+    match text.kind() {
+        ErrorKind::DisplayHelp | ErrorKind::DisplayVersion => ExitCode::SUCCESS,
+        ErrorKind::OutOfMemory => ExitCode::FAILURE,
+        _ => ExitCode::from(2),
+    }
+}
+
 /// Prints why a program did not do what its words ask for, and ends it: with status 0 where it did, or printed a text that was
-/// asked for, with 1 where the work broke off, and else with 2.
+/// asked for, with 1 where the work broke off or memory was refused, and else with 2.
 pub fn end_of<R: Print + Eprint>(rt: &R, program: &str, done: Result<(), NotDone>) -> ExitCode
     ensures done { IsOk done → exit_status result ≡ 0 }
     ensures not_done { IfErr done (λ fault. exit_status result ≡ status_of fault) }
@@ -45,11 +58,7 @@ pub fn end_of<R: Print + Eprint>(rt: &R, program: &str, done: Result<(), NotDone
         Ok(()) => ExitCode::SUCCESS,
         Err(NotDone::Words(error)) => {
             let _ = error.print(rt);
-            if error.use_stderr() {
-                ExitCode::from(2)
-            } else {
-                ExitCode::SUCCESS
-            }
+            status_after(&error)
         }
         Err(NotDone::Work(error)) => {
             let _ = eprintln!(rt; "{program}: {error:#}");
