@@ -1,5 +1,5 @@
 -- What a batch and a turn leave.
-use Rattle.std.specs.Prelude.{ℕ, ◌≡◌, Bool, true, List, [], ◌∷◌, length, Option, None, Result, Ok, Err, OnOk, IfErr, IsSomeAnd}
+use Rattle.std.specs.Prelude.{ℕ, ◌≡◌, ◌↔◌, Bool, true, false, List, [], ◌∷◌, length, Option, None, Result, Ok, Err, OnOk, IfErr, IsErrOf, IsSomeAnd}
 use Rattle.std.proofs.Common.{refl, sym, subst, arith}
 use Rattle.std.specs.Option.{MatchOption}
 use Rattle.rec_codec.specs.declared.header.Header.{Header}
@@ -15,7 +15,8 @@ use Rattle.chess_sessions.specs.declared.sessions.Sessions.{Sessions}
 use Rattle.chess_sessions.specs.Session.{SessionState, session_at, IsUnchanged}
 use Rattle.chess_sessions.specs.Delivery.{Answered, AllAnswered, HasAnswered, own}
 use Rattle.chess_store.specs.declared.fault.StoreFault.{StoreFault}
-use Rattle.chess_store.specs.Batch.{IsAnswered}
+use Rattle.chess_store.specs.declared.fault.StoreFault.TheVariants as store
+use Rattle.chess_store.specs.Batch.{IsAnswered, IsWornOut, act_count}
 use Rattle.chess_store.specs.Faults as faults
 use Rattle.chess_store.specs.Calling.{CallTried}
 use Rattle.table_commits.specs.Means.{MeansEither, IsKept}
@@ -24,7 +25,7 @@ use Rattle.chess_store.proofs.CallLemmas.{ok_was}
 use Rattle.chess_hub.specs.declared.fault.HubFault.{HubFault}
 use Rattle.chess_hub.specs.declared.fault.HubFault.TheVariants.{Busy, NoMemory, LineTooLong, Store}
 use Rattle.chess_hub.specs.Faults.{UnlessDevice, IsDevice, CountsFault}
-use Rattle.chess_hub.specs.Turning.{IsTurnFault, TurnLasts, TurnTried}
+use Rattle.chess_hub.specs.Turning.{IsBatchFault, IsTurnFault, TurnLasts, TurnTried}
 
 -- ---- the replies of a batch
 
@@ -94,6 +95,35 @@ module _ {T D : Type 0} {state : D → State} {sector_count failures : D → ℕ
         cause = tt;
         cause_err = counts_of fault y (failures old) (failures new) same tried.cause_err;
       })
+
+-- the fault is another exactly where this holds
+abbrev ComesAs : (T : Type 0) → StoreFault → StoreFault → Type 0 → Type 0
+ComesAs T fault other Holds = IsErrOf {T = T} (Err fault) other ↔ Holds
+
+-- Why a store refused a batch, by what `submit` says of its fault.
+module _ {T : Type 0} (seq : ℕ) (before after : TableState) (commands : List Command) where
+  not_failed : (fault : StoreFault) (failed : Bool) → (IsErrOf {T = T} (Err fault) store.Failed → ⊥)
+      → ComesAs T fault store.Failed (failed ≡ true) → failed ≡ false
+  not_failed fault true other is = absurd (other (is.1 refl))
+  not_failed fault false other is = refl
+
+  pub batch_fault : (fault : StoreFault) (failed : Bool) → faults.IsSubmitFault fault
+      → faults.MayLast fault before commands after
+      → ComesAs T fault store.Failed (failed ≡ true)
+      → ComesAs T fault store.Worn ((failed ≡ false) × IsWornOut seq before.entries (act_count commands))
+      → IsBatchFault fault seq failed before after commands
+  batch_fault (store.Device pending) failed is may stopped worn =
+      let works = not_failed (store.Device pending) failed (λ e. cc) stopped in
+      (works, (λ out. let e = worn.1 (works, out) in cc), may)
+  batch_fault store.NoMemory failed is may stopped worn =
+      let works = not_failed store.NoMemory failed (λ e. cc) stopped in
+      (works, (λ out. let e = worn.1 (works, out) in cc), may)
+  batch_fault store.Worn failed is may stopped worn = ((worn.0 refl).0, (worn.0 refl).1, may)
+  batch_fault store.Failed failed is may stopped worn = (stopped.0 refl, may)
+  batch_fault store.Exists failed is may stopped worn = absurd is
+  batch_fault store.TooSmall failed is may stopped worn = absurd is
+  batch_fault store.NotOurs failed is may stopped worn = absurd is
+  batch_fault store.Damaged failed is may stopped worn = absurd is
 
 -- nothing was asked of the store
 module _ {T : Type 0} {now : State} {header : Header} {compaction : Compaction} {table : TableState} (sectors : ℕ)

@@ -8,11 +8,11 @@ use Rattle.chess_store.specs.Kept.{IsStoreKept}
 use Rattle.chess_hub.specs.declared.fault.HubFault.{HubFault}
 use Rattle.chess_hub.specs.Turning.{MayBeAsked, AreRefused, TurnLasts, TurnTried}
 
--- the store answers these commands
+-- the store may be asked these commands
 abbrev pub StoreMayBeAsked : {D : Type 0} {ghosts : Ghosts D} → Store D ghosts → List Command → Type 0
 StoreMayBeAsked store = MayBeAsked store.failed store.journal.header.seq store.table.entries
 
--- it refuses them for this reason, and is then the other
+-- it refuses them for this reason, and then has the table of the other
 abbrev pub StoreRefuses : {D : Type 0} {ghosts : Ghosts D} → Store D ghosts → Store D ghosts → StoreFault
     → List Command → Type 0
 StoreRefuses old new fault = AreRefused fault old.journal.header.seq old.failed old.table new.table

@@ -1,12 +1,22 @@
-use Rattle.std.proofs.Common.{Err, refl}
+use Rattle.std.proofs.Common.{Err, refl, rules}
 use Rattle.chess_hub.specs.declared.fault.HubFault.TheVariants.{Store}
-use Rattle.chess_hub.proofs.TurnLemmas.{answered_count, lasts_idle, lasts_refused, lasts_answered, tried_refused}
+use Rattle.chess_hub.proofs.TurnLemmas.{answered_count, batch_fault, lasts_idle, lasts_refused, lasts_answered, tried_refused}
 use Rattle.chess_hub.proofs.hub.ask.Goals as goal
 
 pub returns-then-is_empty-clause-lasts : goal.returns-then-is_empty-clause-lasts
 returns-then-is_empty-clause-lasts g c = λ kept.
     let device = c.args.store.now.journal.device in
     lasts_idle (g.D.Device.sector_count device) (g.met.D.Device.coherent device) kept c.new.result
+
+pub returns-in-Err-clause-fault : goal.returns-in-Err-clause-fault
+returns-in-Err-clause-fault g c =
+    let store = c.args.store.now in
+    let is = c.in-Err.ensures in
+    record {
+      some = search rules;
+      why = batch_fault store.journal.header.seq store.table c.submit.new.self.table c.args.commands.now c.in-Err.fault
+          store.failed is.fault is.pending is.failed is.worn;
+    }
 
 pub returns-in-Err-clause-lasts : goal.returns-in-Err-clause-lasts
 returns-in-Err-clause-lasts g c = λ kept.
