@@ -14,7 +14,8 @@ fn write<R: AllocGlobal + Print>(rt: &R, form: Form, games: &[Kept]) -> Result<(
     }
 }
 
-/// Writes the games of an archive: the PGN of each, a row for each, or a database of them.
+/// Writes the games of an archive: the PGN of each, a row for each, or a database of them. It fails where the file is no
+/// archive, as `lines_of` does, where memory is refused, or the output takes no more.
 pub fn export<R: Files + AllocGlobal + Print>(rt: &R, exporting: &Exporting<'_>) -> Result<()> {
     let text = lines_of(rt, exporting.archive)?;
     let games = games_kept(rt.alloc(), text.as_str())?;

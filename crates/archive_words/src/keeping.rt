@@ -183,7 +183,8 @@ fn tell_counts<R: Print + AllocGlobal>(rt: &R, counts: Counts) -> Result<()> {
 }
 
 /// Keeps the games of a server that are over, and drops them where that is asked: once, or again and again until it is
-/// killed. It fails where another does so in this archive.
+/// killed. It fails where another does so in this archive, where the players' file is none, and, where it is done once, at
+/// whatever goes wrong.
 pub fn keep<R>(rt: &R, keeping: &Keeping<'_>) -> Result<()>
 where
     R: Files<File = File> + Net<Stream = TcpStream> + AllocGlobal + Print + Eprint + Clock,

@@ -279,7 +279,8 @@ where
 }
 
 /// Writes all games that are played on the server's table, those that are over, and those of the archive to a file: once, or
-/// again and again until it is killed.
+/// again and again until it is killed. It fails where the players' file is none, and, where it is done once, at whatever
+/// goes wrong.
 pub fn live<R>(rt: &R, living: &Living<'_>) -> Result<()>
 where
     R: Files + Net<Stream = TcpStream> + AllocGlobal + Eprint + Clock,
