@@ -1,4 +1,5 @@
-//! The games of an archive, and what is told of them: whether one is another, rows, a database.
+//! The games of an archive, and what is told of them: whether one is another, which go on in others; and all of them written as
+//! PGN, as rows, or as a database.
 #![tactic(auto)]
 
 mod compared;
@@ -7,10 +8,9 @@ mod database;
 mod halves;
 mod kept;
 mod spreadsheet;
+mod writing;
 
 pub use compared::has_game;
-pub use continued::{Halves, halves_of, pgn_continued};
-pub use database::database_of_games;
 pub use halves::push_ended;
-pub use kept::{Kept, kept_in};
-pub use spreadsheet::rows_of_games;
+pub use kept::{Kept, games_kept};
+pub use writing::{write_database, write_games, write_rows};

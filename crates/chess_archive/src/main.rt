@@ -1,25 +1,8 @@
 //! The archive of a chess club's games: its words.
 #![tactic(auto)]
 
-mod asking;
-mod command_line;
-mod export;
-mod hold;
-mod keeper;
-mod keeping;
-mod live;
-mod log_reader;
-mod players;
-mod reading;
-mod rows;
-mod sources;
-mod telling;
-
-use command_line::{Word, command, read_words};
+use archive_words::{Word, command, export, keep, live, read_words};
 use command_words::{NotDone, end_of, words_given};
-use export::export;
-use keeping::keep;
-use live::live;
 use std::process::ExitCode;
 
 fn main(rt: HostRuntime) -> ExitCode {

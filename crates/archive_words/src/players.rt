@@ -15,8 +15,8 @@ pub struct Players<'a, R> {
     telling: Telling<'a, R>,
 }
 
-// The players of a file that is read again. It fails also for what is no regular file, since to read of a pipe may last for ever,
-// and where there are none, as while somebody writes it.
+// The players of a file that is read again. It fails also for what is no regular file, since to read of a pipe may last for
+// ever, and where there are none, as while somebody writes it.
 fn read_again<R: Files + AllocGlobal>(rt: &R, file: &str) -> Result<Vec<Player>> {
     if !found(rt, file)?.is_file() {
         bail!("{file} is no regular file");

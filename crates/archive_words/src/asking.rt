@@ -89,8 +89,8 @@ fn shown(alloc: Global, link: &mut Link, game: u32) -> Result<Option<Shown>> {
     shown_by(game, answer.first.as_str())
 }
 
-// The clocks that the log knows. Where it has none behind the last move, whose answer was lost or is still to come, the server is
-// asked.
+// The clocks that the log knows. Where it has none behind the last move, whose answer was lost or is still to come, the
+// server is asked.
 fn clocks_of(
     alloc: Global,
     link: &mut Link,
@@ -106,8 +106,8 @@ fn clocks_of(
     Ok(clocks(alloc, known.records, asked, game, ply)?)
 }
 
-/// Asks for the PGN of a game, and makes it as the archive has it, with the clocks that the log knows, and where it is given that of
-/// the last move by the server; none where the game has left the table since.
+/// Asks for the PGN of a game, and makes it as the archive has it, with the clocks that the log knows, and where it is given
+/// that of the last move by the server; none where the game has left the table since.
 pub fn pgn_of(
     alloc: Global,
     link: &mut Link,

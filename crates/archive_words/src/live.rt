@@ -90,8 +90,8 @@ fn length_of<R: Files>(rt: &R, path: &str) -> Result<u64> {
     Ok(found(rt, path)?.len())
 }
 
-// Puts the game of a line of the archive behind others, where it is written: each one, or those of this night alone where its date
-// is given.
+// Puts the game of a line of the archive behind others, where it is written: each one, or those of this night alone where
+// its date is given.
 fn push_line(boards: &mut Vec<Board>, alloc: Global, line: &str, date: Option<&str>) -> Result<()> {
     let Some(game) = game_of(alloc, line)? else {
         return Ok(());
@@ -201,8 +201,8 @@ impl<'a, R: Files + AllocGlobal + Eprint> Writer<'a, R> {
         })
     }
 
-    // Those games of the list as it is now that are played or over, but those that were kept, with the players and the log as they
-    // are behind it.
+    // Those games of the list as it is now that are played or over, but those that were kept, with the players and the log
+    // as they are behind it.
     fn push_list(&mut self, boards: &mut Vec<Board>, link: &mut Link) -> Result<()> {
         let alloc = self.rt.alloc();
         let list = link.list()?;
@@ -212,8 +212,8 @@ impl<'a, R: Files + AllocGlobal + Eprint> Writer<'a, R> {
         self.push_rows(boards, alloc, link, rows.as_slice())
     }
 
-    // The games of the server's table that are played or over, but those that were kept. What comes back are the games of servers
-    // that are away.
+    // The games of the server's table that are played or over, but those that were kept. What comes back are the games of
+    // servers that are away.
     fn push_table(&mut self, boards: &mut Vec<Board>, link: &mut Link) -> Result<Vec<u32>> {
         self.push_list(boards, link)?;
         self.games_away(boards.as_slice(), self.rt.alloc(), link)
@@ -279,7 +279,8 @@ where
 }
 
 /// Writes all games that are played on the server's table, those that are over, and those of the archive to a file: once, or
-/// again and again until it is killed.
+/// again and again until it is killed. It fails where the players' file is none, and, where it is done once, at whatever
+/// goes wrong.
 pub fn live<R>(rt: &R, living: &Living<'_>) -> Result<()>
 where
     R: Files + Net<Stream = TcpStream> + AllocGlobal + Eprint + Clock,

@@ -1,6 +1,6 @@
 //! The games of the server's list.
 ghost use Rattle.std.specs.Prelude.{◌≡◌, IfOk};
-ghost use Rattle.chess_archive.specs.Games.{games_over_in};
+ghost use Rattle.archive_words.specs.Games.{games_over_in};
 
 use anyhow::{Result, bail};
 use lobby_words::server_of;
@@ -20,8 +20,8 @@ pub fn rows_of(alloc: Global, list: &str) -> Result<Vec<Row<'_>>> {
     Ok(rows)
 }
 
-/// The least number on the table of a game's server: later games of that server have greater ones. `None` where the table has no game
-/// of that server.
+/// The least number on the table of a game's server: later games of that server have greater ones. `None` where the table
+/// has no game of that server.
 pub fn first_beside(rows: &[Row<'_>], game: u32) -> Option<u32> {
     let server = server_of(game);
     rows.iter()

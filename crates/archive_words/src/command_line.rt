@@ -261,8 +261,8 @@ const LIVE: WordText = WordText {
     ],
 };
 
-// (Each has a function of its own, since each step of a function that has texts tells of all their bytes. Help lists them in the
-// order of `command`.)
+// (Each has a function of its own, since each step of a function that has texts tells of all their bytes. Help lists them in
+// the order of `command`.)
 fn keep_word() -> WordText {
     KEEP
 }

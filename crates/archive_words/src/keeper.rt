@@ -3,14 +3,13 @@ ghost use Rattle.std.specs.Prelude.{ℕ, ◌≡◌, ◌==◌, ◌&&◌, true, fa
 ghost use Rattle.std.specs.BTreeSet as set;
 ghost use Rattle.std.specs.Ordering.{nat_cmp};
 ghost use Rattle.lobby_archive.specs.Files.{contains};
-ghost use Rattle.chess_archive.specs.Games.{games_over_in, is_at};
+ghost use Rattle.archive_words.specs.Games.{games_over_in, is_at};
 
 use crate::asking::{Knowledge, pgn_of};
-use crate::reading::games_kept;
 use act_log::{Ended, first_half, is_opened_for};
 use anyhow::{Context, Result, anyhow, bail};
 use archive_file::Archive;
-use archive_games::{Kept, has_game, push_ended};
+use archive_games::{Kept, games_kept, has_game, push_ended};
 use lobby_archive::Night;
 use night_files::NamedFile;
 use pgn_tags::with_tag;
@@ -97,7 +96,8 @@ impl Done {
 
 // A game is among games from now on.
 fn put_among(games: &mut BTreeSet<u32>, game: u32) -> Result<(), AllocError>
-    ensures put { OnOk result ((g : ℕ) → set.contains nat_cmp games.new g ≡ (if game == g then true else set.contains nat_cmp games.old g)) }
+    ensures put { OnOk result ((g : ℕ) →
+        set.contains nat_cmp games.new g ≡ (if game == g then true else set.contains nat_cmp games.old g)) }
     ensures same { OnErr result ((g : ℕ) → set.contains nat_cmp games.new g ≡ set.contains nat_cmp games.old g) }
 {
     games.insert(game)?;
@@ -113,8 +113,10 @@ fn take_off(games: &mut BTreeSet<u32>, game: u32)
 
 // A game is among games from now on, or it is not any more.
 fn set_among(games: &mut BTreeSet<u32>, game: u32, is_among: bool) -> Result<(), AllocError>
-    ensures set { OnOk result ((g : ℕ) → set.contains nat_cmp games.new g ≡ (if game == g then is_among else set.contains nat_cmp games.old g)) }
-    ensures off { OnErr result ((g : ℕ) → set.contains nat_cmp games.new g ≡ (if game == g then false else set.contains nat_cmp games.old g)) }
+    ensures set { OnOk result ((g : ℕ) →
+        set.contains nat_cmp games.new g ≡ (if game == g then is_among else set.contains nat_cmp games.old g)) }
+    ensures off { OnErr result ((g : ℕ) →
+        set.contains nat_cmp games.new g ≡ (if game == g then false else set.contains nat_cmp games.old g)) }
 {
     take_off(games, game);
     if is_among {

@@ -2,56 +2,25 @@
 ghost use Rattle.std.specs.Prelude.{IfOk};
 ghost use Rattle.lobby_archive.specs.Files.{contains};
 ghost use Rattle.lobby_archive.specs.Night.{AreAll};
-ghost use Rattle.chess_archive.specs.Games.{games_over_in};
+ghost use Rattle.archive_words.specs.Games.{games_over_in};
 
 use crate::asking::link_to;
 use crate::command_line::Keeping;
-use crate::hold::Hold;
 use crate::keeper::{Counts, Done, Keeper, NOTHING, Onlookers};
 use crate::rows::{games_over, rows_of};
 use crate::sources::Sources;
 use crate::telling::{Work, go_on};
 use act_log::in_order;
-use anyhow::{Context, Result};
-use archive_file::{Archive, end_last_line, lines_of};
+use anyhow::Result;
+use archive_file::{Archive, Hold, Opened, open_archive};
 use lobby_archive::look;
 use lobby_watchers::Watchers;
 use night_files::NamedFile;
 use server_link::{Link, Row};
 use std::alloc::Global;
-use std::fs::{self, File};
+use std::fs::File;
 use std::net::{Net, TcpStream};
 use std::rt::{Clock, Files};
-
-// An archive, and its lines when it was opened.
-#[derive(Drop)]
-struct Opened {
-    archive: Archive<NamedFile>,
-    lines: String,
-}
-
-// The archive of a file.
-fn archive_of<R>(rt: &R, path: &str) -> Result<Archive<NamedFile>>
-where
-    R: Files<File = File> + AllocGlobal,
-{
-    let mut file = NamedFile::open(rt, path)?;
-    end_last_line(rt, path, &mut file)?;
-    Ok(Archive::open(rt.alloc(), file)?)
-}
-
-// The archive of a file, and its lines.
-fn open_archive<R>(rt: &R, path: &str) -> Result<Opened>
-where
-    R: Files<File = File> + AllocGlobal,
-{
-    if fs::exists(rt, path)? {
-        lines_of(rt, path)?;
-    }
-    let archive = archive_of(rt, path).context(format_args!("opening {path}"))?;
-    let lines = lines_of(rt, path)?;
-    Ok(Opened { archive, lines })
-}
 
 // Those who look at games by a lobby, where one is asked.
 #[derive(Drop)]
@@ -95,8 +64,8 @@ impl<'a, R: Files + AllocGlobal + Eprint> Looking<'a, R> {
 }
 
 impl<R: Files + AllocGlobal> Looking<'_, R> {
-    // Those games of a list that are over, a first half before its second one, which is linked with it. Where one of them was not kept
-    // the log is read on before: behind the list, so that it has what is told of the games that are over in it.
+    // Those games of a list that are over, a first half before its second one, which is linked with it. Where one of them
+    // was not kept the log is read on before: behind the list, so that it has what is told of the games that are over in it.
     fn games_in_order(&mut self, archive: &Archive<NamedFile>, rows: &[Row<'_>]) -> Result<Vec<u32>>
         ensures { IfOk result (λ games. AreAll (λ game. contains game (games_over_in rows.now)) games.items) }
     {
@@ -173,8 +142,8 @@ impl<R> Looking<'_, R>
 where
     R: Files<File = File> + Net<Stream = TcpStream> + AllocGlobal + Eprint + Clock,
 {
-    // Keeps the games of a list that are over, and drops them where that is asked. What went wrong though the work went on comes
-    // beside the counts.
+    // Keeps the games of a list that are over, and drops them where that is asked. What went wrong though the work went on
+    // comes beside the counts.
     fn look_at(&mut self, link: Link, rows: &[Row<'_>]) -> Result<(Counts, Result<()>)> {
         let Some(opened) = self.open(rows)? else {
             return Ok((NOTHING, Ok(())));
@@ -213,8 +182,9 @@ fn tell_counts<R: Print + AllocGlobal>(rt: &R, counts: Counts) -> Result<()> {
     Ok(())
 }
 
-/// Keeps the games of a server that are over, and drops them where that is asked: once, or again and again until it is killed. It
-/// fails where another does so in this archive.
+/// Keeps the games of a server that are over, and drops them where that is asked: once, or again and again until it is
+/// killed. It fails where another does so in this archive, where the players' file is none, and, where it is done once, at
+/// whatever goes wrong.
 pub fn keep<R>(rt: &R, keeping: &Keeping<'_>) -> Result<()>
 where
     R: Files<File = File> + Net<Stream = TcpStream> + AllocGlobal + Print + Eprint + Clock,
