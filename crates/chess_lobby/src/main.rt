@@ -1,24 +1,9 @@
 //! The lobby of a chess club: its words.
 #![tactic(auto)]
 
-mod adding;
-mod evidence;
-mod gaps;
-mod health;
-mod links;
-mod live;
-mod log;
-mod mark;
-mod page;
-mod players;
-mod serving;
-mod table;
-
-use adding::add_player;
 use command_words::{NotDone, end_of, words_given};
-use evidence::evidence;
-use lobby_commands::{Word, command, read_words};
-use serving::Server;
+use lobby_commands::{Word, add_player, command, print_evidence, read_words};
+use lobby_serving::serve;
 use std::process::ExitCode;
 
 fn main(rt: HostRuntime) -> ExitCode {
@@ -35,8 +20,8 @@ fn do_words(rt: &HostRuntime) -> Result<(), NotDone> {
 // Does what a word asks for.
 fn do_word(rt: &HostRuntime, word: &Word<'_>) -> anyhow::Result<()> {
     match word {
-        Word::Serve(serving) => Server::new(rt, serving).serve(),
+        Word::Serve(serving) => serve(rt, serving),
         Word::Player(adding) => add_player(rt, adding),
-        Word::Evidence(asked) => evidence(rt, asked),
+        Word::Evidence(asked) => print_evidence(rt, asked),
     }
 }

@@ -1,6 +1,11 @@
-//! The command line of the lobby: its words and the texts of their help.
+//! The command line of the lobby, and its words that do not serve: a player is put into the file, the log tells of a game.
 #![tactic(auto)]
 
+mod adding;
 mod command_line;
+mod evidence;
+mod gaps;
 
+pub use adding::add_player;
 pub use command_line::{Adding, Evidence, Serving, Word, command, read_words};
+pub use evidence::print_evidence;

@@ -1,6 +1,6 @@
 //! The word that puts a player into a players' file.
+use crate::command_line::Adding;
 use anyhow::{Context, Result};
-use lobby_commands::Adding;
 use lobby_players::{Addition, added, link_text, new_token};
 use players_file::Hold;
 use std::fs::File;

@@ -147,18 +147,11 @@ fn entrance_on<R: Net>(rt: &R, address: SocketAddr) -> Result<Entrance> {
     Entrance::open(rt, address).context(format_args!("listening on {address}"))
 }
 
-/// The lobby's server, as the command line asks for it.
+// The lobby's server, as the command line asks for it.
 #[derive(Drop)]
-pub struct Server<'a, R> {
+struct Server<'a, R> {
     rt: &'a R,
     serving: &'a Serving<'a>,
-}
-
-impl<'a, R> Server<'a, R> {
-    /// Nothing is served yet.
-    pub fn new(rt: &'a R, serving: &'a Serving<'a>) -> Self {
-        Server { rt, serving }
-    }
 }
 
 impl<R> Server<'_, R>
@@ -234,15 +227,28 @@ where
         drop(lobby);
         served
     }
+}
 
-    /// Serves browsers, and first prints the page's address.
-    pub fn serve(&self) -> Result<()> {
-        let mut players = Players::new(self.rt, self.serving.players);
-        let known = players.read()?;
-        let Some(file) = self.serving.log else {
-            return self.serve_with(&mut players, known, &mut NoActLog);
-        };
-        let mut log = FileLog::open(self.rt, file).context(format_args!("opening {file}"))?;
-        self.serve_with(&mut players, known, &mut log)
-    }
+/// Serves browsers, and first prints the page's address. It ends where something is at fault: at the start the players' file, the
+/// page, the log or the address, then a turn.
+pub fn serve<R>(rt: &R, serving: &Serving<'_>) -> Result<()>
+where
+    R: Files<File = File>
+        + AllocGlobal
+        + Clone
+        + Drop
+        + Clock
+        + Print
+        + Eprint
+        + Net
+        + RandomSource,
+{
+    let server = Server { rt, serving };
+    let mut players = Players::new(rt, serving.players);
+    let known = players.read()?;
+    let Some(file) = serving.log else {
+        return server.serve_with(&mut players, known, &mut NoActLog);
+    };
+    let mut log = FileLog::open(rt, file).context(format_args!("opening {file}"))?;
+    server.serve_with(&mut players, known, &mut log)
 }
