@@ -53,12 +53,12 @@ flag_by_test : (p : Position) (alone : Bool) → Decides alone (HasKingAlone p.p
 flag_by_test p true d = inl (d.0 refl, refl)
 flag_by_test p false d = inr (λ h. false≢true (d.1 h), refl)
 
-Decides-at_least : (a n : ℕ) → Decides (nat_le a n) (a ≤ n)
-Decides-at_least a n = (leb-true a n, le-leb a n)
+pub Decides-nat_le : (a b : ℕ) → Decides (nat_le a b) (a ≤ b)
+Decides-nat_le a b = (leb-true a b, le-leb a b)
 
 pub law_of_endings : LawOfEndings
 law_of_endings = record {
   line = λ p line. by_tests p (times p line) (quiet_run line) _ _ _ _ _ (Decides-is_checkmate p) (Decides-is_stalemate p)
-      (Decides-is_listed_dead p.placement) (Decides-at_least 5 (times p line)) (Decides-at_least 150 (quiet_run line));
+      (Decides-is_listed_dead p.placement) (Decides-nat_le 5 (times p line)) (Decides-nat_le 150 (quiet_run line));
   flag = λ p. flag_by_test p _ (Decides-has_king_alone p.placement (other p.side));
 }

@@ -16,7 +16,7 @@ nil-not_more : {A : Type 0} (ys : List A) (y : A) → [] ≡ ys ++ y ∷ [] → 
 nil-not_more [] y h = cc
 nil-not_more (x ∷ ys) y h = cc
 
-nil-not_around : {A : Type 0} (before : List A) (x : A) (rest : List A) → [] ≡ before ++ x ∷ rest → ⊥
+pub nil-not_around : {A : Type 0} (before : List A) (x : A) (rest : List A) → [] ≡ before ++ x ∷ rest → ⊥
 nil-not_around [] x rest h = cc
 nil-not_around (y ∷ before) x rest h = cc
 

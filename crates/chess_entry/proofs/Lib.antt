@@ -11,7 +11,7 @@ pub mod GameLaw
 pub mod Numbers
 pub mod LawOfFollow
 pub mod Examples
-mod EndingCases
+pub mod EndingCases
 pub mod LawfulLists
 pub mod ExampleLists
 pub mod OneMeaning

@@ -3,7 +3,7 @@ use Rattle.std.proofs.Common.{ℕ, ◌≡◌, ◌+◌, ◌≤◌, Bool, true, fa
 use Rattle.std.specs.Prelude.{IsTrue, ◌↔◌, ◌||◌, is_some, IfSome, IfNone, nat_le, count_by, if◌then◌else◌}
 use Rattle.std.specs.Bool.{Decides}
 use Rattle.std.specs.Cmp.Lexicographic.{bytes_decides}
-use Rattle.std.proofs.lemmas.Bool.{false≢true, leb-true, le-leb}
+use Rattle.std.proofs.lemmas.Bool.{false≢true}
 use Rattle.std.proofs.lemmas.List.Sums.{count_by-le-length}
 use Rattle.chess_bits.specs.declared.men.Colour.{Colour}
 use Rattle.chess_bits.specs.Man.{other}
@@ -26,6 +26,7 @@ use Rattle.chess_end.proofs.Deciding.{Decides-is_checkmate, Decides-is_stalemate
 use Rattle.chess_entry.specs.State.{position_after}
 use Rattle.chess_entry.specs.Outcome.{times, ending, ending_after, is_granted, flag_result, flag_fallen}
 use Rattle.chess_entry.specs.Verdict.{is_finished_at}
+use Rattle.chess_entry.proofs.EndingCases.{Decides-nat_le}
 use Rattle.chess_game.proofs.LineLemmas.{position_after-push, positions_of-push, length-positions_of, quiet_run-positions_of}
 
 -- the ending by the tests, for any counts
@@ -95,9 +96,6 @@ by_article mate stale dead five q won dm ds dd df dq result articles.A93 is give
 by_none : (mate stale dead five seventy_five : Bool) (won : GameResult) → mate ≡ false → stale ≡ false → dead ≡ false
     → five ≡ false → seventy_five ≡ false → ending_by_tests mate stale dead five seventy_five won ≡ None
 by_none mate stale dead five q won m s d f r = rw (m, s, d, f, r) refl
-
-Decides-nat_le : (a b : ℕ) → Decides (nat_le a b) (a ≤ b)
-Decides-nat_le a b = (leb-true a b, le-leb a b)
 
 article_is : (p : Position) (t q : ℕ) (article : Article) → IsEndedBy p t q article
     → ArticleOf (IsCheckmate p) (IsStalemate p) (IsListedDead p.placement) (5 ≤ t) (150 ≤ q) article

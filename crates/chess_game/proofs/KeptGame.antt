@@ -340,9 +340,6 @@ TimesFit-on_way game way =
     way.opened.control (completed-at_most game.start.side Black (ply_of game) way.short) (claims-few game White way.short) in
     record { white_fits = fits way.white_held white; black_fits = fits way.black_held black }
 
-Decides-nat_le : (a b : ℕ) → a ≤ b → nat_le a b ≡ true
-Decides-nat_le a b h = le-leb a b h
-
 pub held_for : (game : GameState) (side : Colour) → (time_of side (clock_for game)).held ≡ (seat_of side game).held
 held_for game White = refl
 held_for game Black = refl
@@ -352,7 +349,7 @@ not_fallen game at up fallen =
     let mover = (position_of game).side in
     let same = held_for game mover in
     let down : (seat_of mover game).held ≤ at - game.moment = subst (λ (n : ℕ). n ≤ at - game.moment) same fallen in
-    true_not_false (has_fallen game at) (Decides-nat_le (seat_of mover game).held (at - game.moment) down) up
+    true_not_false (has_fallen game at) (le-leb (seat_of mover game).held (at - game.moment) down) up
 
 -- ---- a wrong claim
 

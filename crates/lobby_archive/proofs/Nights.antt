@@ -1,6 +1,6 @@
 -- Games that are safe or have left the table, one more; and what is so of a night behind a step.
 use Rattle.std.proofs.Common.{ℕ, ◌≡◌, ◌<◌, Bool, true, false, not, ◌||◌, ◌&&◌, ◌==◌, List, [], ◌∷◌, ◌++◌, Option, None, Some, length, get_or, refl, sym, ap, ◌∙◌}
-use Rattle.std.specs.Prelude.{Result, Ok, Err, IfOk, IsErr, is_some, is_none, if◌then◌else◌}
+use Rattle.std.specs.Prelude.{is_some, is_none, if◌then◌else◌}
 use Rattle.std.proofs.lemmas.Bool.{false≢true}
 use Rattle.std.proofs.lemmas.Bool.Decides.{Decides-eqb}
 use Rattle.std.proofs.lemmas.List.Folds.{list_any_at}
@@ -46,11 +46,6 @@ settled_more settled left settled_now left_now game games more f k all one e = �
     (λ same. ap (λ (n : ℕ). settled_now n || left_now n) (sym (same_game game g same)) ∙ one)
     (λ other. or_later (settled g) (left g) (settled_now g) (left_now g) (λ s. f g other ∙ s) (k g)
     (all g (second_of (game == g) (contains g games) other (sym (contains_more g game games) ∙ (sym (ap (contains g) e) ∙ h)))))
-
--- what is said of an `Ok` is said of no error
-pub on_error : {T E : Type 0} (r : Result T E) (P : T → Type 0) → IsErr r → IfOk r P
-on_error (Ok x) P h = absurd (false≢true h)
-on_error (Err e) P h = tt
 
 pub here_is : (game : ℕ) → (game == game) ≡ true
 here_is game = (Decides-eqb game game).1 refl

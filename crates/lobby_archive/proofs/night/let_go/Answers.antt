@@ -2,41 +2,8 @@ use Rattle.std.proofs.Common.{◌==◌, ◌&&◌, not, sym, ◌∙◌}
 use Rattle.std.proofs.lemmas.Bool.{and_parts}
 use Rattle.lobby_archive.specs.Files.{contains}
 use Rattle.lobby_archive.specs.Clerk.{View, view, is_kept}
-use Rattle.lobby_archive.proofs.Nights.{on_error, here_is, both}
+use Rattle.lobby_archive.proofs.Nights.{here_is, both}
 use Rattle.lobby_archive.proofs.night.let_go.Goals as goal
-
-pub returns-in_err-is_left : goal.returns-in_err-is_left
-returns-in_err-is_left g c = let err = c.from_residual.ensures.0 in record {
-  over = on_error _ _ err;
-  told = on_error _ _ err;
-  safe = on_error _ _ err;
-  later = on_error _ _ err;
-  settled = on_error _ _ err;
-  here = on_error _ _ err;
-  others = on_error _ _ err;
-}
-
-pub returns-in_err-left : goal.returns-in_err-left
-returns-in_err-left g c = let err = c.from_residual-in_err-left.ensures.0 in record {
-  over = on_error _ _ err;
-  told = on_error _ _ err;
-  safe = on_error _ _ err;
-  later = on_error _ _ err;
-  settled = on_error _ _ err;
-  here = on_error _ _ err;
-  others = on_error _ _ err;
-}
-
-pub returns-in_err-drop_game : goal.returns-in_err-drop_game
-returns-in_err-drop_game g c = let err = c.from_residual-in_err-drop_game.ensures.0 in record {
-  over = on_error _ _ err;
-  told = on_error _ _ err;
-  safe = on_error _ _ err;
-  later = on_error _ _ err;
-  settled = on_error _ _ err;
-  here = on_error _ _ err;
-  others = on_error _ _ err;
-}
 
 pub drop_game-requires : goal.drop_game-requires
 drop_game-requires g c =

@@ -2,7 +2,7 @@ use Rattle.std.proofs.Common.{ℕ, ◌≡◌, ◌+◌, ◌∙◌, List, take, ge
 use Rattle.std.proofs.lemmas.List.{take_more, take_all}
 use Rattle.std.proofs.lemmas.Bool.{false≢true}
 use Rattle.lobby_archive.specs.Night.{AreDone, AreSettledOf}
-use Rattle.lobby_archive.proofs.Nights.{on_error, done_more, settled_more, contains_at}
+use Rattle.lobby_archive.proofs.Nights.{done_more, settled_more, contains_at}
 use Rattle.lobby_archive.proofs.night.look.Goals as goal
 
 pub loop-game-preserved : goal.loop-game-preserved
@@ -17,18 +17,6 @@ loop-game-preserved g c =
       λ d. settled_more _ _ _ _ (get_or xs i 0) (take i xs) (take (i + 1) xs) c.in_ok-look_at.ensures.others c.in_ok-look_at.ensures.later
           (c.loop-game.invariant.4 (c.in_ok-look_at.ensures.fewer d)) (c.in_ok-look_at.ensures.here d) (take_more xs i 0 (omega arith)),
     )
-
-pub returns-in_err-clerk : goal.returns-in_err-clerk
-returns-in_err-clerk g c = let err = c.from_residual.ensures.0 in record {
-  done = on_error _ _ err;
-  settled = on_error _ _ err;
-}
-
-pub returns-in_err-look_at : goal.returns-in_err-look_at
-returns-in_err-look_at g c = let err = c.from_residual-in_err-look_at.ensures.0 in record {
-  done = on_error _ _ err;
-  settled = on_error _ _ err;
-}
 
 pub loop-game-init : goal.loop-game-init
 loop-game-init g c = (

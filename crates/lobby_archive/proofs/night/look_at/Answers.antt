@@ -1,46 +1,7 @@
 use Rattle.std.proofs.Common.{sym, ◌∙◌}
 use Rattle.lobby_archive.specs.Clerk.{View, view}
-use Rattle.lobby_archive.proofs.Nights.{on_error, over_asking, over_settled_but}
+use Rattle.lobby_archive.proofs.Nights.{over_asking, over_settled_but}
 use Rattle.lobby_archive.proofs.night.look_at.Goals as goal
-
-pub returns-in_err-over : goal.returns-in_err-over
-returns-in_err-over g c = let err = c.from_residual.ensures.0 in record {
-  over = on_error _ _ err;
-  told = on_error _ _ err;
-  done = on_error _ _ err;
-  safe = on_error _ _ err;
-  later = on_error _ _ err;
-  fewer = on_error _ _ err;
-  settled = on_error _ _ err;
-  here = on_error _ _ err;
-  others = on_error _ _ err;
-}
-
-pub returns-in_err-take_in : goal.returns-in_err-take_in
-returns-in_err-take_in g c = let err = c.from_residual-in_err-take_in.ensures.0 in record {
-  over = on_error _ _ err;
-  told = on_error _ _ err;
-  done = on_error _ _ err;
-  safe = on_error _ _ err;
-  later = on_error _ _ err;
-  fewer = on_error _ _ err;
-  settled = on_error _ _ err;
-  here = on_error _ _ err;
-  others = on_error _ _ err;
-}
-
-pub returns-in_err-let_go : goal.returns-in_err-let_go
-returns-in_err-let_go g c = let err = c.from_residual-in_err-let_go.ensures.0 in record {
-  over = on_error _ _ err;
-  told = on_error _ _ err;
-  done = on_error _ _ err;
-  safe = on_error _ _ err;
-  later = on_error _ _ err;
-  fewer = on_error _ _ err;
-  settled = on_error _ _ err;
-  here = on_error _ _ err;
-  others = on_error _ _ err;
-}
 
 pub take_in-requires : goal.take_in-requires
 take_in-requires g c =

@@ -3,64 +3,8 @@ use Rattle.std.specs.Prelude.{is_none}
 use Rattle.std.proofs.lemmas.Bool.{false≢true, and_parts}
 use Rattle.lobby_archive.specs.Clerk.{View, view, is_asked}
 use Rattle.lobby_archive.proofs.Stages.{not_true}
-use Rattle.lobby_archive.proofs.Nights.{on_error, here_is, other_at, refused_told, refused_settled}
+use Rattle.lobby_archive.proofs.Nights.{here_is, other_at, refused_told, refused_settled}
 use Rattle.lobby_archive.proofs.night.take_in.Goals as goal
-
-pub returns-in_err-pgn : goal.returns-in_err-pgn
-returns-in_err-pgn g c = let err = c.from_residual.ensures.0 in record {
-  over = on_error _ _ err;
-  told = on_error _ _ err;
-  there = on_error _ _ err;
-  left = on_error _ _ err;
-  safe = on_error _ _ err;
-  later = on_error _ _ err;
-  drops = on_error _ _ err;
-  settled = on_error _ _ err;
-  seen = on_error _ _ err;
-  others = on_error _ _ err;
-}
-
-pub returns-in_err-put : goal.returns-in_err-put
-returns-in_err-put g c = let err = c.from_residual-in_err-put.ensures.0 in record {
-  over = on_error _ _ err;
-  told = on_error _ _ err;
-  there = on_error _ _ err;
-  left = on_error _ _ err;
-  safe = on_error _ _ err;
-  later = on_error _ _ err;
-  drops = on_error _ _ err;
-  settled = on_error _ _ err;
-  seen = on_error _ _ err;
-  others = on_error _ _ err;
-}
-
-pub returns-in_err-came : goal.returns-in_err-came
-returns-in_err-came g c = let err = c.from_residual-in_err-came.ensures.0 in record {
-  over = on_error _ _ err;
-  told = on_error _ _ err;
-  there = on_error _ _ err;
-  left = on_error _ _ err;
-  safe = on_error _ _ err;
-  later = on_error _ _ err;
-  drops = on_error _ _ err;
-  settled = on_error _ _ err;
-  seen = on_error _ _ err;
-  others = on_error _ _ err;
-}
-
-pub returns-in_err-is_same : goal.returns-in_err-is_same
-returns-in_err-is_same g c = let err = c.from_residual-in_err-is_same.ensures.0 in record {
-  over = on_error _ _ err;
-  told = on_error _ _ err;
-  there = on_error _ _ err;
-  left = on_error _ _ err;
-  safe = on_error _ _ err;
-  later = on_error _ _ err;
-  drops = on_error _ _ err;
-  settled = on_error _ _ err;
-  seen = on_error _ _ err;
-  others = on_error _ _ err;
-}
 
 pub ask-requires : goal.ask-requires
 ask-requires g c = record { over = c.requires.over }
