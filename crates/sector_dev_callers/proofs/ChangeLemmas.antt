@@ -1,7 +1,8 @@
 -- What a pending write makes of sectors that have changed or not.
-use Rattle.std.proofs.Common.{◌≡◌, inl, inr, ℕ, List, refl, subst}
+use Rattle.std.proofs.Common.{◌≡◌, ◌∙◌, inl, inr, ℕ, List, refl, subst, sym}
 use Rattle.sector_dev.specs.Image.{Sectors}
-use Rattle.sector_dev.specs.Device.{State, IsCoherent, OldOrChanged, WithOrWithout, IsPending, MayBePending, Elapses}
+use Rattle.sector_dev.specs.Device.{State, IsCoherent, OldOrChanged, WithOrWithout, Elapses}
+use Rattle.sector_dev.specs.Device.{IsUnchanged, IsPending, MayBePending, IsStable}
 use Rattle.sector_dev.specs.Runs.{IsAtRest, LeavesOnly}
 use Rattle.sector_dev.proofs.Runs.{started, goes_on}
 use Rattle.sector_dev_callers.specs.Changes.{OldOrEither}
@@ -23,6 +24,14 @@ pub first_alone : (old : Sectors) (at : ℕ) (value : List ℕ) (also_at : ℕ) 
     → OldOrChanged old at value c → OldOrEither old at value also_at also c
 first_alone old at value also_at also c one = (c, one, inl refl)
 
+-- a device at rest that did not change is at rest, and one whose sectors are stable
+pub unchanged_at_rest : (old new : State) → new.keeps_model → IsUnchanged old new → IsAtRest old → IsAtRest new
+unchanged_at_rest old new model same at_rest =
+    (model, λ c now. at_rest.1 c ((same.images c).0 now) ∙ sym same.reads)
+
+pub stable_at_rest : (sectors : Sectors) (new : State) → new.keeps_model → IsStable sectors new → IsAtRest new
+stable_at_rest sectors new model stable = (model, λ c now. (stable.images c).0 now ∙ sym stable.reads)
+
 -- From a device at rest: the first write, and a second one.
 module _ (old : State) (sector_count : ℕ) (laws : IsCoherent sector_count old) (at_rest : IsAtRest old)
     (at : ℕ) (value : List ℕ) where
@@ -38,6 +47,13 @@ module _ (old : State) (sector_count : ℕ) (laws : IsCoherent sector_count old)
       → OldOrChanged old.reads at value c
   after_first mid pending c now =
       one_changed old.reads old.image at value at_rest.1 c ((pending.images c).0 now)
+
+  pub after_failed_first : (mid : State) → MayBePending at value old mid → (c : Sectors) → mid.image c
+      → OldOrChanged old.reads at value c
+  after_failed_first mid failed c now = elim failed.images [
+    | inl same ↦ inl (at_rest.1 c ((same c).0 now))
+    | inr more ↦ one_changed old.reads old.image at value at_rest.1 c ((more c).0 now)
+  ]
 
   -- the write and a sync
   pub during_first_sync : (mid new : State) → Elapses old mid (WithOrWithout at value old.image)
@@ -63,7 +79,7 @@ module _ (old : State) (sector_count : ℕ) (laws : IsCoherent sector_count old)
       | inr more ↦ two_changed old.reads mid.image at value also_at also (after_first mid pending) c ((more c).0 now)
     ]
 
-    after_second : (mid late : State) → IsPending at value old mid → IsPending also_at also mid late
+    pub after_second : (mid late : State) → IsPending at value old mid → IsPending also_at also mid late
         → (c : Sectors) → late.image c → OldOrEither old.reads at value also_at also c
     after_second mid late pending pending_2 c now =
         two_changed old.reads mid.image at value also_at also (after_first mid pending) c ((pending_2.images c).0 now)

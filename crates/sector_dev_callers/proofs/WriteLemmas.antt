@@ -48,6 +48,12 @@ pub failed_counted : {T E : Type 0} (r : Result T E) (old new : ℕ) → IsErr r
 failed_counted (Ok x) old new err risen = absurd (false≢true err)
 failed_counted (Err e) old new err risen = risen
 
+-- also since calls before it that did not fail
+pub failed_later : {T E : Type 0} (r : Result T E) (old mid new : ℕ) → IsErr r → mid ≡ old
+    → HasRisen mid new × (mid ≤ new) → CountsFailure r old new
+failed_later r old mid new err same risen =
+    subst (λ (n : ℕ). CountsFailure r n new) same (failed_counted r mid new err risen)
+
 -- One write more, at place `i` of the list.
 module _ (old mid : State) (count : ℕ) (laws : IsCoherent count old) (model : old.keeps_model)
     (from : ℕ) (sectors : List (List ℕ)) (fit : from + length sectors ≤ count)

@@ -1,8 +1,9 @@
-use Rattle.std.proofs.Common.{[], get_or, Ok, Result, arith}
+use Rattle.std.proofs.Common.{[], ℕ, List, get_or, Ok, Result, subst, arith}
+use Rattle.std.proofs.lemmas.List.{take_all}
 use Rattle.sector_dev.specs.declared.device.DeviceFault.{DeviceFault}
 use Rattle.sector_dev.specs.Device.{WithOrWithout}
-use Rattle.sector_dev.specs.Runs.{WithWrites}
-use Rattle.sector_dev.proofs.Runs.{run_goes_on}
+use Rattle.sector_dev.specs.Runs.{WithWrites, ArePending}
+use Rattle.sector_dev.proofs.Runs.{run_started, run_goes_on, none_pending}
 use Rattle.sector_dev_callers.specs.Changes.{writes_from}
 use Rattle.sector_dev_callers.proofs.WriteLemmas.{during_one, one_pending, one_failed, failed_counted}
 use Rattle.sector_dev_callers.proofs.write_all.Goals as goal
@@ -39,6 +40,17 @@ returns-in_err-write-clause-now g c = λ model.
     c.args.from c.args.sectors.now c.requires c.loop-sector.sector-index c.loop-sector.at c.loop-sector-test.true
     so_far.at (so_far.pending model) (state c.write.new.self) (c.in_err-write.ensures.err (so_far.run.model.1 model))
 
+pub loop-sector-init : goal.loop-sector-init
+loop-sector-init g c =
+    let state = g.D.Device.state in
+    let device = c.args.device.now in
+    record {
+      at = omega arith;
+      run = run_started state g.D.Device.sector_count g.D.Device.failures device tt
+          (WithWrites (writes_from c.args.from c.args.sectors.now) (state device).image);
+      pending = λ model. none_pending (state device);
+    }
+
 pub loop-sector-preserved : goal.loop-sector-preserved
 loop-sector-preserved g c =
     let state = g.D.Device.state in
@@ -63,3 +75,14 @@ loop-sector-preserved g c =
           c.loop-sector-test.true so_far.at (so_far.pending model) (state c.write.new.self)
           (c.in_ok-write.ensures.ok (so_far.run.model.1 model));
     }
+
+pub returns : goal.returns
+returns g c =
+    let old = g.D.Device.state c.args.device.now in
+    let new = g.D.Device.state c.loop-sector.device in
+    let so_far = c.loop-sector.invariant in
+    let all_written = take_all c.loop-sector.sector-index c.args.sectors.now (omega (arith, c.loop-sector-test.false)) in
+    let pending = λ (model : old.keeps_model).
+    subst (λ (values : List (List ℕ)). ArePending (writes_from c.args.from values) old new) all_written
+    (so_far.pending model) in
+    record { run = so_far.run; now = λ model image now. ((pending model).images image).0 now; pending = pending }
