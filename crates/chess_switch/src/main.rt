@@ -1,17 +1,9 @@
-//! Several game servers behind one port.
+//! Several game servers behind one port: its words.
 #![tactic(auto)]
 
-mod client;
-mod command_line;
-mod hall;
-mod link;
-mod pieces;
-mod serving;
-
-use command_line::{command, read_words};
 use command_words::{NotDone, end_of, words_given};
-use serving::serve;
 use std::process::ExitCode;
+use switch_serving::{command, read_words, serve};
 
 fn main(rt: HostRuntime) -> ExitCode {
     end_of(&rt, "chess-switch", do_words(&rt))

@@ -77,6 +77,7 @@ fn settled(stage: Stage) -> Stage {
 }
 
 impl Link {
+    /// A connection that was not tried yet.
     pub fn new(alloc: Global, address: SocketAddr, place: usize, token: Token) -> Link {
         Link {
             address,

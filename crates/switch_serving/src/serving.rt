@@ -78,7 +78,8 @@ where
     take_turns(rt, hall, servers, told.as_mut_slice())
 }
 
-/// Serves clients, and first prints the port.
+/// Serves clients, and first prints `port P`, P being the port that it listens on. An `Err` says what ended it: nothing can be
+/// listened on there, the system has no clock, an output or the wait for sockets failed, memory did, or too many clients came.
 pub fn serve<R>(rt: &R, serving: &Serving) -> Result<()>
 where
     R: AllocGlobal + Clock + Print + Eprint + Net,

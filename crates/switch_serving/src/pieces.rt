@@ -22,6 +22,7 @@ pub struct Wire {
 }
 
 impl Wire {
+    /// A socket that may be ready for both.
     pub fn new(stream: TcpStream) -> Wire {
         Wire {
             stream,

@@ -29,6 +29,7 @@ prints
 pub struct Serving {
     /// The servers' addresses, from server 1 on.
     pub servers: Vec<Option<SocketAddr>>,
+    /// Where clients come; at port 0 the system chooses.
     pub address: SocketAddr,
 }
 
@@ -53,7 +54,7 @@ const ADDRESS: OptionText = OptionText {
     is_required: false,
 };
 
-/// The switch's command line.
+/// The switch's command line, with the text of its help.
 pub fn command<'a>(alloc: Global) -> Result<Command<'a>, AllocError> {
     let arguments = arguments(alloc, &[SERVER, PORT, ADDRESS])?;
     Command::new(alloc, "chess-switch")
