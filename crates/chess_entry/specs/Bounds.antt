@@ -91,13 +91,14 @@ pub record IsPlayed (game : GameState) : Type 0 where
   pub white : IsHeldWithin game White
   pub black : IsHeldWithin game Black
 
--- The two seats have different players.
+-- One seat at least is taken, and the two have different players.
 abbrev pub AreDifferent : Option (List ℕ) → Option (List ℕ) → Type 0
 AreDifferent (Some white) (Some black) = white ≢ black
 AreDifferent None None = ⊥
 AreDifferent _ _ = Unit {0}
 
--- the times, the start and the players that a game has from its opening and its join on
+-- Such times, start and players as a game may have: times in range, a start that is not over, names of the form, and players in
+-- one seat at least, two that differ.
 pub record IsOpenedWith (times : TimeControl) (first : Position) (white black : Option (List ℕ)) : Type 0 where
   pub control : IsTimeControl times
   pub start : IsStart first

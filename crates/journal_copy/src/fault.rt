@@ -3,7 +3,7 @@ use sector_dev::DeviceFault;
 /// Why no copy can be made.
 #[derive(Clone, Copy, PartialEq, Eq)]
 pub enum CopyFault {
-    /// No header slot of the source starts with the eight bytes of a header.
+    /// The source has fewer than two sectors, or no header slot of it starts with the eight bytes of a header.
     NotOurs,
     /// One does, but no header is valid.
     Damaged,

@@ -11,7 +11,7 @@ pub enum AcceptFault {
     Nobody,
     /// One that was lost before it was there, or a signal: another may wait behind it.
     Lost,
-    /// One may wait, and the system has no descriptor or no memory for it.
+    /// One may wait, and was not given: the system has no descriptor or no memory for it, or another fault.
     Refused,
 }
 

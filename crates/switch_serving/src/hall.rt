@@ -4,6 +4,7 @@ use crate::pieces::PIECE_ROOM;
 use anyhow::{Context, Result};
 use mio::net::{TcpListener, TcpStream};
 use mio::{Events, Interest, Poll, Token};
+use server_calls::{AcceptFault, accept_fault};
 use std::alloc::Global;
 use std::io::ErrorKind;
 use std::net::{Net, SocketAddr};
@@ -112,14 +113,13 @@ impl<'a> Hall<'a> {
 
     // Whether one may have come where none could be accepted for this reason.
     fn looks_again(&mut self, kind: ErrorKind) -> bool {
-        match kind {
-            ErrorKind::WouldBlock => {
+        match accept_fault(kind) {
+            AcceptFault::Nobody => {
                 self.has_more = false;
                 false
             }
-            ErrorKind::ConnectionAborted | ErrorKind::ConnectionReset | ErrorKind::Interrupted =>
-                true,
-            _ => false,
+            AcceptFault::Lost => true,
+            AcceptFault::Refused => false,
         }
     }
 

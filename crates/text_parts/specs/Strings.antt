@@ -1,4 +1,5 @@
--- The text in a string of JSON.
+-- The text in a string of JSON, for texts in UTF-8 without control characters but line feeds. Of a text that was not so made
+-- nothing is known: another escape is read as its letter, and a string that no quote ends is read whole.
 use Rattle.std.specs.Prelude.{ℕ, Bool, true, false, ◌||◌, ◌==◌, List, [], ◌∷◌, flat_map, if◌then◌else◌}
 
 -- a byte in a string: a line feed is `\n`, a quote and a backslash have a backslash before them
