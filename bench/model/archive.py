@@ -1,8 +1,6 @@
-#!/usr/bin/env python3
-"""The PGNs of an archive, by docs/NIGHT.md, "The texts": archive.py FILE plays the lines of FILE as archive_player does, and
-prints what it is to print."""
+"""The PGNs of an archive, by docs/NIGHT.md, "The texts": `Archive.play` gives what lobby_player is to write of a line
+of an archive."""
 
-import itertools
 import sys
 from model import in_lines
 from night import ROSTER, escaped, short_clock
@@ -39,28 +37,20 @@ def archived(pgn, heading, clocks):
     return [tag_told(line, heading) for line in tags] + [''] + in_lines(tokens) + ['']
 
 
-def play(lines):
-    """What the lines of archive_player's input make it write."""
-    heading, clocks, lines = dict.fromkeys(HEADING, ''), [], iter(lines)
-    for line in lines:
-        word, _, value = line.partition(' ')
-        if line.startswith('ok pgn '):
-            yield from archived(list(itertools.islice(lines, int(value.split(' ')[-1]))), heading, clocks)
-            clocks = []
+class Archive:
+    def __init__(self):
+        self.heading, self.clocks = dict.fromkeys(HEADING, ''), []
+
+    def play(self, line):
+        yield f'% {line}'
+        word, _, given = line.partition(' ')
+        name, _, value = given.partition(' ')
+        if word == 'tag' and name.capitalize() in self.heading:
+            self.heading[name.capitalize()] = value
         elif word == 'clocks':
-            clocks = [None if clock == '-' else int(clock) for clock in value.split(' ')]
-        elif word.capitalize() in heading:
-            heading[word.capitalize()] = value
+            self.clocks = [None if clock == '-' else int(clock) for clock in given.split(' ')]
+        elif word == 'pgn':
+            yield from archived(given.split('|')[:-1], self.heading, self.clocks)
+            self.clocks = []
         else:
             sys.exit(f'no such line: {line}')
-
-
-def main():
-    sys.stdout.reconfigure(encoding='utf-8')
-    with open(sys.argv[1], encoding='utf-8', newline='\n') as file:
-        for line in play(file.read().split('\n')[:-1]):
-            print(line)
-
-
-if __name__ == '__main__':
-    main()

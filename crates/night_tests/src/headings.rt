@@ -1,4 +1,4 @@
-//! Games of a club. How one stands in the archive is in the stored run of `archive_player`.
+//! Games of a club. How one stands in the archive is in the stored run of `lobby_player`.
 use archive_text::{Heading, TextFault, archived};
 
 const CLUB: Heading<'static> = Heading {

@@ -1,7 +1,6 @@
-//! What is told of games.
-use crate::input::clock;
-use anyhow::Result;
-use archive_text::Heading;
+//! What is told of the games of an archive.
+use anyhow::{Context, Result, bail};
+use archive_text::{Heading, archived};
 use std::alloc::{AllocError, Global};
 use text_parts::parts;
 
@@ -33,16 +32,9 @@ impl Tags {
         }
     }
 
-    /// Takes a line that tells something. It fails where the line does not, and where memory is refused.
-    pub fn set(&mut self, line: &str) -> Result<()> {
-        let (name, value) = match line.split_once(' ') {
-            Some(both) => both,
-            None => (line, ""),
-        };
-        if name == "clocks" {
-            self.set_clocks(value)?;
-            return Ok(());
-        }
+    /// From now on a tag says this, as `NAME VALUE`. It fails where there is no such tag, and where memory is refused.
+    pub fn set(&mut self, given: &str) -> Result<()> {
+        let (name, value) = given.split_once(' ').unwrap_or((given, ""));
         let value = String::from_str(self.alloc, value)?;
         match name {
             "event" => self.event = value,
@@ -51,27 +43,23 @@ impl Tags {
             "round" => self.round = value,
             "white" => self.white = value,
             "black" => self.black = value,
-            _ => anyhow::bail!("a line of the input has none of the forms: {line:?}"),
+            _ => bail!("no such tag: {given}"),
         }
         Ok(())
     }
 
-    fn set_clocks(&mut self, value: &str) -> Result<(), AllocError> {
+    /// What the clocks showed after the moves of the next game; a word that is no number is of one that is not known.
+    pub fn set_clocks(&mut self, given: &str) -> Result<(), AllocError> {
         self.clocks.clear();
-        let words = parts(self.alloc, value, ' ')?;
+        let words = parts(self.alloc, given, ' ')?;
         for word in words.as_slice() {
-            self.clocks.push(clock(word))?;
+            self.clocks.push(word.parse::<u64>().ok())?;
         }
         Ok(())
     }
 
-    /// No clock is known any more.
-    pub fn forget_clocks(&mut self) {
-        self.clocks.clear();
-    }
-
-    /// What the tags are to say.
-    pub fn heading(&self) -> Heading<'_> {
+    // What the tags are to say.
+    fn heading(&self) -> Heading<'_> {
         Heading {
             event: self.event.as_str(),
             site: self.site.as_str(),
@@ -82,8 +70,10 @@ impl Tags {
         }
     }
 
-    /// What the clocks showed.
-    pub fn clocks(&self) -> &[Option<u64>] {
-        self.clocks.as_slice()
+    /// The archive's PGN of a game, by the server's. No clock is known any more then.
+    pub fn archived(&mut self, pgn: &str) -> Result<String> {
+        let text = archived(self.alloc, &self.heading(), pgn, self.clocks.as_slice())?;
+        self.clocks.clear();
+        String::from_utf8(text).context("the archive has no text")
     }
 }

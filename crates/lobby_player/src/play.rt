@@ -1,5 +1,6 @@
 //! One line after another, and what comes of it.
 use crate::club::{Member, give_token, members_of, players_of};
+use crate::tags::Tags;
 use anyhow::{Context, Result, bail};
 use lobby_desk::{Desk, Kind, Message};
 use lobby_roster::Linked;
@@ -8,13 +9,14 @@ use std::alloc::Global;
 // The players of the desk at first: two, and an arbiter. The token of each is the name.
 const CLUB: &str = "ann ann player Ann Lee|bob bob player Bob|eve eve arbiter Eve Moss";
 
-/// A desk, and the time that has passed.
+/// A desk, the time that has passed, and what is told of the archive's next game.
 #[derive(Drop)]
 pub struct Play {
     alloc: Global,
     members: Vec<Member>,
     desk: Desk,
     now: u64,
+    tags: Tags,
 }
 
 // The number of a browser, and what stands behind it.
@@ -60,7 +62,7 @@ fn with_feeds(alloc: Global, text: &str) -> Result<String> {
 }
 
 impl Play {
-    /// A desk to which nobody has come yet.
+    /// A desk to which nobody has come yet, and an archive of which nothing is told.
     pub fn new(alloc: Global) -> Result<Play> {
         let members = members_of(alloc, CLUB)?;
         let players = players_of(alloc, members.as_slice())?;
@@ -69,6 +71,7 @@ impl Play {
             members,
             desk: Desk::new(alloc, players, false),
             now: 0,
+            tags: Tags::new(alloc),
         })
     }
 
@@ -129,21 +132,40 @@ impl Play {
             "here" => self.desk.here(told)?,
             "gone" => self.desk.gone(told)?,
             "server" => self.desk.heard(given, wire, told)?,
+            "tag" => self.tags.set(given)?,
+            "clocks" => self.tags.set_clocks(given)?,
             _ => bail!("no such line: {line}"),
         }
         Ok(())
     }
 
-    /// What is written of a line. It fails where the line is none, or memory is refused.
-    pub fn told_of(&mut self, line: &str) -> Result<String> {
+    // Puts what comes of a line to the desk behind a text.
+    fn push_played(&mut self, to: &mut String, line: &str) -> Result<()> {
         let mut wire = Vec::new(self.alloc);
         let mut told = Vec::new(self.alloc);
         self.take(line, &mut wire, &mut told)?;
-        let mut text = format!(in self.alloc; "% {line}\n")?;
         let sent = String::from_utf8(wire).context("the server is sent no text")?;
-        push_marked(&mut text, "> ", sent.as_str())?;
+        push_marked(to, "> ", sent.as_str())?;
         for one in told.as_slice() {
-            push_told(self.alloc, &mut text, one)?;
+            push_told(self.alloc, to, one)?;
+        }
+        Ok(())
+    }
+
+    // Puts the archive's PGN of a game behind a text.
+    fn push_archived(&mut self, to: &mut String, given: &str) -> Result<()> {
+        let pgn = with_feeds(self.alloc, given)?;
+        let text = self.tags.archived(pgn.as_str())?;
+        to.push_str(text.as_str())?;
+        Ok(())
+    }
+
+    /// What is written of a line. It fails where the line is none, or memory is refused.
+    pub fn told_of(&mut self, line: &str) -> Result<String> {
+        let mut text = format!(in self.alloc; "% {line}\n")?;
+        match line.strip_prefix("pgn ") {
+            Some(pgn) => self.push_archived(&mut text, pgn)?,
+            None => self.push_played(&mut text, line)?,
         }
         Ok(text)
     }
