@@ -3,10 +3,10 @@
 
 mod asking;
 mod command_line;
-mod export;
+mod exporting;
 mod keeper;
 mod keeping;
-mod live;
+mod living;
 mod log_reader;
 mod players;
 mod reading;
@@ -15,6 +15,6 @@ mod sources;
 mod telling;
 
 pub use command_line::{Exporting, Form, Keeping, Living, Source, Word, command, read_words};
-pub use export::export;
+pub use exporting::export;
 pub use keeping::keep;
-pub use live::live;
+pub use living::live;
