@@ -1,5 +1,5 @@
 /// A step over the board, as White sees it: so many files to the right or to the left, and so many ranks up or down.
-#[derive(Clone, Copy, PartialEq, Eq)]
+#[derive(Clone, Copy)]
 pub struct Step {
     pub right: u8,
     pub left: u8,

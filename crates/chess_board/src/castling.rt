@@ -14,7 +14,7 @@ pub enum Wing {
 }
 
 /// A set of castling rights (FIDE article 3.8.2.1), one bit for each colour and wing.
-#[derive(Clone, Copy, PartialEq, Eq)]
+#[derive(Clone, Copy)]
 pub struct CastlingRights(u8);
 
 bitflag_items! {

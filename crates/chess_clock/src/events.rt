@@ -1,7 +1,7 @@
 use chess_bits::Colour;
 
 /// What a game does to its clock.
-#[derive(Clone, Copy, PartialEq, Eq)]
+#[derive(Clone, Copy)]
 pub enum ClockEvent {
     /// A turn of the side ended with a completed move, after so many milliseconds.
     Turn(Colour, u64),

@@ -14,7 +14,7 @@ use sector_dev::{Fate, MemoryDevice};
 use std::alloc::{AllocError, Global};
 
 /// How many cases were played, in how many no move of the batch shows, and in how many all five do.
-#[derive(Clone, Copy, PartialEq, Eq)]
+#[derive(Clone, Copy)]
 pub struct Tally {
     pub cases: u32,
     pub none: u32,

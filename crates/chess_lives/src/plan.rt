@@ -21,7 +21,7 @@ pub struct Life {
 }
 
 /// What came of a life.
-#[derive(Clone, Copy, PartialEq, Eq, Drop)]
+#[derive(Clone, Copy, Drop)]
 pub struct LifeReport {
     /// The number of entries that the opening showed; `None` where it failed by the device.
     pub opened: Option<u64>,

@@ -13,7 +13,7 @@ use std::alloc::Global;
 use std::io::Write;
 
 /// Why a run ends before its input does.
-#[derive(Clone, Copy, Debug, PartialEq, Eq)]
+#[derive(Clone, Copy, Debug)]
 pub enum RunFault {
     /// The source failed.
     Read,

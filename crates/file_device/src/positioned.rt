@@ -6,7 +6,7 @@ ghost use Rattle.file_device.specs.Calls.{IsReadAt, IsWriteAt, IsSync};
 use std::io;
 
 /// Whether a file still stands where it was opened.
-#[derive(Clone, Copy, PartialEq, Eq)]
+#[derive(Clone, Copy)]
 pub enum Standing {
     /// It has its name still, and so many bytes.
     Named(u64),

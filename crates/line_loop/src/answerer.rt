@@ -14,7 +14,7 @@ pub struct Answer {
 }
 
 /// Why a loop over lines ends before the input does.
-#[derive(Clone, Copy, PartialEq, Eq)]
+#[derive(Clone, Copy)]
 pub enum LoopFault<F> {
     /// A read failed, or reads did not come to an end.
     Read,

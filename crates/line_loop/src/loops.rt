@@ -13,7 +13,7 @@ use session_lines::{LINE_ROOM, first_feed};
 use std::io::Write;
 
 /// Whether more lines are answered.
-#[derive(Clone, Copy, PartialEq, Eq)]
+#[derive(Clone, Copy)]
 enum Flow<F> {
     Open,
     /// A line was too long, and the farewell is said.

@@ -9,7 +9,7 @@ use arrayvec::ArrayString;
 use std::io::{ErrorKind, Write};
 
 /// A write failed.
-#[derive(Clone, Copy, PartialEq, Eq)]
+#[derive(Clone, Copy)]
 pub(crate) struct WriteFault;
 
 /// Room for texts that are ready: more than the answers to a piece of input mostly take.

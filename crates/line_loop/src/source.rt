@@ -6,7 +6,7 @@ ghost use Rattle.std.specs.Io.{ReadsAtMost};
 use std::io::{ErrorKind, Read};
 
 /// A source failed.
-#[derive(Clone, Copy, PartialEq, Eq)]
+#[derive(Clone, Copy)]
 pub struct SourceFault;
 
 /// Gives bytes, piece by piece, and remembers whether it failed.

@@ -12,7 +12,7 @@ use std::marker::Model;
 
 /// A move as records keep it: any two squares and, for a promotion, a knight, bishop, rook or queen
 /// (FIDE article 3.7.3.3). Castling is the king's move.
-#[derive(Clone, Copy, PartialEq, Eq)]
+#[derive(Clone, Copy)]
 pub struct StoredMove {
     code: u16,
 }

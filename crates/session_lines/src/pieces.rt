@@ -5,7 +5,7 @@ ghost use Rattle.session_lines.specs.Pieces.{HasCome};
 use std::io::{ErrorKind, Read};
 
 /// What a read brought.
-#[derive(Clone, Copy, PartialEq, Eq)]
+#[derive(Clone, Copy)]
 pub enum Came {
     /// Nothing for now.
     Nothing,
