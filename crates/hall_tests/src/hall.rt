@@ -183,7 +183,7 @@ fn hall_of(rt: &impl Abort, alloc: Global, keys: RandomState, is_paused: bool) -
 #[derive(Clone, Copy)]
 enum How {
     Plainly,
-    /// The browser's socket takes seven bytes at a write.
+    /// The browser's socket takes seven bytes at a write, and the server's five.
     Slowly,
     /// Entries are paused at first.
     Paused,
@@ -201,9 +201,10 @@ impl Lab {
         // (a call drops the one before: in its place all its fields would be proved to be dropped)
         let hall = hall_of(rt, self.alloc, self.keys, matches!(how, How::Paused));
         drop(mem::replace(&mut self.hall, hall));
-        let server = Peer::new(self.alloc, server, 1_000);
+        let is_slow = matches!(how, How::Slowly);
+        let server = Peer::new(self.alloc, server, if is_slow { 5 } else { 1_000 });
         self.hall.server_came(server).expect(rt, "memory");
-        let takes = if matches!(how, How::Slowly) { 7 } else { 1_000 };
+        let takes = if is_slow { 7 } else { 1_000 };
         self.hall.admit(Peer::new(self.alloc, browser, takes), 2, 0);
         self.log.fails = matches!(how, How::Unlogged);
         self.log.text.clear();
