@@ -1,6 +1,6 @@
 -- Two sets tell of a man that is put down or taken away; the others stay.
-use Rattle.std.proofs.Common.{ℕ, zero, suc, ◌≡◌, Bool, true, false, not, cond, List, [], ◌∷◌, length, get_or, set, refl, ap, sym, subst, ◌∙◌, inl, inr, Option, Some, None}
-use Rattle.std.proofs.lemmas.Bool.{cases_Bool, cases_lt, false≢true}
+use Rattle.std.proofs.Common.{ℕ, zero, suc, ◌≡◌, Bool, true, false, not, cond, List, [], ◌∷◌, length, get_or, set, refl, ap, sym, subst, ◌∙◌, inl, inr, Option, None}
+use Rattle.std.proofs.lemmas.Bool.{cases_Bool, cases_lt}
 use Rattle.std.proofs.lemmas.List.{get_or-set_same, get_or_past, set_past, length-map}
 use Rattle.chess_bits.specs.declared.men.Colour.{Colour}
 use Rattle.chess_bits.specs.declared.men.Colour.TheVariants.{White, Black}
@@ -12,7 +12,7 @@ use Rattle.chess_bits.specs.Table.{at, put, has}
 use Rattle.chess_bits.proofs.TableLemmas.{at-on_board, at-put, same_table, length-put, is_square-true}
 use Rattle.chess_board.specs.Occupancy.{squares_with, is_a, there_if}
 use Rattle.chess_board.specs.Position.{Placement, man_at}
-use Rattle.chess_board.specs.Men.{placement_of, sets_of, IsConsistent}
+use Rattle.chess_board.specs.Men.{placement_of, IsConsistent}
 use Rattle.chess_board.specs.declared.men.Men.TheInside.{Inside}
 use Rattle.chess_board.proofs.AttackLemmas.{has-squares_with}
 use Rattle.chess_board.proofs.MenLemmas.{sets_put, placement_of-sets_put, IsConsistent-sets_put, length-placement_of, kind_set, squares_with-colour, squares_with-kind}

@@ -1,8 +1,8 @@
 use Rattle.std.proofs.Common.{◌∙◌, ap, sym, List, Bool}
+use Rattle.chess_bits.specs.declared.men.Colour.TheVariants.{White, Black}
 use Rattle.chess_bits.specs.Table.{union}
 use Rattle.chess_board.specs.Position.{occupied_of}
 use Rattle.chess_board.specs.Men.{placement_of}
-use Rattle.chess_bits.specs.declared.men.Colour.TheVariants.{White, Black}
 use Rattle.chess_board.proofs.MenLemmas.{squares_with-colour, union-colours}
 use Rattle.chess_board.proofs.men.Men.occupied.Goals as goal
 
