@@ -1,6 +1,6 @@
 -- Two sets tell of a man that is put down or taken away; the others stay.
-use Rattle.std.proofs.Common.{ℕ, zero, suc, ◌≡◌, Bool, true, false, not, cond, List, [], ◌∷◌, length, get_or, set, refl, ap, sym, subst, ◌∙◌, inl, inr, Option, Some, None}
-use Rattle.std.proofs.lemmas.Bool.{cases_Bool, cases_lt, false≢true}
+use Rattle.std.proofs.Common.{ℕ, zero, suc, ◌≡◌, Bool, true, false, not, cond, List, [], ◌∷◌, length, get_or, set, refl, ap, sym, subst, ◌∙◌, inl, inr, Option, None}
+use Rattle.std.proofs.lemmas.Bool.{cases_Bool, cases_lt}
 use Rattle.std.proofs.lemmas.List.{get_or-set_same, get_or_past, set_past, length-map}
 use Rattle.chess_bits.specs.declared.men.Colour.{Colour}
 use Rattle.chess_bits.specs.declared.men.Colour.TheVariants.{White, Black}
@@ -12,10 +12,10 @@ use Rattle.chess_bits.specs.Table.{at, put, has}
 use Rattle.chess_bits.proofs.TableLemmas.{at-on_board, at-put, same_table, length-put, is_square-true}
 use Rattle.chess_board.specs.Occupancy.{squares_with, is_a, there_if}
 use Rattle.chess_board.specs.Position.{Placement, man_at}
-use Rattle.chess_board.specs.Men.{placement_of, sets_of, IsConsistent}
+use Rattle.chess_board.specs.Men.{placement_of, IsConsistent}
 use Rattle.chess_board.specs.declared.men.Men.TheInside.{Inside}
 use Rattle.chess_board.proofs.AttackLemmas.{has-squares_with}
-use Rattle.chess_board.proofs.MenLemmas.{sets_put, placement_of-sets_put, IsConsistent-sets_put, length-placement_of, squares_with-white, squares_with-black, squares_with-pawns, squares_with-knights, squares_with-bishops, squares_with-rooks, squares_with-queens, squares_with-kings}
+use Rattle.chess_board.proofs.MenLemmas.{sets_put, placement_of-sets_put, IsConsistent-sets_put, length-placement_of, kind_set, squares_with-colour, squares_with-kind}
 
 -- the sets with the colour's changed
 abbrev pub colour_sets : Inside → Square → Colour → Bool → Inside
@@ -80,14 +80,14 @@ both_sets-put sets s colour kind stands consistent on here =
     cond (is man) (put bits s stands) bits ≡ put bits s (holds is (there_if stands man)) =
     λ is bits shown. one_set is (placement_of sets) bits s man stands (length-placement_of sets) shown on here in
     λ i. record {
-      white = one (is_of White) sets.white (squares_with-white sets consistent) i;
-      black = one (is_of Black) sets.black (squares_with-black sets consistent) i;
-      pawns = one (is_a Pawn) sets.pawns (squares_with-pawns sets consistent) i;
-      knights = one (is_a Knight) sets.knights (squares_with-knights sets consistent) i;
-      bishops = one (is_a Bishop) sets.bishops (squares_with-bishops sets consistent) i;
-      rooks = one (is_a Rook) sets.rooks (squares_with-rooks sets consistent) i;
-      queens = one (is_a Queen) sets.queens (squares_with-queens sets consistent) i;
-      kings = one (is_a King) sets.kings (squares_with-kings sets consistent) i;
+      white = one (is_of White) sets.white (squares_with-colour White sets consistent) i;
+      black = one (is_of Black) sets.black (squares_with-colour Black sets consistent) i;
+      pawns = one (is_a Pawn) sets.pawns (squares_with-kind Pawn sets consistent) i;
+      knights = one (is_a Knight) sets.knights (squares_with-kind Knight sets consistent) i;
+      bishops = one (is_a Bishop) sets.bishops (squares_with-kind Bishop sets consistent) i;
+      rooks = one (is_a Rook) sets.rooks (squares_with-kind Rook sets consistent) i;
+      queens = one (is_a Queen) sets.queens (squares_with-kind Queen sets consistent) i;
+      kings = one (is_a King) sets.kings (squares_with-kind King sets consistent) i;
     }
 
 -- What holds of sets that are the changed ones.
@@ -130,50 +130,35 @@ black_set sets mid s colour stands new is assigned made =
     made ∙ ap (λ (bits : List Bool). let m : Inside = record sets { black = bits } in m) assigned
     ∙ ap (λ (c : Colour). colour_sets sets s c stands) (sym is)
 
--- the set of a kind, by what tells it and what changes it
-kind_set : (set_of : Inside → List Bool) (changed : Inside → List Bool → Inside) (one : Kind) →
-    ((sets : Inside) (s : Square) (colour : Colour) (stands : Bool) →
-    changed (colour_sets sets s colour stands) (put (set_of (colour_sets sets s colour stands)) s stands)
-    ≡ both_sets sets s colour one stands) →
-    (sets mid : Inside) (s : Square) (colour : Colour) (kind : Kind) (stands : Bool) (new : List Bool) →
-    kind ≡ one → mid ≡ colour_sets sets s colour stands → new ≡ put (set_of mid) s stands →
-    IsAssigned sets (changed mid new) s colour kind stands
-kind_set set_of changed one told sets mid s colour kind stands new is coloured assigned = record {
-  same = ap (changed mid) assigned
-      ∙ ap (λ (m : Inside). changed m (put (set_of m) s stands)) coloured
-      ∙ told sets s colour stands
-      ∙ ap (λ (k : Kind). both_sets sets s colour k stands) (sym is);
+abbrev pub with_kind_set : Inside → Kind → List Bool → Inside
+with_kind_set sets Pawn bits = record sets { pawns = bits }
+with_kind_set sets Knight bits = record sets { knights = bits }
+with_kind_set sets Bishop bits = record sets { bishops = bits }
+with_kind_set sets Rook bits = record sets { rooks = bits }
+with_kind_set sets Queen bits = record sets { queens = bits }
+with_kind_set sets King bits = record sets { kings = bits }
+
+with_both : (sets : Inside) (s : Square) (colour : Colour) (kind : Kind) (stands : Bool) →
+    with_kind_set (colour_sets sets s colour stands) kind
+    (put (kind_set kind (colour_sets sets s colour stands)) s stands)
+    ≡ both_sets sets s colour kind stands
+with_both sets s colour Pawn stands = refl
+with_both sets s colour Knight stands = refl
+with_both sets s colour Bishop stands = refl
+with_both sets s colour Rook stands = refl
+with_both sets s colour Queen stands = refl
+with_both sets s colour King stands = refl
+
+-- and then the kind's
+pub IsAssigned-kind : (sets mid : Inside) (s : Square) (colour : Colour) (kind one : Kind) (stands : Bool)
+    (new : List Bool) → kind ≡ one → mid ≡ colour_sets sets s colour stands → new ≡ put (kind_set one mid) s stands →
+    IsAssigned sets (with_kind_set mid one new) s colour kind stands
+IsAssigned-kind sets mid s colour k one stands new is coloured assigned = record {
+  same = ap (with_kind_set mid one) assigned
+      ∙ ap (λ (m : Inside). with_kind_set m one (put (kind_set one m) s stands)) coloured
+      ∙ with_both sets s colour one stands
+      ∙ ap (λ (own : Kind). both_sets sets s colour own stands) (sym is);
 }
-
-pub pawn_set : (sets mid : Inside) (s : Square) (colour : Colour) (kind : Kind) (stands : Bool) (new : List Bool) →
-    kind ≡ Pawn → mid ≡ colour_sets sets s colour stands → new ≡ put mid.pawns s stands →
-    IsAssigned sets (record mid { pawns = new }) s colour kind stands
-pawn_set = kind_set (λ m. m.pawns) (λ m bits. record m { pawns = bits }) Pawn (λ sets s colour stands. refl)
-
-pub knight_set : (sets mid : Inside) (s : Square) (colour : Colour) (kind : Kind) (stands : Bool) (new : List Bool) →
-    kind ≡ Knight → mid ≡ colour_sets sets s colour stands → new ≡ put mid.knights s stands →
-    IsAssigned sets (record mid { knights = new }) s colour kind stands
-knight_set = kind_set (λ m. m.knights) (λ m bits. record m { knights = bits }) Knight (λ sets s colour stands. refl)
-
-pub bishop_set : (sets mid : Inside) (s : Square) (colour : Colour) (kind : Kind) (stands : Bool) (new : List Bool) →
-    kind ≡ Bishop → mid ≡ colour_sets sets s colour stands → new ≡ put mid.bishops s stands →
-    IsAssigned sets (record mid { bishops = new }) s colour kind stands
-bishop_set = kind_set (λ m. m.bishops) (λ m bits. record m { bishops = bits }) Bishop (λ sets s colour stands. refl)
-
-pub rook_set : (sets mid : Inside) (s : Square) (colour : Colour) (kind : Kind) (stands : Bool) (new : List Bool) →
-    kind ≡ Rook → mid ≡ colour_sets sets s colour stands → new ≡ put mid.rooks s stands →
-    IsAssigned sets (record mid { rooks = new }) s colour kind stands
-rook_set = kind_set (λ m. m.rooks) (λ m bits. record m { rooks = bits }) Rook (λ sets s colour stands. refl)
-
-pub queen_set : (sets mid : Inside) (s : Square) (colour : Colour) (kind : Kind) (stands : Bool) (new : List Bool) →
-    kind ≡ Queen → mid ≡ colour_sets sets s colour stands → new ≡ put mid.queens s stands →
-    IsAssigned sets (record mid { queens = new }) s colour kind stands
-queen_set = kind_set (λ m. m.queens) (λ m bits. record m { queens = bits }) Queen (λ sets s colour stands. refl)
-
-pub king_set : (sets mid : Inside) (s : Square) (colour : Colour) (kind : Kind) (stands : Bool) (new : List Bool) →
-    kind ≡ King → mid ≡ colour_sets sets s colour stands → new ≡ put mid.kings s stands →
-    IsAssigned sets (record mid { kings = new }) s colour kind stands
-king_set = kind_set (λ m. m.kings) (λ m bits. record m { kings = bits }) King (λ sets s colour stands. refl)
 
 -- a square that is emptied is empty
 pub man_at-emptied : (t : Placement) (s : Square) → IsOnBoard s → man_at (put t s None) s ≡ None

@@ -67,43 +67,34 @@ pub man_on-none : (sets : Inside) (s : Square) → false ≡ has sets.white s �
 unfolding man_on
 man_on-none sets s white black = rw (← white, ← black) refl
 
+abbrev pub colour_set : Colour → Inside → List Bool
+colour_set White sets = sets.white
+colour_set Black sets = sets.black
+
+abbrev pub kind_set : Kind → Inside → List Bool
+kind_set Pawn sets = sets.pawns
+kind_set Knight sets = sets.knights
+kind_set Bishop sets = sets.bishops
+kind_set Rook sets = sets.rooks
+kind_set Queen sets = sets.queens
+kind_set King sets = sets.kings
+
 -- each set is that of the placement
-pub squares_with-white : (sets : Inside) → IsConsistent sets → squares_with (is_of White)
-    (placement_of sets) ≡ sets.white
+pub squares_with-colour : (colour : Colour) (sets : Inside) → IsConsistent sets →
+    squares_with (is_of colour) (placement_of sets) ≡ colour_set colour sets
 unfolding sets_of
-squares_with-white sets h = ap (λ (x : Inside). x.white) h
+squares_with-colour White sets h = ap (colour_set White) h
+squares_with-colour Black sets h = ap (colour_set Black) h
 
-pub squares_with-black : (sets : Inside) → IsConsistent sets → squares_with (is_of Black)
-    (placement_of sets) ≡ sets.black
+pub squares_with-kind : (kind : Kind) (sets : Inside) → IsConsistent sets →
+    squares_with (is_a kind) (placement_of sets) ≡ kind_set kind sets
 unfolding sets_of
-squares_with-black sets h = ap (λ (x : Inside). x.black) h
-
-pub squares_with-pawns : (sets : Inside) → IsConsistent sets → squares_with (is_a Pawn) (placement_of sets) ≡ sets.pawns
-unfolding sets_of
-squares_with-pawns sets h = ap (λ (x : Inside). x.pawns) h
-
-pub squares_with-knights : (sets : Inside) → IsConsistent sets → squares_with (is_a Knight)
-    (placement_of sets) ≡ sets.knights
-unfolding sets_of
-squares_with-knights sets h = ap (λ (x : Inside). x.knights) h
-
-pub squares_with-bishops : (sets : Inside) → IsConsistent sets → squares_with (is_a Bishop)
-    (placement_of sets) ≡ sets.bishops
-unfolding sets_of
-squares_with-bishops sets h = ap (λ (x : Inside). x.bishops) h
-
-pub squares_with-rooks : (sets : Inside) → IsConsistent sets → squares_with (is_a Rook) (placement_of sets) ≡ sets.rooks
-unfolding sets_of
-squares_with-rooks sets h = ap (λ (x : Inside). x.rooks) h
-
-pub squares_with-queens : (sets : Inside) → IsConsistent sets → squares_with (is_a Queen)
-    (placement_of sets) ≡ sets.queens
-unfolding sets_of
-squares_with-queens sets h = ap (λ (x : Inside). x.queens) h
-
-pub squares_with-kings : (sets : Inside) → IsConsistent sets → squares_with (is_a King) (placement_of sets) ≡ sets.kings
-unfolding sets_of
-squares_with-kings sets h = ap (λ (x : Inside). x.kings) h
+squares_with-kind Pawn sets h = ap (kind_set Pawn) h
+squares_with-kind Knight sets h = ap (kind_set Knight) h
+squares_with-kind Bishop sets h = ap (kind_set Bishop) h
+squares_with-kind Rook sets h = ap (kind_set Rook) h
+squares_with-kind Queen sets h = ap (kind_set Queen) h
+squares_with-kind King sets h = ap (kind_set King) h
 
 either_colour : (here : Option Man) → (holds (is_of White) here || holds (is_of Black) here) ≡ is_some here
 either_colour None = refl
@@ -205,19 +196,19 @@ man_on-sets_put : (sets : Inside) (s q : Square) (here : Option Man) → IsConsi
     man_on (sets_put sets s here) q ≡ cond (is_square q s) here (man_on sets q)
 man_on-sets_put sets s q here h on_s on_q =
     let white = set_at sets.white s q (holds (is_of White) here)
-    (length-squares_with _ sets _ (squares_with-white sets h)) on_s in
+    (length-squares_with _ sets _ (squares_with-colour White sets h)) on_s in
     let black = set_at sets.black s q (holds (is_of Black) here)
-    (length-squares_with _ sets _ (squares_with-black sets h)) on_s in
+    (length-squares_with _ sets _ (squares_with-colour Black sets h)) on_s in
     let pawns = set_at sets.pawns s q (holds (is_a Pawn) here)
-    (length-squares_with _ sets _ (squares_with-pawns sets h)) on_s in
+    (length-squares_with _ sets _ (squares_with-kind Pawn sets h)) on_s in
     let knights = set_at sets.knights s q (holds (is_a Knight) here)
-    (length-squares_with _ sets _ (squares_with-knights sets h)) on_s in
+    (length-squares_with _ sets _ (squares_with-kind Knight sets h)) on_s in
     let bishops = set_at sets.bishops s q (holds (is_a Bishop) here)
-    (length-squares_with _ sets _ (squares_with-bishops sets h)) on_s in
+    (length-squares_with _ sets _ (squares_with-kind Bishop sets h)) on_s in
     let rooks = set_at sets.rooks s q (holds (is_a Rook) here)
-    (length-squares_with _ sets _ (squares_with-rooks sets h)) on_s in
+    (length-squares_with _ sets _ (squares_with-kind Rook sets h)) on_s in
     let queens = set_at sets.queens s q (holds (is_a Queen) here)
-    (length-squares_with _ sets _ (squares_with-queens sets h)) on_s in
+    (length-squares_with _ sets _ (squares_with-kind Queen sets h)) on_s in
     elim (cases_Bool (is_square q s)) [
       | inl same ↦
           man_on-shown (sets_put sets s here) q here (chosen _ _ _ _ same white) (chosen _ _ _ _ same black)
@@ -257,14 +248,14 @@ unfolding sets_of
 IsConsistent-sets_put sets s here h on =
     ap sets_of (placement_of-sets_put sets s here h on)
     ∙ (λ i. record {
-      white = one (is_of White) sets s here _ (squares_with-white sets h) i;
-      black = one (is_of Black) sets s here _ (squares_with-black sets h) i;
-      pawns = one (is_a Pawn) sets s here _ (squares_with-pawns sets h) i;
-      knights = one (is_a Knight) sets s here _ (squares_with-knights sets h) i;
-      bishops = one (is_a Bishop) sets s here _ (squares_with-bishops sets h) i;
-      rooks = one (is_a Rook) sets s here _ (squares_with-rooks sets h) i;
-      queens = one (is_a Queen) sets s here _ (squares_with-queens sets h) i;
-      kings = one (is_a King) sets s here _ (squares_with-kings sets h) i;
+      white = one (is_of White) sets s here _ (squares_with-colour White sets h) i;
+      black = one (is_of Black) sets s here _ (squares_with-colour Black sets h) i;
+      pawns = one (is_a Pawn) sets s here _ (squares_with-kind Pawn sets h) i;
+      knights = one (is_a Knight) sets s here _ (squares_with-kind Knight sets h) i;
+      bishops = one (is_a Bishop) sets s here _ (squares_with-kind Bishop sets h) i;
+      rooks = one (is_a Rook) sets s here _ (squares_with-kind Rook sets h) i;
+      queens = one (is_a Queen) sets s here _ (squares_with-kind Queen sets h) i;
+      kings = one (is_a King) sets s here _ (squares_with-kind King sets h) i;
     })
 
 empty_board : (n : ℕ) (is : Man → Bool) → map (holds is) (replicate n None) ≡ replicate n false

@@ -1,6 +1,6 @@
 -- Which act a line's fields tell.
 use Rattle.std.proofs.Common.{◌≡◌, ◌≢◌, ℕ, List, [], ◌∷◌, ◌++◌, length, take, decimal, Option, Some, None, refl, ap, ◌∙◌, sym, arith}
-use Rattle.std.specs.Prelude.{codes, Bool, true, false, IfSome}
+use Rattle.std.specs.Prelude.{codes, Bool, true, false, IfSome, if◌then◌else◌}
 use Rattle.std.specs.List.{join_with_byte}
 use Rattle.std.specs.Str.{bytes_eq}
 use Rattle.std.proofs.lemmas.Bool.{false≢true}
@@ -17,54 +17,45 @@ use Rattle.chess_line.specs.Cut.{Unspaced, joined}
 use Rattle.chess_line.specs.Line.{act_fields, IsSayable, IsLineAfter, HasForm}
 use Rattle.chess_line.proofs.Cuts.{same_parts, no_parts, clear, clear_without, same_number, Without, without_append, without_cons, decimal_without}
 
--- a test for the word of a line
-abbrev is_called : List ℕ → List (List ℕ) → Bool
-is_called word [] = false
-is_called word (first ∷ fields) = bytes_eq first word
-
 abbrev begins : List ℕ → List ℕ → Bool
 begins text word = bytes_eq (take (length word) text) word
 
--- An act of a game's number alone, by its word.
-pub is_join : (act : Act) (game : ℕ) → IsSayable act → IsNumber game → act_fields act ≡ codes "join" ∷ decimal game ∷ [] → acts.Join game ≡ act
-is_join (acts.Join g) game s small e = let same : decimal game ≡ decimal g = cc in ap acts.Join (same_number game g small s same)
-is_join act game s small e = absurd (false≢true (ap (is_called (codes "join")) e))
+-- the act that a word and a game's number tell
+abbrev pub act_told : List ℕ → ℕ → Option Act
+act_told word game =
+    if bytes_eq word (codes "join") then Some (acts.Join game)
+    else if bytes_eq word (codes "offer") then Some (acts.Offer game)
+    else if bytes_eq word (codes "accept") then Some (acts.Accept game)
+    else if bytes_eq word (codes "decline") then Some (acts.Decline game)
+    else if bytes_eq word (codes "resign") then Some (acts.Resign game)
+    else if bytes_eq word (codes "flag") then Some (acts.Flag game)
+    else if bytes_eq word (codes "drop") then Some (acts.Drop game)
+    else if bytes_eq word (codes "show") then Some (acts.Show game)
+    else if bytes_eq word (codes "fen") then Some (acts.Fen game)
+    else if bytes_eq word (codes "pgn") then Some (acts.Pgn game)
+    else None
 
-pub is_offer : (act : Act) (game : ℕ) → IsSayable act → IsNumber game → act_fields act ≡ codes "offer" ∷ decimal game ∷ [] → acts.Offer game ≡ act
-is_offer (acts.Offer g) game s small e = let same : decimal game ≡ decimal g = cc in ap acts.Offer (same_number game g small s same)
-is_offer act game s small e = absurd (false≢true (ap (is_called (codes "offer")) e))
+told_by : (name : List ℕ) (named : ℕ → Act) (word : List ℕ) (game g : ℕ) → act_told name game ≡ Some (named game) →
+    IsNumber g → IsNumber game → name ∷ decimal g ∷ [] ≡ word ∷ decimal game ∷ [] → act_told word game ≡ Some (named g)
+told_by name named word game g is s small e =
+    let word_is : word ≡ name = cc in
+    let same : decimal game ≡ decimal g = cc in
+    ap (λ w. act_told w game) word_is ∙ is ∙ ap (λ n. Some (named n)) (same_number game g small s same)
 
-pub is_accept : (act : Act) (game : ℕ) → IsSayable act → IsNumber game → act_fields act ≡ codes "accept" ∷ decimal game ∷ [] → acts.Accept game ≡ act
-is_accept (acts.Accept g) game s small e = let same : decimal game ≡ decimal g = cc in ap acts.Accept (same_number game g small s same)
-is_accept act game s small e = absurd (false≢true (ap (is_called (codes "accept")) e))
-
-pub is_decline : (act : Act) (game : ℕ) → IsSayable act → IsNumber game → act_fields act ≡ codes "decline" ∷ decimal game ∷ [] → acts.Decline game ≡ act
-is_decline (acts.Decline g) game s small e = let same : decimal game ≡ decimal g = cc in ap acts.Decline (same_number game g small s same)
-is_decline act game s small e = absurd (false≢true (ap (is_called (codes "decline")) e))
-
-pub is_resign : (act : Act) (game : ℕ) → IsSayable act → IsNumber game → act_fields act ≡ codes "resign" ∷ decimal game ∷ [] → acts.Resign game ≡ act
-is_resign (acts.Resign g) game s small e = let same : decimal game ≡ decimal g = cc in ap acts.Resign (same_number game g small s same)
-is_resign act game s small e = absurd (false≢true (ap (is_called (codes "resign")) e))
-
-pub is_flag : (act : Act) (game : ℕ) → IsSayable act → IsNumber game → act_fields act ≡ codes "flag" ∷ decimal game ∷ [] → acts.Flag game ≡ act
-is_flag (acts.Flag g) game s small e = let same : decimal game ≡ decimal g = cc in ap acts.Flag (same_number game g small s same)
-is_flag act game s small e = absurd (false≢true (ap (is_called (codes "flag")) e))
-
-pub is_drop : (act : Act) (game : ℕ) → IsSayable act → IsNumber game → act_fields act ≡ codes "drop" ∷ decimal game ∷ [] → acts.Drop game ≡ act
-is_drop (acts.Drop g) game s small e = let same : decimal game ≡ decimal g = cc in ap acts.Drop (same_number game g small s same)
-is_drop act game s small e = absurd (false≢true (ap (is_called (codes "drop")) e))
-
-pub is_show : (act : Act) (game : ℕ) → IsSayable act → IsNumber game → act_fields act ≡ codes "show" ∷ decimal game ∷ [] → acts.Show game ≡ act
-is_show (acts.Show g) game s small e = let same : decimal game ≡ decimal g = cc in ap acts.Show (same_number game g small s same)
-is_show act game s small e = absurd (false≢true (ap (is_called (codes "show")) e))
-
-pub is_fen : (act : Act) (game : ℕ) → IsSayable act → IsNumber game → act_fields act ≡ codes "fen" ∷ decimal game ∷ [] → acts.Fen game ≡ act
-is_fen (acts.Fen g) game s small e = let same : decimal game ≡ decimal g = cc in ap acts.Fen (same_number game g small s same)
-is_fen act game s small e = absurd (false≢true (ap (is_called (codes "fen")) e))
-
-pub is_pgn : (act : Act) (game : ℕ) → IsSayable act → IsNumber game → act_fields act ≡ codes "pgn" ∷ decimal game ∷ [] → acts.Pgn game ≡ act
-is_pgn (acts.Pgn g) game s small e = let same : decimal game ≡ decimal g = cc in ap acts.Pgn (same_number game g small s same)
-is_pgn act game s small e = absurd (false≢true (ap (is_called (codes "pgn")) e))
+-- An act of a game's number alone is that of its word.
+pub is_told : (act : Act) (word : List ℕ) (game : ℕ) → IsSayable act → IsNumber game →
+    act_fields act ≡ word ∷ decimal game ∷ [] → act_told word game ≡ Some act
+is_told (acts.Join g) word game s small e = told_by (codes "join") acts.Join word game g refl s small e
+is_told (acts.Offer g) word game s small e = told_by (codes "offer") acts.Offer word game g refl s small e
+is_told (acts.Accept g) word game s small e = told_by (codes "accept") acts.Accept word game g refl s small e
+is_told (acts.Decline g) word game s small e = told_by (codes "decline") acts.Decline word game g refl s small e
+is_told (acts.Resign g) word game s small e = told_by (codes "resign") acts.Resign word game g refl s small e
+is_told (acts.Flag g) word game s small e = told_by (codes "flag") acts.Flag word game g refl s small e
+is_told (acts.Drop g) word game s small e = told_by (codes "drop") acts.Drop word game g refl s small e
+is_told (acts.Show g) word game s small e = told_by (codes "show") acts.Show word game g refl s small e
+is_told (acts.Fen g) word game s small e = told_by (codes "fen") acts.Fen word game g refl s small e
+is_told (acts.Pgn g) word game s small e = told_by (codes "pgn") acts.Pgn word game g refl s small e
+is_told act word game s small e = absurd cc
 
 -- What follows `open`.
 pub record Opening (rest : List ℕ) (act : Act) : Type 0 where

@@ -1,9 +1,8 @@
 -- The parts of several games, one after the other.
 use Rattle.std.specs.Prelude.{ℕ, ◌≡◌, ◌<◌, ◌+◌, List, [], ◌∷◌, ◌++◌, length, take, Result, Ok, Err, OnErr}
 use Rattle.std.specs.List.{flat_map}
-use Rattle.std.proofs.Common.{ap, sym, subst, ◌∙◌, add-one, append_assoc, get_or}
-use Rattle.std.proofs.Math.Seq.{take-suc}
-use Rattle.std.proofs.lemmas.List.{append-nil}
+use Rattle.std.proofs.Common.{ap, sym, subst, ◌∙◌, append_assoc, get_or}
+use Rattle.std.proofs.lemmas.List.{append-nil, take_more}
 use Rattle.std.proofs.lemmas.Grind.{flat_map-append}
 use Rattle.rec_codec.specs.declared.record.Record.{Record}
 use Rattle.chess_entry.specs.State.{GameState}
@@ -41,8 +40,7 @@ pub HasGamesMore-next : (old mid new : List Record) (games : List GameState) (i 
     HasGamesMore old new (take (i + 1) games)
 HasGamesMore-next old mid new games i game below here before last =
     let front : take (i + 1) games ≡ take i games ++ game ∷ [] =
-    ap (λ (n : ℕ). take n games) (add-one i) ∙ take-suc games i game below
-    ∙ ap (λ (g : GameState). take i games ++ g ∷ []) (sym here) in
+    take_more games i game below ∙ ap (λ (g : GameState). take i games ++ g ∷ []) (sym here) in
     subst (λ (gs : List GameState). HasGamesMore old new gs) (sym front)
     (HasGamesMore-more old mid new (take i games) game before last)
 

@@ -9,11 +9,8 @@ use Rattle.chess_board.specs.declared.moves.Move.{Move}
 use Rattle.rec_codec.specs.declared.record.Record.{Record}
 use Rattle.rec_codec.specs.declared.record.Moves.{Moves}
 use Rattle.chess_entry.specs.Snapshot.{AreRuns, moves_record}
+use Rattle.chess_entry.proofs.LawfulLists.{nil-not_around}
 use Rattle.game_records.specs.Part.{HoldsMoves}
-
-nil-not_around : {A : Type 0} (before : List A) (x : A) (rest : List A) → [] ≡ before ++ x ∷ rest → ⊥
-nil-not_around [] x rest h = cc
-nil-not_around (y ∷ before) x rest h = cc
 
 pub AreRuns-none : AreRuns [] []
 AreRuns-none = record {

@@ -1,10 +1,16 @@
-use Rattle.std.proofs.Common.{◌≡◌, ◌∙◌, List, Bool, ap, subst, refl}
+use Rattle.std.proofs.Common.{◌≡◌, ◌∙◌, List, Bool, true, Some, ap, subst, refl}
+use Rattle.chess_bits.specs.declared.men.Colour.{Colour}
+use Rattle.chess_bits.specs.declared.men.Kind.{Kind}
 use Rattle.chess_bits.specs.declared.men.Kind.TheVariants as kinds
+use Rattle.chess_bits.specs.Square.{Square}
 use Rattle.chess_bits.specs.Man.{is_man}
-use Rattle.chess_bits.specs.Table.{IsSetOf}
+use Rattle.chess_bits.specs.Table.{has, meet, IsSetOf}
 use Rattle.chess_bits.specs.Attack.{Attacks}
+use Rattle.chess_bits.proofs.Reversal.{facing}
+use Rattle.chess_board.specs.declared.moves.Move.{Move}
 use Rattle.chess_board.specs.Occupancy.{squares_with}
-use Rattle.chess_board.specs.Position.{occupied_of}
+use Rattle.chess_board.specs.Position.{man_at, occupied_of}
+use Rattle.chess_board.specs.Legal.{IsMoveOf, IsLegal}
 use Rattle.chess_san.proofs.SourceLemmas.{own_squares, own_source, met_source, each_own, each_source}
 use Rattle.chess_san.proofs.origin.sources.Goals.{After-occupied-occupied}
 use Rattle.chess_san.proofs.origin.sources.Goals as goal
@@ -33,58 +39,61 @@ returns-in-Pawn-clause-all c = λ m legal stands there.
     each_own p.placement p.side c.args.kind c.of_man-own.result m.from
     (own (goal.at.returns-in-Pawn-clause-all c).After-occupied-occupied) stands
 
-pub returns-in-Knight-clause-own : goal.returns-in-Knight-clause-own
-returns-in-Knight-clause-own c = λ s here.
+-- a man of those that are met stands there
+met_own : (c : After-occupied-occupied) (reached met : List Bool) → met ≡ meet c.of_man-own.result reached →
+    (s : Square) → has met s ≡ true → man_at c.args.board.now.placement s ≡ Some (c.args.board.now.side, c.args.kind)
+met_own c reached met is s here =
     let p = c.args.board.now in
-    met_source p.placement p.side c.args.kind c.of_man-own.result c.knight.result c.meet.result s
-    (own (goal.at.returns-in-Knight-clause-own c).After-occupied-occupied) c.meet.ensures here
+    met_source p.placement p.side c.args.kind c.of_man-own.result reached met s (own c) is here
+
+-- each move of a piece that slides comes from one of those that are met
+each_met : (c : After-occupied-occupied) (kind : Kind) (reached met : List Bool) →
+    met ≡ meet c.of_man-own.result reached → c.args.kind ≡ kind →
+    facing kind c.args.board.now.side ≡ c.args.board.now.side →
+    ((side : Colour) → IsSetOf reached (Attacks c.occupied-occupied.result side kind c.args.to)) →
+    ((m : Move) → IsMoveOf c.args.board.now m kind →
+    Attacks (occupied_of c.args.board.now.placement) c.args.board.now.side kind m.from m.to) →
+    (m : Move) → IsLegal c.args.board.now m →
+    man_at c.args.board.now.placement m.from ≡ Some (c.args.board.now.side, c.args.kind) → m.to ≡ c.args.to →
+    has met m.from ≡ true
+each_met c kind reached met is same faces of attacks =
+    let p = c.args.board.now in
+    let Set' : List Bool → Type 0 = λ men. IsSetOf reached (Attacks men p.side kind c.args.to) in
+    each_source p c.args.kind kind c.of_man-own.result reached met c.args.to (own c) is same faces
+    (subst Set' (occupied c) (of p.side)) attacks
+
+pub returns-in-Knight-clause-own : goal.returns-in-Knight-clause-own
+returns-in-Knight-clause-own c =
+    met_own (goal.at.returns-in-Knight-clause-own c).After-occupied-occupied c.knight.result _ c.meet.ensures
 
 pub returns-in-Knight-clause-all : goal.returns-in-Knight-clause-all
 returns-in-Knight-clause-all c =
-    let p = c.args.board.now in
-    each_source p c.args.kind kinds.Knight c.of_man-own.result c.knight.result c.meet.result c.args.to
-    (own (goal.at.returns-in-Knight-clause-all c).After-occupied-occupied) c.meet.ensures c.in-Knight.is refl
-    (c.knight.ensures (occupied_of p.placement) p.side)
-    (λ m rule. rule.attacked)
+    each_met (goal.at.returns-in-Knight-clause-all c).After-occupied-occupied kinds.Knight c.knight.result _
+    c.meet.ensures c.in-Knight.is refl (c.knight.ensures c.occupied-occupied.result) (λ m rule. rule.attacked)
 
 pub returns-in-Bishop-clause-own : goal.returns-in-Bishop-clause-own
-returns-in-Bishop-clause-own c = λ s here.
-    let p = c.args.board.now in
-    met_source p.placement p.side c.args.kind c.of_man-own.result c.bishop.result c.meet-in-Bishop.result s
-    (own (goal.at.returns-in-Bishop-clause-own c).After-occupied-occupied) c.meet-in-Bishop.ensures here
+returns-in-Bishop-clause-own c =
+    met_own (goal.at.returns-in-Bishop-clause-own c).After-occupied-occupied c.bishop.result _ c.meet-in-Bishop.ensures
 
 pub returns-in-Bishop-clause-all : goal.returns-in-Bishop-clause-all
 returns-in-Bishop-clause-all c =
-    let p = c.args.board.now in
-    let at = (goal.at.returns-in-Bishop-clause-all c).After-occupied-occupied in
-    let Set' : List Bool → Type 0 = λ men. IsSetOf c.bishop.result (Attacks men p.side kinds.Bishop c.args.to) in
-    each_source p c.args.kind kinds.Bishop c.of_man-own.result c.bishop.result c.meet-in-Bishop.result c.args.to (own at)
-    c.meet-in-Bishop.ensures c.in-Bishop.is refl (subst Set' (occupied at) (c.bishop.ensures p.side)) (λ m rule. rule.attacked)
+    each_met (goal.at.returns-in-Bishop-clause-all c).After-occupied-occupied kinds.Bishop c.bishop.result _
+    c.meet-in-Bishop.ensures c.in-Bishop.is refl c.bishop.ensures (λ m rule. rule.attacked)
 
 pub returns-in-Rook-clause-own : goal.returns-in-Rook-clause-own
-returns-in-Rook-clause-own c = λ s here.
-    let p = c.args.board.now in
-    met_source p.placement p.side c.args.kind c.of_man-own.result c.rook.result c.meet-in-Rook.result s
-    (own (goal.at.returns-in-Rook-clause-own c).After-occupied-occupied) c.meet-in-Rook.ensures here
+returns-in-Rook-clause-own c =
+    met_own (goal.at.returns-in-Rook-clause-own c).After-occupied-occupied c.rook.result _ c.meet-in-Rook.ensures
 
 pub returns-in-Rook-clause-all : goal.returns-in-Rook-clause-all
 returns-in-Rook-clause-all c =
-    let p = c.args.board.now in
-    let at = (goal.at.returns-in-Rook-clause-all c).After-occupied-occupied in
-    let Set' : List Bool → Type 0 = λ men. IsSetOf c.rook.result (Attacks men p.side kinds.Rook c.args.to) in
-    each_source p c.args.kind kinds.Rook c.of_man-own.result c.rook.result c.meet-in-Rook.result c.args.to (own at)
-    c.meet-in-Rook.ensures c.in-Rook.is refl (subst Set' (occupied at) (c.rook.ensures p.side)) (λ m rule. rule.attacked)
+    each_met (goal.at.returns-in-Rook-clause-all c).After-occupied-occupied kinds.Rook c.rook.result _
+    c.meet-in-Rook.ensures c.in-Rook.is refl c.rook.ensures (λ m rule. rule.attacked)
 
 pub returns-in-Queen-clause-own : goal.returns-in-Queen-clause-own
-returns-in-Queen-clause-own c = λ s here.
-    let p = c.args.board.now in
-    met_source p.placement p.side c.args.kind c.of_man-own.result c.queen.result c.meet-in-Queen.result s
-    (own (goal.at.returns-in-Queen-clause-own c).After-occupied-occupied) c.meet-in-Queen.ensures here
+returns-in-Queen-clause-own c =
+    met_own (goal.at.returns-in-Queen-clause-own c).After-occupied-occupied c.queen.result _ c.meet-in-Queen.ensures
 
 pub returns-in-Queen-clause-all : goal.returns-in-Queen-clause-all
 returns-in-Queen-clause-all c =
-    let p = c.args.board.now in
-    let at = (goal.at.returns-in-Queen-clause-all c).After-occupied-occupied in
-    let Set' : List Bool → Type 0 = λ men. IsSetOf c.queen.result (Attacks men p.side kinds.Queen c.args.to) in
-    each_source p c.args.kind kinds.Queen c.of_man-own.result c.queen.result c.meet-in-Queen.result c.args.to (own at)
-    c.meet-in-Queen.ensures c.in-Queen.is refl (subst Set' (occupied at) (c.queen.ensures p.side)) (λ m rule. rule.attacked)
+    each_met (goal.at.returns-in-Queen-clause-all c).After-occupied-occupied kinds.Queen c.queen.result _
+    c.meet-in-Queen.ensures c.in-Queen.is refl c.queen.ensures (λ m rule. rule.attacked)

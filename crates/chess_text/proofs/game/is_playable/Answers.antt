@@ -1,6 +1,6 @@
-use Rattle.std.proofs.Common.{ℕ, ◌≡◌, ◌∙◌, ◌+◌, ◌++◌, ◌∷◌, [], take, ap, sym, suc, arith}
-use Rattle.std.proofs.Math.Seq.{take-suc}
+use Rattle.std.proofs.Common.{ℕ, ◌≡◌, ◌∙◌, ◌+◌, ◌++◌, ◌∷◌, [], take, ap, sym}
 use Rattle.std.proofs.lemmas.Bool.{false≢true}
+use Rattle.std.proofs.lemmas.List.{take_more}
 use Rattle.chess_board.specs.declared.moves.Move.{Move}
 use Rattle.chess_board.specs.Legal.{IsLegal}
 use Rattle.chess_board.specs.Next.{next}
@@ -31,10 +31,8 @@ loop-mv-preserved c =
     let m = c.mv-item.result in
     let can = c.can_play.ensures.0 c.if-not-can_play.false in
     let at = c.loop-mv.invariant.at in
-    let next_index : i + 1 ≡ suc i = omega arith in
     let taken : take (i + 1) moves ≡ take i moves ++ m ∷ [] =
-    ap (λ (n : ℕ). take n moves) next_index ∙ take-suc moves i m c.loop-mv-test.true
-    ∙ ap (λ (x : Move). take i moves ++ x ∷ []) (sym c.mv-item.is) in
+    take_more moves i m c.loop-mv-test.true ∙ ap (λ (x : Move). take i moves ++ x ∷ []) (sym c.mv-item.is) in
     let legal : IsLegal (position_after p (take i moves)) m = rw at at can.0 in
     rw taken (record {
       at = c.apply-board.ensures.next ∙ (ap (λ q. next q m) at ∙ sym (position_after-push p (take i moves) m));

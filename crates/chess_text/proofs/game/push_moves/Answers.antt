@@ -1,5 +1,5 @@
-use Rattle.std.proofs.Common.{ℕ, ◌≡◌, ◌∙◌, ◌+◌, ◌++◌, ◌∷◌, [], true, take, ap, sym, suc, arith}
-use Rattle.std.proofs.Math.Seq.{take-suc}
+use Rattle.std.proofs.Common.{ℕ, ◌≡◌, ◌∙◌, ◌+◌, ◌++◌, ◌∷◌, [], true, take, ap, sym}
+use Rattle.std.proofs.lemmas.List.{take_more}
 use Rattle.std.specs.String.{string_bytes}
 use Rattle.chess_board.specs.declared.moves.Move.{Move}
 use Rattle.chess_board.specs.Next.{next}
@@ -40,10 +40,8 @@ loop-mv-preserved c =
     let at = c.loop-mv.invariant.at in
     let before = c.loop-mv.invariant.added in
     let front = string_bytes c.args.text.now in
-    let next_index : i + 1 ≡ suc i = omega arith in
     let taken : take (i + 1) moves ≡ take i moves ++ m ∷ [] =
-    ap (λ (n : ℕ). take n moves) next_index ∙ take-suc moves i m c.loop-mv-test.true
-    ∙ ap (λ (x : Move). take i moves ++ x ∷ []) (sym c.mv-item.is) in
+    take_more moves i m c.loop-mv-test.true ∙ ap (λ (x : Move). take i moves ++ x ∷ []) (sym c.mv-item.is) in
     let added : AddsMove (position_after p (take i moves)) (is_first_after true (take i moves)) m front before.tokens
     (string_bytes c.push_move.new.text) c.in_ok-width.width =
     rw (sym at, sym c.loop-mv.invariant.first) (c.in_ok-width.ensures.added front before.tokens before.under_way) in

@@ -1,7 +1,7 @@
-use Rattle.std.proofs.Common.{ℕ, ◌≡◌, ◌∙◌, ◌+◌, ◌^◌, ◌-◌, ◌++◌, ◌∷◌, [], length, take, arith, ap, sym, suc}
+use Rattle.std.proofs.Common.{ℕ, ◌≡◌, ◌∙◌, ◌+◌, ◌^◌, ◌-◌, ◌++◌, ◌∷◌, [], length, take, arith, ap, sym}
 use Rattle.std.specs.Prelude.{Contains, min}
 use Rattle.std.proofs.lemmas.List.{take_all}
-use Rattle.std.proofs.Math.Seq.{take-suc}
+use Rattle.std.proofs.lemmas.List.{take_more}
 use Rattle.chess_board.specs.declared.moves.Move.{Move}
 use Rattle.chess_board.specs.Next.{next}
 use Rattle.perft.specs.Lines.{IsNumberOfLines}
@@ -28,9 +28,8 @@ loop-mv-preserved c =
     let few : c.from.result ≡ min (length n.moves) (2 ^ 64 - 1) = omega (arith, n.number, c.from.ensures) in
     let more = through_more p (take i items) m 1 c.loop-mv.count c.from.result (length n.moves) c.loop-mv.invariant
     counted few (not_yet items i m distinct below (sym c.mv-item.is)) in
-    let next_index : i + 1 ≡ suc i = omega arith in
     let taken : take (i + 1) items ≡ take i items ++ m ∷ [] =
-    ap (λ (n : ℕ). take n items) next_index ∙ take-suc items i m below ∙ ap (λ (x : Move). take i items ++ x ∷ []) (sym c.mv-item.is) in
+    take_more items i m below ∙ ap (λ (x : Move). take i items ++ x ∷ []) (sym c.mv-item.is) in
     rw (taken, c.saturating_add-count.ensures) more
 
 pub returns : goal.returns

@@ -1,10 +1,12 @@
-use Rattle.std.proofs.Common.{◌≡◌}
+use Rattle.std.proofs.Common.{◌≡◌, Bool, List}
+use Rattle.chess_bits.specs.declared.men.Kind.{Kind}
+use Rattle.chess_bits.specs.declared.men.Kind.TheVariants.{Pawn, Knight, Bishop, Rook, Queen, King}
 use Rattle.chess_bits.specs.Square.{IsOnBoard}
 use Rattle.chess_bits.specs.Table.{put}
-use Rattle.chess_board.specs.declared.men.Men.TheInside.{Inside}
 use Rattle.chess_board.specs.Men.{placement_of, IsConsistent}
 use Rattle.chess_board.specs.Occupancy.{there_if}
-use Rattle.chess_board.proofs.MenAssign.{IsAssigned, colour_sets, IsConsistent-assigned, placement_of-assigned, white_set, black_set, pawn_set, knight_set, bishop_set, rook_set, queen_set, king_set}
+use Rattle.chess_board.proofs.MenAssign.{IsAssigned, colour_sets, IsConsistent-assigned, placement_of-assigned, white_set, black_set, with_kind_set, IsAssigned-kind}
+use Rattle.chess_board.proofs.MenLemmas.{kind_set}
 use Rattle.chess_board.proofs.men.Men.assign.Goals as goal
 use Rattle.chess_board.proofs.men.Men.assign.Goals.{Joined-colour, in-White, in-Black}
 
@@ -23,87 +25,73 @@ on_board c = elim c.match-colour.branch [
   | in-Black w ↦ w.assign-in-Black.ensures.on_board
 ]
 
-consistent : (c : Joined-colour) (new : Inside) →
-    IsAssigned c.self.inside new c.args.square c.args.colour c.args.kind c.args.stands → IsConsistent new
-consistent c new assigned =
-    IsConsistent-assigned c.self.inside new c.args.square c.args.colour c.args.kind c.args.stands c.args.self.now
-    c.self.invariant (on_board c) c.self.view_is c.requires assigned
+assigned : (c : Joined-colour) (one : Kind) (new : List Bool) → c.args.kind ≡ one →
+    new ≡ put (kind_set one c.match-colour.self-inside) c.args.square c.args.stands →
+    IsAssigned c.self.inside (with_kind_set c.match-colour.self-inside one new) c.args.square c.args.colour c.args.kind
+    c.args.stands
+assigned c one new is e =
+    IsAssigned-kind c.self.inside c.match-colour.self-inside c.args.square c.args.colour c.args.kind one c.args.stands
+    new is (coloured c) e
 
-shown : (c : Joined-colour) (new : Inside) →
-    IsAssigned c.self.inside new c.args.square c.args.colour c.args.kind c.args.stands →
-    placement_of new ≡ put c.args.self.now c.args.square (there_if c.args.stands (c.args.colour, c.args.kind))
-shown c new assigned =
-    placement_of-assigned c.self.inside new c.args.square c.args.colour c.args.kind c.args.stands c.args.self.now
-    c.self.invariant (on_board c) c.self.view_is c.requires assigned
+consistent : (c : Joined-colour) (one : Kind) (new : List Bool) → c.args.kind ≡ one →
+    new ≡ put (kind_set one c.match-colour.self-inside) c.args.square c.args.stands →
+    IsConsistent (with_kind_set c.match-colour.self-inside one new)
+consistent c one new is e =
+    IsConsistent-assigned c.self.inside _ c.args.square c.args.colour c.args.kind c.args.stands c.args.self.now
+    c.self.invariant (on_board c) c.self.view_is c.requires (assigned c one new is e)
+
+shown : (c : Joined-colour) (one : Kind) (new : List Bool) → c.args.kind ≡ one →
+    new ≡ put (kind_set one c.match-colour.self-inside) c.args.square c.args.stands →
+    placement_of (with_kind_set c.match-colour.self-inside one new)
+    ≡ put c.args.self.now c.args.square (there_if c.args.stands (c.args.colour, c.args.kind))
+shown c one new is e =
+    placement_of-assigned c.self.inside _ c.args.square c.args.colour c.args.kind c.args.stands c.args.self.now
+    c.self.invariant (on_board c) c.self.view_is c.requires (assigned c one new is e)
 
 pub invariant_of-self : goal.invariant_of-self
-invariant_of-self c =
-    let at = (goal.at.invariant_of-self c).Joined-colour in
-    consistent at _ (pawn_set c.self.inside c.match-colour.self-inside c.args.square c.args.colour c.args.kind c.args.stands
-    c.assign-in-Pawn.new.self c.in-Pawn.is (coloured at) c.assign-in-Pawn.ensures.assigned)
+invariant_of-self c = consistent (goal.at.invariant_of-self c).Joined-colour Pawn _ c.in-Pawn.is
+    c.assign-in-Pawn.ensures.assigned
 
 pub returns-in-Pawn : goal.returns-in-Pawn
-returns-in-Pawn c =
-    let at = (goal.at.returns-in-Pawn c).Joined-colour in
-    shown at _ (pawn_set c.self.inside c.match-colour.self-inside c.args.square c.args.colour c.args.kind c.args.stands
-    c.assign-in-Pawn.new.self c.in-Pawn.is (coloured at) c.assign-in-Pawn.ensures.assigned)
+returns-in-Pawn c = shown (goal.at.returns-in-Pawn c).Joined-colour Pawn _ c.in-Pawn.is
+    c.assign-in-Pawn.ensures.assigned
 
 pub invariant_of-self-in-Knight : goal.invariant_of-self-in-Knight
-invariant_of-self-in-Knight c =
-    let at = (goal.at.invariant_of-self-in-Knight c).Joined-colour in
-    consistent at _ (knight_set c.self.inside c.match-colour.self-inside c.args.square c.args.colour c.args.kind c.args.stands
-    c.assign-in-Knight.new.self c.in-Knight.is (coloured at) c.assign-in-Knight.ensures.assigned)
+invariant_of-self-in-Knight c = consistent (goal.at.invariant_of-self-in-Knight c).Joined-colour Knight _ c.in-Knight.is
+    c.assign-in-Knight.ensures.assigned
 
 pub returns-in-Knight : goal.returns-in-Knight
-returns-in-Knight c =
-    let at = (goal.at.returns-in-Knight c).Joined-colour in
-    shown at _ (knight_set c.self.inside c.match-colour.self-inside c.args.square c.args.colour c.args.kind c.args.stands
-    c.assign-in-Knight.new.self c.in-Knight.is (coloured at) c.assign-in-Knight.ensures.assigned)
+returns-in-Knight c = shown (goal.at.returns-in-Knight c).Joined-colour Knight _ c.in-Knight.is
+    c.assign-in-Knight.ensures.assigned
 
 pub invariant_of-self-in-Bishop : goal.invariant_of-self-in-Bishop
-invariant_of-self-in-Bishop c =
-    let at = (goal.at.invariant_of-self-in-Bishop c).Joined-colour in
-    consistent at _ (bishop_set c.self.inside c.match-colour.self-inside c.args.square c.args.colour c.args.kind c.args.stands
-    c.assign-in-Bishop.new.self c.in-Bishop.is (coloured at) c.assign-in-Bishop.ensures.assigned)
+invariant_of-self-in-Bishop c = consistent (goal.at.invariant_of-self-in-Bishop c).Joined-colour Bishop _ c.in-Bishop.is
+    c.assign-in-Bishop.ensures.assigned
 
 pub returns-in-Bishop : goal.returns-in-Bishop
-returns-in-Bishop c =
-    let at = (goal.at.returns-in-Bishop c).Joined-colour in
-    shown at _ (bishop_set c.self.inside c.match-colour.self-inside c.args.square c.args.colour c.args.kind c.args.stands
-    c.assign-in-Bishop.new.self c.in-Bishop.is (coloured at) c.assign-in-Bishop.ensures.assigned)
+returns-in-Bishop c = shown (goal.at.returns-in-Bishop c).Joined-colour Bishop _ c.in-Bishop.is
+    c.assign-in-Bishop.ensures.assigned
 
 pub invariant_of-self-in-Rook : goal.invariant_of-self-in-Rook
-invariant_of-self-in-Rook c =
-    let at = (goal.at.invariant_of-self-in-Rook c).Joined-colour in
-    consistent at _ (rook_set c.self.inside c.match-colour.self-inside c.args.square c.args.colour c.args.kind c.args.stands
-    c.assign-in-Rook.new.self c.in-Rook.is (coloured at) c.assign-in-Rook.ensures.assigned)
+invariant_of-self-in-Rook c = consistent (goal.at.invariant_of-self-in-Rook c).Joined-colour Rook _ c.in-Rook.is
+    c.assign-in-Rook.ensures.assigned
 
 pub returns-in-Rook : goal.returns-in-Rook
-returns-in-Rook c =
-    let at = (goal.at.returns-in-Rook c).Joined-colour in
-    shown at _ (rook_set c.self.inside c.match-colour.self-inside c.args.square c.args.colour c.args.kind c.args.stands
-    c.assign-in-Rook.new.self c.in-Rook.is (coloured at) c.assign-in-Rook.ensures.assigned)
+returns-in-Rook c = shown (goal.at.returns-in-Rook c).Joined-colour Rook _ c.in-Rook.is
+    c.assign-in-Rook.ensures.assigned
 
 pub invariant_of-self-in-Queen : goal.invariant_of-self-in-Queen
-invariant_of-self-in-Queen c =
-    let at = (goal.at.invariant_of-self-in-Queen c).Joined-colour in
-    consistent at _ (queen_set c.self.inside c.match-colour.self-inside c.args.square c.args.colour c.args.kind c.args.stands
-    c.assign-in-Queen.new.self c.in-Queen.is (coloured at) c.assign-in-Queen.ensures.assigned)
+invariant_of-self-in-Queen c = consistent (goal.at.invariant_of-self-in-Queen c).Joined-colour Queen _ c.in-Queen.is
+    c.assign-in-Queen.ensures.assigned
 
 pub returns-in-Queen : goal.returns-in-Queen
-returns-in-Queen c =
-    let at = (goal.at.returns-in-Queen c).Joined-colour in
-    shown at _ (queen_set c.self.inside c.match-colour.self-inside c.args.square c.args.colour c.args.kind c.args.stands
-    c.assign-in-Queen.new.self c.in-Queen.is (coloured at) c.assign-in-Queen.ensures.assigned)
+returns-in-Queen c = shown (goal.at.returns-in-Queen c).Joined-colour Queen _ c.in-Queen.is
+    c.assign-in-Queen.ensures.assigned
 
 pub invariant_of-self-in-King : goal.invariant_of-self-in-King
-invariant_of-self-in-King c =
-    let at = (goal.at.invariant_of-self-in-King c).Joined-colour in
-    consistent at _ (king_set c.self.inside c.match-colour.self-inside c.args.square c.args.colour c.args.kind c.args.stands
-    c.assign-in-King.new.self c.in-King.is (coloured at) c.assign-in-King.ensures.assigned)
+invariant_of-self-in-King c = consistent (goal.at.invariant_of-self-in-King c).Joined-colour King _ c.in-King.is
+    c.assign-in-King.ensures.assigned
 
 pub returns-in-King : goal.returns-in-King
-returns-in-King c =
-    let at = (goal.at.returns-in-King c).Joined-colour in
-    shown at _ (king_set c.self.inside c.match-colour.self-inside c.args.square c.args.colour c.args.kind c.args.stands
-    c.assign-in-King.new.self c.in-King.is (coloured at) c.assign-in-King.ensures.assigned)
+returns-in-King c = shown (goal.at.returns-in-King c).Joined-colour King _ c.in-King.is
+    c.assign-in-King.ensures.assigned
