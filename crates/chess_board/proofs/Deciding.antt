@@ -314,7 +314,7 @@ Decides-implies : {P : Type 0} (r t : Bool) → Decides t P → Decides (not r |
 Decides-implies true t decides = (λ e _. decides.0 e, λ h. decides.1 (h refl))
 Decides-implies false t decides = (λ _ e. absurd (false≢true e), λ _. refl)
 
-Decides-nat_le : (a b : ℕ) → Decides (nat_le a b) (a ≤ b)
+pub Decides-nat_le : (a b : ℕ) → Decides (nat_le a b) (a ≤ b)
 Decides-nat_le a b = (leb-true a b, le-leb a b)
 
 pub Decides-is_whole : (p : Position) → Decides (is_whole p) (length p.placement ≡ 64)

@@ -1,11 +1,11 @@
 -- The ending of a line is that of the articles: by the tests that decide them.
-use Rattle.std.specs.Prelude.{ℕ, ◌≤◌, Bool, true, false, if◌then◌else◌, Some, None, nat_le}
+use Rattle.std.specs.Prelude.{ℕ, ◌≤◌, Bool, true, false, if◌then◌else◌, Some, None}
 use Rattle.std.specs.Bool.{Decides}
 use Rattle.std.proofs.Common.{refl, inl, inr}
 use Rattle.std.proofs.lemmas.Bool.{false≢true}
-use Rattle.std.proofs.lemmas.Bool.{leb-true, le-leb}
 use Rattle.chess_bits.specs.Man.{other}
 use Rattle.chess_board.specs.Position.{Position}
+use Rattle.chess_board.proofs.Deciding.{Decides-nat_le}
 use Rattle.chess_end.specs.declared.ending.GameResult.TheVariants as results
 use Rattle.chess_end.specs.declared.ending.Article.TheVariants as articles
 use Rattle.chess_end.specs.Ending.{won_by, IsCheckmate, IsStalemate, IsFlagResult}
@@ -52,9 +52,6 @@ flag_by_test : (p : Position) (alone : Bool) → Decides alone (HasKingAlone p.p
     → IsFlagResult p.placement p.side (if alone then results.Draw else won_by (other p.side))
 flag_by_test p true d = inl (d.0 refl, refl)
 flag_by_test p false d = inr (λ h. false≢true (d.1 h), refl)
-
-pub Decides-nat_le : (a b : ℕ) → Decides (nat_le a b) (a ≤ b)
-Decides-nat_le a b = (leb-true a b, le-leb a b)
 
 pub law_of_endings : LawOfEndings
 law_of_endings = record {

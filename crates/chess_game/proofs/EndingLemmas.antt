@@ -11,6 +11,7 @@ use Rattle.chess_board.specs.declared.moves.Move.{Move}
 use Rattle.chess_board.specs.Position.{Position}
 use Rattle.chess_board.specs.Next.{next}
 use Rattle.chess_board.specs.Line.{positions_of}
+use Rattle.chess_board.proofs.Deciding.{Decides-nat_le}
 use Rattle.chess_repeat.specs.Key.{key_of}
 use Rattle.chess_repeat.specs.History.{is_key}
 use Rattle.chess_repeat.proofs.Counting.{count_by-push}
@@ -26,7 +27,6 @@ use Rattle.chess_end.proofs.Deciding.{Decides-is_checkmate, Decides-is_stalemate
 use Rattle.chess_entry.specs.State.{position_after}
 use Rattle.chess_entry.specs.Outcome.{times, ending, ending_after, is_granted, flag_result, flag_fallen}
 use Rattle.chess_entry.specs.Verdict.{is_finished_at}
-use Rattle.chess_entry.proofs.EndingCases.{Decides-nat_le}
 use Rattle.chess_game.proofs.LineLemmas.{position_after-push, positions_of-push, length-positions_of, quiet_run-positions_of}
 
 -- the ending by the tests, for any counts
