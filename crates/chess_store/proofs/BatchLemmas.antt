@@ -110,16 +110,7 @@ read_none table at name parsed (act.Show game) is = of_game (find_game game tabl
 read_none table at name parsed (act.Fen game) is = of_game (find_game game table.games)
 read_none table at name parsed (act.Pgn game) is = of_game (find_game game table.games)
 read_none table at name parsed act.List is = tt
-read_none table at name parsed (act.Open colour initial increment fen period) is = absurd (false≢true is)
-read_none table at name parsed (act.Join game) is = absurd (false≢true is)
-read_none table at name parsed (act.Move game ply text) is = absurd (false≢true is)
-read_none table at name parsed (act.Offer game) is = absurd (false≢true is)
-read_none table at name parsed (act.Accept game) is = absurd (false≢true is)
-read_none table at name parsed (act.Decline game) is = absurd (false≢true is)
-read_none table at name parsed (act.Resign game) is = absurd (false≢true is)
-read_none table at name parsed (act.Claim game ply fifty text) is = absurd (false≢true is)
-read_none table at name parsed (act.Flag game) is = absurd (false≢true is)
-read_none table at name parsed (act.Drop game) is = absurd (false≢true is)
+read_none table at name parsed a is = absurd (false≢true is)
 
 -- A read becomes no entry.
 pub read_enters_none : (table : TableState) (command : Command) (e : Entry) → IsVerdict table command (Enter e)

@@ -6,7 +6,7 @@ use Rattle.sector_dev.specs.Device.{State, CountsFailure, HasRisen}
 use Rattle.sector_journal.specs.declared.fault.JournalFault.{JournalFault}
 use Rattle.table_commits.specs.Committing.{IsTried}
 use Rattle.chess_store.specs.declared.fault.StoreFault.{StoreFault}
-use Rattle.chess_store.specs.declared.fault.StoreFault.TheVariants.{Exists, TooSmall, NotOurs, Damaged, Device, NoMemory, Worn, Failed}
+use Rattle.chess_store.specs.declared.fault.StoreFault.TheVariants.{Device, NoMemory, Worn}
 use Rattle.chess_store.specs.Faults.{IsDevice, UnlessDevice, CountsFault}
 use Rattle.chess_store.specs.Calling.{CallTried}
 
@@ -39,13 +39,7 @@ pub unless_device : {T : Type 0} (r : Result T StoreFault) (P : Type 0) → IfEr
     → IfErr r (λ fault. UnlessDevice fault P)
 unless_device (Ok x) P device = tt
 unless_device (Err (Device pending)) P device = tt
-unless_device (Err Exists) P device = absurd device
-unless_device (Err TooSmall) P device = absurd device
-unless_device (Err NotOurs) P device = absurd device
-unless_device (Err Damaged) P device = absurd device
-unless_device (Err NoMemory) P device = absurd device
-unless_device (Err Worn) P device = absurd device
-unless_device (Err Failed) P device = absurd device
+unless_device r P device = absurd device
 
 -- ---- what a call does to the device
 

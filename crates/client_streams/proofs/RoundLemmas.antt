@@ -15,7 +15,7 @@ use Rattle.chess_sessions.specs.Session.{Said, said, SessionState, session_at, C
 use Rattle.client_streams.specs.declared.client.Client.{Client}
 use Rattle.client_streams.specs.Clients.{OthersStay, IsSilent, IsHeardAt, IsEndSeen, IsHeldUp, HasWaitedOn, GivesOn, TakesIn, HandsOut, bytes_of_all, to_go}
 use Rattle.client_streams.specs.declared.closing.Closing.{Closing}
-use Rattle.client_streams.specs.declared.closing.Closing.TheVariants.{Fault, NoMemory, Silence, End, Farewell}
+use Rattle.client_streams.specs.declared.closing.Closing.TheVariants.{Silence}
 use Rattle.client_streams.specs.Closings.{HasFailed, WasRefused, ByReason, IsReason, IsOver}
 use Rattle.client_streams.specs.Incoming.{held}
 use Rattle.client_streams.specs.Sending.{waiting, HandsOn}
@@ -214,22 +214,14 @@ reason_again : {S : Type 0} (silence : Option ℕ) (client : Client S) (a b : Se
     (closing : Option Closing) → IsUnchanged a b →
     ByReason closing failed refused (IsSomeAnd silence (IsSilent client b at)) ⊥ ⊥ →
     ByReason closing failed refused (IsSomeAnd silence (IsSilent client a at)) ⊥ ⊥
-reason_again silence client a b at failed refused None h is = is
-reason_again silence client a b at failed refused (Some Fault) h is = is
-reason_again silence client a b at failed refused (Some NoMemory) h is = is
 reason_again silence client a b at failed refused (Some Silence) h is = silent_again silence client a b at h is
-reason_again silence client a b at failed refused (Some End) h is = is
-reason_again silence client a b at failed refused (Some Farewell) h is = is
+reason_again silence client a b at failed refused closing h is = is
 
 -- the connection has failed, or memory was refused
 pub reason_of_trouble : (failed refused silent : Type 0) (closing : Option Closing) → ByReason closing failed refused ⊥ ⊥ ⊥ →
     ByReason closing failed refused silent ⊥ ⊥
-reason_of_trouble failed refused silent None is = is
-reason_of_trouble failed refused silent (Some Fault) is = is
-reason_of_trouble failed refused silent (Some NoMemory) is = is
 reason_of_trouble failed refused silent (Some Silence) is = absurd is
-reason_of_trouble failed refused silent (Some End) is = is
-reason_of_trouble failed refused silent (Some Farewell) is = is
+reason_of_trouble failed refused silent closing is = is
 
 -- a session that is as it was is not closed
 pub not_now : {P : Type 0} (m n : Option SessionState) → n ≡ m → IsSome m → n ≡ None → P

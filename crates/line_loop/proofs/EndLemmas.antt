@@ -126,21 +126,20 @@ module _ {S F : Type 0} (Asked : S → Type 0) (Answers : S → List ℕ → Lis
   stands-more : new.ready ≡ [] → Takes Asked Answers Breaks old piece (Ok Open) new →
       Stands Asked Answers before later first start new
   stands-more none takes =
-      let (asked, un, come) = takes in
       record {
         taken = h.taken ++ piece;
         consumed = consumes;
-        come = come start first h.taken h.come;
+        come = takes.came start first h.taken h.come;
         empty = none;
-        asked = asked;
-        unfinished = un;
+        asked = takes.next.0;
+        unfinished = takes.next.1;
       }
 
   -- a line is too long
   stands-long : new.ready ≡ [] → Takes Asked Answers Breaks old piece (Ok TooLong) new →
       AnswersLong Answers before later first new.written start new.answerer
   stands-long none takes =
-      let k = takes start first h.taken h.come in
+      let k = takes.came start first h.taken h.come in
       let taken = h.taken ++ piece in
       let cut : (more : List ℕ) → taken ++ more ≡ k.lines.heard.whole ++ (k.lines.after ++ more) = λ more.
       ap (λ (x : List ℕ). x ++ more) k.lines.heard.cut ∙ append_assoc k.lines.heard.whole k.lines.after more in
@@ -185,7 +184,7 @@ module _ {S F : Type 0} (Asked : S → Type 0) (Answers : S → List ℕ → Lis
       AnswersUntil Answers Breaks fault before later first new.written start new.answerer
   unfolding lines_broken
   stands-broken fault none takes =
-      let k = takes start first h.taken h.come in
+      let k = takes.came start first h.taken h.come in
       let finds = lines_broken fault k.lines.after k.mid new.answerer k.breaks in
       record {
         taken = h.taken ++ piece;
@@ -213,7 +212,7 @@ module _ {S F : Type 0} (Asked : S → Type 0) (Answers : S → List ℕ → Lis
       Takes Asked Answers Breaks old piece (Err fault) new →
       AnswersInPart Answers Breaks before later first new.written start new.answerer
   stands-lost fault takes =
-      let k = takes start first h.taken h.come in
+      let k = takes.came start first h.taken h.come in
       let taken = h.taken ++ piece in
       record {
         taken = taken;

@@ -7,7 +7,7 @@ use Rattle.std.specs.Io.BufRead.{strip_last}
 use Rattle.session_lines.specs.Lines.{is_feed, HasNoFeed, IsUnfinished}
 use Rattle.line_loop.specs.Texts.{IsRun, farewell}
 use Rattle.line_loop.specs.Outlets.{IsSaid, IsLost, Says, Loses}
-use Rattle.line_loop.specs.Turns.{Moment, IsHeard, IsTooLong, HasCome, AreAnswered, HasGrownLong, BreaksAt, HasBroken, HasLost, Takes}
+use Rattle.line_loop.specs.Turns.{Moment, IsHeard, IsTooLong, HasCome, AreAnswered, BreaksAt, HasLost, Came, GoesOn, Takes}
 use Rattle.line_loop.specs.declared.loops.Flow.{Flow}
 use Rattle.line_loop.specs.declared.loops.Flow.TheVariants.{Open, TooLong, Broken}
 use Rattle.line_loop.specs.declared.outlet.WriteFault.{WriteFault}
@@ -29,17 +29,16 @@ module _ {S F : Type 0} (Asked : S → Type 0) (Answers : S → List ℕ → Lis
   pub took-part : (old : Moment S) (kept part : List ℕ) → Asked old.answerer → IsUnfinished old.held → HasNoFeed part →
       length old.held + length part ≤ 255 → kept ≡ old.held ++ part →
       Takes Asked Answers Breaks old part (Ok Open) (record old { held = kept })
-  took-part old kept part asked u n l k = (
-    asked,
-    subst IsUnfinished (sym k) (unfinished-more old.held part u n l),
-    λ start first taken h. record {
+  took-part old kept part asked u n l k = record {
+    next = (asked, subst IsUnfinished (sym k) (unfinished-more old.held part u n l));
+    came = λ start first taken h. record {
       done = h.done;
       heard = subst (IsHeard (taken ++ part) h.done) (sym k) (heard-more taken h.done old.held part h.heard);
       answers = h.answers;
       run = h.run;
       said = h.said;
-    },
-  )
+    };
+  }
 
   -- what was answered before further bytes
   answered-before : (start : S) (first : Option (List ℕ)) (taken more : List ℕ) (now : Moment S) (end : S) →
@@ -64,10 +63,13 @@ module _ {S F : Type 0} (Asked : S → Type 0) (Answers : S → List ℕ → Lis
       Says old.written old.ready (farewell true) new.written new.ready →
       Takes Asked Answers Breaks old part (Ok TooLong) new
   unfolding answered-before
-  took-long old new part same u n l says = λ start first taken h. record {
-    lines = answered-before start first taken part old new.answerer same h;
-    long = too_long-both old.held part u n l;
-    said = says first h.answers h.said;
+  took-long old new part same u n l says = record {
+    next = tt;
+    came = λ start first taken h. record {
+      lines = answered-before start first taken part old new.answerer same h;
+      long = too_long-both old.held part u n l;
+      said = says first h.answers h.said;
+    };
   }
 
   pub lost-long : (old new : Moment S) (part : List ℕ) (fault : WriteFault) → new.answerer ≡ old.answerer →
@@ -75,13 +77,16 @@ module _ {S F : Type 0} (Asked : S → Type 0) (Answers : S → List ℕ → Lis
       Loses old.written old.ready (farewell true) new.written →
       Takes Asked Answers Breaks old part (Err fault) new
   unfolding answered-before
-  lost-long old new part fault same u n l loses = λ start first taken h. record {
-    mid = old.answerer;
-    lines = answered-before start first taken part old old.answerer refl h;
-    last = inl same;
-    is_long = true;
-    long = λ _. too_long-both old.held part u n l;
-    lost = loses first h.answers h.said;
+  lost-long old new part fault same u n l loses = record {
+    next = tt;
+    came = λ start first taken h. record {
+      mid = old.answerer;
+      lines = answered-before start first taken part old old.answerer refl h;
+      last = inl same;
+      is_long = true;
+      long = λ _. too_long-both old.held part u n l;
+      lost = loses first h.answers h.said;
+    };
   }
 
   -- a line that ends, and is answered
@@ -89,36 +94,38 @@ module _ {S F : Type 0} (Asked : S → Type 0) (Answers : S → List ℕ → Lis
       new.held ≡ [] → Answers old.answerer (strip_last 13 old.held) answer new.answerer →
       Says old.written old.ready answer new.written new.ready →
       Takes Asked Answers Breaks old (10 ∷ []) (Ok Open) new
-  took-feed old new answer asked u none is says = (
-    asked,
-    subst IsUnfinished (sym none) unfinished-nil,
-    λ start first taken h. record {
+  took-feed old new answer asked u none is says = record {
+    next = (asked, subst IsUnfinished (sym none) unfinished-nil);
+    came = λ start first taken h. record {
       done = h.done ++ strip_last 13 old.held ∷ [];
       heard = subst (IsHeard (taken ++ 10 ∷ []) (h.done ++ strip_last 13 old.held ∷ [])) (sym none)
           (heard-feed taken h.done old.held h.heard u);
       answers = h.answers ++ answer;
       run = run-more Answers start h.done h.answers old.answerer (strip_last 13 old.held) answer new.answerer h.run is;
       said = says first h.answers h.said;
-    },
-  )
+    };
+  }
 
   pub lost-feed : (old new : Moment S) (answer : List ℕ) (fault : WriteFault) → IsUnfinished old.held →
       Answers old.answerer (strip_last 13 old.held) answer new.answerer →
       Loses old.written old.ready answer new.written →
       Takes Asked Answers Breaks old (10 ∷ []) (Err fault) new
-  lost-feed old new answer fault u is loses = λ start first taken h. record {
-    mid = new.answerer;
-    lines = record {
-      done = h.done ++ strip_last 13 old.held ∷ [];
-      after = [];
-      heard = heard-feed taken h.done old.held h.heard u;
-      answers = h.answers ++ answer;
-      run = run-more Answers start h.done h.answers old.answerer (strip_last 13 old.held) answer new.answerer h.run is;
+  lost-feed old new answer fault u is loses = record {
+    next = tt;
+    came = λ start first taken h. record {
+      mid = new.answerer;
+      lines = record {
+        done = h.done ++ strip_last 13 old.held ∷ [];
+        after = [];
+        heard = heard-feed taken h.done old.held h.heard u;
+        answers = h.answers ++ answer;
+        run = run-more Answers start h.done h.answers old.answerer (strip_last 13 old.held) answer new.answerer h.run is;
+      };
+      last = inl refl;
+      is_long = false;
+      long = λ e. absurd (false≢true e);
+      lost = subst (IsLost first new.written) (sym (append-nil (h.answers ++ answer))) (loses first h.answers h.said);
     };
-    last = inl refl;
-    is_long = false;
-    long = λ e. absurd (false≢true e);
-    lost = subst (IsLost first new.written) (sym (append-nil (h.answers ++ answer))) (loses first h.answers h.said);
   }
 
   -- a line that ends, and finds no answer
@@ -126,11 +133,14 @@ module _ {S F : Type 0} (Asked : S → Type 0) (Answers : S → List ℕ → Lis
       Breaks old.answerer (strip_last 13 old.held) fault t →
       Takes Asked Answers Breaks old (10 ∷ []) (Ok (Broken fault)) (record old { answerer = t; held = kept })
   unfolding answered-before
-  broke-feed old t kept fault u is = λ start first taken h. record {
-    mid = old.answerer;
-    lines = answered-before start first taken (10 ∷ []) old old.answerer refl h;
-    breaks = record { part = old.held; after = []; split = refl; unfinished = u; breaks = is };
-    said = h.said;
+  broke-feed old t kept fault u is = record {
+    next = tt;
+    came = λ start first taken h. record {
+      mid = old.answerer;
+      lines = answered-before start first taken (10 ∷ []) old old.answerer refl h;
+      breaks = record { part = old.held; after = []; split = refl; unfinished = u; breaks = is };
+      said = h.said;
+    };
   }
 
   -- a fault that is passed on
@@ -150,21 +160,11 @@ module _ {S F : Type 0} (Asked : S → Type 0) (Answers : S → List ℕ → Lis
   pub then-takes : (a b c : Moment S) (bytes more : List ℕ) (result : Result (Flow F) WriteFault) →
       Takes Asked Answers Breaks a bytes (Ok Open) b → Takes Asked Answers Breaks b more result c →
       Takes Asked Answers Breaks a (bytes ++ more) result c
-  then-takes a b c bytes more (Ok Open) (asked, un, come) (asked', un', come') = (
-    asked',
-    un',
-    λ start first taken h. subst (λ (x : List ℕ). HasCome Answers start first x c)
-        (append_assoc taken bytes more) (come' start first (taken ++ bytes) (come start first taken h)),
-  )
-  then-takes a b c bytes more (Ok TooLong) (asked, un, come) then =
-      λ start first taken h. subst (λ (x : List ℕ). HasGrownLong Answers start first x c)
-      (append_assoc taken bytes more) (then start first (taken ++ bytes) (come start first taken h))
-  then-takes a b c bytes more (Ok (Broken fault)) (asked, un, come) then =
-      λ start first taken h. subst (λ (x : List ℕ). HasBroken Answers Breaks fault start first x c)
-      (append_assoc taken bytes more) (then start first (taken ++ bytes) (come start first taken h))
-  then-takes a b c bytes more (Err fault) (asked, un, come) then =
-      λ start first taken h. subst (λ (x : List ℕ). HasLost Answers Breaks start first c.written x c.answerer)
-      (append_assoc taken bytes more) (then start first (taken ++ bytes) (come start first taken h))
+  then-takes a b c bytes more result takes then = record {
+    next = then.next;
+    came = λ start first taken h. subst (λ (x : List ℕ). Came Asked Answers Breaks start first x result c)
+        (append_assoc taken bytes more) (then.came start first (taken ++ bytes) (takes.came start first taken h));
+  }
 
   -- what has come of a line is let go
   pub emptied : (old new : Moment S) (line bytes : List ℕ) (result : Result (Flow F) WriteFault) → line ≡ old.held →
@@ -202,105 +202,117 @@ module _ {S F : Type 0} (Asked : S → Type 0) (Answers : S → List ℕ → Lis
   last-more after more mid t (inl same) = inl same
   last-more after more mid t (inr (fault, breaks)) = inr (fault, breaks-more Breaks fault after more mid t breaks)
 
+  came-more : (start : S) (first : Option (List ℕ)) (taken bytes more : List ℕ) (result : Result (Flow F) WriteFault)
+      (now : Moment S) → IsOver result → Came Asked Answers Breaks start first (taken ++ bytes) result now →
+      Came Asked Answers Breaks start first (taken ++ (bytes ++ more)) result now
+  unfolding answered-more
+  came-more start first taken bytes more (Ok Open) now ends k = absurd ends
+  came-more start first taken bytes more (Ok TooLong) now ends k = record {
+    lines = answered-more start taken bytes more now.answerer k.lines;
+    long = too-long-more k.lines.after more k.long;
+    said = k.said;
+  }
+  came-more start first taken bytes more (Ok (Broken fault)) now ends k = record {
+    mid = k.mid;
+    lines = answered-more start taken bytes more k.mid k.lines;
+    breaks = breaks-more Breaks fault k.lines.after more k.mid now.answerer k.breaks;
+    said = k.said;
+  }
+  came-more start first taken bytes more (Err fault) now ends k = record {
+    mid = k.mid;
+    lines = answered-more start taken bytes more k.mid k.lines;
+    last = last-more k.lines.after more k.mid now.answerer k.last;
+    is_long = k.is_long;
+    long = λ e. too-long-more k.lines.after more (k.long e);
+    lost = k.lost;
+  }
+
   pub over : (a b : Moment S) (bytes more : List ℕ) (result : Result (Flow F) WriteFault) → IsOver result →
       Takes Asked Answers Breaks a bytes result b → Takes Asked Answers Breaks a (bytes ++ more) result b
-  unfolding answered-more
-  over a b bytes more (Ok Open) ends takes = absurd ends
-  over a b bytes more (Ok TooLong) ends takes = λ start first taken h. (
-      let k = takes start first taken h in
-      record {
-        lines = answered-more start taken bytes more b.answerer k.lines;
-        long = too-long-more k.lines.after more k.long;
-        said = k.said;
-      })
-  over a b bytes more (Ok (Broken fault)) ends takes = λ start first taken h. (
-      let k = takes start first taken h in
-      record {
-        mid = k.mid;
-        lines = answered-more start taken bytes more k.mid k.lines;
-        breaks = breaks-more Breaks fault k.lines.after more k.mid b.answerer k.breaks;
-        said = k.said;
-      })
-  over a b bytes more (Err fault) ends takes = λ start first taken h. (
-      let k = takes start first taken h in
-      record {
-        mid = k.mid;
-        lines = answered-more start taken bytes more k.mid k.lines;
-        last = last-more k.lines.after more k.mid b.answerer k.last;
-        is_long = k.is_long;
-        long = λ e. too-long-more k.lines.after more (k.long e);
-        lost = k.lost;
-      })
+  over a b bytes more result ends takes = record {
+    next = takes.next;
+    came = λ start first taken h. came-more start first taken bytes more result b ends (takes.came start first taken h);
+  }
 
   -- ---- what is ready is written behind a call
+
+  handed : (start : S) (first : Option (List ℕ)) (taken : List ℕ) (flow : Flow F) (b : Moment S)
+      (written : Option (List ℕ)) (left : List ℕ) → Came Asked Answers Breaks start first taken (Ok flow) b →
+      Says b.written b.ready [] written left →
+      Came Asked Answers Breaks start first taken (Ok flow) (record b { written = written; ready = left })
+  handed start first taken Open b written left k says = record {
+    done = k.done;
+    heard = k.heard;
+    answers = k.answers;
+    run = k.run;
+    said = subst (IsSaid first written left) (append-nil k.answers) (says first k.answers k.said);
+  }
+  handed start first taken TooLong b written left k says = record {
+    lines = k.lines;
+    long = k.long;
+    said = subst (IsSaid first written left) (append-nil (k.lines.answers ++ farewell true))
+        (says first (k.lines.answers ++ farewell true) k.said);
+  }
+  handed start first taken (Broken fault) b written left k says = record {
+    mid = k.mid;
+    lines = k.lines;
+    breaks = k.breaks;
+    said = subst (IsSaid first written left) (append-nil k.lines.answers) (says first k.lines.answers k.said);
+  }
+
+  goes-on : (flow : Flow F) (b : Moment S) (written : Option (List ℕ)) (left : List ℕ) →
+      GoesOn Asked Answers Breaks (Ok flow) b →
+      GoesOn Asked Answers Breaks (Ok flow) (record b { written = written; ready = left })
+  goes-on Open b written left next = next
+  goes-on TooLong b written left next = tt
+  goes-on (Broken fault) b written left next = tt
 
   pub then-handed : (a b : Moment S) (written : Option (List ℕ)) (left bytes : List ℕ) (flow : Flow F) →
       Takes Asked Answers Breaks a bytes (Ok flow) b → Says b.written b.ready [] written left →
       Takes Asked Answers Breaks a bytes (Ok flow) (record b { written = written; ready = left })
-  then-handed a b written left bytes Open (asked, un, come) says = (
-    asked,
-    un,
-    λ start first taken h.
-        let k = come start first taken h in
-        record {
-          done = k.done;
-          heard = k.heard;
-          answers = k.answers;
-          run = k.run;
-          said = subst (IsSaid first written left) (append-nil k.answers) (says first k.answers k.said);
-        },
-  )
-  then-handed a b written left bytes TooLong takes says = λ start first taken h. (
-      let k = takes start first taken h in
-      record {
-        lines = k.lines;
-        long = k.long;
-        said = subst (IsSaid first written left) (append-nil (k.lines.answers ++ farewell true))
-            (says first (k.lines.answers ++ farewell true) k.said);
-      })
-  then-handed a b written left bytes (Broken fault) takes says = λ start first taken h. (
-      let k = takes start first taken h in
-      record {
-        mid = k.mid;
-        lines = k.lines;
-        breaks = k.breaks;
-        said = subst (IsSaid first written left) (append-nil k.lines.answers) (says first k.lines.answers k.said);
-      })
+  then-handed a b written left bytes flow takes says = record {
+    next = goes-on flow b written left takes.next;
+    came = λ start first taken h.
+        handed start first (taken ++ bytes) flow b written left (takes.came start first taken h) says;
+  }
+
+  handed-lost : (start : S) (first : Option (List ℕ)) (taken : List ℕ) (flow : Flow F) (b : Moment S)
+      (written : Option (List ℕ)) → Came Asked Answers Breaks start first taken (Ok flow) b →
+      Loses b.written b.ready [] written → HasLost Answers Breaks start first written taken b.answerer
+  handed-lost start first taken Open b written k loses = record {
+    mid = b.answerer;
+    lines = record { done = k.done; after = b.held; heard = k.heard; answers = k.answers; run = k.run };
+    last = inl refl;
+    is_long = false;
+    long = λ e. absurd (false≢true e);
+    lost = loses first k.answers k.said;
+  }
+  handed-lost start first taken TooLong b written k loses = record {
+    mid = b.answerer;
+    lines = k.lines;
+    last = inl refl;
+    is_long = true;
+    long = λ _. k.long;
+    lost = subst (IsLost first written) (append-nil (k.lines.answers ++ farewell true))
+        (loses first (k.lines.answers ++ farewell true) k.said);
+  }
+  handed-lost start first taken (Broken broken) b written k loses = record {
+    mid = k.mid;
+    lines = k.lines;
+    last = inr (broken, k.breaks);
+    is_long = false;
+    long = λ e. absurd (false≢true e);
+    lost = loses first k.lines.answers k.said;
+  }
 
   pub then-lost : (a b : Moment S) (written : Option (List ℕ)) (left bytes : List ℕ) (flow : Flow F)
       (fault : WriteFault) → Takes Asked Answers Breaks a bytes (Ok flow) b → Loses b.written b.ready [] written →
       Takes Asked Answers Breaks a bytes (Err fault) (record b { written = written; ready = left })
-  then-lost a b written left bytes Open fault (asked, un, come) loses = λ start first taken h. (
-      let k = come start first taken h in
-      record {
-        mid = b.answerer;
-        lines = record { done = k.done; after = b.held; heard = k.heard; answers = k.answers; run = k.run };
-        last = inl refl;
-        is_long = false;
-        long = λ e. absurd (false≢true e);
-        lost = loses first k.answers k.said;
-      })
-  then-lost a b written left bytes TooLong fault takes loses = λ start first taken h. (
-      let k = takes start first taken h in
-      record {
-        mid = b.answerer;
-        lines = k.lines;
-        last = inl refl;
-        is_long = true;
-        long = λ _. k.long;
-        lost = subst (IsLost first written) (append-nil (k.lines.answers ++ farewell true))
-            (loses first (k.lines.answers ++ farewell true) k.said);
-      })
-  then-lost a b written left bytes (Broken broken) fault takes loses = λ start first taken h. (
-      let k = takes start first taken h in
-      record {
-        mid = k.mid;
-        lines = k.lines;
-        last = inr (broken, k.breaks);
-        is_long = false;
-        long = λ e. absurd (false≢true e);
-        lost = loses first k.lines.answers k.said;
-      })
+  then-lost a b written left bytes flow fault takes loses = record {
+    next = tt;
+    came = λ start first taken h.
+        handed-lost start first (taken ++ bytes) flow b written (takes.came start first taken h) loses;
+  }
 
 -- ---- a piece, line by line
 
@@ -332,11 +344,10 @@ module _ {S F : Type 0} (Asked : S → Type 0) (Answers : S → List ℕ → Lis
   through-nothing now all asked u = record {
     done = [];
     split = refl;
-    takes = (
-      asked,
-      u,
-      λ start first taken h. subst (λ (x : List ℕ). HasCome Answers start first x now) (sym (append-nil taken)) h,
-    );
+    takes = record {
+      next = (asked, u);
+      came = λ start first taken h. subst (λ (x : List ℕ). HasCome Answers start first x now) (sym (append-nil taken)) h;
+    };
   }
 
   -- one line more

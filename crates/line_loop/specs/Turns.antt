@@ -87,18 +87,23 @@ pub record HasLost {S F : Type 0} (Answers : S → List ℕ → List ℕ → S �
   pub long : is_long ≡ true → IsTooLong lines.after
   pub lost : IsLost first now (lines.answers ++ farewell is_long)
 
--- What a call did that took bytes, whatever came before.
-abbrev pub Takes : {S F : Type 0} → (S → Type 0) → (S → List ℕ → List ℕ → S → Type 0) → (S → List ℕ → F → S → Type 0)
-    → Moment S → List ℕ → Result (Flow F) WriteFault → Moment S → Type 0
-Takes {S = S} Asked Answers Breaks old bytes (Ok Open) new = Asked new.answerer × IsUnfinished new.held
-    × ((start : S) (first : Option (List ℕ)) (taken : List ℕ) → HasCome Answers start first taken old
-    → HasCome Answers start first (taken ++ bytes) new)
-Takes {S = S} Asked Answers Breaks old bytes (Ok TooLong) new =
-    (start : S) (first : Option (List ℕ)) (taken : List ℕ) → HasCome Answers start first taken old
-    → HasGrownLong Answers start first (taken ++ bytes) new
-Takes {S = S} Asked Answers Breaks old bytes (Ok (Broken fault)) new =
-    (start : S) (first : Option (List ℕ)) (taken : List ℕ) → HasCome Answers start first taken old
-    → HasBroken Answers Breaks fault start first (taken ++ bytes) new
-Takes {S = S} Asked Answers Breaks old bytes (Err fault) new =
-    (start : S) (first : Option (List ℕ)) (taken : List ℕ) → HasCome Answers start first taken old
-    → HasLost Answers Breaks start first new.written (taken ++ bytes) new.answerer
+module _ {S F : Type 0} (Asked : S → Type 0) (Answers : S → List ℕ → List ℕ → S → Type 0)
+    (Breaks : S → List ℕ → F → S → Type 0) where
+  -- what has come of all that was taken, by what the last call came to
+  abbrev pub Came : S → Option (List ℕ) → List ℕ → Result (Flow F) WriteFault → Moment S → Type 0
+  Came start first taken (Ok Open) now = HasCome Answers start first taken now
+  Came start first taken (Ok TooLong) now = HasGrownLong Answers start first taken now
+  Came start first taken (Ok (Broken fault)) now = HasBroken Answers Breaks fault start first taken now
+  Came start first taken (Err fault) now = HasLost Answers Breaks start first now.written taken now.answerer
+
+  -- where more is taken, the next line may be asked
+  abbrev pub GoesOn : Result (Flow F) WriteFault → Moment S → Type 0
+  GoesOn (Ok Open) now = Asked now.answerer × IsUnfinished now.held
+  GoesOn result now = Unit {0}
+
+  -- What a call did that took bytes, whatever came before.
+  pub record Takes (old : Moment S) (bytes : List ℕ) (result : Result (Flow F) WriteFault) (new : Moment S)
+      : Type 0 where
+    pub next : GoesOn result new
+    pub came : (start : S) (first : Option (List ℕ)) (taken : List ℕ) → HasCome Answers start first taken old
+        → Came start first (taken ++ bytes) result new

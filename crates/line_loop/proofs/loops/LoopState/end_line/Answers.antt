@@ -13,10 +13,10 @@ returns-in_err-flow g c =
       ready = c.answer_line.new.ready.bytes;
       answerer = c.answer_line.new.answerer;
     } in
+    let takes = emptied g.A.Answerer.is_ready g.A.Answerer.answers g.A.Answerer.breaks old (record new { held = [] })
+    c.as_slice.result.now (10 ∷ []) (Err e.0) c.as_slice.ensures.value refl c.in_err-flow.ensures in
     passed_on g.A.Answerer.is_ready g.A.Answerer.answers g.A.Answerer.breaks old new (10 ∷ []) c.from_residual.result
-    e.0 e.1
-    (emptied g.A.Answerer.is_ready g.A.Answerer.answers g.A.Answerer.breaks old (record new { held = [] })
-    c.as_slice.result.now (10 ∷ []) (Err e.0) c.as_slice.ensures.value refl c.in_err-flow.ensures)
+    e.0 e.1 (record { next = takes.next; came = takes.came })
 
 pub returns : goal.returns
 returns g c =
