@@ -5,6 +5,7 @@ use Rattle.std.specs.String.{string_bytes}
 use Rattle.chess_board.specs.declared.moves.Move.{Move}
 use Rattle.chess_board.specs.Position.{Position, IsValid}
 use Rattle.chess_notation.specs.Fen.{IsFenOf}
+use Rattle.lobby_words.specs.Words.{word_of, rest_of}
 use Rattle.lobby_positions.specs.Telling.{TellsMoves}
 use Rattle.lobby_positions.specs.Pgn.{TellsGame}
 use Rattle.lobby_positions.specs.Answer.{IsLineAnswer}
@@ -26,14 +27,6 @@ last_line (b ∷ bs) =
     if length (lines_behind (b ∷ bs)) == 0
     then before_first is_feed (b ∷ bs)
     else last_line bs
-
--- what stands before the first space
-abbrev pub word_of : List ℕ → List ℕ
-word_of text = before_first (λ b. b == 32) text
-
--- what stands behind the first space
-abbrev pub rest_of : List ℕ → List ℕ
-rest_of text = after_first (λ b. b == 32) text
 
 -- the FEN of a text that ends with `ok fen G FEN`
 abbrev pub fen_in : List ℕ → List ℕ
