@@ -1,10 +1,11 @@
 -- Messages as browsers get them.
-use Rattle.std.specs.Prelude.{ℕ, ◌≡◌, ◌==◌, Bool, List, [], ◌∷◌, ◌++◌, length, codes, decimal, ◌<◌, ◌^◌, if◌then◌else◌}
+use Rattle.std.specs.Prelude.{ℕ, ◌≡◌, ◌==◌, List, [], ◌∷◌, ◌++◌, length, codes, decimal, ◌<◌, ◌^◌, if◌then◌else◌}
 use Rattle.std.specs.List.{after_first, before_first}
 use Rattle.std.specs.String.{string_bytes}
 use Rattle.chess_board.specs.declared.moves.Move.{Move}
 use Rattle.chess_board.specs.Position.{Position, IsValid}
 use Rattle.chess_notation.specs.Fen.{IsFenOf}
+use Rattle.session_lines.specs.Lines.{is_feed}
 use Rattle.lobby_words.specs.Words.{word_of, rest_of}
 use Rattle.lobby_positions.specs.Telling.{TellsMoves}
 use Rattle.lobby_positions.specs.Pgn.{TellsGame}
@@ -12,9 +13,6 @@ use Rattle.lobby_positions.specs.Answer.{IsLineAnswer}
 use Rattle.lobby_desk.specs.declared.telling.Kind.{Kind}
 use Rattle.lobby_desk.specs.declared.telling.Kind.TheVariants.{Whole, Position as AtPosition, Line, Log}
 use Rattle.lobby_desk.specs.declared.telling.Message.{Message}
-
-abbrev pub is_feed : ℕ → Bool
-is_feed b = b == 10
 
 -- what stands behind the first line of a text
 abbrev pub lines_behind : List ℕ → List ℕ
