@@ -17,7 +17,7 @@ two_digits n = (48 + n / 10) ∷ (48 + n % 10) ∷ []
 -- what a clock shows, as `{[%clk H:MM:SS]}`: the whole seconds of so many milliseconds
 unfoldable pub clock_text : ℕ → List ℕ
 clock_text ms =
-    codes "{[%clk " ++ (decimal (ms / 3600000) ++ (58 ∷ (two_digits (ms / 60000 % 60) ++ (58 ∷ (two_digits (ms / 1000 % 60) ++ codes "]}")))))
+    codes "{[%clk " ++ (decimal (ms / 3600000) ++ (codes ":" ++ (two_digits (ms / 60000 % 60) ++ (codes ":" ++ (two_digits (ms / 1000 % 60) ++ codes "]}")))))
 
 -- a comment is one token, so that no line ends in it
 abbrev pub clock_tokens : Option ℕ → List (List ℕ)

@@ -30,11 +30,11 @@ escaped value = flat_map escaped_byte value
 -- `[Name "Value"]`, or the server's line
 abbrev pub told_value : List ℕ → Option (List ℕ) → List ℕ
 told_value line None = line
-told_value line (Some value) = head_of line ++ (32 ∷ 34 ∷ (escaped value ++ (34 ∷ 93 ∷ [])))
+told_value line (Some value) = head_of line ++ (codes " \"" ++ (escaped value ++ codes "\"]"))
 
 -- a tag's line with its line feed; nothing for another line
 unfoldable pub told_tag : Heading → List ℕ → List ℕ
-told_tag h line = if is_tag line then told_value line (value_for h (head_of line)) ++ (10 ∷ []) else []
+told_tag h line = if is_tag line then told_value line (value_for h (head_of line)) ++ codes "\n" else []
 
 -- the tags of a text's lines, in their order
 abbrev pub told_tags : Heading → List (List ℕ) → List ℕ

@@ -1,5 +1,5 @@
 -- A player is put into a players' file.
-use Rattle.std.specs.Prelude.{ℕ, ◌≡◌, Bool, true, false, not, List, [], ◌∷◌, ◌++◌, filter, if◌then◌else◌}
+use Rattle.std.specs.Prelude.{ℕ, ◌≡◌, Bool, true, false, not, List, [], ◌∷◌, ◌++◌, codes, filter, if◌then◌else◌}
 use Rattle.std.specs.Str.{bytes_eq}
 use Rattle.std.specs.List.{list_any}
 use Rattle.hex.specs.Hex.{encode_lower}
@@ -26,7 +26,7 @@ abbrev pub entry_added : Addition → List ℕ → Entry
 entry_added who token = entry_with who (sha256 (encode_lower token))
 
 abbrev pub line_of : Entry → List ℕ
-line_of e = e.name ++ (32 ∷ (role_text e.is_arbiter ++ (32 ∷ (encode_lower e.sum ++ (32 ∷ e.full_name)))))
+line_of e = e.name ++ (codes " " ++ (role_text e.is_arbiter ++ (codes " " ++ (encode_lower e.sum ++ (codes " " ++ e.full_name)))))
 
 -- the line of who has this name
 abbrev pub is_of : List ℕ → List ℕ → Bool

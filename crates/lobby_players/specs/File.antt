@@ -47,7 +47,7 @@ pub record HasFields (line name role sum full_name : List ℕ) : Type 0 where
   pub name_word : IsWord name
   pub role_word : IsWord role
   pub sum_word : IsWord sum
-  pub joined : line ≡ name ++ (32 ∷ (role ++ (32 ∷ (sum ++ (32 ∷ full_name)))))
+  pub joined : line ≡ name ++ (codes " " ++ (role ++ (codes " " ++ (sum ++ (codes " " ++ full_name)))))
 
 -- three words and what is left tell of a player
 pub record TellsOf (first second digits rest : List ℕ) (e : Entry) : Type 0 where
@@ -65,7 +65,7 @@ pub record IsLineOf (line : List ℕ) (e : Entry) : Type 0 where
   pub digits : List ℕ
   pub sum : decode_sized digits 32 ≡ Ok e.sum
   pub full_name : is_full_name e.full_name ≡ true
-  pub spelled : line ≡ e.name ++ (32 ∷ (role_text e.is_arbiter ++ (32 ∷ (digits ++ (32 ∷ e.full_name)))))
+  pub spelled : line ≡ e.name ++ (codes " " ++ (role_text e.is_arbiter ++ (codes " " ++ (digits ++ (codes " " ++ e.full_name)))))
 
 -- the player has this name, or this sum
 abbrev pub has_name : List ℕ → Entry → Bool

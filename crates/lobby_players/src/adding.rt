@@ -1,5 +1,5 @@
 //! A player is put into a players' file.
-ghost use Rattle.std.specs.Prelude.{◌≡◌, ◌++◌, ◌∷◌, [], ◌&&◌, not, Ok, IfOk, IfErr, OnOk};
+ghost use Rattle.std.specs.Prelude.{◌≡◌, ◌++◌, codes, ◌&&◌, not, Ok, IfOk, IfErr, OnOk};
 ghost use Rattle.std.specs.List.{list_any};
 ghost use Rattle.std.specs.String.{string_bytes};
 ghost use Rattle.hex.specs.Hex.{decode_sized, encode_lower};
@@ -45,7 +45,7 @@ fn role_word(is_arbiter: bool) -> &'static str
 
 // Appends a word, and the space behind it.
 fn push_word(text: &mut String, word: &str) -> Result<(), AllocError>
-    ensures { OnOk result (string_bytes text.new ≡ string_bytes text.old ++ (word.now ++ (32 ∷ []))) }
+    ensures { OnOk result (string_bytes text.new ≡ string_bytes text.old ++ (word.now ++ codes " ")) }
 {
     text.push_str(word)?;
     text.push(' ')?;

@@ -68,7 +68,7 @@ impl From<AllocError> for AddFault {
 }
 
 /// Why a player of a players' file has no new link.
-#[derive(Clone, Copy, Debug, PartialEq, Eq, Error)]
+#[derive(Clone, Copy, Debug, Error)]
 pub enum LinkFault {
     /// The file is none.
     #[error("{0}")]

@@ -91,7 +91,7 @@ put_more old front text now more before after =
 
 -- the line of a position
 pub tells : (line sign : List ℕ) (p : Position) (moves : List Move) (check : Bool) → (IsTrue check ↔ IsInCheck p.placement p.side) →
-    IsListOfLegalMoves p moves → All IsBetweenSquares moves → sign ≡ check_sign check ∷ [] →
+    IsListOfLegalMoves p moves → All IsBetweenSquares moves → sign ≡ check_sign check →
     line ≡ (codes "moves " ++ sign) ++ spaced (map coordinate_of moves) → TellsMoves line p
 tells line sign p moves check is_check list squares signed spelled = record {
   check = check;

@@ -9,7 +9,7 @@ use Rattle.lobby_positions.specs.Telling.{coordinate_of}
 
 -- `N SAN MOVE FEN`: after how many moves, the last of them as SAN and by its squares, and the position
 abbrev pub row : ℕ → List ℕ → List ℕ → Position → List ℕ
-row n san move p = decimal n ++ (32 ∷ (san ++ (32 ∷ (move ++ (32 ∷ (fen_of p ++ (10 ∷ [])))))))
+row n san move p = decimal n ++ (codes " " ++ (san ++ (codes " " ++ (move ++ (codes " " ++ (fen_of p ++ codes "\n"))))))
 
 -- the texts are the SAN of these moves, each in its position
 abbrev pub AreSans : Position → List Move → List (List ℕ) → Type 0
@@ -33,8 +33,8 @@ pub record AreRows (start : Position) (moves : List Move) (text : List ℕ) : Ty
 pub record IsLineAnswer (game : ℕ) (start : Position) (moves : List Move) (text : List ℕ) : Type 0 where
   pub behind : List ℕ
   pub are : AreRows start moves behind
-  pub spelled : text ≡ codes "ok line " ++ (decimal game ++ (32 ∷ (decimal (length moves) ++
-      (10 ∷ (row 0 (codes "-") (codes "-") start ++ behind)))))
+  pub spelled : text ≡ codes "ok line " ++ (decimal game ++ (codes " " ++ (decimal (length moves) ++
+      (codes "\n" ++ (row 0 (codes "-") (codes "-") start ++ behind)))))
 
 -- the new text is the old one with the row of a move
 pub record PutsRow (number : ℕ) (before : Position) (m : Move) (after : Position) (old new : List ℕ) : Type 0 where

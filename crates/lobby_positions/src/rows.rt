@@ -1,5 +1,5 @@
 //! The rows of an answer.
-ghost use Rattle.std.specs.Prelude.{◌≡◌, ◌++◌, ◌∷◌, [], codes, decimal, IfOk, OnOk};
+ghost use Rattle.std.specs.Prelude.{◌≡◌, ◌++◌, codes, decimal, IfOk, OnOk};
 ghost use Rattle.std.specs.String.{string_bytes};
 ghost use Rattle.chess_board.specs.Legal.{IsLegal};
 ghost use Rattle.chess_notation.specs.Fen.{fen_of};
@@ -23,7 +23,7 @@ fn push_number(text: &mut String, number: usize) -> Result<(), AllocError>
 
 // Appends a space, a position's FEN and a line feed.
 fn push_fen(text: &mut String, board: &Board) -> Result<(), AllocError>
-    ensures { OnOk result (string_bytes text.new ≡ string_bytes text.old ++ (32 ∷ (fen_of board.now ++ (10 ∷ [])))) }
+    ensures { OnOk result (string_bytes text.new ≡ string_bytes text.old ++ (codes " " ++ (fen_of board.now ++ codes "\n"))) }
 {
     text.push(' ')?;
     text.push_str(fen_write(board).as_str())?;

@@ -1,5 +1,5 @@
 //! The line `moves CHECK MOVE ..` of a position.
-ghost use Rattle.std.specs.Prelude.{◌≡◌, ◌++◌, [], ◌∷◌, Some, map, All, IfOk, OnOk, IfSome, IsSomeAnd};
+ghost use Rattle.std.specs.Prelude.{◌≡◌, ◌++◌, codes, Some, map, All, IfOk, OnOk, IfSome, IsSomeAnd};
 ghost use Rattle.std.specs.String.{string_bytes};
 ghost use Rattle.chess_bits.specs.Square.{IsOnBoard};
 ghost use Rattle.chess_board.specs.Position.{Position, IsValid};
@@ -38,7 +38,7 @@ fn small_letter(kind: Kind) -> &'static str
 
 /// Appends a space and the coordinate text of a move.
 pub fn push_move(text: &mut String, mv: &Move) -> Result<(), AllocError>
-    ensures bytes { OnOk result (string_bytes text.new ≡ string_bytes text.old ++ (32 ∷ coordinate_of mv.now)) }
+    ensures bytes { OnOk result (string_bytes text.new ≡ string_bytes text.old ++ (codes " " ++ coordinate_of mv.now)) }
     ensures squares { OnOk result (IsBetweenSquares mv.now) }
 {
     text.push(' ')?;
@@ -63,7 +63,7 @@ fn push_moves(text: &mut String, moves: &[Move]) -> Result<(), AllocError>
 
 // `+` for check, else `-`.
 fn check_text(is_check: bool) -> &'static str
-    ensures { result.now ≡ check_sign is_check ∷ [] }
+    ensures { result.now ≡ check_sign is_check }
 {
     if is_check { "+" } else { "-" }
 }

@@ -5,7 +5,8 @@ use Rattle.std.specs.List.{before_first, position_or_len, prefix_len}
 use Rattle.std.proofs.Math.Seq.{take-length}
 use Rattle.std.proofs.lemmas.Bool.{cases_Bool, false≢true}
 use Rattle.std.proofs.lemmas.List.{drop_all}
-use Rattle.lobby_talk.specs.Making.{last_line, lines_behind, is_feed}
+use Rattle.session_lines.specs.Lines.{is_feed}
+use Rattle.lobby_talk.specs.Making.{last_line, lines_behind}
 
 abbrev is_none : List ℕ → Bool
 is_none xs = length xs == 0

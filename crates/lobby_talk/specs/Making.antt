@@ -1,19 +1,18 @@
 -- Messages as browsers get them.
-use Rattle.std.specs.Prelude.{ℕ, ◌≡◌, ◌==◌, Bool, List, [], ◌∷◌, ◌++◌, length, codes, decimal, ◌<◌, ◌^◌, if◌then◌else◌}
+use Rattle.std.specs.Prelude.{ℕ, ◌≡◌, ◌==◌, List, [], ◌∷◌, ◌++◌, length, codes, decimal, ◌<◌, ◌^◌, if◌then◌else◌}
 use Rattle.std.specs.List.{after_first, before_first}
 use Rattle.std.specs.String.{string_bytes}
 use Rattle.chess_board.specs.declared.moves.Move.{Move}
 use Rattle.chess_board.specs.Position.{Position, IsValid}
 use Rattle.chess_notation.specs.Fen.{IsFenOf}
+use Rattle.session_lines.specs.Lines.{is_feed}
+use Rattle.lobby_words.specs.Words.{word_of, rest_of}
 use Rattle.lobby_positions.specs.Telling.{TellsMoves}
 use Rattle.lobby_positions.specs.Pgn.{TellsGame}
 use Rattle.lobby_positions.specs.Answer.{IsLineAnswer}
 use Rattle.lobby_desk.specs.declared.telling.Kind.{Kind}
 use Rattle.lobby_desk.specs.declared.telling.Kind.TheVariants.{Whole, Position as AtPosition, Line, Log}
 use Rattle.lobby_desk.specs.declared.telling.Message.{Message}
-
-abbrev pub is_feed : ℕ → Bool
-is_feed b = b == 10
 
 -- what stands behind the first line of a text
 abbrev pub lines_behind : List ℕ → List ℕ
@@ -26,14 +25,6 @@ last_line (b ∷ bs) =
     if length (lines_behind (b ∷ bs)) == 0
     then before_first is_feed (b ∷ bs)
     else last_line bs
-
--- what stands before the first space
-abbrev pub word_of : List ℕ → List ℕ
-word_of text = before_first (λ b. b == 32) text
-
--- what stands behind the first space
-abbrev pub rest_of : List ℕ → List ℕ
-rest_of text = after_first (λ b. b == 32) text
 
 -- the FEN of a text that ends with `ok fen G FEN`
 abbrev pub fen_in : List ℕ → List ℕ

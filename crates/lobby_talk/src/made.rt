@@ -2,6 +2,7 @@
 ghost use Rattle.std.specs.Prelude.{ℕ, ◌≡◌, ◌<◌, ◌^◌, ◌++◌, ◌∷◌, [], decimal, IfOk, OnOk};
 ghost use Rattle.std.specs.List.{AllZip};
 ghost use Rattle.std.specs.String.{string_bytes};
+ghost use Rattle.lobby_words.specs.Words.{word_of, rest_of};
 ghost use Rattle.lobby_talk.specs.Making.{IsWithMoves, IsOfLine, IsFinished, IsMadeOf};
 ghost use Rattle.lobby_talk.specs.Making as making;
 
@@ -28,7 +29,7 @@ fn last_line(text: &str) -> &str
 
 // What stands behind the first space.
 fn rest_of(text: &str) -> &str
-    ensures { result.now ≡ making.rest_of text.now }
+    ensures { result.now ≡ rest_of text.now }
 {
     behind(text, ' ')
 }
@@ -61,7 +62,7 @@ fn add_moves(alloc: Global, text: &mut String) -> Result<(), AllocError>
 
 // The number of the game in `ok pgn G K`; 0 where there is none.
 fn game_in(text: &str) -> u32
-    ensures { (n : ℕ) → n < 2 ^ 32 → making.word_of (making.rest_of (making.rest_of text.now)) ≡ decimal n → result ≡ n }
+    ensures { (n : ℕ) → n < 2 ^ 32 → word_of (rest_of (rest_of text.now)) ≡ decimal n → result ≡ n }
 {
     let word = before(rest_of(rest_of(text)), ' ');
     match word.parse::<u32>() {

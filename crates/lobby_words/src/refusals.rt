@@ -3,7 +3,7 @@ ghost use Rattle.std.specs.Prelude.{◌≡◌};
 ghost use Rattle.lobby_words.specs.Plans.{refusal_text};
 
 /// Why the lobby does not do what a message asks.
-#[derive(Clone, Copy, PartialEq, Eq)]
+#[derive(Clone, Copy)]
 pub enum Refusal {
     /// The message has no form.
     BadLine,

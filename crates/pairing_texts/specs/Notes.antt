@@ -44,13 +44,13 @@ stage_word (Joined game) = codes "joined"
 
 -- each behind a comma
 abbrev pub behind_commas : List ℕ → List ℕ
-behind_commas numbers = flat_map (λ n. 44 ∷ decimal n) numbers
+behind_commas numbers = flat_map (λ n. codes "," ++ decimal n) numbers
 
 -- an array of numbers; one alone stands without brackets
 abbrev pub numbers_text : List ℕ → List ℕ
 numbers_text [] = codes "[]"
 numbers_text (n ∷ []) = decimal n
-numbers_text (n ∷ m ∷ more) = 91 ∷ (decimal n ++ (behind_commas (m ∷ more) ++ (93 ∷ [])))
+numbers_text (n ∷ m ∷ more) = codes "[" ++ (decimal n ++ (behind_commas (m ∷ more) ++ codes "]"))
 
 abbrev pub value_text : Reached → List ℕ
 value_text (Opening games) = numbers_text games
@@ -58,17 +58,18 @@ value_text (Opened game) = decimal game
 value_text (Joined game) = decimal game
 
 abbrev pub quoted : List ℕ → List ℕ
-quoted text = 34 ∷ (text ++ (34 ∷ []))
+quoted text = codes "\"" ++ (text ++ codes "\"")
 
 -- a name, and what stands for it
 abbrev pub member_text : List ℕ → List ℕ → List ℕ
-member_text name value = quoted name ++ (58 ∷ value)
+member_text name value = quoted name ++ (codes ":" ++ value)
 
 -- `{"board":3,"white":"ann","black":"bob","opened":17}`
 unfoldable pub note_text : NoteState → List ℕ
 note_text n =
-    123 ∷ (member_text (codes "board") (decimal n.board) ++ (44 ∷ (member_text (codes "white") (quoted n.white)
-    ++ (44 ∷ (member_text (codes "black") (quoted n.black) ++ (44 ∷ (member_text (stage_word n.stage) (value_text n.stage) ++ (125 ∷ []))))))))
+    codes "{" ++ (member_text (codes "board") (decimal n.board) ++ (codes "," ++ (member_text (codes "white") (quoted n.white)
+    ++ (codes "," ++ (member_text (codes "black") (quoted n.black)
+    ++ (codes "," ++ (member_text (stage_word n.stage) (value_text n.stage) ++ codes "}")))))))
 
 -- what stands behind a member's name, and what stands in its first quotes
 abbrev pub value_of : List ℕ → List ℕ

@@ -3,7 +3,7 @@ use Rattle.std.specs.Prelude.{ℕ, List, [], ◌∷◌, ◌++◌, codes, decimal
 use Rattle.pairing_texts.specs.declared.outcomes.Outcome.{Outcome}
 
 abbrev pub ended : List ℕ → List ℕ
-ended field = field ++ (44 ∷ [])
+ended field = field ++ codes ","
 
 -- the game, where there is one
 abbrev pub game_text : Option ℕ → List ℕ

@@ -1,5 +1,5 @@
 -- The times of a game as a text.
-use Rattle.std.specs.Prelude.{ℕ, zero, suc, ◌==◌, Bool, true, false, ◌&&◌, nat_le, List, [], ◌∷◌, ◌++◌, decimal, Option, None, Some, if◌then◌else◌}
+use Rattle.std.specs.Prelude.{ℕ, zero, suc, ◌==◌, Bool, true, false, ◌&&◌, nat_le, List, [], ◌∷◌, ◌++◌, codes, decimal, Option, None, Some, if◌then◌else◌}
 use Rattle.std.specs.List.{before_first, after_first}
 use Rattle.std.specs.Str.{bytes_eq}
 use Rattle.lobby_words.specs.Words.{number_or_0}
@@ -16,7 +16,7 @@ rest_of sign text = after_first (λ b. b == sign) text
 -- `+` and the increment, where it is not 0
 abbrev pub increment_text : ℕ → List ℕ
 increment_text zero = []
-increment_text (suc n) = 43 ∷ decimal (suc n)
+increment_text (suc n) = codes "+" ++ decimal (suc n)
 
 -- `300` or `300+2`
 abbrev pub span_text : ℕ → ℕ → List ℕ
@@ -25,11 +25,11 @@ span_text seconds increment = decimal seconds ++ increment_text increment
 -- `40/5400+30`, and `:1800+30` behind it, where there is a second period
 abbrev pub moves_text : Option Period → List ℕ
 moves_text None = []
-moves_text (Some p) = decimal p.moves ++ (47 ∷ [])
+moves_text (Some p) = decimal p.moves ++ codes "/"
 
 abbrev pub second_text : Option Period → ℕ → List ℕ
 second_text None increment = []
-second_text (Some p) increment = 58 ∷ span_text p.seconds increment
+second_text (Some p) increment = codes ":" ++ span_text p.seconds increment
 
 -- the times as the tag TimeControl has them (docs/TEXTS.md, "PGN")
 unfoldable pub times_text : Times → List ℕ

@@ -14,7 +14,7 @@ use rec_codec::Name;
 use std::alloc::{AllocError, Global};
 
 /// A game that is to be played.
-#[derive(Clone, Copy, PartialEq, Eq)]
+#[derive(Clone, Copy)]
 pub struct Game {
     pub black: Name,
     pub times: Times,
@@ -23,7 +23,7 @@ pub struct Game {
 }
 
 /// Who plays at a board. Where there is no game, White has no opponent in this round.
-#[derive(Clone, Copy, PartialEq, Eq)]
+#[derive(Clone, Copy)]
 pub struct Pairing {
     pub board: u32,
     pub white: Name,

@@ -10,7 +10,7 @@ use rec_codec::Name;
 use std::alloc::{AllocError, Global};
 
 /// A game of the table, and who sits in it.
-#[derive(Clone, Copy, PartialEq, Eq)]
+#[derive(Clone, Copy)]
 pub struct Row {
     pub game: u32,
     pub white: Option<Name>,
@@ -18,14 +18,14 @@ pub struct Row {
 }
 
 /// Who sits in a game.
-#[derive(Clone, Copy, PartialEq, Eq)]
+#[derive(Clone, Copy)]
 pub struct Seats {
     pub white: Option<Name>,
     pub black: Option<Name>,
 }
 
 /// What is to be done about a board.
-#[derive(Clone, Copy, PartialEq, Eq)]
+#[derive(Clone, Copy)]
 pub enum Step {
     /// It is to be noted that its game is about to be opened, and which games are older, and then White is to open it.
     Begin,

@@ -9,14 +9,14 @@ use std::alloc::{AllocError, Global};
 use text_parts::cut;
 
 /// The first period's moves, and the seconds that stand for the second.
-#[derive(Clone, Copy, PartialEq, Eq)]
+#[derive(Clone, Copy)]
 pub struct Period {
     pub moves: u32,
     pub seconds: u32,
 }
 
 /// The times of a game, in seconds.
-#[derive(Clone, Copy, PartialEq, Eq)]
+#[derive(Clone, Copy)]
 pub struct Times {
     pub initial: u32,
     pub increment: u32,

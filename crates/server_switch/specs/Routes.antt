@@ -33,11 +33,11 @@ IsTail (b ∷ bs) = b ≡ 32
 
 -- A line and what it asks for, by the fields of the line.
 abbrev pub IsLine : Way → List ℕ → Type 0
-IsLine (Says name) line = (line ≡ codes "name" ++ 32 ∷ name) × IsName name
+IsLine (Says name) line = (line ≡ codes "name " ++ name) × IsName name
 IsLine Lists line = line ≡ codes "list"
-IsLine Opens line = (rest : List ℕ) × (line ≡ codes "open" ++ 32 ∷ rest)
+IsLine Opens line = (rest : List ℕ) × (line ≡ codes "open " ++ rest)
 IsLine (Plays word number tail) line =
-    (line ≡ word ++ 32 ∷ (decimal number ++ tail)) × (names_game word ≡ true) × (number < 2 ^ 32) × IsTail tail
+    (line ≡ word ++ (codes " " ++ (decimal number ++ tail))) × (names_game word ≡ true) × (number < 2 ^ 32) × IsTail tail
 
 -- What a line asks for; where it asks for nothing, it is none of those lines.
 abbrev pub IsRoute : List ℕ → Option Way → Type 0

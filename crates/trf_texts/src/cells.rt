@@ -3,7 +3,7 @@ ghost use Rattle.std.specs.Prelude.{◌≡◌, ◌≤◌};
 ghost use Rattle.trf_texts.specs.Cells as spec;
 
 /// What came of a game.
-#[derive(Clone, Copy, PartialEq, Eq)]
+#[derive(Clone, Copy)]
 pub enum Score {
     White,
     Black,
@@ -13,7 +13,7 @@ pub enum Score {
 }
 
 /// How a game ended: over the board; before both sides had made a move; or so by a player who did not come.
-#[derive(Clone, Copy, PartialEq, Eq)]
+#[derive(Clone, Copy)]
 pub enum Play {
     Board,
     Short,
@@ -21,7 +21,7 @@ pub enum Play {
 }
 
 /// Two players of a round by their starting numbers, or one who has a bye.
-#[derive(Clone, Copy, PartialEq, Eq)]
+#[derive(Clone, Copy)]
 pub struct Meeting {
     pub white: u32,
     pub black: Option<u32>,
