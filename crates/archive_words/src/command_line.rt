@@ -3,7 +3,7 @@ use archive_text::Heading;
 use clap::error::ErrorKind;
 use clap::{ArgMatches, Command, Error};
 use command_words::{
-    OptionText, OptionValue, SERVER, WordText, command_line, read_by, read_or_fault,
+    OptionText, OptionValue, SERVER, WordText, command_line, read_by, read_or_fault, server_address,
 };
 use pgn_tags::is_date;
 use std::alloc::{AllocError, Global};
@@ -261,18 +261,10 @@ const LIVE: WordText = WordText {
     ],
 };
 
-// (Each has a function of its own, since each step of a function that has texts tells of all their bytes. Help lists them in
-// the order of `command`.)
-fn keep_word() -> WordText {
-    KEEP
-}
-
-fn export_word() -> WordText {
-    EXPORT
-}
-
-fn live_word() -> WordText {
-    LIVE
+// The words, in the order in which help lists them. (They have a function of their own, since each step of a function that has
+// texts tells of all their bytes.)
+fn words() -> [WordText; 3] {
+    [KEEP, EXPORT, LIVE]
 }
 
 /// The program's command line.
@@ -281,17 +273,13 @@ pub fn command<'a>(alloc: Global) -> Result<Command<'a>, AllocError> {
         alloc,
         "chess-archive",
         "The archive of a chess club's games.",
-        &[keep_word(), export_word(), live_word()],
+        &words(),
     )
 }
 
 /// Reads the words, the program's own name first. An `Err` is a usage fault, or a request for help.
 pub fn read_words<'a>(alloc: Global, words: &'a [String]) -> Result<Word<'a>, Error> {
-    let mut command = command(alloc)?;
-    let word = read_by(alloc, &mut command, words, word_given);
-    // (it goes by a call: here all its parts would be let go)
-    drop(command);
-    word
+    read_by(alloc, command(alloc)?, words, word_given)
 }
 
 fn word_given<'a>(
@@ -362,7 +350,7 @@ fn lobby_of(values: &ArgMatches<'_>, drops: bool) -> Option<Option<SocketAddr>> 
 // What `keep` and `live` both ask for; none where the address is none, or a value cannot stand in a tag.
 fn source_of<'a>(values: &ArgMatches<'a>) -> Option<Source<'a>> {
     Some(Source {
-        server: values.get_str("server")?.parse().ok()?,
+        server: server_address(values)?,
         players: values.get_str("players"),
         log: values.get_str("log"),
         heading: heading_of(values)?,

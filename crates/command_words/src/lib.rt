@@ -2,6 +2,7 @@
 //! ends.
 #![tactic(auto)]
 
+mod addresses;
 mod argument;
 mod ending;
 mod given;
@@ -9,9 +10,12 @@ mod options;
 mod reading;
 mod version;
 
+pub use addresses::{own_address, server_address};
 pub use argument::{flag, option};
 pub use ending::{NotDone, end_of};
 pub use given::words_given;
-pub use options::{OptionText, OptionValue, SERVER, WordText, arguments, command_line};
+pub use options::{
+    ADDRESS, OptionText, OptionValue, PLAYERS, SERVER, WordText, arguments, command_line,
+};
 pub use reading::{read_by, read_or_fault};
 pub use version::VERSION;

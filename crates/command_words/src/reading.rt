@@ -30,20 +30,21 @@ pub fn read_or_fault<T: Drop>(
 /// command, which is a request for help too. The command has a fault of words that it takes only where memory was refused.
 pub fn read_by<'a, S: AsStr, T, F>(
     alloc: Global,
-    command: &mut Command<'a>,
+    mut command: Command<'a>,
     words: &'a [S],
     read: F,
 ) -> Result<T, Error>
 where
     F: FnOnce(Global, &mut Command<'a>, &ArgMatches<'a>) -> Result<T, Error>,
     requires { F.IsAlwaysCallable read }
-    ensures { ((found : _) × HasMatchesOf (app_of command.old) (map S.text words.entry.now) found.now
+    ensures { ((found : _) × HasMatchesOf (app_of command.entry) (map S.text words.entry.now) found.now
         × ((before : _) × (after : _) × F.post read alloc before found result after))
-        ⊎ IsErrAnd result (IsOfCommand (app_of command.old) (map S.text words.entry.now)) }
+        ⊎ IsErrAnd result (IsOfCommand (app_of command.entry) (map S.text words.entry.now)) }
 {
     let matches = command.try_get_matches_from_mut(words)?;
-    let answer = read(alloc, command, &matches);
-    // (it goes by a call: each way out would let go of all its parts)
+    let answer = read(alloc, &mut command, &matches);
+    // (they go by calls: each way out would let go of all their parts)
     drop(matches);
+    drop(command);
     answer
 }

@@ -1,10 +1,11 @@
 //! The words of the command line, with the texts of their help.
 use clap::{ArgMatches, Command, Error};
 use command_words::{
-    OptionText, OptionValue, SERVER, WordText, command_line, read_by, read_or_fault,
+    ADDRESS, OptionText, OptionValue, PLAYERS, SERVER, WordText, command_line, own_address,
+    read_by, read_or_fault, server_address,
 };
 use std::alloc::{AllocError, Global};
-use std::net::{IpAddr, Ipv4Addr, SocketAddr};
+use std::net::SocketAddr;
 
 const HELP_OF_SERVE: &str = "\
 It listens on an address of this machine, prints the page's address, and serves the page
@@ -110,24 +111,10 @@ pub struct Adding<'a> {
     pub page: &'a str,
 }
 
-const PLAYERS: OptionText = OptionText {
-    name: "players",
-    value: OptionValue::Text("FILE"),
-    help: "The players' file",
-    is_required: true,
-};
-
 const AT_PORT: OptionText = OptionText {
     name: "port",
     value: OptionValue::Number("P", 0, 65_535),
     help: "The port, 0 to 65535, 8080 without it; 0 leaves the choice to the system",
-    is_required: false,
-};
-
-const ADDRESS: OptionText = OptionText {
-    name: "address",
-    value: OptionValue::Text("A"),
-    help: "The address of this machine, 127.0.0.1 without it",
     is_required: false,
 };
 
@@ -231,18 +218,10 @@ const EVIDENCE: WordText = WordText {
     options: &[GAME, ITS_LOG],
 };
 
-// (Each has a function of its own, since each step of a function that has texts tells of all their bytes. Help lists them in the
-// order of `command`.)
-fn serve_word() -> WordText {
-    SERVE
-}
-
-fn player_word() -> WordText {
-    PLAYER
-}
-
-fn evidence_word() -> WordText {
-    EVIDENCE
+// The words, in the order in which help lists them. (They have a function of their own, since each step of a function that has
+// texts tells of all their bytes.)
+fn words() -> [WordText; 3] {
+    [SERVE, PLAYER, EVIDENCE]
 }
 
 /// The lobby's command line.
@@ -251,17 +230,13 @@ pub fn command<'a>(alloc: Global) -> Result<Command<'a>, AllocError> {
         alloc,
         "chess-lobby",
         "The lobby of a chess club: players and spectators come by a browser.",
-        &[serve_word(), player_word(), evidence_word()],
+        &words(),
     )
 }
 
 /// Reads the words, the program's own name first. An `Err` is a usage fault, or a request for help.
 pub fn read_words<'a>(alloc: Global, words: &'a [String]) -> Result<Word<'a>, Error> {
-    let mut command = command(alloc)?;
-    let word = read_by(alloc, &mut command, words, word_given);
-    // (it goes by a call: here all its parts would be let go)
-    drop(command);
-    word
+    read_by(alloc, command(alloc)?, words, word_given)
 }
 
 fn word_given<'a>(
@@ -289,8 +264,8 @@ fn word_of<'a>(alloc: Global, matches: &ArgMatches<'a>) -> Result<Option<Word<'a
 fn serving_of<'a>(alloc: Global, values: &ArgMatches<'a>) -> Result<Option<Word<'a>>, AllocError> {
     let (Some(players), Some(server), Some(address)) = (
         values.get_str("players"),
-        server_of(values),
-        address_of(values),
+        server_address(values),
+        own_address(values),
     ) else {
         return Ok(None);
     };
@@ -304,17 +279,6 @@ fn serving_of<'a>(alloc: Global, values: &ArgMatches<'a>) -> Result<Option<Word<
         hosts: Vec::from_slice(alloc, values.get_strs("host").unwrap_or(&[]))?,
         journals: Vec::from_slice(alloc, values.get_strs("journal").unwrap_or(&[]))?,
     })))
-}
-
-fn server_of(values: &ArgMatches<'_>) -> Option<SocketAddr> {
-    values.get_str("server")?.parse().ok()
-}
-
-fn address_of(values: &ArgMatches<'_>) -> Option<IpAddr> {
-    match values.get_str("address") {
-        Some(address) => address.parse().ok(),
-        None => Some(IpAddr::V4(Ipv4Addr::LOCALHOST)),
-    }
 }
 
 fn adding_of<'a>(values: &ArgMatches<'a>) -> Option<Word<'a>> {

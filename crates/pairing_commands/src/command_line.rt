@@ -3,7 +3,8 @@ use crate::days::is_day;
 use clap::error::ErrorKind;
 use clap::{ArgMatches, Command, Error};
 use command_words::{
-    OptionText, OptionValue, SERVER, WordText, command_line, read_by, read_or_fault,
+    OptionText, OptionValue, PLAYERS, SERVER, WordText, command_line, read_by, read_or_fault,
+    server_address,
 };
 use std::alloc::{AllocError, Global};
 use std::net::SocketAddr;
@@ -146,10 +147,9 @@ const ROUND_FILE: OptionText = OptionText {
 };
 
 const PLAYERS_OPENED: OptionText = OptionText {
-    name: "players",
-    value: OptionValue::Text("FILE"),
     help: "The players' file: nothing is opened where a player is not in it",
     is_required: false,
+    ..PLAYERS
 };
 
 const TAKE: OptionText = OptionText {
@@ -161,9 +161,8 @@ const TAKE: OptionText = OptionText {
 
 const AFTER: OptionText = OptionText {
     name: "after",
-    value: OptionValue::Texts("BOARD=GAME"),
     help: "No game up to this one of its server is the board's; it may be given several times",
-    is_required: false,
+    ..TAKE
 };
 
 const WITHOUT: OptionText = OptionText {
@@ -181,17 +180,8 @@ const SHORT: OptionText = OptionText {
 };
 
 const PLAYERS_NAMED: OptionText = OptionText {
-    name: "players",
-    value: OptionValue::Text("FILE"),
     help: "The players' file, with the full names that the archive has",
-    is_required: false,
-};
-
-const PLAYERS: OptionText = OptionText {
-    name: "players",
-    value: OptionValue::Text("FILE"),
-    help: "The players' file",
-    is_required: true,
+    ..PLAYERS_OPENED
 };
 
 const ROUNDS: OptionText = OptionText {
@@ -222,65 +212,56 @@ const NAME: OptionText = OptionText {
 
 const CITY: OptionText = OptionText {
     name: "city",
-    value: OptionValue::Text("TEXT"),
     help: "The city",
-    is_required: false,
+    ..NAME
 };
 
 const FEDERATION: OptionText = OptionText {
     name: "federation",
-    value: OptionValue::Text("TEXT"),
     help: "The federation, as GER",
-    is_required: false,
+    ..NAME
 };
 
 const BEGINS: OptionText = OptionText {
     name: "begins",
-    value: OptionValue::Text("TEXT"),
     help: "The first day, YYYY/MM/DD",
-    is_required: false,
+    ..NAME
 };
 
 const ENDS: OptionText = OptionText {
     name: "ends",
-    value: OptionValue::Text("TEXT"),
     help: "The last day, YYYY/MM/DD",
-    is_required: false,
+    ..NAME
 };
 
 const KIND: OptionText = OptionText {
     name: "kind",
-    value: OptionValue::Text("TEXT"),
     help: "As Individual: Swiss-System",
-    is_required: false,
+    ..NAME
 };
 
 const ARBITER: OptionText = OptionText {
     name: "arbiter",
-    value: OptionValue::Text("TEXT"),
     help: "The chief arbiter",
-    is_required: false,
+    ..NAME
 };
 
 const DEPUTY: OptionText = OptionText {
     name: "deputy",
-    value: OptionValue::Text("TEXT"),
     help: "The deputy",
-    is_required: false,
+    ..NAME
 };
 
 const TIMES: OptionText = OptionText {
     name: "times",
-    value: OptionValue::Text("TEXT"),
     help: "The times of a game",
-    is_required: false,
+    ..NAME
 };
 
 const ALL_ROUNDS: OptionText = OptionText {
     name: "all-rounds",
-    value: OptionValue::Text("TEXT"),
     help: "How many rounds there are to be",
-    is_required: false,
+    ..NAME
 };
 
 const START: WordText = WordText {
@@ -328,18 +309,10 @@ const TRF: WordText = WordText {
     ],
 };
 
-// (Each has a function of its own, since each step of a function that has texts tells of all their bytes. Help lists them in the
-// order of `command`.)
-fn start_word() -> WordText {
-    START
-}
-
-fn results_word() -> WordText {
-    RESULTS
-}
-
-fn trf_word() -> WordText {
-    TRF
+// The words, in the order in which help lists them. (They have a function of their own, since each step of a function that has
+// texts tells of all their bytes.)
+fn words() -> [WordText; 3] {
+    [START, RESULTS, TRF]
 }
 
 // Which options are days.
@@ -351,17 +324,13 @@ pub fn command<'a>(alloc: Global) -> Result<Command<'a>, AllocError> {
         alloc,
         "chess-pairings",
         "The rounds of a chess league.",
-        &[start_word(), results_word(), trf_word()],
+        &words(),
     )
 }
 
 /// Reads the words, the program's own name first. An `Err` is a usage fault, or a request for help.
 pub fn read_words<'a>(alloc: Global, words: &'a [String]) -> Result<Word<'a>, Error> {
-    let mut command = command(alloc)?;
-    let word = read_by(alloc, &mut command, words, word_given);
-    // (it goes by a call: here all its parts would be let go)
-    drop(command);
-    word
+    read_by(alloc, command(alloc)?, words, word_given)
 }
 
 fn word_given<'a>(
@@ -452,54 +421,44 @@ fn take_of(text: &str) -> Option<(u32, u32)> {
     Some((number_of(board)?, number_of(game)?))
 }
 
-// Puts boards with their games; false where a text tells none.
-fn put_takes(takes: &mut Vec<(u32, u32)>, texts: &[&str]) -> Result<bool, AllocError> {
-    for text in texts {
-        let Some(take) = take_of(text) else {
-            return Ok(false);
-        };
-        takes.push(take)?;
-    }
-    Ok(true)
+// What each text of an option tells, by `read`; none where one tells nothing.
+fn all_of<'a, T: Drop, F>(
+    alloc: Global,
+    values: &ArgMatches<'a>,
+    name: &str,
+    read: F,
+) -> Result<Option<Vec<T>>, AllocError>
+where
+    F: Fn(&'a str) -> Option<T>,
+    requires { F.IsAlwaysCallable read }
+{
+    let texts = values.get_strs(name).unwrap_or(&[]);
+    texts.iter().map(|text| read(*text)).collect(alloc)
 }
 
-// Puts servers; false where a text tells none.
-fn put_servers(servers: &mut Vec<u32>, texts: &[&str]) -> Result<bool, AllocError> {
-    for text in texts {
-        let Some(server) = number_of(text) else {
-            return Ok(false);
-        };
-        servers.push(server)?;
-    }
-    Ok(true)
-}
-
-// Puts what the arbiter said; false where a board, a game or a server is none.
-fn put_said(said: &mut Said, values: &ArgMatches<'_>) -> Result<bool, AllocError> {
-    let are_takes = put_takes(&mut said.takes, values.get_strs("take").unwrap_or(&[]))?;
-    let are_afters = put_takes(&mut said.afters, values.get_strs("after").unwrap_or(&[]))?;
-    let are_servers = put_servers(&mut said.without, values.get_strs("without").unwrap_or(&[]))?;
-    Ok(are_takes && are_afters && are_servers)
-}
-
-// The server's address; none where it is none.
-fn address_of(values: &ArgMatches<'_>) -> Option<SocketAddr> {
-    values.get_str("server")?.parse::<SocketAddr>().ok()
+// What the arbiter said; none where a board, a game or a server is none.
+fn said_of(alloc: Global, values: &ArgMatches<'_>) -> Result<Option<Said>, AllocError> {
+    let takes = all_of(alloc, values, "take", take_of)?;
+    let afters = all_of(alloc, values, "after", take_of)?;
+    let without = all_of(alloc, values, "without", number_of)?;
+    let (Some(takes), Some(afters), Some(without)) = (takes, afters, without) else {
+        return Ok(None);
+    };
+    Ok(Some(Said {
+        takes,
+        afters,
+        without,
+    }))
 }
 
 // What `start` asks for; none where an address, a board, a game or a server is none.
 fn starting_of<'a>(alloc: Global, values: &ArgMatches<'a>) -> Result<Option<Word<'a>>, AllocError> {
-    let (Some(round), Some(server)) = (round_of(values), address_of(values)) else {
+    let (Some(round), Some(server)) = (round_of(values), server_address(values)) else {
         return Ok(None);
     };
-    let mut said = Said {
-        takes: Vec::new(alloc),
-        afters: Vec::new(alloc),
-        without: Vec::new(alloc),
-    };
-    if !put_said(&mut said, values)? {
+    let Some(said) = said_of(alloc, values)? else {
         return Ok(None);
-    }
+    };
     Ok(Some(Word::Start(Starting {
         round,
         server,
@@ -513,17 +472,6 @@ fn starting_of<'a>(alloc: Global, values: &ArgMatches<'a>) -> Result<Option<Word
 fn files_of(text: &str) -> Option<Round<'_>> {
     let (pairings, games) = text.split_once(',')?;
     Some(Round { pairings, games })
-}
-
-// Puts the files of rounds; false where a text does not name them.
-fn put_rounds<'a>(rounds: &mut Vec<Round<'a>>, texts: &[&'a str]) -> Result<bool, AllocError> {
-    for text in texts {
-        let Some(round) = files_of(text) else {
-            return Ok(false);
-        };
-        rounds.push(round)?;
-    }
-    Ok(true)
 }
 
 fn text_of<'a>(values: &ArgMatches<'a>, name: &str) -> &'a str {
@@ -562,10 +510,9 @@ fn reporting_of<'a>(
     ) else {
         return Ok(None);
     };
-    let mut rounds = Vec::new(alloc);
-    if !put_rounds(&mut rounds, values.get_strs("rounds").unwrap_or(&[]))? {
+    let Some(rounds) = all_of(alloc, values, "rounds", files_of)? else {
         return Ok(None);
-    }
+    };
     Ok(Some(Word::Report(Reporting {
         players,
         rounds,

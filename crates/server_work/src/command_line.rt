@@ -310,38 +310,10 @@ const SHOW: WordText = WordText {
     options: &[JOURNAL],
 };
 
-// (Each has a function of its own, since each step of a function that has texts tells of all their bytes. Help lists them in the
-// order of `command`.)
-fn board_word() -> WordText {
-    BOARD
-}
-
-fn format_word() -> WordText {
-    FORMAT
-}
-
-fn run_word() -> WordText {
-    RUN
-}
-
-fn serve_word() -> WordText {
-    SERVE
-}
-
-fn drill_word() -> WordText {
-    DRILL
-}
-
-fn widen_word() -> WordText {
-    WIDEN
-}
-
-fn copy_word() -> WordText {
-    COPY
-}
-
-fn show_word() -> WordText {
-    SHOW
+// The words, in the order in which help lists them. (They have a function of their own, since each step of a function that has
+// texts tells of all their bytes.)
+fn words() -> [WordText; 8] {
+    [BOARD, FORMAT, RUN, SERVE, DRILL, WIDEN, COPY, SHOW]
 }
 
 /// The program's command line.
@@ -350,15 +322,6 @@ pub fn command<'a>(alloc: Global) -> Result<Command<'a>, AllocError> {
         alloc,
         "chess_server",
         "A chess game server whose games last. Each word has its own --help.",
-        &[
-            board_word(),
-            format_word(),
-            run_word(),
-            serve_word(),
-            drill_word(),
-            widen_word(),
-            copy_word(),
-            show_word(),
-        ],
+        &words(),
     )
 }

@@ -5,6 +5,7 @@ ghost use Rattle.rec_codec.specs.Limits.{IsInRange};
 use crate::command_line::command;
 use clap::error::ErrorKind;
 use clap::{ArgMatches, Command, Error};
+use command_words::read_by;
 use rec_codec::{Limits, Version};
 use std::alloc::Global;
 
@@ -66,18 +67,15 @@ pub struct Serving<'a> {
 
 /// Reads the words, the program's own name first. An `Err` is a usage fault, or a request for help.
 pub fn read_words<'a>(alloc: Global, words: &'a [String]) -> Result<Word<'a>, Error> {
-    let mut command = command(alloc)?;
-    let word = word_given(&mut command, words);
-    drop(command);
-    word
+    read_by(alloc, command(alloc)?, words, word_given)
 }
 
-// (What was read goes by a call: each way out would let go of all its parts.)
-fn word_given<'a>(command: &mut Command<'a>, words: &'a [String]) -> Result<Word<'a>, Error> {
-    let matches = command.try_get_matches_from_mut(words)?;
-    let word = matches.subcommand().and_then(word_of);
-    drop(matches);
-    match word {
+fn word_given<'a>(
+    _alloc: Global,
+    command: &mut Command<'a>,
+    matches: &ArgMatches<'a>,
+) -> Result<Word<'a>, Error> {
+    match matches.subcommand().and_then(word_of) {
         Some(word) => Ok(word),
         None => Err(command.error(ErrorKind::MissingSubcommand, "a word is missing")?),
     }

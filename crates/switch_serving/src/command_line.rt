@@ -1,9 +1,11 @@
 //! The words of the command line, with the text of their help.
 use clap::{ArgMatches, Command, Error};
-use command_words::{OptionText, OptionValue, VERSION, arguments, read_or_fault};
+use command_words::{
+    ADDRESS, OptionText, OptionValue, VERSION, arguments, own_address, read_by, read_or_fault,
+};
 use server_switch::SERVERS_MOST;
 use std::alloc::{AllocError, Global};
-use std::net::{IpAddr, Ipv4Addr, SocketAddr};
+use std::net::SocketAddr;
 
 const HELP: &str = "\
 It stands between several game servers and their clients, as a lobby, an archive or pairings,
@@ -47,13 +49,6 @@ const PORT: OptionText = OptionText {
     is_required: true,
 };
 
-const ADDRESS: OptionText = OptionText {
-    name: "address",
-    value: OptionValue::Text("A"),
-    help: "The address of this machine, 127.0.0.1 without it",
-    is_required: false,
-};
-
 /// The switch's command line, with the text of its help.
 pub fn command<'a>(alloc: Global) -> Result<Command<'a>, AllocError> {
     let arguments = arguments(alloc, &[SERVER, PORT, ADDRESS])?;
@@ -66,31 +61,24 @@ pub fn command<'a>(alloc: Global) -> Result<Command<'a>, AllocError> {
 
 /// Reads the words, the program's own name first. An `Err` is a usage fault, or a request for help.
 pub fn read_words(alloc: Global, words: &[String]) -> Result<Serving, Error> {
-    let mut command = command(alloc)?;
-    let serving = read_by(alloc, &mut command, words);
-    drop(command);
-    serving
+    read_by(alloc, command(alloc)?, words, serving_given)
 }
 
-// (One function owns the command line, and one what was read by it, which goes by a call: each way out would let go of all parts.)
-fn read_by<'a>(
+fn serving_given(
     alloc: Global,
-    command: &mut Command<'a>,
-    words: &'a [String],
+    command: &mut Command<'_>,
+    matches: &ArgMatches<'_>,
 ) -> Result<Serving, Error> {
-    let matches = command.try_get_matches_from_mut(words)?;
-    let serving = serving_of(alloc, &matches);
-    drop(matches);
     read_or_fault(
         command,
-        serving?,
+        serving_of(alloc, matches)?,
         "an address is none, or a server's number is none or there twice",
     )
 }
 
 // What the words ask for; none where an address or a server is none.
 fn serving_of(alloc: Global, matches: &ArgMatches<'_>) -> Result<Option<Serving>, AllocError> {
-    let (Some(address), Some(port)) = (address_of(matches), matches.get_one("port")) else {
+    let (Some(address), Some(port)) = (own_address(matches), matches.get_one("port")) else {
         return Ok(None);
     };
     let mut serving = Serving {
@@ -147,11 +135,4 @@ fn put_servers(servers: &mut Vec<Option<SocketAddr>>, texts: &[&str]) -> Result<
         }
     }
     Ok(true)
-}
-
-fn address_of(matches: &ArgMatches<'_>) -> Option<IpAddr> {
-    match matches.get_str("address") {
-        Some(address) => address.parse().ok(),
-        None => Some(IpAddr::V4(Ipv4Addr::LOCALHOST)),
-    }
 }
