@@ -13,7 +13,7 @@ where
     R: Files + AllocGlobal,
 {
     let file = adding.players;
-    let text = players_file::read(rt, file).context(format_args!("reading {file}"))?;
+    let text = players_file::read_file(rt, file).context(format_args!("reading {file}"))?;
     let who = Addition {
         name: adding.name,
         full_name: adding.full_name,

@@ -1,3 +1,3 @@
 pub mod Pieces
 pub mod Guests
-pub mod Lines
+pub mod Held

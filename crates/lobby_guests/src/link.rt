@@ -1,7 +1,7 @@
 //! The one connection to the server: bytes to it, and lines from it.
 ghost use Rattle.std.specs.Prelude.{ℕ, List, ◌≡◌, ◌++◌, [], OnOk};
 ghost use Rattle.std.specs.Io.KnownBytes.{Consumes};
-ghost use Rattle.lobby_guests.specs.Lines.{IsKept, TakesIn, HandsOn};
+ghost use Rattle.lobby_guests.specs.Held.{IsKept, TakesIn, HandsOn};
 
 use crate::pieces::{Gone, PIECE_ROOM, write_piece};
 use lobby_talk::{Talk, hear_lines};

@@ -10,7 +10,7 @@ use Rattle.lobby_guests.specs.declared.link.Link.{Link}
 use Rattle.lobby_talk.specs.declared.talk.Talk.{Talk}
 use Rattle.lobby_talk.specs.Talking.{Begins, MovesAnew}
 use Rattle.lobby_guests.specs.Guests.{IsNewGuest, AreAttended, AreDelivered, IsWritten, IsLookedAfter, AreParted}
-use Rattle.lobby_guests.specs.Lines.{TakesIn, HandsOn, IsKept}
+use Rattle.lobby_guests.specs.Held.{TakesIn, HandsOn, IsKept}
 use Rattle.lobby_loop.specs.declared.hall.Hall.{Hall}
 
 -- What the server says is taken, where it is there.

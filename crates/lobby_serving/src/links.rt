@@ -38,7 +38,7 @@ impl<'a, R: Files<File = File> + AllocGlobal + RandomSource> FileLinks<'a, R> {
     fn put(&self, order: &Order) -> Result<ChangedFile>
         ensures { IfOk result (λ new. IsRelinked order.now.name (string_bytes new.linked.token) new.before.items new.linked.players.items) }
     {
-        let text = players_file::read(self.rt, self.file)?;
+        let text = players_file::read_file(self.rt, self.file)?;
         let token = new_token(self.rt)?;
         let new = relinked(self.rt.alloc(), text.as_slice(), &order.name, &token)?;
         players_file::put(self.rt, self.rt.alloc(), self.file, new.text.as_str())?;

@@ -11,7 +11,7 @@ use std::{fs, io};
 const OWNERS_MODE: u32 = 0o600;
 
 /// The bytes of a file; none where there is no file. Other errors of the system are handed on.
-pub fn read<R: Files + AllocGlobal>(rt: &R, file: &str) -> io::Result<Vec<u8>> {
+pub fn read_file<R: Files + AllocGlobal>(rt: &R, file: &str) -> io::Result<Vec<u8>> {
     match fs::read(rt, file) {
         Ok(text) => Ok(text),
         Err(error) if error.kind() == io::ErrorKind::NotFound => Ok(Vec::new(rt.alloc())),

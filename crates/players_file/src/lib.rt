@@ -6,5 +6,5 @@ mod file;
 mod players;
 
 pub use entries::Entries;
-pub use file::{Hold, put, read};
+pub use file::{Hold, put, read_file};
 pub use players::{full_name, players_of};
