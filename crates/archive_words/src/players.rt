@@ -3,7 +3,7 @@ use crate::reading::found;
 use crate::telling::Telling;
 use anyhow::{Result, bail};
 use lobby_roster::Player;
-use players_file::players_of;
+use lobby_players::players_of;
 use std::rt::Files;
 
 /// The players of a file, where one is named.

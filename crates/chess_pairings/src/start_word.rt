@@ -3,7 +3,7 @@ use anyhow::{Context, Error, Result};
 use jiff::Timestamp;
 use pairing_commands::Starting;
 use pairing_texts::Pairing;
-use players_file::players_of;
+use lobby_players::players_of;
 use round_games::{
     Became, Board, RoundFile, boards_of, check_notes, check_players, check_times, connect,
     pairings_of, take_words,

@@ -1,8 +1,7 @@
 //! The word that puts a player into a players' file.
 use crate::command_line::Adding;
 use anyhow::{Context, Result};
-use lobby_players::{Addition, added, link_text, new_token};
-use players_file::Hold;
+use lobby_players::{Addition, Hold, added, link_text, new_token};
 use std::fs::File;
 use std::random::RandomSource;
 use std::rt::Files;
@@ -13,7 +12,7 @@ where
     R: Files + AllocGlobal,
 {
     let file = adding.players;
-    let text = players_file::read_file(rt, file).context(format_args!("reading {file}"))?;
+    let text = lobby_players::read_file(rt, file).context(format_args!("reading {file}"))?;
     let who = Addition {
         name: adding.name,
         full_name: adding.full_name,
@@ -31,7 +30,7 @@ where
     let token = new_token(rt)?;
     let new = text_with(rt, adding, &token)?;
     let link = link_text(rt.alloc(), adding.page, &token)?;
-    players_file::put(rt, rt.alloc(), file, new.as_str()).context(format_args!("writing {file}"))?;
+    lobby_players::put(rt, rt.alloc(), file, new.as_str()).context(format_args!("writing {file}"))?;
     Ok(link)
 }
 

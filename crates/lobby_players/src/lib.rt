@@ -2,15 +2,21 @@
 #![tactic(auto)]
 
 mod adding;
+mod entries;
 mod faults;
+mod file;
 mod line;
 mod lines;
+mod players;
 mod reading;
 mod relinking;
 mod token;
 
 pub use adding::{Addition, added};
+pub use entries::Entries;
 pub use faults::{AddFault, LineFault, LinkFault, PlayersFault};
+pub use file::{Hold, put, read_file};
+pub use players::{full_name, players_of};
 pub use reading::read;
 pub use relinking::{ChangedFile, relinked};
 pub use token::{link_text, new_token, token_text};

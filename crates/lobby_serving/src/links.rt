@@ -6,9 +6,8 @@ ghost use Rattle.lobby_roster.specs.Players.{IsRelinked};
 use anyhow::Result;
 use lobby_desk::Order;
 use lobby_loop::Links;
-use lobby_players::{ChangedFile, new_token, relinked};
+use lobby_players::{ChangedFile, Entries, Hold, new_token, relinked};
 use lobby_roster::{Linked, Player};
-use players_file::{Entries, Hold};
 use std::fs::File;
 use std::random::RandomSource;
 use std::rt::Files;
@@ -38,10 +37,10 @@ impl<'a, R: Files<File = File> + AllocGlobal + RandomSource> FileLinks<'a, R> {
     fn put(&self, order: &Order) -> Result<ChangedFile>
         ensures { IfOk result (λ new. IsRelinked order.now.name (string_bytes new.linked.token) new.before.items new.linked.players.items) }
     {
-        let text = players_file::read_file(self.rt, self.file)?;
+        let text = lobby_players::read_file(self.rt, self.file)?;
         let token = new_token(self.rt)?;
         let new = relinked(self.rt.alloc(), text.as_slice(), &order.name, &token)?;
-        players_file::put(self.rt, self.rt.alloc(), self.file, new.text.as_str())?;
+        lobby_players::put(self.rt, self.rt.alloc(), self.file, new.text.as_str())?;
         Ok(new)
     }
 

@@ -3,7 +3,7 @@ use crate::mark::{Mark, mark_of};
 use anyhow::{Result, bail};
 use lobby_loop::Lobby;
 use lobby_roster::Player;
-use players_file::players_of;
+use lobby_players::players_of;
 use std::rt::Files;
 
 /// So many milliseconds lie at least between two looks at the file.

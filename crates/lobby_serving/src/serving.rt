@@ -10,7 +10,7 @@ use anyhow::{Context, Result};
 use lobby_commands::Serving;
 use lobby_loop::{ActLog, Entrance, Lobby, NoActLog, Turned};
 use lobby_roster::Player;
-use players_file::Entries;
+use lobby_players::Entries;
 use server_calls::Moments;
 use std::fs::File;
 use std::hash::RandomState;

@@ -1,5 +1,5 @@
 //! What no clause says: who may read the players' file, who may change it, and what is kept beside it.
-use players_file::{Entries, Hold, put};
+use lobby_players::{Entries, Hold, put};
 use std::fs;
 use std::fs::File;
 use std::os::unix::fs::PermissionsExt;

@@ -5,7 +5,7 @@ use lobby_roster::Player;
 use pairing_commands::Source;
 use pairing_texts::{Note, Pairing, Seats, game_in, last_of};
 use pgn_tags::{is_move, is_tag, unescaped, value_in};
-use players_file::full_name;
+use lobby_players::full_name;
 use rec_codec::Name;
 use round_games::{Shown, connect, show_game};
 use server_link::Link;

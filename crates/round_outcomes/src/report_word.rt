@@ -4,7 +4,7 @@ use anyhow::{Context, Result};
 use lobby_roster::Player;
 use pairing_commands::{Reporting, Round};
 use pairing_texts::Pairing;
-use players_file::players_of;
+use lobby_players::players_of;
 use rec_codec::Name;
 use round_games::{Paired, paired_of};
 use std::alloc::{AllocError, Global};

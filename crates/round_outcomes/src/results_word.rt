@@ -4,7 +4,7 @@ use anyhow::Result;
 use lobby_roster::Player;
 use pairing_commands::Asking;
 use pairing_texts::{Note, Outcome, Pairing, results};
-use players_file::players_of;
+use lobby_players::players_of;
 use round_games::{Paired, paired_of};
 use std::alloc::{AllocError, Global};
 use std::io::{self, Write};

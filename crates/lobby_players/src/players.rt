@@ -7,7 +7,7 @@ use std::rt::Files;
 /// The players of a file. It fails where there is no file, or what it has is no players' file.
 pub fn players_of<R: Files + AllocGlobal>(rt: &R, file: &str) -> Result<Vec<Player>> {
     let text = fs::read(rt, file).context(format_args!("reading {file}"))?;
-    lobby_players::read(rt.alloc(), text.as_slice()).context(format_args!("{file}"))
+    crate::read(rt.alloc(), text.as_slice()).context(format_args!("{file}"))
 }
 
 /// The full name of a player, and the name itself where it is not among the players.
