@@ -1,2 +1,7 @@
 pub mod EachGuest
 pub mod Telling
+pub mod Each
+pub mod Making
+pub mod Taking
+pub mod Saying
+pub mod Logging

@@ -14,9 +14,9 @@ use Rattle.lobby_web.specs.declared.socket.Heard.TheVariants as heards
 use Rattle.lobby_web.specs.declared.socket.Unsaid.{Unsaid}
 use Rattle.lobby_web.specs.Browsing.{IsNew, pending, WantsBytes, Takes, HearsNext, SaysTo, Writes}
 use Rattle.lobby_guests.specs.declared.guest.Guest.{Guest}
-use Rattle.lobby_talk.specs.declared.talk.Talk.{Talk}
-use Rattle.lobby_talk.specs.Talking.{Moves, Opens, IsTextSaid}
-use Rattle.lobby_talk.specs.Making.{IsMadeOf}
+use Rattle.lobby_guests.specs.declared.talk.Talk.{Talk}
+use Rattle.lobby_guests.specs.Talking.{Moves, Opens, IsTextSaid}
+use Rattle.lobby_guests.specs.Making.{IsMadeOf}
 
 -- A connection that begins: nothing came of it, and it has no number.
 pub record IsNewGuest {S : Type 0} (stream : S) (guest : Guest S) : Type 0 where

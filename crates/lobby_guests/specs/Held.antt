@@ -2,8 +2,8 @@
 use Rattle.std.specs.Prelude.{ℕ, ◌≡◌, false, List, ◌++◌, Option}
 use Rattle.std.specs.Io.KnownBytes.{Consumes, Appends}
 use Rattle.session_lines.specs.Lines.{HasNoFeed}
-use Rattle.lobby_talk.specs.declared.talk.Talk.{Talk}
-use Rattle.lobby_talk.specs.Lines.{AreTaken}
+use Rattle.lobby_guests.specs.declared.talk.Talk.{Talk}
+use Rattle.lobby_guests.specs.Lines.{AreTaken}
 use Rattle.lobby_guests.specs.declared.link.Link.{Link}
 
 -- Where the connection goes on, no whole line is held back.

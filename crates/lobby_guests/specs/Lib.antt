@@ -1,3 +1,6 @@
 pub mod Pieces
 pub mod Guests
 pub mod Held
+pub mod Making
+pub mod Talking
+pub mod Lines

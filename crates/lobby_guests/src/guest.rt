@@ -5,7 +5,7 @@ ghost use Rattle.lobby_guests.specs.Guests.{IsNewGuest, IsAsBefore, IsRead, IsHe
 
 use crate::pieces::{Gone, PIECE_ROOM, write_piece};
 use lobby_desk::Message;
-use lobby_talk::{Asked, Counts, Links, Talk, say_to_desk};
+use crate::{Asked, Counts, Links, Talk, say_to_desk};
 use lobby_web::{Browser, Heard, Site, Unsaid};
 use session_lines::{Came, read_piece};
 use std::alloc::{AllocError, Global};

@@ -4,7 +4,7 @@ ghost use Rattle.std.specs.Io.KnownBytes.{Consumes};
 ghost use Rattle.lobby_guests.specs.Held.{IsKept, TakesIn, HandsOn};
 
 use crate::pieces::{Gone, PIECE_ROOM, write_piece};
-use lobby_talk::{Talk, hear_lines};
+use crate::{Talk, hear_lines};
 use session_lines::{Came, give_up, read_piece};
 use std::alloc::{AllocError, Global};
 use std::io::{Read, Write};

@@ -24,10 +24,10 @@ use Rattle.lobby_web.specs.declared.socket.Heard.TheVariants as heards
 use Rattle.lobby_guests.specs.declared.guest.Guest.{Guest}
 use Rattle.lobby_loop.specs.declared.hall.Hall.{Hall}
 use Rattle.lobby_guests.specs.declared.link.Link.{Link}
-use Rattle.lobby_talk.specs.declared.talk.Talk.{Talk}
-use Rattle.lobby_talk.specs.Talking.{Saying, InTime, TooFast, WithLink, saying, Moves}
+use Rattle.lobby_guests.specs.declared.talk.Talk.{Talk}
+use Rattle.lobby_guests.specs.Talking.{Saying, InTime, TooFast, WithLink, saying, Moves}
 use Rattle.lobby_guests.specs.Guests.{IsNewGuest, IsHeardAs, IsAsBefore, IsAttended, AreAttended, IsLookedAfter, AreTold, AreDelivered, IsWritten, IsClosedIf, AreClosed}
-use Rattle.lobby_talk.specs.Lines.{bytes_of as bytes_before, AreHeard}
+use Rattle.lobby_guests.specs.Lines.{bytes_of as bytes_before, AreHeard}
 use Rattle.lobby_guests.specs.Held.{HoldsNoLine, IsKept}
 use Rattle.lobby_loop.specs.Turning.{BeginsHall, Admits, ServerComes, IsServerAsBefore, HearsServer, bytes_heard, PartsFromServer, TellsServer, HasTurned, texts_put, AreAdmitted, IsReached, IsLobbyTurn}
 use Rattle.lobby_loop.specs.Doing.{Gave, Spot, spot, DoesAt, all_tells, IsServed, AreServed, WereServed, Before}

@@ -14,7 +14,7 @@ use Rattle.lobby_web.specs.declared.socket.Unsaid.{Unsaid}
 use Rattle.lobby_web.specs.Browsing.{IsNew, pending, WantsBytes, Takes, HearsNext, SaysTo, Writes}
 use Rattle.lobby_web.specs.Happening.{text_of, is_close}
 use Rattle.lobby_guests.specs.declared.guest.Guest.{Guest}
-use Rattle.lobby_talk.specs.Making.{IsFinished}
+use Rattle.lobby_guests.specs.Making.{IsFinished}
 
 -- Bytes came of its socket, none where it is told that no more come; the socket was tried for nothing; it was asked what came
 -- next, and gave this; it was to be told this, and that became of it; these bytes were written. Where bytes came or were written,

@@ -14,9 +14,9 @@ use Rattle.lobby_web.specs.Pages.{Changes, IsSameSite}
 use Rattle.lobby_guests.specs.declared.guest.Guest.{Guest}
 use Rattle.lobby_loop.specs.declared.hall.Hall.{Hall}
 use Rattle.lobby_guests.specs.Guests.{IsAsBefore}
-use Rattle.lobby_talk.specs.Talking.{Moves}
+use Rattle.lobby_guests.specs.Talking.{Moves}
 use Rattle.lobby_guests.specs.declared.link.Link.{Link}
-use Rattle.lobby_talk.specs.Lines.{bytes_of as bytes_before}
+use Rattle.lobby_guests.specs.Lines.{bytes_of as bytes_before}
 use Rattle.lobby_guests.specs.Held.{HoldsNoLine}
 use Rattle.lobby_loop.specs.Turning.{BeginsHall, Admits, IsServerAsBefore, ServerComes, HasTurned, bytes_heard, texts_put, IsLobbyTurn}
 use Rattle.lobby_loop.specs.Doing.{all_tells, AreServed, WereServed, Before}

@@ -7,8 +7,8 @@ use Rattle.lobby_desk.specs.Logging.{log_texts}
 use Rattle.lobby_web.specs.declared.site.Site.{Site}
 use Rattle.lobby_guests.specs.declared.guest.Guest.{Guest}
 use Rattle.lobby_guests.specs.declared.link.Link.{Link}
-use Rattle.lobby_talk.specs.declared.talk.Talk.{Talk}
-use Rattle.lobby_talk.specs.Talking.{Begins, MovesAnew}
+use Rattle.lobby_guests.specs.declared.talk.Talk.{Talk}
+use Rattle.lobby_guests.specs.Talking.{Begins, MovesAnew}
 use Rattle.lobby_guests.specs.Guests.{IsNewGuest, AreAttended, AreDelivered, IsWritten, IsLookedAfter, AreParted}
 use Rattle.lobby_guests.specs.Held.{TakesIn, HandsOn, IsKept}
 use Rattle.lobby_loop.specs.declared.hall.Hall.{Hall}

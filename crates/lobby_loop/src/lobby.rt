@@ -10,7 +10,7 @@ use crate::act_log::{ActLog, Fault};
 use crate::door::{Entrance, Gate, Welcomed, welcome};
 use crate::hall::Hall;
 use lobby_roster::Player;
-use lobby_talk::{Counts, Links};
+use lobby_guests::{Counts, Links};
 use lobby_web::{File, Site};
 use mio::net::TcpStream;
 use mio::{Events, Interest, Poll, Token};

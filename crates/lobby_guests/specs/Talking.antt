@@ -1,0 +1,71 @@
+-- What the desk is told, and what goes from it.
+use Rattle.std.specs.Prelude.{ℕ, ◌≡◌, ◌≤◌, ◌+◌, Bool, true, false, List, [], IsUtf8, is_some}
+use Rattle.lobby_roster.specs.declared.players.Player.{Player}
+use Rattle.lobby_desk.specs.Events.{DeskInput, Opened, Said, Hurried, Linked, message_values}
+use Rattle.lobby_desk.specs.Pace.{is_too_fast}
+use Rattle.lobby_desk.specs.Who.{Begins as BeginsDesk, Steps, order_asked, said_event, until_of}
+use Rattle.lobby_guests.specs.declared.talk.Talk.{Talk}
+
+-- A desk that begins, with entries paused or not: nothing was said, nothing is to go, and no number was given.
+pub record Begins (players : List Player) (is_paused : Bool) (now : Talk) : Type 0 where
+  pub desk : BeginsDesk is_paused now.desk
+  pub players_are : now.desk.players.items ≡ players
+  pub wire : now.wire.items ≡ []
+  pub told : now.told.items ≡ []
+  pub next : now.next ≡ 0
+
+-- a step of the desk, by the bytes that are to go to the server before and after
+abbrev pub StepsAt : Talk → DeskInput → List ℕ → List ℕ → Talk → Type 0
+StepsAt old event before after new =
+    Steps old.desk event before after (message_values old.told.items) (message_values new.told.items) new.desk
+
+-- The desk takes this event: the lines for it stand behind what is to go to the server, and the messages for it behind those
+-- that are to go to connections.
+pub record Moves (old : Talk) (event : DeskInput) (new : Talk) : Type 0 where
+  pub steps : StepsAt old event old.wire.items new.wire.items new
+  pub next : new.next ≡ old.next
+
+-- A connection comes, and has a number that none had before.
+pub record Opens (old : Talk) (c : ℕ) (new : Talk) : Type 0 where
+  pub steps : StepsAt old (Opened c) old.wire.items new.wire.items new
+  pub fresh : old.next ≤ c
+  pub next : new.next ≡ c + 1
+
+-- The desk takes this event, and nothing is to go to the server: what was to go there is not sent.
+pub record MovesAnew (old : Talk) (event : DeskInput) (new : Talk) : Type 0 where
+  pub steps : StepsAt old event [] [] new
+  pub nothing : new.wire.items ≡ []
+  pub next : new.next ≡ old.next
+
+-- How the desk takes a message: it came in time; or too fast; or it asked for a player's link, for which the players' file has these
+-- players and this token was made.
+pub data Saying : Type 0 where
+  InTime : Saying
+  TooFast : Saying
+  WithLink : (players : List Player) → (token : List ℕ) → Saying
+
+abbrev pub saying : Saying → ℕ → List ℕ → DeskInput
+saying InTime c text = Said c text
+saying TooFast c text = Hurried c
+saying (WithLink players token) c text = Linked c text players token
+
+-- each just where it may be so
+abbrev pub IsSaying : Talk → ℕ → ℕ → List ℕ → Saying → Type 0
+IsSaying talk c at text InTime = is_too_fast (until_of talk.desk c) at ≡ false
+IsSaying talk c at text TooFast = is_too_fast (until_of talk.desk c) at ≡ true
+IsSaying talk c at text (WithLink players token) = is_some (order_asked talk.desk c text at) ≡ true
+
+-- a message of a connection at a moment is said to the desk
+pub record Says (text : List ℕ) (c at : ℕ) (old new : Talk) : Type 0 where
+  pub how : Saying
+  pub may : IsSaying old c at text how
+  pub moves : Moves old (saying how c text) new
+
+-- A text of a connection is said to the desk; what is no text is said as the empty text, which is refused.
+abbrev pub IsTextSaid : List ℕ → ℕ → ℕ → Talk → Talk → Type 0
+IsTextSaid text c at old new =
+    (shown : List ℕ) × (IsUtf8 text → shown ≡ text) × (¬ IsUtf8 text → shown ≡ []) × Says shown c at old new
+
+-- a message of a connection at a moment, as the desk takes it
+abbrev pub said_at : Talk → ℕ → ℕ → List ℕ → DeskInput
+said_at talk c at text = said_event (is_too_fast (until_of talk.desk c) at) c text

@@ -1,5 +1,0 @@
-pub mod Each
-pub mod Making
-pub mod Taking
-pub mod Saying
-pub mod Logging

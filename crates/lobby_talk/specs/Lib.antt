@@ -1,3 +1,0 @@
-pub mod Making
-pub mod Talking
-pub mod Lines
