@@ -19,7 +19,7 @@ use Rattle.chess_store.specs.declared.fault.StoreFault.TheVariants as store
 use Rattle.chess_store.specs.Batch.{IsAnswered, IsWornOut, act_count}
 use Rattle.chess_store.specs.Faults as faults
 use Rattle.chess_store.specs.Calling.{CallTried}
-use Rattle.table_commits.specs.Means.{MeansEither, IsKept}
+use Rattle.chess_store.specs.Means.{MeansEither, IsKept}
 use Rattle.chess_store.proofs.RunLemmas.{same_leaves}
 use Rattle.chess_store.proofs.CallLemmas.{ok_was}
 use Rattle.chess_hub.specs.declared.fault.HubFault.{HubFault}

@@ -16,7 +16,7 @@ use Rattle.chess_sessions.specs.Answers.{name_at, commands_of, AreAnswers}
 use Rattle.chess_sessions.specs.Delivery.{Answered, AllAnswered}
 use Rattle.chess_store.specs.declared.fault.StoreFault.{StoreFault}
 use Rattle.chess_store.specs.declared.fault.StoreFault.TheVariants as store
-use Rattle.table_commits.specs.Means.{MeansEither, IsKept}
+use Rattle.chess_store.specs.Means.{MeansEither, IsKept}
 use Rattle.chess_store.specs.Batch.{AreAnswered, AreEntered, IsWornOut, act_count}
 use Rattle.chess_hub.specs.declared.fault.HubFault.{HubFault}
 use Rattle.chess_hub.specs.declared.fault.HubFault.TheVariants.{NoMemory, Store}

@@ -17,9 +17,9 @@ use Rattle.chess_entry.specs.Table.{empty_table}
 use Rattle.chess_entry.proofs.LawfulLists.{IsLawful-none}
 use Rattle.chess_store.specs.declared.fault.StoreFault.{StoreFault}
 use Rattle.chess_store.specs.declared.fault.StoreFault.TheVariants.{Exists, TooSmall, NotOurs, Damaged, Device, NoMemory, Worn, Failed}
-use Rattle.store_opening.specs.Creating.{IsCreateRefusal}
+use Rattle.chess_store.specs.Creating.{IsCreateRefusal}
 use Rattle.chess_store.specs.Faults.{IsCreateFault, CountsFault}
-use Rattle.table_commits.specs.Means.{AllMean}
+use Rattle.chess_store.specs.Means.{AllMean}
 use Rattle.chess_lives.specs.declared.plan.Life.{Life}
 use Rattle.chess_lives.specs.declared.plan.Lived.{Lived}
 use Rattle.chess_lives.specs.Courses.{Course}

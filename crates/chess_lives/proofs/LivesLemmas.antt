@@ -19,7 +19,7 @@ use Rattle.chess_store.specs.declared.fault.StoreFault.{StoreFault}
 use Rattle.chess_store.specs.declared.fault.StoreFault.TheVariants.{Exists, TooSmall, NotOurs, Damaged, Device, NoMemory, Worn, Failed}
 use Rattle.chess_store.specs.Batch.{IsAnswered}
 use Rattle.chess_store.specs.Faults.{IsDevice}
-use Rattle.table_commits.specs.Means.{Means, MeansEither, AllMean}
+use Rattle.chess_store.specs.Means.{Means, MeansEither, AllMean}
 use Rattle.chess_store.proofs.BatchLemmas.{answered_comes}
 use Rattle.chess_lives.specs.declared.plan.Life.{Life}
 use Rattle.chess_lives.specs.declared.plan.LifeReport.{LifeReport}

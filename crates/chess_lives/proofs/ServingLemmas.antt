@@ -19,7 +19,7 @@ use Rattle.chess_store.proofs.BatchLemmas.{answered_comes}
 use Rattle.chess_store.specs.declared.fault.StoreFault.{StoreFault}
 use Rattle.chess_store.specs.declared.fault.StoreFault.TheVariants.{Exists, TooSmall, NotOurs, Damaged, Device, NoMemory, Worn, Failed}
 use Rattle.chess_store.specs.Faults.{IsSubmitFault, IsOpenFault, IsDevice, IsOfTheCall, CountsFault, MayLast}
-use Rattle.table_commits.specs.Means.{MeansEither, AllMean, IsKept}
+use Rattle.chess_store.specs.Means.{MeansEither, AllMean, IsKept}
 use Rattle.chess_lives.specs.declared.plan.LifeReport.{LifeReport}
 use Rattle.chess_lives.specs.declared.serving.Submitted.{Submitted}
 use Rattle.chess_lives.specs.Courses.{Batch, entries_of, list_of, is_unsent, unsent_in}

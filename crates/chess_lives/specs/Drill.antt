@@ -8,7 +8,7 @@ use Rattle.sector_dev.specs.Device.{HasRisen}
 use Rattle.sector_dev.specs.InMemory.{state_of, sector_count_of}
 use Rattle.chess_store.specs.declared.fault.StoreFault.{StoreFault}
 use Rattle.chess_store.specs.declared.fault.StoreFault.TheVariants.{Device, NoMemory, Worn}
-use Rattle.table_commits.specs.Means.{AllMean}
+use Rattle.chess_store.specs.Means.{AllMean}
 use Rattle.chess_lives.specs.declared.plan.Life.{Life}
 use Rattle.chess_lives.specs.declared.plan.Lived.{Lived}
 use Rattle.chess_lives.specs.declared.plan.Plan.{Plan}

@@ -9,7 +9,7 @@ use Rattle.chess_entry.specs.declared.commands.Command.{Command}
 use Rattle.chess_entry.specs.State.{GameState}
 use Rattle.chess_entry.specs.Games.{table_of}
 use Rattle.chess_entry.specs.Lawful.{IsLawful}
-use Rattle.table_commits.specs.Means.{AllMean}
+use Rattle.chess_store.specs.Means.{AllMean}
 use Rattle.chess_lives.specs.declared.plan.Life.{Life}
 use Rattle.chess_lives.specs.declared.plan.LifeReport.{LifeReport}
 use Rattle.chess_lives.specs.declared.plan.Report.{Report}

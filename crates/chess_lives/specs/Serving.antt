@@ -9,7 +9,7 @@ use Rattle.chess_store.specs.declared.fault.StoreFault.{StoreFault}
 use Rattle.chess_store.specs.declared.fault.StoreFault.TheVariants.{Device, NoMemory, Worn}
 use Rattle.chess_store.specs.Batch.{IsAnswered}
 use Rattle.chess_store.specs.Faults.{CountsFault}
-use Rattle.table_commits.specs.Means.{MeansEither}
+use Rattle.chess_store.specs.Means.{MeansEither}
 use Rattle.chess_lives.specs.declared.plan.LifeReport.{LifeReport}
 use Rattle.chess_lives.specs.declared.serving.Submitted.{Submitted}
 use Rattle.chess_lives.specs.Courses.{Batch, Course, entries_of, list_of, unsent_in}

@@ -11,7 +11,7 @@ use Rattle.chess_entry.specs.Lawful.{IsLawful}
 use Rattle.chess_store.specs.declared.fault.StoreFault.{StoreFault}
 use Rattle.chess_store.specs.declared.fault.StoreFault.TheVariants.{NotOurs, Damaged, TooSmall, Device, NoMemory, Worn}
 use Rattle.chess_store.specs.Batch.{IsWornOut, act_count}
-use Rattle.table_commits.specs.Means.{Means}
+use Rattle.chess_store.specs.Means.{Means}
 use Rattle.chess_lives.specs.declared.plan.Life.{Life}
 use Rattle.chess_lives.specs.declared.plan.LifeReport.{LifeReport}
 use Rattle.chess_lives.specs.Courses.{Batch, Course, IsCourse, IsLeft, acknowledged}

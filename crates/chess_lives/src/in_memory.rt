@@ -26,7 +26,7 @@ pub fn lives_in_memory(
     ensures { IfOk result (λ lived. IsLivedInMemory limits plan.now.lives.items lived) }
 {
     let device = MemoryDevice::new(alloc, need(limits))?;
-    match store_opening::create(alloc, device, limits) {
+    match chess_store::create(alloc, device, limits) {
         Ok(store) => Ok(lives(alloc, store.into_device(), plan)),
         Err(refused) => Ok(Lived {
             device: refused.device,

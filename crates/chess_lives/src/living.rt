@@ -7,7 +7,7 @@ ghost use Rattle.sector_dev.specs.Device.{HasRisen};
 ghost use Rattle.sector_dev.specs.Image.{Sectors};
 ghost use Rattle.chess_entry.specs.State.{TableState};
 ghost use Rattle.chess_entry.specs.Table.{IsTable};
-ghost use Rattle.table_commits.specs.Means.{AllMean};
+ghost use Rattle.chess_store.specs.Means.{AllMean};
 ghost use Rattle.chess_store.specs.Faults.{IsDevice, CountsFault};
 ghost use Rattle.chess_lives.specs.Courses.{IsSubmittable};
 ghost use Rattle.chess_lives.specs.Lives.{AreSubmittable, IsBegun, IsLifeThen, IsReport, batches_of};
@@ -108,7 +108,7 @@ fn show<D: Device>(alloc: Global, device: D, reports: Vec<LifeReport>) -> Lived<
     ensures model { (D.state result.device).keeps_model ↔ (D.state device).keeps_model }
     ensures sectors { D.sector_count result.device ≡ D.sector_count device }
 {
-    match store_opening::open(alloc, device) {
+    match chess_store::open(alloc, device) {
         Ok(store) => {
             // With it, the table is known to be one that there may be.
             let _limits = store.limits();

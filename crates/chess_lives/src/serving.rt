@@ -2,7 +2,7 @@
 ghost use Rattle.std.specs.Prelude.{◌≡◌, ◌≤◌, ◌+◌, ◌-◌, ◌↔◌, false, map, count_by, IfSome};
 ghost use Rattle.chess_board.specs.Legal.{EachOf};
 ghost use Rattle.chess_entry.specs.State.{TableState};
-ghost use Rattle.table_commits.specs.Means.{AllMean};
+ghost use Rattle.chess_store.specs.Means.{AllMean};
 ghost use Rattle.chess_store.specs.Kept.{IsStoreKept};
 ghost use Rattle.chess_lives.specs.Courses.{IsSubmittable, is_unsent};
 ghost use Rattle.chess_lives.specs.Stops.{IsLivesFault};
@@ -133,7 +133,7 @@ pub(crate) fn serve<D: CrashDevice>(alloc: Global, device: D, batches: &[Vec<Com
     ensures model { (D.state result.device).keeps_model ↔ (D.state device).keeps_model }
     ensures sectors { D.sector_count result.device ≡ D.sector_count device }
 {
-    match store_opening::open(alloc, device) {
+    match chess_store::open(alloc, device) {
         Ok(opened) => {
             let mut store = opened;
             // With it, the table is known to be one that there may be.

@@ -30,7 +30,7 @@ use Rattle.chess_hub.specs.Faults.{IsFeedFault}
 use Rattle.chess_hub.specs.Turning.{MayBeAsked, HasTurned, AsksFor, IsTurnFault}
 use Rattle.chess_store.specs.declared.fault.StoreFault.{StoreFault}
 use Rattle.sector_dev.specs.Device.{State}
-use Rattle.table_commits.specs.Means.{IsKept}
+use Rattle.chess_store.specs.Means.{IsKept}
 use Rattle.chess_hub.specs.Turning.{AreRefused, TurnLasts, TurnTried}
 use Rattle.chess_hub.specs.Sessions.{IsLineAnswered}
 use Rattle.chess_run.specs.Running.{Kept, written, stands, Serves, AnswersLine, RefusesLine, IsAlone, waits, IsTalking, asks, IsTold, LineAsksFor}

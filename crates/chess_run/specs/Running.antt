@@ -16,7 +16,7 @@ use Rattle.rec_codec.specs.declared.header.Header.{Header}
 use Rattle.sector_journal.specs.declared.compactions.Compaction.{Compaction}
 use Rattle.chess_store.specs.declared.fault.StoreFault.{StoreFault}
 use Rattle.chess_store.specs.declared.store.Store.{Store}
-use Rattle.table_commits.specs.Means.{IsKept}
+use Rattle.chess_store.specs.Means.{IsKept}
 use Rattle.line_loop.specs.declared.answerer.LoopFault.{LoopFault}
 use Rattle.line_loop.specs.declared.answerer.LoopFault.TheVariants as loop
 use Rattle.line_loop.specs.Texts.{IsText, Ended}

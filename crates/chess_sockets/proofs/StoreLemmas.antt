@@ -11,7 +11,7 @@ use Rattle.chess_sessions.specs.Session.{IsUnchanged}
 use Rattle.chess_store.specs.declared.fault.StoreFault.{StoreFault}
 use Rattle.chess_store.specs.declared.fault.StoreFault.TheVariants.{Exists, TooSmall, NotOurs, Damaged, Device, NoMemory, Worn, Failed}
 use Rattle.chess_store.specs.Faults.{IsSubmitFault}
-use Rattle.table_commits.specs.Means.{IsKept}
+use Rattle.chess_store.specs.Means.{IsKept}
 use Rattle.chess_hub.specs.declared.fault.HubFault.{HubFault}
 use Rattle.chess_hub.specs.declared.fault.HubFault.TheVariants as hub
 use Rattle.chess_hub.specs.Faults.{UnlessDevice, refusals_after}

@@ -4,7 +4,7 @@ use Rattle.std.proofs.Common.{refl, sym, subst}
 use Rattle.std.proofs.lemmas.Bool.{false≢true}
 use Rattle.sector_dev.specs.Device.{State, CountsFailure, HasRisen}
 use Rattle.sector_journal.specs.declared.fault.JournalFault.{JournalFault}
-use Rattle.table_commits.specs.Committing.{IsTried}
+use Rattle.chess_store.specs.Committing.{IsTried}
 use Rattle.chess_store.specs.declared.fault.StoreFault.{StoreFault}
 use Rattle.chess_store.specs.declared.fault.StoreFault.TheVariants.{Device, NoMemory, Worn}
 use Rattle.chess_store.specs.Faults.{IsDevice, UnlessDevice, CountsFault}

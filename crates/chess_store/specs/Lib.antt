@@ -2,3 +2,8 @@ pub mod Batch
 pub mod Faults
 pub mod Kept
 pub mod Calling
+pub mod Means
+pub mod Committing
+pub mod Creating
+pub mod Opening
+pub mod Widening

@@ -130,14 +130,14 @@ impl<'a> FilePlayer<'a> {
     fn store_on(&self, device: FileDevice, limits: Limits) -> Result<Store<FileDevice>, StoreFault>
         requires { IsInRange Two limits }
     {
-        let refused = match store_opening::create(self.rt.alloc(), device, limits) {
+        let refused = match chess_store::create(self.rt.alloc(), device, limits) {
             Ok(store) => return Ok(store),
             Err(refused) => refused,
         };
         if refused.fault != StoreFault::Exists {
             return Err(refused.fault);
         }
-        match store_opening::open(self.rt.alloc(), refused.device) {
+        match chess_store::open(self.rt.alloc(), refused.device) {
             Ok(store) => Ok(store),
             Err(refused) => Err(refused.fault),
         }

@@ -1,10 +1,9 @@
 //! Stores in memory.
-use chess_store::Store;
+use chess_store::{Refused, Store};
 use player_lines::{Fault, Size};
 use rec_codec::Version;
 use sector_dev::MemoryDevice;
 use std::alloc::Global;
-use store_opening::Refused;
 
 /// The store that was made or opened; else the name of its fault.
 pub fn opened(
@@ -23,5 +22,5 @@ pub fn store_in_memory(alloc: Global, size: &Size) -> Result<Store<MemoryDevice>
         return Err(Fault::Input);
     }
     let device = MemoryDevice::new(alloc, size.sectors)?;
-    opened(alloc, store_opening::create(alloc, device, size.limits))
+    opened(alloc, chess_store::create(alloc, device, size.limits))
 }

@@ -27,7 +27,7 @@ ghost use Rattle.rec_codec.specs.Limits.{IsInRange};
 mod texts;
 
 use chess_entry::Command;
-use chess_store::Store;
+use chess_store::{Refused, Store};
 use player_lines::sectors::{device_of, digits, lose, put, sectors_of};
 use player_lines::{
     Fault, Size, fates_of, read_calls, read_command, read_limits, read_size, split,
@@ -37,7 +37,6 @@ use sector_dev::{CrashDevice, MemoryDevice, OnceDevice};
 use sector_journal::open;
 use std::alloc::Global;
 use std::mem;
-use store_opening::Refused;
 use texts::{done_text, fault_text, journal_text, replies_text, unread_text};
 
 // A device in memory, of which one call can be made to fail.
@@ -224,7 +223,7 @@ impl StorePlayer {
         requires { IsInRange Two limits }
     {
         let device = self.armed(calls)?;
-        let made = store_opening::create(self.alloc, device, limits);
+        let made = chess_store::create(self.alloc, device, limits);
         self.take(made, "created")
     }
 
@@ -243,7 +242,7 @@ impl StorePlayer {
 
     // The store that a device holds.
     fn open_on(&mut self, device: Device) -> Result<String, Fault> {
-        let opened = store_opening::open(self.alloc, device);
+        let opened = chess_store::open(self.alloc, device);
         self.take(opened, "opened")
     }
 
@@ -304,7 +303,7 @@ impl StorePlayer {
         if limits.games < present.games || limits.plies < present.plies {
             return Err(Fault::Input);
         }
-        match store_opening::widen(store, limits) {
+        match chess_store::widen(store, limits) {
             Ok(()) => done_text(self.alloc, "widened"),
             Err(fault) => fault_text(self.alloc, fault),
         }

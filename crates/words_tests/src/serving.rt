@@ -101,7 +101,7 @@ const LIMITS: Limits = Limits {
 fn served(stop: &impl Abort, rt: &HostRuntime, silence: Option<u64>) -> (bool, bool) {
     let alloc: Global = rt.alloc();
     let device = MemoryDevice::new(alloc, 212).expect(stop, "memory");
-    let Ok(store) = store_opening::create(alloc, device, LIMITS) else {
+    let Ok(store) = chess_store::create(alloc, device, LIMITS) else {
         panic!(stop; "no journal");
     };
     let machine = on_loopback(rt).expect(stop, "a connection");

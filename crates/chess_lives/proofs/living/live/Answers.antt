@@ -8,7 +8,7 @@ use Rattle.chess_entry.specs.Games.{table_of}
 use Rattle.chess_entry.specs.declared.commands.Command.{Command}
 use Rattle.chess_store.specs.declared.fault.StoreFault.{StoreFault}
 use Rattle.chess_store.specs.Faults.{CountsFault}
-use Rattle.table_commits.specs.Means.{Means}
+use Rattle.chess_store.specs.Means.{Means}
 use Rattle.chess_lives.specs.Lives.{IsBegun, batches_of}
 use Rattle.chess_lives.specs.Serving.{IsServed, CountsEnd}
 use Rattle.chess_lives.specs.Stops.{IsLivesFault}

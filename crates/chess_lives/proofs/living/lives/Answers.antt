@@ -5,7 +5,7 @@ use Rattle.rec_codec.specs.declared.record.Entry.{Entry}
 use Rattle.chess_entry.specs.State.{TableState}
 use Rattle.chess_entry.specs.Games.{table_of}
 use Rattle.chess_store.specs.declared.fault.StoreFault.{StoreFault}
-use Rattle.table_commits.specs.Means.{Means}
+use Rattle.chess_store.specs.Means.{Means}
 use Rattle.chess_store.specs.Faults.{IsDevice, CountsFault}
 use Rattle.sector_dev.specs.Device.{HasRisen}
 use Rattle.chess_lives.specs.declared.plan.Life.{Life}

@@ -1,7 +1,7 @@
 use Rattle.std.proofs.Common.{◌≡◌, ◌∙◌, arith, ap, sym, subst}
 use Rattle.chess_entry.specs.State.{TableState}
 use Rattle.chess_entry.specs.Table.{IsTable}
-use Rattle.table_commits.proofs.MeansLemmas.{one_table}
+use Rattle.chess_store.proofs.MeansLemmas.{one_table}
 use Rattle.chess_lives.proofs.ServingLemmas.{unopened, opening_fault, counted-fault}
 use Rattle.chess_lives.proofs.living.show.Goals as goal
 

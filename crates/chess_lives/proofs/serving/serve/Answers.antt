@@ -1,6 +1,6 @@
 use Rattle.std.proofs.Common.{◌∙◌, ◌↔◌, ap, ◌≡◌, ℕ, sym, subst, arith, map}
 use Rattle.chess_entry.specs.State.{TableState}
-use Rattle.table_commits.proofs.MeansLemmas.{one_table}
+use Rattle.chess_store.proofs.MeansLemmas.{one_table}
 use Rattle.chess_store.specs.Kept.{IsStoreKept}
 use Rattle.chess_lives.specs.Serving.{IsServed}
 use Rattle.chess_lives.proofs.ServingLemmas.{judged-entries, served-opened, served-refused, unopened, opening_fault}

@@ -7,8 +7,8 @@ use Rattle.chess_store.specs.declared.fault.StoreFault.{StoreFault}
 use Rattle.chess_store.specs.Batch.{IsAnswered, IsWornOut, act_count}
 use Rattle.chess_store.specs.Faults.{UnlessDevice, CountsFault, MayLast}
 use Rattle.chess_store.specs.Kept.{IsStoreKept}
-use Rattle.table_commits.specs.Means.{MeansEither, IsKept}
-use Rattle.table_commits.proofs.MeansLemmas.{kept_means}
+use Rattle.chess_store.specs.Means.{MeansEither, IsKept}
+use Rattle.chess_store.proofs.MeansLemmas.{kept_means}
 use Rattle.chess_lives.specs.Courses.{IsSubmittable, is_unsent}
 use Rattle.chess_lives.specs.Serving.{IsTallied}
 use Rattle.chess_lives.proofs.ServingLemmas.{SoFar, so_far-none, so_far-more, EachOf-at, take_map-more, around-at, tallied-all, tallied-err, room-err, worn_before, batch_fault}

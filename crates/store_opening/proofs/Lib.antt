@@ -1,4 +1,0 @@
-pub mod OpenLemmas
-pub mod WidenLemmas
-mod ShownLemmas
-mod RefusedLemmas

@@ -1,3 +1,0 @@
-pub mod Creating
-pub mod Opening
-pub mod Widening

@@ -1,2 +1,0 @@
-pub mod MeansLemmas
-pub mod CommitLemmas

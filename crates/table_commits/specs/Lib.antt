@@ -1,2 +1,0 @@
-pub mod Means
-pub mod Committing
