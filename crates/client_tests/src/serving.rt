@@ -2,12 +2,9 @@
 use crate::peers::{Gives, Peer, Takes, made};
 use chess_hub::{Hub, HubFault};
 use chess_sockets::serve_clients;
-use chess_store::Store;
-use chess_table::Table;
 use client_streams::{Client, Reading};
 use rec_codec::Limits;
 use sector_dev::MemoryDevice;
-use sector_journal::format;
 use std::alloc::Global;
 use std::process::Abort;
 
@@ -28,14 +25,8 @@ const LIMITS: Limits = Limits {
 /// A hub over an empty table, without clients. `None` where memory is refused.
 pub fn nobody(alloc: Global) -> Option<Crowd> {
     let device = MemoryDevice::new(alloc, 212).ok()?;
-    let Ok(journal) = format(alloc, device, LIMITS) else {
+    let Ok(store) = chess_store::create(alloc, device, LIMITS) else {
         return None;
-    };
-    let store = Store {
-        alloc,
-        journal,
-        table: Table::new(alloc, LIMITS),
-        failed: false,
     };
     Some(Crowd {
         hub: Hub::new(alloc, store),
