@@ -1,5 +1,5 @@
 pub mod Words
 pub mod Told
-pub mod Entries
+pub mod EachLine
 pub mod Written
 pub mod NewLink

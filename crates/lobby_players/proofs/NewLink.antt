@@ -16,7 +16,7 @@ use Rattle.lobby_roster.specs.Players.{has_sum as has_sum_now, identity_of, is_n
 use Rattle.lobby_players.specs.File.{Entry, IsLineOf, AreTwo, IsFileOf, lines_of, spoken, is_full_name, has_name, has_sum, entry_of, entries_of}
 use Rattle.lobby_players.specs.Adding.{added_text, in_place, is_other, line_of}
 use Rattle.lobby_players.specs.Relinking.{IsFileRelinked, entry_linked}
-use Rattle.lobby_players.proofs.Entries.{any_mapped, pairs_head, pairs_tail}
+use Rattle.lobby_players.proofs.EachLine.{any_mapped, pairs_head, pairs_tail}
 use Rattle.lobby_players.proofs.Written.{file_after}
 
 abbrev pub named : List ℕ → Player → Bool

@@ -22,7 +22,7 @@ use Rattle.lobby_players.specs.File.{Entry, IsWord, IsLineOf, AreTwo, AreLinesOf
 use Rattle.lobby_players.specs.Adding.{IsAdded, added_text, added_entries, in_place, is_of, is_other, line_of}
 use Rattle.lobby_players.proofs.Told.{name_word}
 use Rattle.lobby_players.proofs.Words.{head_of}
-use Rattle.lobby_players.proofs.Entries.{any_mapped, pairs_head, pairs_tail, two_if}
+use Rattle.lobby_players.proofs.EachLine.{any_mapped, pairs_head, pairs_tail, two_if}
 
 -- no line feed stands in a text
 abbrev not_feed : ℕ → Bool

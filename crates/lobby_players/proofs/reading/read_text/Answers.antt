@@ -3,7 +3,7 @@ use Rattle.std.specs.Borrow.{Bor}
 use Rattle.std.proofs.lemmas.List.{length-take-le, length-map}
 use Rattle.lobby_players.specs.File.{AreLinesOf, entries_of}
 use Rattle.text_parts.proofs.Items.{items_more, items_around}
-use Rattle.lobby_players.proofs.Entries.{line_more}
+use Rattle.lobby_players.proofs.EachLine.{line_more}
 use Rattle.lobby_players.proofs.reading.read_text.Goals as goal
 
 counted : (items : List (Bor (List ℕ))) (i : ℕ) → i < length items →

@@ -1,7 +1,7 @@
 use Rattle.std.proofs.Common.{true, false, inr, ap, sym, ◌∙◌, ◌∷◌, []}
 use Rattle.std.proofs.lemmas.List.{map-append}
 use Rattle.lobby_players.specs.File.{has_name, has_sum, entry_of, entries_of}
-use Rattle.lobby_players.proofs.Entries.{any_of}
+use Rattle.lobby_players.proofs.EachLine.{any_of}
 use Rattle.lobby_players.proofs.reading.take.Goals as goal
 
 pub returns-then-has_name : goal.returns-then-has_name

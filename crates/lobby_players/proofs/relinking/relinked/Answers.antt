@@ -8,7 +8,7 @@ use Rattle.lobby_roster.specs.declared.players.Player.{Player}
 use Rattle.lobby_players.specs.File.{IsFileOf, has_sum, entries_of}
 use Rattle.lobby_players.specs.Adding.{added_text}
 use Rattle.lobby_players.specs.Relinking.{entry_linked}
-use Rattle.lobby_players.proofs.Entries.{any_of}
+use Rattle.lobby_players.proofs.EachLine.{any_of}
 use Rattle.lobby_players.proofs.NewLink.{AreWithSum, named, file_relinked, players_relinked, nobody}
 use Rattle.lobby_players.proofs.relinking.relinked.Goals as goal
 
