@@ -2,8 +2,8 @@
 use act_log::{Record, Shown, clocks, shown_of};
 use anyhow::{Context, Error, Result, anyhow};
 use archive_text::{Heading, archived};
-use lobby_roster::Player;
 use lobby_players::full_name;
+use lobby_roster::Player;
 use server_link::{Answer, Link, Row};
 use std::alloc::Global;
 use std::net::{Net, SocketAddr, TcpStream};

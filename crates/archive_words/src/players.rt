@@ -2,8 +2,8 @@
 use crate::reading::found;
 use crate::telling::Telling;
 use anyhow::{Result, bail};
-use lobby_roster::Player;
 use lobby_players::players_of;
+use lobby_roster::Player;
 use std::rt::Files;
 
 /// The players of a file, where one is named.

@@ -1,9 +1,9 @@
 //! The word that opens the games of a round.
 use anyhow::{Context, Error, Result};
 use jiff::Timestamp;
+use lobby_players::players_of;
 use pairing_commands::Starting;
 use pairing_texts::Pairing;
-use lobby_players::players_of;
 use round_games::{
     Became, Board, RoundFile, boards_of, check_notes, check_players, check_times, connect,
     pairings_of, take_words,

@@ -1,5 +1,6 @@
-//! The store: a table whose commands last. A batch of commands lasts whole or not at all, and its replies leave only once
-//! it lasts; a crash at any moment leaves the table from before a batch or that with all of it.
+//! The store: a table whose commands last. `create` makes one, `open` finds the one that a device holds, `widen` sets
+//! greater limits. A batch of commands lasts whole or not at all, and its replies leave only once it lasts; a crash at any
+//! moment of a call leaves what means the table from before it or that after it, where one was meant.
 #![tactic(auto)]
 
 mod batch;

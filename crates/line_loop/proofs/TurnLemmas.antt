@@ -7,7 +7,7 @@ use Rattle.std.specs.Io.BufRead.{strip_last}
 use Rattle.session_lines.specs.Lines.{is_feed, HasNoFeed, IsUnfinished}
 use Rattle.line_loop.specs.Texts.{IsRun, farewell}
 use Rattle.line_loop.specs.Outlets.{IsSaid, IsLost, Says, Loses}
-use Rattle.line_loop.specs.Turns.{Moment, IsHeard, IsTooLong, HasCome, AreAnswered, BreaksAt, HasLost, Came, GoesOn, Takes}
+use Rattle.line_loop.specs.Turns.{Moment, IsHeard, IsTooLong, HasCome, AreAnswered, BreaksAt, HasLost, Came, MayGoOn, Takes}
 use Rattle.line_loop.specs.declared.loops.Flow.{Flow}
 use Rattle.line_loop.specs.declared.loops.Flow.TheVariants.{Open, TooLong, Broken}
 use Rattle.line_loop.specs.declared.outlet.WriteFault.{WriteFault}
@@ -261,8 +261,8 @@ module _ {S F : Type 0} (Asked : S → Type 0) (Answers : S → List ℕ → Lis
   }
 
   goes-on : (flow : Flow F) (b : Moment S) (written : Option (List ℕ)) (left : List ℕ) →
-      GoesOn Asked Answers Breaks (Ok flow) b →
-      GoesOn Asked Answers Breaks (Ok flow) (record b { written = written; ready = left })
+      MayGoOn Asked Answers Breaks (Ok flow) b →
+      MayGoOn Asked Answers Breaks (Ok flow) (record b { written = written; ready = left })
   goes-on Open b written left next = next
   goes-on TooLong b written left next = tt
   goes-on (Broken fault) b written left next = tt

@@ -96,14 +96,14 @@ module _ {S F : Type 0} (Asked : S → Type 0) (Answers : S → List ℕ → Lis
   Came start first taken (Ok (Broken fault)) now = HasBroken Answers Breaks fault start first taken now
   Came start first taken (Err fault) now = HasLost Answers Breaks start first now.written taken now.answerer
 
-  -- where more is taken, the next line may be asked
-  abbrev pub GoesOn : Result (Flow F) WriteFault → Moment S → Type 0
-  GoesOn (Ok Open) now = Asked now.answerer × IsUnfinished now.held
-  GoesOn result now = Unit {0}
+  -- where more is taken, the next line may be asked, and what is held is less than a line
+  abbrev pub MayGoOn : Result (Flow F) WriteFault → Moment S → Type 0
+  MayGoOn (Ok Open) now = Asked now.answerer × IsUnfinished now.held
+  MayGoOn result now = Unit {0}
 
   -- What a call did that took bytes, whatever came before.
   pub record Takes (old : Moment S) (bytes : List ℕ) (result : Result (Flow F) WriteFault) (new : Moment S)
       : Type 0 where
-    pub next : GoesOn result new
+    pub next : MayGoOn result new
     pub came : (start : S) (first : Option (List ℕ)) (taken : List ℕ) → HasCome Answers start first taken old
         → Came start first (taken ++ bytes) result new

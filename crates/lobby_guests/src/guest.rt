@@ -4,8 +4,8 @@ ghost use Rattle.lobby_desk.specs.Who.{IsReady, at_table};
 ghost use Rattle.lobby_guests.specs.Guests.{IsNewGuest, IsAsBefore, IsRead, IsHeardAs, IsHeard, IsSaid, IsTold, AreTold, IsWritten, IsLookedAfter};
 
 use crate::pieces::{Gone, PIECE_ROOM, write_piece};
-use lobby_desk::Message;
 use crate::{Asked, Counts, Links, Talk, say_to_desk};
+use lobby_desk::Message;
 use lobby_web::{Browser, Heard, Site, Unsaid};
 use session_lines::{Came, read_piece};
 use std::alloc::{AllocError, Global};

@@ -5,8 +5,8 @@ ghost use Rattle.lobby_guests.specs.Guests.{IsAsBefore, IsAttended, AreAttended,
 
 use crate::guest::Guest;
 use crate::pieces::PIECE_ROOM;
-use lobby_desk::Message;
 use crate::{Counts, Links, Talk, finish_all};
+use lobby_desk::Message;
 use lobby_web::Site;
 use std::alloc::{AllocError, Global};
 use std::io::{Read, Write};

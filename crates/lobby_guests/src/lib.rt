@@ -1,4 +1,6 @@
-//! The lobby's connections: browsers' and the one to the server, each a stream that does not wait, which speak to the desk.
+//! The lobby's connections, browsers' and the one to the server, each a stream that does not wait, and the desk that they
+//! speak to with what goes from it: lines of the server and messages of browsers as the desk takes them, messages as
+//! browsers get them, and what is counted of these. Who changes players' links is a trait.
 #![tactic(auto)]
 
 mod counts;

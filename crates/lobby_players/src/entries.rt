@@ -1,7 +1,7 @@
 //! Whether entries are paused, for a lobby that begins anew: a file stands beside the players' file as long as they are.
 ghost use Rattle.std.specs.Prelude.{◌≡◌};
 
-use crate::file::{put, take_away};
+use crate::file::{put_file, take_away};
 use anyhow::{Context, Result};
 use std::fs::{self, File};
 use std::rt::Files;
@@ -44,7 +44,7 @@ impl<'a, R: Files<File = File> + AllocGlobal + Eprint> Entries<'a, R> {
     fn put(&self, is_paused: bool) -> Result<()> {
         let file = self.file.as_str();
         if is_paused {
-            put(self.rt, self.rt.alloc(), file, TEXT)
+            put_file(self.rt, self.rt.alloc(), file, TEXT)
         } else {
             Ok(take_away(self.rt, file)?)
         }

@@ -57,7 +57,7 @@ fn folder_of(file: &str) -> Path<'_> {
 /// Puts a text in the place of a file's, at once, for those who may read and write it as before; a new one is its owner's
 /// alone. Where it answers, the text is on the disk. A stop in the middle leaves the file as it was. It fails where the system
 /// refuses a call, and the file is as it was; but where that call is the last, to sync the folder, it may have the text.
-pub fn put<R: Files>(rt: &R, alloc: Global, file: &str, text: &str) -> Result<()> {
+pub fn put_file<R: Files>(rt: &R, alloc: Global, file: &str, text: &str) -> Result<()> {
     let permissions = permissions_of(rt, file)?;
     let new = format!(in alloc; "{file}.new")?;
     write_new(rt, new.as_str(), permissions, text)?;

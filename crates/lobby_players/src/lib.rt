@@ -1,4 +1,5 @@
-//! The players' file: a line a player, and the tokens that players show.
+//! The players' file: a line a player, and the tokens that players show; who is put into it, and who has a new link. On a
+//! disk it is read whole and put whole in its own place, by one at a time; beside it stands whether entries are paused.
 #![tactic(auto)]
 
 mod adding;
@@ -15,7 +16,7 @@ mod token;
 pub use adding::{Addition, added};
 pub use entries::Entries;
 pub use faults::{AddFault, LineFault, LinkFault, PlayersFault};
-pub use file::{Hold, put, read_file};
+pub use file::{Hold, put_file, read_file};
 pub use players::{full_name, players_of};
 pub use reading::read;
 pub use relinking::{ChangedFile, relinked};

@@ -40,7 +40,7 @@ impl<'a, R: Files<File = File> + AllocGlobal + RandomSource> FileLinks<'a, R> {
         let text = lobby_players::read_file(self.rt, self.file)?;
         let token = new_token(self.rt)?;
         let new = relinked(self.rt.alloc(), text.as_slice(), &order.name, &token)?;
-        lobby_players::put(self.rt, self.rt.alloc(), self.file, new.text.as_str())?;
+        lobby_players::put_file(self.rt, self.rt.alloc(), self.file, new.text.as_str())?;
         Ok(new)
     }
 

@@ -2,8 +2,8 @@
 use crate::mark::{Mark, mark_of};
 use anyhow::{Result, bail};
 use lobby_loop::Lobby;
-use lobby_roster::Player;
 use lobby_players::players_of;
+use lobby_roster::Player;
 use std::rt::Files;
 
 /// So many milliseconds lie at least between two looks at the file.

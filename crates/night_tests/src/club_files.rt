@@ -1,5 +1,5 @@
 //! What no clause says: who may read the players' file, who may change it, and what is kept beside it.
-use lobby_players::{Entries, Hold, put};
+use lobby_players::{Entries, Hold, put_file};
 use std::fs;
 use std::fs::File;
 use std::os::unix::fs::PermissionsExt;
@@ -84,7 +84,7 @@ fn paused<R: Files<File = File> + AllocGlobal + Eprint + Abort>(
 fn is_so<R: Files<File = File> + AllocGlobal + Eprint + Abort>(rt: &R, step: &Step) -> bool {
     match step {
         Step::Leave(file) => fs::write(rt, file, "x").is_ok(),
-        Step::Put(text) => put(rt, rt.alloc(), FILE, text).is_ok(),
+        Step::Put(text) => put_file(rt, rt.alloc(), FILE, text).is_ok(),
         Step::SetMode(mode) => {
             fs::set_permissions(rt, FILE, fs::Permissions::from_mode(*mode)).is_ok()
         }

@@ -1,11 +1,11 @@
 //! What came of games: in the archive, and on the table.
 use anyhow::{Context, Result, bail};
 use archive_file::{game_of, lines_of, pgn_of};
+use lobby_players::full_name;
 use lobby_roster::Player;
 use pairing_commands::Source;
 use pairing_texts::{Note, Pairing, Seats, game_in, last_of};
 use pgn_tags::{is_move, is_tag, unescaped, value_in};
-use lobby_players::full_name;
 use rec_codec::Name;
 use round_games::{Shown, connect, show_game};
 use server_link::Link;

@@ -1,10 +1,10 @@
 //! The word that writes the report of a tournament.
 use crate::outcomes::{Ended, Outcomes, check_halves};
 use anyhow::{Context, Result};
+use lobby_players::players_of;
 use lobby_roster::Player;
 use pairing_commands::{Reporting, Round};
 use pairing_texts::Pairing;
-use lobby_players::players_of;
 use rec_codec::Name;
 use round_games::{Paired, paired_of};
 use std::alloc::{AllocError, Global};

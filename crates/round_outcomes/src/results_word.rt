@@ -1,10 +1,10 @@
 //! The word that writes the results of a round.
 use crate::outcomes::{Ended, Outcomes, check_halves, noted_game};
 use anyhow::Result;
+use lobby_players::players_of;
 use lobby_roster::Player;
 use pairing_commands::Asking;
 use pairing_texts::{Note, Outcome, Pairing, results};
-use lobby_players::players_of;
 use round_games::{Paired, paired_of};
 use std::alloc::{AllocError, Global};
 use std::io::{self, Write};
