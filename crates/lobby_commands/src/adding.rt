@@ -30,7 +30,9 @@ where
     let token = new_token(rt)?;
     let new = text_with(rt, adding, &token)?;
     let link = link_text(rt.alloc(), adding.page, &token)?;
-    lobby_players::put_file(rt, rt.alloc(), file, new.as_str()).context(format_args!("writing {file}"))?;
+    lobby_players::put_file(rt, rt.alloc(), file, new.as_str()).context(format_args!(
+        "writing {file}"
+    ))?;
     Ok(link)
 }
 
