@@ -1,9 +1,11 @@
-//! Memory that is refused to clients over connections: `bench/refused-memory` refuses each allocation in turn.
+//! Memory that is refused to clients over connections: `bench/refused-memory` refuses each allocation in turn. And a device
+//! that fails under them.
 use crate::peers::{Gives, Takes};
-use crate::serving::{Crowd, comes, nobody, take_turn};
+use crate::serving::{Crowd, SECTORS, comes, nobody, nobody_over, take_turn};
 use chess_hub::HubFault;
 use chess_store::StoreFault;
 use client_streams::Reading;
+use sector_dev::{CrashDevice, MemoryDevice};
 use std::alloc::Global;
 
 const ANN: &[Gives] = &[
@@ -149,4 +151,27 @@ fn refused_memory(rt: HostRuntime) {
             assert!(rt; matches!(fault, HubFault::Store(StoreFault::Device { .. })));
         }
     }
+}
+
+// How serving ends over a device that fails behind so many calls. `None` where it failed before.
+fn ended(alloc: Global, calls: u64) -> Option<Result<(), HubFault>> {
+    let mut device = MemoryDevice::new(alloc, SECTORS).ok()?;
+    device.arm(calls);
+    let mut crowd = nobody_over(alloc, device)?;
+    let has_begun = comes(&mut crowd, alloc, ANN, &Takes::All);
+    let end = serve(&mut crowd);
+    drop(crowd);
+    if has_begun { Some(end) } else { None }
+}
+
+#[test]
+fn a_device_that_fails_is_told(rt: HostRuntime) {
+    let mut is_told = false;
+    for calls in 0..40 {
+        if let Some(Err(fault)) = ended(rt.alloc(), calls) {
+            assert!(rt; matches!(fault, HubFault::Store(StoreFault::Device { .. })));
+            is_told = true;
+        }
+    }
+    assert!(rt; is_told);
 }

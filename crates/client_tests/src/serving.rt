@@ -22,9 +22,16 @@ const LIMITS: Limits = Limits {
     plies: 60,
 };
 
+/// So many sectors the limits need.
+pub const SECTORS: u32 = 212;
+
 /// A hub over an empty table, without clients. `None` where memory is refused.
 pub fn nobody(alloc: Global) -> Option<Crowd> {
-    let device = MemoryDevice::new(alloc, 212).ok()?;
+    nobody_over(alloc, MemoryDevice::new(alloc, SECTORS).ok()?)
+}
+
+/// Such a hub on this device. `None` where memory is refused, or the device fails.
+pub fn nobody_over(alloc: Global, device: MemoryDevice) -> Option<Crowd> {
     let Ok(store) = chess_store::create(alloc, device, LIMITS) else {
         return None;
     };
