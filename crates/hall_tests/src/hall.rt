@@ -485,6 +485,22 @@ fn what_was_said_is_counted(rt: &impl Abort, lab: &mut Lab) {
     assert!(rt; [counts.timed, counts.within[11]] == [3, 3] && counts.time > 0);
 }
 
+// Ann, who leaves, and eve, who asks then who is there.
+const LEAVES: Script = (b"UP~\x81\x87\0\0\0\0login t~~END", b"", How::Plainly);
+
+const ASKS_WHO: &[u8] = b"UP~\x81\x87\0\0\0\0login e~~~~~~~\x81\x83\0\0\0\0who";
+
+fn who_left_is_there_no_more(rt: &impl Abort, lab: &mut Lab) {
+    lab.begin(rt, &LEAVES);
+    lab.hall.admit(Peer::new(lab.alloc, ASKS_WHO, 1_000), 3, 0);
+    for at in 0..30 {
+        lab.turn_alone(rt, at);
+        lab.hall.wake(2);
+        lab.hall.wake(3);
+    }
+    assert!(rt; lab.hall.len() == 1 && lab.is_told(b"\x81\x12ok who open 1\neve\n"));
+}
+
 /// An entrance at which one is lost, then one is refused, and then there is nobody.
 #[derive(Clone, Copy)]
 struct Door {
@@ -569,6 +585,7 @@ fn halls(rt: HostRuntime) {
     acts_are_logged_and_told(&rt, &mut lab);
     a_file_changes_between_turns(&rt, &mut lab);
     what_was_said_is_counted(&rt, &mut lab);
+    who_left_is_there_no_more(&rt, &mut lab);
     a_failed_accept_ends_the_turn_at_the_door(&rt, &mut lab);
     who_has_another_link_acts_no_more(&rt, &mut lab);
     that_entries_are_paused_is_kept_before_the_log_is_told(&rt, &mut lab);
