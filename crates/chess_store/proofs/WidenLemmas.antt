@@ -1,5 +1,5 @@
 -- Greater limits: a table under them, and two commits one after the other.
-use Rattle.std.proofs.Common.{◌≡◌, ◌+◌, ◌*◌, ◌-◌, ◌^◌, ◌≤◌, false, List, [], length, sym, subst, inl, inr, refl, arith}
+use Rattle.std.proofs.Common.{◌≡◌, ◌+◌, ◌*◌, ◌-◌, ◌^◌, ◌≤◌, false, List, [], length, sym, ap, subst, inl, inr, refl, arith}
 use Rattle.std.specs.Prelude.{◌≢◌, Result, Ok, Err, OnOk}
 use Rattle.std.proofs.Math.Nat.{mul-le-mul_left, mul-le-mul_right}
 use Rattle.sector_dev.specs.Image.{Sectors}
@@ -14,8 +14,9 @@ use Rattle.rec_codec.specs.declared.header.Header.{Header}
 use Rattle.sector_journal.specs.declared.compactions.Compaction.{Compaction}
 use Rattle.sector_journal.specs.declared.fault.JournalFault.{JournalFault}
 use Rattle.sector_journal.specs.declared.journals.Journal.{Journal}
-use Rattle.sector_journal.specs.Committed.{IsCommitted}
-use Rattle.sector_journal.specs.Stands.{content}
+use Rattle.sector_journal.proofs.CallLemmas.{on_ok}
+use Rattle.sector_journal.specs.Committed.{IsSwitched, Switches}
+use Rattle.sector_journal.specs.Stands.{Content, content}
 use Rattle.sector_journal.specs.Commits.{Keeps}
 use Rattle.sector_journal.specs.Switches.{ShowsOr, widened_header}
 use Rattle.sector_journal.specs.Compactions.{IsIdle}
@@ -28,7 +29,7 @@ use Rattle.chess_table.proofs.Kept.{IsTable-widen}
 use Rattle.chess_store.specs.Means.{MeansEither, IsKept, IsJournalKept}
 use Rattle.chess_store.specs.Committing.{IsBatch, JournalLasts}
 use Rattle.chess_store.specs.Widening.{IsWidenTried, SnapshotLasts}
-use Rattle.chess_store.proofs.CommitLemmas.{lasts_by, kept_idle, meaning_limits, tried_so, limits_of, limited_err_so}
+use Rattle.chess_store.proofs.CommitLemmas.{meaning_limits, switched_lasts, tried_so, limited_err_so}
 
 -- ---- the table
 
@@ -68,25 +69,16 @@ records_within limits wider games plies =
 module _ {D : Type 0} {ghosts : Ghosts D} (old new : Journal D ghosts) (result : Result (Unit {0}) JournalFault) where
   pub widen_lasts : (limits : Limits) (snapshot : List Record) → IsInRange Two limits
       → old.header.limits.games ≤ limits.games → old.header.limits.plies ≤ limits.plies
-      → ((base tail : List Record) → Keeps (ghosts.state old.device) (content old.header base tail)
-      → LeavesOnly (ghosts.state old.device) (ghosts.state new.device) (ShowsOr (content old.header base tail)
-      (content (widened_header old.header limits (length snapshot)) snapshot [])))
-      → ((base tail : List Record) → Keeps (ghosts.state old.device) (content old.header base tail)
-      → OnOk result (Keeps (ghosts.state new.device) (content new.header snapshot [])))
-      → OnOk result (new.header ≡ widened_header old.header limits (length snapshot))
-      → OnOk result (IsIdle new.compaction) → SnapshotLasts old new result snapshot (with_limits limits)
-  widen_lasts limits snapshot range games plies any ok is_next idle table sound taken kept =
+      → Switches old new result (content (widened_header old.header limits (length snapshot)) snapshot [])
+      → SnapshotLasts old new result snapshot (with_limits limits)
+  widen_lasts limits snapshot range games plies switches table sound taken kept =
       let header = old.header in
       let same = meaning_limits header.limits kept.base kept.tail table kept.means in
-      let widened = widened_header header limits (length snapshot) in
-      let means : IsMeaning limits snapshot [] (with_limits limits table) =
-      wider_means limits table snapshot sound range
+      switched_lasts old new result (content (widened_header header limits (length snapshot)) snapshot []) switches table
+      (with_limits limits table) kept
+      (wider_means limits table snapshot sound range
       (subst (λ (l : Limits). l.games ≤ limits.games) (sym same) games)
-      (subst (λ (l : Limits). l.plies ≤ limits.plies) (sym same) plies) taken in
-      lasts_by old new result table (with_limits limits table) (content header kept.base kept.tail)
-      (content widened snapshot []) kept.means means (any kept.base kept.tail kept.keeps)
-      (kept_idle old new result widened (with_limits limits table) snapshot [] means
-      (ok kept.base kept.tail kept.keeps) is_next idle)
+      (subst (λ (l : Limits). l.plies ≤ limits.plies) (sym same) plies) taken)
 
 -- no entry
 pub empty_batch : {now : State} {header : Header} {compaction : Compaction} {table : TableState} (records : List Record)
@@ -156,12 +148,12 @@ module _ {D : Type 0} {ghosts : Ghosts D} (old mid : Journal D ghosts) (result g
 
 -- ---- what a widening does whatever the journal holds
 
-module _ {D : Type 0} {ghosts : Ghosts D} (old new : Journal D ghosts) (widened : Header) {IsShort : Type 0} where
-  pub widened_by : (result : Result (Unit {0}) JournalFault) → IsCommitted old new result IsShort → ¬ IsShort
-      → old.failed ≡ false → old.header.seq ≢ 2 ^ 64 - 1 → OnOk result (new.header ≡ widened)
-      → IsWidenTried old new result widened.limits
-  widened_by result committed enough works number is =
-      tried_so old new result _ committed enough works number (
-        limits_of result new.header widened widened.limits refl is,
-        limited_err_so result new.header old.header committed.header_err,
-      )
+pub widened_by : {D : Type 0} {ghosts : Ghosts D} (old new : Journal D ghosts) (widened : Content)
+    (result : Result (Unit {0}) JournalFault) → Switches old new result widened → old.failed ≡ false
+    → old.header.seq ≢ 2 ^ 64 - 1 → IsWidenTried old new result widened.header.limits
+widened_by old new widened result switches works number =
+    tried_so old new result _ switches.committed (λ short. short) works number (
+      on_ok result (IsSwitched old new widened) (new.header.limits ≡ widened.header.limits)
+      (λ is. ap (λ (h : Header). h.limits) is.header) switches.ok,
+      limited_err_so result new.header old.header switches.committed.header_err,
+    )

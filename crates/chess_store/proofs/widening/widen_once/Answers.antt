@@ -1,4 +1,5 @@
-use Rattle.std.proofs.Common.{length, arith}
+use Rattle.std.proofs.Common.{[], length, arith}
+use Rattle.sector_journal.specs.Stands.{content}
 use Rattle.sector_journal.specs.Switches.{widened_header}
 use Rattle.chess_store.proofs.WidenLemmas.{records_within, widen_lasts, widened_by}
 use Rattle.chess_store.proofs.widening.widen_once.Goals as goal
@@ -17,12 +18,12 @@ widen-requires-clause-can g c =
 pub returns-clause-lasts : goal.returns-clause-lasts
 returns-clause-lasts g c =
     let can = c.requires.can in
-    widen_lasts c.args.journal.now c.widen.new.self c.widen.result c.args.limits c.args.snapshot.now can.range can.games can.plies c.widen.ensures.any_moment
-    c.widen.ensures.ok c.widen.ensures.header c.widen.ensures.compaction
+    widen_lasts c.args.journal.now c.widen.new.self c.widen.result c.args.limits c.args.snapshot.now can.range can.games can.plies
+    c.widen.ensures
 
 pub returns-clause-tried : goal.returns-clause-tried
 returns-clause-tried g c =
     let j = c.args.journal.now in
-    let n = c.widen.new.self in
-    widened_by j n (widened_header j.header c.args.limits (length c.args.snapshot.now)) c.widen.result
-    c.widen.ensures.committed (λ short. short) c.requires.works c.requires.number c.widen.ensures.header
+    let snapshot = c.args.snapshot.now in
+    widened_by j c.widen.new.self (content (widened_header j.header c.args.limits (length snapshot)) snapshot [])
+    c.widen.result c.widen.ensures c.requires.works c.requires.number
