@@ -74,8 +74,8 @@ module _ {D : Type 0} {ghosts : Ghosts D} (old new : Journal D ghosts) (result :
   widen_lasts limits snapshot range games plies switches table sound taken kept =
       let header = old.header in
       let same = meaning_limits header.limits kept.base kept.tail table kept.means in
-      switched_lasts old new result (content (widened_header header limits (length snapshot)) snapshot []) switches table
-      (with_limits limits table) kept
+      switched_lasts old new result (content (widened_header header limits (length snapshot)) snapshot []) switches
+      table (with_limits limits table) kept
       (wider_means limits table snapshot sound range
       (subst (λ (l : Limits). l.games ≤ limits.games) (sym same) games)
       (subst (λ (l : Limits). l.plies ≤ limits.plies) (sym same) plies) taken)
@@ -154,6 +154,6 @@ pub widened_by : {D : Type 0} {ghosts : Ghosts D} (old new : Journal D ghosts) (
 widened_by old new widened result switches works number =
     tried_so old new result _ switches.committed (λ short. short) works number (
       on_ok result (IsSwitched old new widened) (new.header.limits ≡ widened.header.limits)
-      (λ is. ap (λ (h : Header). h.limits) is.header) switches.ok,
+          (λ is. ap (λ (h : Header). h.limits) is.header) switches.ok,
       limited_err_so result new.header old.header switches.committed.header_err,
     )

@@ -6,9 +6,8 @@ use Rattle.chess_store.proofs.widening.switch_halves.Goals as goal
 
 pub returns-clause-lasts : goal.returns-clause-lasts
 returns-clause-lasts g c = λ table sound taken kept.
-    switch_lasts c.args.journal.now c.switch.new.self c.switch.result c.args.snapshot.now []
-    c.switch.ensures table table taken
-    (empty_batch [] refl sound kept)
+    switch_lasts c.args.journal.now c.switch.new.self c.switch.result c.args.snapshot.now [] c.switch.ensures table
+    table taken (empty_batch [] refl sound kept)
 
 pub returns-clause-tried : goal.returns-clause-tried
 returns-clause-tried g c =

@@ -18,8 +18,8 @@ widen-requires-clause-can g c =
 pub returns-clause-lasts : goal.returns-clause-lasts
 returns-clause-lasts g c =
     let can = c.requires.can in
-    widen_lasts c.args.journal.now c.widen.new.self c.widen.result c.args.limits c.args.snapshot.now can.range can.games can.plies
-    c.widen.ensures
+    widen_lasts c.args.journal.now c.widen.new.self c.widen.result c.args.limits c.args.snapshot.now can.range
+    can.games can.plies c.widen.ensures
 
 pub returns-clause-tried : goal.returns-clause-tried
 returns-clause-tried g c =
