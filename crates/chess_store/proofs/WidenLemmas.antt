@@ -17,9 +17,7 @@ use Rattle.sector_journal.specs.declared.journals.Journal.{Journal}
 use Rattle.sector_journal.proofs.CallLemmas.{on_ok}
 use Rattle.sector_journal.specs.Committed.{IsSwitched, Switches}
 use Rattle.sector_journal.specs.Stands.{Content, content}
-use Rattle.sector_journal.specs.Commits.{Keeps}
-use Rattle.sector_journal.specs.Switches.{ShowsOr, widened_header}
-use Rattle.sector_journal.specs.Compactions.{IsIdle}
+use Rattle.sector_journal.specs.Switches.{widened_header}
 use Rattle.chess_entry.specs.State.{TableState}
 use Rattle.chess_entry.specs.Table.{IsTable}
 use Rattle.chess_entry.specs.Snapshot.{IsSnapshotOf, IsMeaning}
