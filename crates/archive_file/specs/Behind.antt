@@ -2,6 +2,7 @@
 use Rattle.std.specs.Prelude.{ℕ, ◌==◌, ◌&&◌, ◌||◌, ◌-◌, Bool, true, false, not, nat_le, List, [], ◌∷◌, codes, length, drop, take}
 use Rattle.std.specs.List.{list_any, starts_with}
 use Rattle.night_files.specs.Torn.{begins}
+use Rattle.archive_file.specs.Line.{line_feed}
 
 -- how each line begins
 abbrev pub beginning : List ℕ
@@ -9,7 +10,7 @@ beginning = codes "{\"game\":"
 
 -- a line feed stands nowhere but at the end
 abbrev pub is_one_line : List ℕ → Bool
-is_one_line bytes = not (list_any (λ b. b == 10) (take (length bytes - 1) bytes))
+is_one_line bytes = not (list_any (λ b. b == line_feed) (take (length bytes - 1) bytes))
 
 -- what a kill or the machine's stop may leave there of the one line that was being put: at most 4 MiB, which begin as a line does
 abbrev pub is_torn_line : List ℕ → Bool

@@ -5,6 +5,16 @@ use Rattle.std.specs.Str.{bytes_eq}
 use Rattle.text_parts.specs.Strings.{escaped, unescaped_from}
 use Rattle.lobby_words.specs.Words.{number_in}
 
+-- the signs behind the name of a field and between fields, `:` and `,`, and that between lines
+abbrev pub colon : ℕ
+colon = 58
+
+abbrev pub comma : ℕ
+comma = 44
+
+abbrev pub line_feed : ℕ
+line_feed = 10
+
 abbrev pub front : List ℕ
 front = codes "{\"game\""
 
@@ -17,23 +27,23 @@ line_of game pgn = front ++ (codes ":" ++ (decimal game ++ (middle ++ (escaped p
 
 -- a line feed, or no control character of ASCII: these alone have an escape here, or need none in JSON
 abbrev pub is_text_byte : ℕ → Bool
-is_text_byte b = b == 10 || nat_le 32 b && not (b == 127)
+is_text_byte b = b == line_feed || nat_le 32 b && not (b == 127)
 
 abbrev pub is_text : List ℕ → Bool
 is_text pgn = list_all is_text_byte pgn
 
 abbrev pub before_comma : List ℕ → List ℕ
-before_comma text = before_first (λ b. b == 44) text
+before_comma text = before_first (λ b. b == comma) text
 
 -- the number behind the front of a line, whatever stands behind it
 abbrev pub number_at : List ℕ → Option ℕ
 number_at line =
-    if bytes_eq (before_first (λ b. b == 58) line) front
-    then number_in (before_comma (after_first (λ b. b == 58) line))
+    if bytes_eq (before_first (λ b. b == colon) line) front
+    then number_in (before_comma (after_first (λ b. b == colon) line))
     else None
 
 abbrev pub behind_comma : List ℕ → List ℕ
-behind_comma line = after_first (λ b. b == 44) line
+behind_comma line = after_first (λ b. b == comma) line
 
 -- all but `"pgn":"`
 abbrev pub behind_name : List ℕ → List ℕ

@@ -1,9 +1,8 @@
 //! The words of the command line, with the texts of their help.
 use archive_text::Heading;
-use clap::error::ErrorKind;
 use clap::{ArgMatches, Command, Error};
 use command_words::{
-    OptionText, OptionValue, SERVER, WordText, command_line, read_by, read_or_fault, server_address,
+    OptionText, OptionValue, SERVER, WordText, command_line, read_by, read_or_told, server_address,
 };
 use pgn_tags::is_date;
 use std::alloc::{AllocError, Global};
@@ -287,14 +286,13 @@ fn word_given<'a>(
     command: &mut Command<'a>,
     matches: &ArgMatches<'a>,
 ) -> Result<Word<'a>, Error> {
-    match no_date_told(alloc, matches)? {
-        Some(told) => Err(command.error(ErrorKind::InvalidValue, told.as_str())?),
-        None => read_or_fault(
-            command,
-            word_of(matches),
-            "an address is none, a tag's value has a control character, --lobby stands without --drop, or export has two forms",
-        ),
-    }
+    let told = no_date_told(alloc, matches)?;
+    read_or_told(
+        command,
+        told,
+        word_of(matches),
+        "an address is none, a tag's value has a control character, --lobby stands without --drop, or export has two forms",
+    )
 }
 
 // What is said where a date is given, and is none.

@@ -12,15 +12,10 @@ fn main(rt: HostRuntime) -> ExitCode {
 // Does what the words of the command line ask for.
 fn do_words(rt: &HostRuntime) -> Result<(), NotDone> {
     let words = words_given(rt, command(rt.alloc())?)?;
-    let word = read_words(rt.alloc(), words.as_slice())?;
-    do_word(rt, &word).map_err(NotDone::Work)
-}
-
-// Does what a word asks for.
-fn do_word(rt: &HostRuntime, word: &Word<'_>) -> anyhow::Result<()> {
-    match word {
-        Word::Keep(keeping) => keep(rt, keeping),
-        Word::Export(exporting) => export(rt, exporting),
-        Word::Live(living) => live(rt, living),
+    match read_words(rt.alloc(), words.as_slice())? {
+        Word::Keep(keeping) => keep(rt, &keeping),
+        Word::Export(exporting) => export(rt, &exporting),
+        Word::Live(living) => live(rt, &living),
     }
+    .map_err(NotDone::Work)
 }

@@ -13,15 +13,10 @@ fn main(rt: HostRuntime) -> ExitCode {
 // Does what the words of the command line ask for.
 fn do_words(rt: &HostRuntime) -> Result<(), NotDone> {
     let words = words_given(rt, command(rt.alloc())?)?;
-    let word = read_words(rt.alloc(), words.as_slice())?;
-    do_word(rt, &word).map_err(NotDone::Work)
-}
-
-// Does what a word asks for.
-fn do_word(rt: &HostRuntime, word: &Word<'_>) -> anyhow::Result<()> {
-    match word {
-        Word::Serve(serving) => serve(rt, serving),
-        Word::Player(adding) => add_player(rt, adding),
-        Word::Evidence(asked) => print_evidence(rt, asked),
+    match read_words(rt.alloc(), words.as_slice())? {
+        Word::Serve(serving) => serve(rt, &serving),
+        Word::Player(adding) => add_player(rt, &adding),
+        Word::Evidence(asked) => print_evidence(rt, &asked),
     }
+    .map_err(NotDone::Work)
 }

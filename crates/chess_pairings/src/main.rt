@@ -16,15 +16,10 @@ fn main(rt: HostRuntime) -> ExitCode {
 // Does what the words of the command line ask for.
 fn do_words(rt: &HostRuntime) -> Result<(), NotDone> {
     let words = words_given(rt, command(rt.alloc())?)?;
-    let word = read_words(rt.alloc(), words.as_slice())?;
-    do_word(rt, &word).map_err(NotDone::Work)
-}
-
-// Does what a word asks for.
-fn do_word(rt: &HostRuntime, word: &Word<'_>) -> anyhow::Result<()> {
-    match word {
-        Word::Start(starting) => start(rt, starting),
-        Word::Results(asking) => write_results(rt, asking),
-        Word::Report(reporting) => write_report(rt, reporting),
+    match read_words(rt.alloc(), words.as_slice())? {
+        Word::Start(starting) => start(rt, &starting),
+        Word::Results(asking) => write_results(rt, &asking),
+        Word::Report(reporting) => write_report(rt, &reporting),
     }
+    .map_err(NotDone::Work)
 }

@@ -14,7 +14,6 @@ mod store;
 mod submitting;
 mod widening;
 
-pub use commits::commit;
 pub use creating::create;
 pub use fault::StoreFault;
 pub use laws::law_of_images;

@@ -17,5 +17,5 @@ pub use given::words_given;
 pub use options::{
     ADDRESS, OptionText, OptionValue, PLAYERS, SERVER, WordText, arguments, command_line,
 };
-pub use reading::{read_by, read_or_fault};
+pub use reading::{read_by, read_or_fault, read_or_told};
 pub use version::VERSION;

@@ -1,5 +1,5 @@
 //! What was read of the words.
-ghost use Rattle.std.specs.Prelude.{◌≡◌, ◌⊎◌, None, Some, IfErr, IfOk, IsErrAnd, OnErr, map};
+ghost use Rattle.std.specs.Prelude.{◌≡◌, ◌⊎◌, None, Some, IfErr, IfOk, IsSome, IsErrAnd, OnErr, map};
 ghost use Rattle.clap.specs.Simple.{HasMatchesOf, app_of};
 ghost use Rattle.command_words.specs.Faults.{IsOfCommand};
 ghost use Rattle.clap.specs.Values.{kind_of};
@@ -23,6 +23,24 @@ pub fn read_or_fault<T: Drop>(
     match read {
         Some(value) => Ok(value),
         None => Err(command.error(ErrorKind::InvalidValue, text)?),
+    }
+}
+
+/// What was read of the words, or a usage fault of the command with what was told of them, and where nothing was told and nothing
+/// read, with this text. `OutOfMemory` where memory was refused for the fault.
+pub fn read_or_told<T: Drop>(
+    command: &mut Command<'_>,
+    told: Option<String>,
+    read: Option<T>,
+    text: &str,
+) -> Result<T, Error>
+    ensures some { IfOk result (λ value. (told ≡ None) × (read ≡ Some value)) }
+    ensures none { OnErr result (IsSome told ⊎ (read ≡ None)) }
+    ensures fault { IfErr result (λ fault. (kind_of fault ≡ ErrorKind.InvalidValue) ⊎ (kind_of fault ≡ ErrorKind.OutOfMemory)) }
+{
+    match told {
+        Some(told) => Err(command.error(ErrorKind::InvalidValue, told.as_str())?),
+        None => read_or_fault(command, read, text),
     }
 }
 

@@ -23,7 +23,7 @@ use Rattle.lobby_desk.specs.Lines.{lines_of, act_lines, said_after, name_line, g
 use Rattle.lobby_words.specs.Answers.{is_accepted, first_line, act_game, is_whole, answer}
 use Rattle.lobby_desk.specs.Refusals.{game_named}
 use Rattle.lobby_desk.specs.Watching.{watch_if, sit_if}
-use Rattle.lobby_desk.specs.Events.{DeskInput, Opened, Closed, Said, Hurried, Heard, ServerTurned, Renewed, Linked, MessageValue, ForItself, ForPositions, ForTable, ForGame, ForAct, Owed, Nobody, Asker, Dropper, Followers, Behind, owed_last, owed_acted, owed_some, owed_lines, sort_asker, asker, followers_of, follower, Following, is_same_game, asked_after}
+use Rattle.lobby_desk.specs.Events.{DeskInput, Opened, Closed, Said, Hurried, Heard, ServerTurned, Renewed, Linked, MessageValue, ForItself, ForPositions, ForTable, ForGame, ForAct, Owed, Nobody, Asker, Dropper, Followers, Behind, owed_last, owed_acted, owed_some, owed_lines, sort_asker, asker, followers_of, follower, Following, is_asked_behind, game_if, asked_after}
 use Rattle.lobby_desk.specs.Tellings.{Known, open_now, watch_heard, watch_next, watches_now, table_heard, table_next, table_now, owed_answered, owed_now, known_now, presence, lost, AreToldAll, IsTold}
 use Rattle.lobby_desk.specs.Who.{View, BeginsView, IsSaid, IsHeard, IsDropped, IsSentFor, IsSentNext, IsSentHeard, IsDone, IsRenewed, IsLinked, IsKnown, who_noted, name_of, speaker}
 use Rattle.lobby_roster.specs.Players.{known_name, renewed}
@@ -744,7 +744,7 @@ act_game_small now =
 
 after_small : (text : List ℕ) (game : Option ℕ) → IfSome game (λ g. g < 2 ^ 32) → IfSome (asked_after text game) (λ g. g < 2 ^ 32)
 after_small text game small =
-    elim (is_same_game (game_named text) game) as (λ b. IfSome (if b then None else game) (λ g. g < 2 ^ 32)) [ true ↦ tt | false ↦ small ]
+    elim (is_asked_behind text game) as (λ b. IfSome (game_if (not b) game) (λ g. g < 2 ^ 32)) [ true ↦ tt | false ↦ small ]
 
 -- what goes out for an answer
 record HeardGood (players : List Player) (past : List Step) (line : List ℕ) (lines : List (List ℕ)) (later : Option (List ℕ)) : Type 0 where

@@ -1,5 +1,5 @@
 -- What comes in and what goes out.
-use Rattle.std.specs.Prelude.{ℕ, Bool, true, false, ◌==◌, if◌then◌else◌, List, [], ◌∷◌, ◌++◌, codes, map, Option, None, Some}
+use Rattle.std.specs.Prelude.{ℕ, Bool, true, false, not, ◌==◌, if◌then◌else◌, List, [], ◌∷◌, ◌++◌, codes, map, Option, None, Some}
 use Rattle.std.specs.String.{string_bytes}
 use Rattle.lobby_desk.specs.declared.telling.Kind.{Kind}
 use Rattle.lobby_desk.specs.declared.telling.Kind.TheVariants as kinds
@@ -167,11 +167,18 @@ abbrev pub is_same_game : Option ℕ → Option ℕ → Bool
 is_same_game (Some a) (Some b) = a == b
 is_same_game _ _ = false
 
+abbrev pub is_asked_behind : List ℕ → Option ℕ → Bool
+is_asked_behind text game = is_same_game (game_named text) game
+
+-- a game, where this is so
+abbrev pub game_if : Bool → Option ℕ → Option ℕ
+game_if is_so game = if is_so then game else None
+
 abbrev pub asked_behind : List ℕ → Option ℕ → Option ℕ
-asked_behind text game = if is_same_game (game_named text) game then game else None
+asked_behind text game = game_if (is_asked_behind text game) game
 
 abbrev pub asked_after : List ℕ → Option ℕ → Option ℕ
-asked_after text game = if is_same_game (game_named text) game then None else game
+asked_after text game = game_if (not (is_asked_behind text game)) game
 
 -- Whose the answers are to the lines that go out for an answer: the drop's for which that was asked; or those who are told of the
 -- game in which an act was done.

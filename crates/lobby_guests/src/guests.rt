@@ -1,4 +1,6 @@
 //! All browsers that are connected, by the names of their sockets, which grow.
+#![tactic(auto, using(crate::proofs::Each::zipped_none, crate::proofs::Each::zipped_vec))]
+
 ghost use Rattle.std.specs.Prelude.{ℕ, Bool, true, false, ◌≡◌, ◌++◌, ◌∷◌, [], Option, OnOk};
 ghost use Rattle.std.specs.List.{AllZip};
 ghost use Rattle.lobby_guests.specs.Guests.{IsAsBefore, IsAttended, AreAttended, AreTold, AreDelivered, IsWritten, IsLookedAfter, IsClosedIf, AreClosed, AreParted};

@@ -10,19 +10,27 @@ use Rattle.chess_board.specs.Position.{Position, IsValid}
 use Rattle.chess_board.specs.Initial.{initial}
 use Rattle.chess_board.specs.Next.{next}
 use Rattle.chess_board.specs.Legal.{IsLegal}
+use Rattle.chess_notation.specs.Letters.{space}
 use Rattle.chess_notation.specs.Naming.{Names}
 use Rattle.chess_notation.specs.Fen.{IsFenOf}
 
+-- the signs between lines and around the value of a tag
+abbrev pub line_feed : ℕ
+line_feed = 10
+
+abbrev pub quote : ℕ
+quote = 34
+
 abbrev pub lines_of : List ℕ → List (List ℕ)
-lines_of text = parts_of 10 text
+lines_of text = parts_of line_feed text
 
 -- the line `[FEN ".."]`
 abbrev pub is_fen_tag : List ℕ → Bool
-is_fen_tag line = bytes_eq (before_first (λ b. b == 32) line) (codes "[FEN")
+is_fen_tag line = bytes_eq (before_first (λ b. b == space) line) (codes "[FEN")
 
 -- its value, between the quotes
 abbrev pub value_of : List ℕ → List ℕ
-value_of line = before_first (λ b. b == 34) (after_first (λ b. b == 34) line)
+value_of line = before_first (λ b. b == quote) (after_first (λ b. b == quote) line)
 
 abbrev pub fen_in : List (List ℕ) → Option (List ℕ)
 fen_in lines = option_map value_of (find is_fen_tag lines)
@@ -34,7 +42,7 @@ StartsAt None p = p ≡ initial
 StartsAt (Some fen) p = IsValid p × IsFenOf fen p
 
 abbrev pub words_of_line : List ℕ → List (List ℕ)
-words_of_line line = if is_tag line then [] else filter is_move (parts_of 32 line)
+words_of_line line = if is_tag line then [] else filter is_move (parts_of space line)
 
 -- the words that name moves, in their order: those of the lines that are no tags
 abbrev pub words_of : List (List ℕ) → List (List ℕ)

@@ -1,9 +1,8 @@
 //! The words of the command line, with the texts of their help.
 use crate::days::is_day;
-use clap::error::ErrorKind;
 use clap::{ArgMatches, Command, Error};
 use command_words::{
-    OptionText, OptionValue, PLAYERS, SERVER, WordText, command_line, read_by, read_or_fault,
+    OptionText, OptionValue, PLAYERS, SERVER, WordText, command_line, read_by, read_or_told,
     server_address,
 };
 use std::alloc::{AllocError, Global};
@@ -338,14 +337,13 @@ fn word_given<'a>(
     command: &mut Command<'a>,
     matches: &ArgMatches<'a>,
 ) -> Result<Word<'a>, Error> {
-    match no_day_told(alloc, matches)? {
-        Some(told) => Err(command.error(ErrorKind::InvalidValue, told.as_str())?),
-        None => read_or_fault(
-            command,
-            word_of(alloc, matches)?,
-            "an address, a board, a game, a server or a round's files are none, or neither --archive nor --server is given",
-        ),
-    }
+    let told = no_day_told(alloc, matches)?;
+    read_or_told(
+        command,
+        told,
+        word_of(alloc, matches)?,
+        "an address, a board, a game, a server or a round's files are none, or neither --archive nor --server is given",
+    )
 }
 
 // What is said where the tournament's first or last day is given and is none.
