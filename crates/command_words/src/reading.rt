@@ -59,9 +59,15 @@ where
         × ((before : _) × (after : _) × F.post read alloc before found result after))
         ⊎ IsErrAnd result (IsOfCommand (app_of command.entry) (map S.text words.entry.now)) }
 {
-    let matches = command.try_get_matches_from_mut(words)?;
-    let answer = read(alloc, &mut command, &matches);
     // (they go by calls: each way out would let go of all their parts)
+    let matches = match command.try_get_matches_from_mut(words) {
+        Ok(matches) => matches,
+        Err(fault) => {
+            drop(command);
+            return Err(fault);
+        }
+    };
+    let answer = read(alloc, &mut command, &matches);
     drop(matches);
     drop(command);
     answer

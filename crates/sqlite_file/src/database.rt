@@ -10,13 +10,13 @@ use crate::header::file_header;
 use crate::overflow::push_overflow;
 use crate::page::{interior_page, leaf_page};
 use crate::record::{Value, record_of};
-use std::alloc::{AllocError, Global};
+use std::alloc::Global;
 use std::mem;
 
 const PAGE: usize = 4096;
 
 // The most pages: in the next one lies the byte that SQLite locks, and it holds nothing (file format, section 1.4).
-const MOST_PAGES: u32 = 262_144;
+const MOST_PAGES: usize = 262_144;
 
 // What a leaf has for its cells and their pointers.
 const ROOM: usize = PAGE - 8;
@@ -91,19 +91,14 @@ fn cells_of(alloc: Global, below: &[Below]) -> Result<Vec<Vec<u8>>, Fault> {
 }
 
 // The columns of a table in the first page.
-fn columns_of<'a>(
-    alloc: Global,
-    name: &'a str,
-    root: u32,
-    sql: &'a str,
-) -> Result<Vec<Value<'a>>, AllocError> {
-    let mut columns = Vec::new(alloc);
-    columns.push(Value::Text("table"))?;
-    columns.push(Value::Text(name))?;
-    columns.push(Value::Text(name))?;
-    columns.push(Value::Number(u64::from(root)))?;
-    columns.push(Value::Text(sql))?;
-    Ok(columns)
+fn columns_of<'a>(name: &'a str, root: u32, sql: &'a str) -> [Value<'a>; 5] {
+    [
+        Value::Text("table"),
+        Value::Text(name),
+        Value::Text(name),
+        Value::Number(u64::from(root)),
+        Value::Text(sql),
+    ]
 }
 
 // The cell of a table in the first page. It fails where it is so long that it would not stand whole there.
@@ -137,10 +132,11 @@ impl Database {
         ensures count { IfOk result (λ count. count ≡ vec_len self.now.pages / 4096 + 1) }
         ensures most { IfOk result (λ count. count ≤ 262144) }
     {
-        match u32::try_from(self.pages.len() / PAGE + 1) {
-            Ok(count) if count <= MOST_PAGES => Ok(count),
-            _ => Err(Fault::TooManyPages),
+        let count = self.pages.len() / PAGE + 1;
+        if count > MOST_PAGES {
+            return Err(Fault::TooManyPages);
         }
+        Ok(count as u32)
     }
 
     // The number of the next page that is written.
@@ -286,8 +282,7 @@ impl Database {
         self.put_leaf(last)?;
         let root = self.put_levels()?;
         let number = self.tables.len().saturating_add(1).min(PAGE) as u32;
-        let columns = columns_of(self.alloc, name, root, sql)?;
-        let cell = table_cell(self.alloc, number, columns.as_slice())?;
+        let cell = table_cell(self.alloc, number, &columns_of(name, root, sql))?;
         self.tables.push(cell)?;
         self.last = None;
         self.is_whole = true;

@@ -71,13 +71,11 @@ fn push_head(
 ) -> Result<(), AllocError>
     ensures { OnOk result (page.new.items ≡ page.old.items ++ spec.head head.now.kind head.now.right.now count content) }
 {
-    page.push(head.kind)?;
-    push_number(page, 2, 0)?;
+    page.extend_from_slice(&[head.kind, 0, 0])?;
     push_number(page, 2, count as u64)?;
     push_number(page, 2, content as u64)?;
     page.push(0)?;
-    page.extend_from_slice(head.right)?;
-    Ok(())
+    page.extend_from_slice(head.right)
 }
 
 // A page of cells that begin here, with so many zeros before them.
