@@ -1,4 +1,4 @@
-use Rattle.std.proofs.Common.{ℕ, ◌≡◌, ◌<◌, ◌∙◌, length, map, refl, sym, subst, arith}
+use Rattle.std.proofs.Common.{ℕ, ◌<◌, ◌∙◌, length, map, refl, sym, subst, arith}
 use Rattle.server_switch.specs.Lines.{standing_of}
 use Rattle.server_switch.proofs.Asks.{asked_more, shared_more, length_asked}
 use Rattle.server_switch.proofs.Places.{servers_len}
