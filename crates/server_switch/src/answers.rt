@@ -1,7 +1,6 @@
 //! The answers of a server, with the numbers that its games have here.
-ghost use Rattle.std.specs.Prelude.{◌≡◌, ◌<◌, ◌++◌, ◌∷◌, [], codes, IfOk};
+ghost use Rattle.std.specs.Prelude.{◌≡◌, ◌<◌, ◌++◌, ◌∷◌, [], IfOk};
 ghost use Rattle.std.specs.String.{string_bytes};
-ghost use Rattle.lobby_words.specs.Words.{word_of, rest_of};
 ghost use Rattle.server_switch.specs.Answers as answers;
 ghost use Rattle.server_switch.specs.Answers.{told_behind};
 ghost use Rattle.server_switch.specs.Fields as fields;
@@ -56,46 +55,21 @@ pub fn joined(alloc: Global, front: &str, rest: &str, sign: char) -> Result<Stri
     Ok(text)
 }
 
-// The fields behind `ok`.
-fn told_ok(
-    alloc: Global,
-    place: usize,
-    rest: &str,
-    tail: Option<&str>,
-) -> Result<String, AllocError>
-    ensures { IfOk result (λ told. string_bytes told ≡ told_behind (codes "ok " ++ (word_of rest.now ++ codes " ")) (fields.renumbered place (rest_of rest.now)) (tail_text 10 tail.entry)) }
-{
-    let (kind, behind) = cut(rest);
-    let words = joined(alloc, "ok ", kind, ' ')?;
-    tell_behind(alloc, words.as_str(), place, behind, tail)
-}
-
-// An answer by its first line and what stands behind that.
-fn told_line(
-    alloc: Global,
-    place: usize,
-    line: &str,
-    tail: Option<&str>,
-    answer: &str,
-) -> Result<String, AllocError>
-    ensures { IfOk result (λ told. string_bytes told ≡ answers.told_line place line.now (tail_text 10 tail.entry) answer.now) }
-{
-    let (word, rest) = cut(line);
-    if word == "fallen" {
-        tell_behind(alloc, "fallen ", place, rest, tail)
-    } else if word == "ok" {
-        told_ok(alloc, place, rest, tail)
-    } else {
-        String::from_str(alloc, answer)
-    }
-}
-
 /// A server's answer to a line of a game or to `open`, as it is told.
 pub fn told(alloc: Global, place: usize, answer: &str) -> Result<String, AllocError>
     ensures { IfOk result (λ told. string_bytes told ≡ answers.told place answer.now) }
 {
     let (line, tail) = cut_at(answer, '\n');
-    told_line(alloc, place, line, tail, answer)
+    let (word, rest) = cut(line);
+    let (kind, behind) = cut(rest);
+    if word == "fallen" {
+        tell_behind(alloc, "fallen ", place, rest, tail)
+    } else if word == "ok" {
+        let words = joined(alloc, "ok ", kind, ' ')?;
+        tell_behind(alloc, words.as_str(), place, behind, tail)
+    } else {
+        String::from_str(alloc, answer)
+    }
 }
 
 /// Whether a server has no room for a game.
