@@ -1,11 +1,10 @@
 //! A row of the pairings.
-ghost use Rattle.std.specs.Prelude.{◌≡◌, Some, IfOk};
+ghost use Rattle.std.specs.Prelude.{◌≡◌, IfOk};
 ghost use Rattle.std.specs.Str.{bytes_eq};
 ghost use Rattle.csv.specs.Records.{fields_of};
 ghost use Rattle.jiff.specs.Words as moments;
 ghost use Rattle.lobby_words.specs.Words as words;
 ghost use Rattle.pairing_texts.specs.Rows as spec;
-ghost use Rattle.pairing_texts.specs.Times.{times_in};
 
 use crate::faults::RowFault;
 use crate::times::{Times, times_of};
@@ -97,34 +96,6 @@ fn is_bye(fields: Fields<'_>) -> bool
     fields.black.is_empty() && fields.times.is_empty() && fields.start.is_empty()
 }
 
-// The game of Black and times, if it has a start.
-fn game_at(black: Name, times: Times, start: Option<Option<i64>>) -> Result<Game, RowFault>
-    ensures { result ≡ spec.with_start black times start }
-{
-    match start {
-        Some(start) => Ok(Game {
-            black,
-            times,
-            start,
-        }),
-        None => Err(RowFault::BadStart),
-    }
-}
-
-// The game of Black and fields.
-fn game_with(
-    alloc: Global,
-    black: Name,
-    fields: Fields<'_>,
-) -> Result<Result<Game, RowFault>, AllocError>
-    ensures { IfOk result (λ game. game ≡ spec.with_times black fields.entry.start.now (times_in fields.entry.times.now)) }
-{
-    match times_of(alloc, fields.times)? {
-        Some(times) => Ok(game_at(black, times, start_of(fields.start))),
-        None => Ok(Err(RowFault::BadTimes)),
-    }
-}
-
 // The game of White and fields.
 fn game_of(
     alloc: Global,
@@ -139,32 +110,16 @@ fn game_of(
     if white.as_str() == black.as_str() {
         return Ok(Err(RowFault::SamePlayer));
     }
-    game_with(alloc, black, fields)
-}
-
-// The pairing of a board, White and fields.
-fn pairing_with(
-    alloc: Global,
-    board: u32,
-    white: Name,
-    fields: Fields<'_>,
-) -> Result<Result<Pairing, RowFault>, AllocError>
-    ensures { IfOk result (λ pairing. pairing ≡ spec.with_white board fields.entry.black.now fields.entry.times.now fields.entry.start.now (Some white)) }
-{
-    if is_bye(fields) {
-        return Ok(Ok(Pairing {
-            board,
-            white,
-            game: None,
-        }));
-    }
-    match game_of(alloc, white, fields)? {
-        Ok(game) => Ok(Ok(Pairing {
-            board,
-            white,
-            game: Some(game),
+    let Some(times) = times_of(alloc, fields.times)? else {
+        return Ok(Err(RowFault::BadTimes));
+    };
+    match start_of(fields.start) {
+        Some(start) => Ok(Ok(Game {
+            black,
+            times,
+            start,
         })),
-        Err(fault) => Ok(Err(fault)),
+        None => Ok(Err(RowFault::BadStart)),
     }
 }
 
@@ -190,7 +145,21 @@ pub fn pairing_of(
         times: cell(row, 3),
         start: cell(row, 4),
     };
-    pairing_with(alloc, board, white, fields)
+    if is_bye(fields) {
+        return Ok(Ok(Pairing {
+            board,
+            white,
+            game: None,
+        }));
+    }
+    match game_of(alloc, white, fields)? {
+        Ok(game) => Ok(Ok(Pairing {
+            board,
+            white,
+            game: Some(game),
+        })),
+        Err(fault) => Ok(Err(fault)),
+    }
 }
 
 // Whether a field is this word.
