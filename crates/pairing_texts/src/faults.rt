@@ -3,32 +3,48 @@ ghost use Rattle.std.specs.Prelude.{◌≡◌};
 ghost use Rattle.pairing_texts.specs.declared.faults.Fault.TheVariants as faults;
 
 use std::alloc::AllocError;
+use std::fmt;
 use thiserror::Error;
 
 /// What is wrong with a row.
-#[derive(Clone, Copy, Debug, PartialEq, Eq, Error)]
+#[derive(Clone, Copy, Debug, PartialEq, Eq)]
 pub enum RowFault {
-    #[error("it has not five fields")]
     BadShape,
-    #[error("the board is no number from 1 on")]
     BadBoard,
-    #[error("White's name is none")]
     BadWhite,
-    #[error("Black's name is none")]
     BadBlack,
-    #[error("White and Black are one player")]
     SamePlayer,
-    #[error("the times are none that the server takes, as 300+2 or 40/5400+30:1800+30")]
     BadTimes,
-    #[error("the start is no moment with its offset, as 2026-11-26T19:30Z")]
     BadStart,
-    #[error("the board stands in a row above")]
     BoardTwice,
-    #[error("White plays in a row above")]
     WhiteTwice,
-    #[error("Black plays in a row above")]
     BlackTwice,
 }
+
+// What is told of a fault. (thiserror's Display, which writes the same texts, took more time to prove.)
+fn text_of(fault: RowFault) -> &'static str {
+    match fault {
+        RowFault::BadShape => "it has not five fields",
+        RowFault::BadBoard => "the board is no number from 1 on",
+        RowFault::BadWhite => "White's name is none",
+        RowFault::BadBlack => "Black's name is none",
+        RowFault::SamePlayer => "White and Black are one player",
+        RowFault::BadTimes =>
+            "the times are none that the server takes, as 300+2 or 40/5400+30:1800+30",
+        RowFault::BadStart => "the start is no moment with its offset, as 2026-11-26T19:30Z",
+        RowFault::BoardTwice => "the board stands in a row above",
+        RowFault::WhiteTwice => "White plays in a row above",
+        RowFault::BlackTwice => "Black plays in a row above",
+    }
+}
+
+impl fmt::Display for RowFault {
+    fn fmt<W: fmt::Write>(&self, f: &mut fmt::Formatter<W>) -> fmt::Result {
+        f.write_str(text_of(*self))
+    }
+}
+
+impl std::error::Error for RowFault {}
 
 /// Why a text is no file of pairings.
 #[derive(Clone, Copy, Debug, PartialEq, Eq, Error)]

@@ -1,5 +1,6 @@
 //! A row of the pairings.
 ghost use Rattle.std.specs.Prelude.{◌≡◌, IfOk};
+ghost use Rattle.std.specs.Str.{bytes_eq};
 ghost use Rattle.csv.specs.Records.{fields_of};
 ghost use Rattle.jiff.specs.Words as moments;
 ghost use Rattle.lobby_words.specs.Words as words;
@@ -161,15 +162,22 @@ pub fn pairing_of(
     }
 }
 
+// Whether a field is this word.
+fn is_cell(row: &StringRecord, at: usize, word: &str) -> bool
+    ensures { result ≡ bytes_eq (spec.cell (fields_of row.now) at) word.now }
+{
+    cell(row, at) == word
+}
+
 /// Whether a row is the header.
 #[tactic(auto, unfolding(crate::specs::Rows::is_header))]
 pub fn is_header(row: &StringRecord) -> bool
     ensures { result ≡ spec.is_header (fields_of row.now) }
 {
     row.len() == 5
-        && cell(row, 0) == "board"
-        && cell(row, 1) == "white"
-        && cell(row, 2) == "black"
-        && cell(row, 3) == "times"
-        && cell(row, 4) == "start"
+        && is_cell(row, 0, "board")
+        && is_cell(row, 1, "white")
+        && is_cell(row, 2, "black")
+        && is_cell(row, 3, "times")
+        && is_cell(row, 4, "start")
 }

@@ -1,8 +1,8 @@
 -- The servers are asked for their lists, one after another.
-use Rattle.std.proofs.Common.{ℕ, ◌≡◌, ◌+◌, ◌<◌, ◌≤◌, List, [], ◌∷◌, ◌++◌, length, get_or, map, take, drop, sym, ap, ◌∙◌, append_assoc, arith}
+use Rattle.std.proofs.Common.{ℕ, ◌≡◌, ◌+◌, ◌<◌, List, [], ◌∷◌, ◌++◌, length, get_or, map, take, drop, sym, ap, ◌∙◌, append_assoc, append-nil, ◌≤◌, arith}
 use Rattle.std.proofs.Math.ListN.{set, get_or-map}
 use Rattle.std.proofs.Math.Seq.{get_or-append_seam, set-append_seam}
-use Rattle.std.proofs.lemmas.List.{take_more, drop_more, map-append, map-set, length-map, length-set, length-take-le}
+use Rattle.std.proofs.lemmas.List.{take_more, drop_more, map-append, map-set, length-map, length-set, length-take-le, take_all, drop_all}
 use Rattle.server_switch.specs.declared.server_line.ServerLine.{ServerLine}
 use Rattle.server_switch.specs.declared.lists.Part.{Part}
 use Rattle.server_switch.specs.Exchanges.{asked, share_asked}
@@ -68,3 +68,9 @@ shared_more start servers i before parts new part h so_far at is put more =
 
 pub length_asked : (servers : List ServerLine) (i : ℕ) (after : ServerLine) → length (set servers i after) ≡ length servers
 length_asked servers i after = length-set servers i after
+
+-- each was asked
+pub asked_all : (start : List Standing) (i : ℕ) → length start ≤ i → asked_ahead start i ≡ map asked start
+asked_all start i past =
+    ap (λ (rest : List Standing). map asked (take i start) ++ rest) (drop_all i start past)
+    ∙ (append-nil (map asked (take i start)) ∙ ap (map asked) (take_all i start past))

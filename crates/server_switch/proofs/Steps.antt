@@ -1,5 +1,5 @@
 -- Lines that wait, taken off one after another and put behind others.
-use Rattle.std.proofs.Common.{ℕ, ◌≡◌, Bool, ◌||◌, List, [], ◌∷◌, ◌++◌, map, Option, Some, None, refl, sym, ap, ◌∙◌, append_assoc}
+use Rattle.std.proofs.Common.{ℕ, ◌≡◌, Bool, ◌||◌, List, [], ◌∷◌, ◌++◌, map, Option, Some, None, refl, sym, ap, ◌∙◌, append_assoc, append-nil, length, arith}
 use Rattle.std.specs.Prelude.{option_to_list}
 use Rattle.std.specs.List.{list_any}
 use Rattle.std.proofs.lemmas.List.{map-append}
@@ -35,6 +35,12 @@ answer_more place answer taken waits then_taken queue rest kept new r pending ot
     ∙ (ap (λ (t : Bool). map wait_of kept ++ next_filled place answer taken (wait_of pending) ∷ answered_waits place answer t (map wait_of rest))
     (now ∙ ap (λ (w : Bool). taken || w) has)
     ∙ ap (λ (all : List Pending). map wait_of kept ++ answered_waits place answer taken (map wait_of all)) (sym (popped queue rest r pending items is)))
+
+-- the last of them
+pub answered_all : (place : ℕ) (answer : List ℕ) (taken : Bool) (queue kept : List Pending) (all : List Wait) → length queue ≡ 0 →
+    map wait_of kept ++ answered_waits place answer taken (map wait_of queue) ≡ all → map wait_of kept ≡ all
+answered_all place answer taken [] kept all none so_far = sym (append-nil (map wait_of kept)) ∙ so_far
+answered_all place answer taken (pending ∷ queue) kept all none so_far = absurd (omega arith)
 
 -- an answer more that is told
 pub told_more : (told now : List ℕ) (text : List ℕ) (queue rest : List Pending) (r : Option Pending) (pending : Pending) → queue ≡ option_to_list r ++ rest →

@@ -82,13 +82,15 @@ IsOutcome (Sends place line wait) old new =
     × (new.servers ≡ change_at (put_under old.name line) place old.servers) × (new.name ≡ old.name) × (new.told ≡ old.told)
 
 -- A line of a game goes to the game's server, with the number that the game has there, where that server is there.
+abbrev pub game_outcome_at : View → ℕ → List ℕ → ℕ → List ℕ → Outcome
+game_outcome_at v place word number tail =
+    if nat_le (length v.servers) place then Answers (codes "no 3 NoGame\n")
+    else (if is_here v place then Sends place (word ++ (codes " " ++ (decimal (game_of number) ++ tail))) (Sent place)
+    else Answers (codes "no 36 NoServer\n"))
+
 abbrev pub game_outcome : View → List ℕ → ℕ → List ℕ → Outcome
 game_outcome v word number tail =
-    if server_of number == 0 then Answers (codes "no 3 NoGame\n")
-    else (if nat_le (length v.servers) (server_of number - 1) then Answers (codes "no 3 NoGame\n")
-    else (if is_here v (server_of number - 1)
-    then Sends (server_of number - 1) (word ++ (codes " " ++ (decimal (game_of number) ++ tail))) (Sent (server_of number - 1))
-    else Answers (codes "no 36 NoServer\n")))
+    if server_of number == 0 then Answers (codes "no 3 NoGame\n") else game_outcome_at v (server_of number - 1) word number tail
 
 -- no server from a place on and before another is there
 abbrev pub IsNoneHere : View → ℕ → ℕ → Type 0

@@ -1,5 +1,5 @@
 -- The line to a server.
-use Rattle.std.specs.Prelude.{ℕ, Bool, false, true, List, [], ◌∷◌, ◌++◌, Option, Some, None, codes, drop, slice_get, slice_set, if◌then◌else◌}
+use Rattle.std.specs.Prelude.{ℕ, Bool, false, true, List, [], ◌++◌, Option, Some, None, codes, drop, slice_get, slice_set, if◌then◌else◌}
 use Rattle.lobby_words.specs.Answers.{is_whole, answer, left_after}
 pub use Rattle.lobby_words.specs.Answers.{ended}
 use Rattle.std.specs.String.{string_bytes}

@@ -1,5 +1,5 @@
 -- The numbers of games. Servers are counted from 1, and their places from 0.
-use Rattle.std.specs.Prelude.{ℕ, ◌≡◌, ◌+◌, ◌*◌, ◌%◌, ◌<◌, ◌≤◌, ◌^◌, ◌&&◌, nat_lt, Option, Some, None, if◌then◌else◌}
+use Rattle.std.specs.Prelude.{ℕ, ◌≡◌, ◌+◌, ◌*◌, ◌%◌, ◌<◌, ◌^◌, ◌&&◌, nat_lt, Option, Some, None, if◌then◌else◌}
 use Rattle.lobby_words.specs.Servers.{server_of}
 
 -- the number that the switch gives to a server's game

@@ -1,11 +1,12 @@
 //! One client's exchange with the servers: what comes in, and what goes out.
-ghost use Rattle.std.specs.Prelude.{◌≡◌, ◌≤◌, ◌<◌, ◌+◌, ◌↔◌, IsTrue, ◌++◌, ◌∷◌, [], true, false, Some, None, length, map, replicate, option_map, slice_get, IfSome, IfNone, IfOk, IfErr, OnOk, codes};
+ghost use Rattle.std.specs.Prelude.{◌≡◌, ◌≤◌, ◌<◌, ◌+◌, ◌↔◌, IsTrue, ◌++◌, ◌∷◌, [], true, false, Some, None, length, map, replicate, option_map, slice_get, IfSome, IfNone, IfOk, IfErr, OnOk, codes, decimal};
 ghost use Rattle.std.specs.List.{list_any};
 ghost use Rattle.std.specs.String.{string_bytes};
 ghost use Rattle.server_switch.specs.Exchanges as exchanges;
-ghost use Rattle.server_switch.specs.Exchanges.{View, view, fresh, is_here, is_away, said_at, wire_at, name_waits, IsNoneHere, IsSame, IsOutcome, Answers, Sends, game_outcome, IsOpened, IsNamed, IsListed, share_asked, asked, TextBecomes, LineBecomes, IsTold, IsSaid, IsSaidTooLong, IsTook, whole_answer, with_line, IsAnswered, IsHandedOn, IsHeard, with_connection, IsHere, IsGone, IsSent};
+ghost use Rattle.server_switch.specs.Exchanges.{View, view, fresh, is_here, is_away, said_at, wire_at, name_waits, IsNoneHere, IsSame, IsOutcome, Answers, Sends, game_outcome, game_outcome_at, IsOpened, IsNamed, IsListed, share_asked, asked, TextBecomes, LineBecomes, IsTold, IsSaid, IsSaidTooLong, IsTook, whole_answer, with_line, IsAnswered, IsHandedOn, IsHeard, with_connection, IsHere, IsGone, IsSent};
 ghost use Rattle.server_switch.specs.Fields.{tail_text};
 ghost use Rattle.server_switch.specs.Lines.{standing_of, change_at, put_under, is_new, renewed, took};
+ghost use Rattle.server_switch.specs.Numbers as numbers;
 ghost use Rattle.server_switch.specs.Waits.{wait_of, share_of};
 ghost use Rattle.server_switch.specs.Waits as waits;
 
@@ -236,24 +237,51 @@ impl Exchange {
         Ok(())
     }
 
-    // A line of a game.
-    #[tactic(auto, using(crate::proofs::Places::servers_len))]
-    fn game_said(&mut self, word: &str, number: u32, tail: Option<&str>) -> Result<(), AllocError>
-        ensures { OnOk result (IsOutcome (game_outcome (view self.old) word.now number (tail_text 32 tail.entry)) (view self.old) (view self.new)) }
+    // A line of a game goes to the server at a place.
+    fn send_game(
+        &mut self,
+        place: usize,
+        word: &str,
+        number: u32,
+        tail: Option<&str>,
+    ) -> Result<(), AllocError>
+        requires { place < length self.old.servers.items }
+        ensures { OnOk result (IsOutcome (exchanges.Sends place (word.now ++ (codes " " ++ (decimal (numbers.game_of number) ++ tail_text 32 tail.entry))) (waits.Sent place)) (view self.old) (view self.new)) }
     {
-        let Some(place) = (server_of(number) as usize).checked_sub(1) else {
-            return self.answer(NO_GAME);
-        };
+        let mut line = String::from_str(self.alloc, word)?;
+        line.push(' ')?;
+        push_number(&mut line, game_of(number), tail)?;
+        self.send(place, line.as_str(), Pending::Sent(place))
+    }
+
+    // A line of a game of the server at a place.
+    #[tactic(auto, using(crate::proofs::Places::servers_len))]
+    fn game_said_at(
+        &mut self,
+        place: usize,
+        word: &str,
+        number: u32,
+        tail: Option<&str>,
+    ) -> Result<(), AllocError>
+        ensures { OnOk result (IsOutcome (game_outcome_at (view self.old) place word.now number (tail_text 32 tail.entry)) (view self.old) (view self.new)) }
+    {
         if place >= self.servers.len() {
             return self.answer(NO_GAME);
         }
         if !self.is_here(place) {
             return self.answer(NO_SERVER);
         }
-        let mut line = String::from_str(self.alloc, word)?;
-        line.push(' ')?;
-        push_number(&mut line, game_of(number), tail)?;
-        self.send(place, line.as_str(), Pending::Sent(place))
+        self.send_game(place, word, number, tail)
+    }
+
+    // A line of a game.
+    fn game_said(&mut self, word: &str, number: u32, tail: Option<&str>) -> Result<(), AllocError>
+        ensures { OnOk result (IsOutcome (game_outcome (view self.old) word.now number (tail_text 32 tail.entry)) (view self.old) (view self.new)) }
+    {
+        match (server_of(number) as usize).checked_sub(1) {
+            Some(place) => self.game_said_at(place, word, number, tail),
+            None => self.answer(NO_GAME),
+        }
     }
 
     // A line that opens a game goes to the first server from a place on that is there.

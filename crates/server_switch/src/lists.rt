@@ -1,6 +1,6 @@
 //! The list of several servers.
 ghost use Rattle.std.specs.Prelude.{◌≡◌, ◌++◌, map, IfOk, OnOk};
-ghost use Rattle.std.specs.List.{list_any};
+ghost use Rattle.std.specs.List.{flat_map, list_any};
 ghost use Rattle.std.specs.String.{string_bytes};
 ghost use Rattle.server_switch.specs.Answers.{row_told, rows_told};
 ghost use Rattle.server_switch.specs.Exchanges.{asked, share_asked};
@@ -51,16 +51,23 @@ fn add_row(rows: &mut String, place: usize, row: &str) -> Result<(), AllocError>
     Ok(())
 }
 
+// The rows of lines, with the numbers that their games have here.
+fn rows_in(alloc: Global, place: usize, lines: &[&str]) -> Result<String, AllocError>
+    ensures { IfOk result (λ rows. string_bytes rows ≡ flat_map (λ row. row_told (fields.renumbered place row)) (map (λ row. row.now) lines.now)) }
+{
+    let mut rows = String::new(alloc);
+    for row in lines {
+        add_row(&mut rows, place, row)?;
+    }
+    Ok(rows)
+}
+
 // The rows of an answer, with the numbers that their games have here.
 fn rows_of(alloc: Global, place: usize, answer: &str) -> Result<String, AllocError>
     ensures { IfOk result (λ rows. string_bytes rows ≡ rows_told place answer.now) }
 {
     let lines = parts(alloc, answer, '\n')?;
-    let mut rows = String::new(alloc);
-    for row in lines.as_slice() {
-        add_row(&mut rows, place, row)?;
-    }
-    Ok(rows)
+    rows_in(alloc, place, lines.as_slice())
 }
 
 // What a server's answer to `list` has.

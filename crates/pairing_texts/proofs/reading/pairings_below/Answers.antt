@@ -1,4 +1,8 @@
-use Rattle.std.proofs.Common.{arith}
+use Rattle.std.proofs.Common.{◌+◌, List, map, ap, sym, ◌∙◌, arith}
+use Rattle.std.proofs.lemmas.List.{drop_all}
+use Rattle.csv.specs.Records.{fields_of}
+use Rattle.csv.specs.declared.record.StringRecord.{StringRecord}
+use Rattle.pairing_texts.specs.Round.{rows_in}
 use Rattle.pairing_texts.proofs.RowByRow.{rows_on, rows_stop}
 use Rattle.pairing_texts.proofs.reading.pairings_below.Goals as goal
 
@@ -11,3 +15,9 @@ pub returns-in-Some-clause-fault : goal.returns-in-Some-clause-fault
 returns-in-Some-clause-fault c =
     rows_stop c.args.rows.now c.loop-at.at _ _ _ _ (omega (arith, c.loop-at-test.true)) c.index-rows-at.is
     (rw c.in-Some.is at c.in_ok-fault.ensures) c.loop-at.invariant
+
+pub returns-clause-pairings : goal.returns-clause-pairings
+returns-clause-pairings c =
+    sym c.loop-at.invariant
+    ∙ ap (λ (rows : List StringRecord). rows_in c.loop-at.pairings.items (c.loop-at.at + 2) (map fields_of rows))
+    (drop_all c.loop-at.at c.args.rows.now (omega (arith, c.loop-at-test.false)))

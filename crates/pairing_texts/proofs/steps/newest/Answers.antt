@@ -34,3 +34,12 @@ pub returns : goal.returns
 returns c = λ n.
     let none : c.loop-left.left ≡ 0 = omega arith in
     ap (λ (k : ℕ). is_newer (numbers_of (take k c.args.rows.now)) n && is_newer c.loop-left.games.items n) (sym none) ∙ c.loop-left.invariant.1 n
+
+pub loop-left-smaller : goal.loop-left-smaller
+loop-left-smaller c = omega arith
+
+pub bounds-rows-left : goal.bounds-rows-left
+bounds-rows-left c = omega arith
+
+pub overflow_sub-left : goal.overflow_sub-left
+overflow_sub-left c = omega arith

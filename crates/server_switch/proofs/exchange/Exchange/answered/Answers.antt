@@ -1,6 +1,6 @@
 use Rattle.std.proofs.Common.{List, subst}
 use Rattle.std.proofs.lemmas.Result.{on_ok_weaker}
-use Rattle.server_switch.specs.Exchanges.{View, view, IsHandedOn}
+use Rattle.server_switch.specs.Exchanges.{view, IsHandedOn}
 use Rattle.server_switch.specs.Waits.{Wait}
 use Rattle.server_switch.proofs.exchange.Exchange.answered.Goals as goal
 

@@ -1,9 +1,7 @@
-use Rattle.std.proofs.Common.{◌<◌, ◌≤◌, ◌≡◌, Option, List, ℕ, length, refl, sym, ap, ◌∙◌, arith}
-use Rattle.std.specs.Prelude.{None, option_map}
-use Rattle.std.specs.String.{string_bytes}
+use Rattle.std.proofs.Common.{◌<◌, ◌≤◌, length, refl, sym, ap, ◌∙◌, arith}
 use Rattle.std.proofs.lemmas.Result.{IfOk-weaker, on_ok_weaker}
 use Rattle.server_switch.specs.Exchanges.{whole_answer}
-use Rattle.server_switch.specs.Lines.{Standing, standing_of, took, changed}
+use Rattle.server_switch.specs.Lines.{took}
 use Rattle.server_switch.proofs.Places.{sent_at, got_at, past_at}
 use Rattle.server_switch.proofs.exchange.Exchange.take_line.Goals as goal
 
