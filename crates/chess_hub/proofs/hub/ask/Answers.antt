@@ -21,12 +21,13 @@ returns-in-Err-clause-fault g c =
 pub returns-in-Err-clause-lasts : goal.returns-in-Err-clause-lasts
 returns-in-Err-clause-lasts g c = λ kept.
     lasts_refused (Err (Store c.in-Err.fault)) (Store c.in-Err.fault) c.in-Err.fault refl refl
-    (c.submit.ensures.batch.any_moment kept) (c.in-Err.ensures.kept_err kept)
+    (c.submit.ensures.batch.any_moment kept) (c.in-Err.ensures.stays.kept_err kept)
 
 pub returns-in-Err-clause-tried : goal.returns-in-Err-clause-tried
 returns-in-Err-clause-tried g c =
-    tried_refused (Err (Store c.in-Err.fault)) (Store c.in-Err.fault) c.in-Err.fault refl refl c.in-Err.ensures.batch.tried
-    c.submit.ensures.batch.limits c.submit.ensures.batch.bounds c.submit.ensures.batch.idle c.in-Err.ensures.unchanged
+    let batch = c.submit.ensures.batch in
+    tried_refused (Err (Store c.in-Err.fault)) (Store c.in-Err.fault) c.in-Err.fault refl refl
+    c.in-Err.ensures.batch.tried batch.limits batch.bounds batch.idle c.in-Err.ensures.stays.unchanged
 
 pub returns-in-Ok-clause-count : goal.returns-in-Ok-clause-count
 returns-in-Ok-clause-count g c =
@@ -36,5 +37,5 @@ returns-in-Ok-clause-count g c =
 
 pub returns-in-Ok-clause-lasts : goal.returns-in-Ok-clause-lasts
 returns-in-Ok-clause-lasts g c = λ kept.
-    lasts_answered c.submit.result c.in-Ok.replies c.in-Ok.is (c.submit.ensures.batch.any_moment kept)
-    (c.submit.ensures.batch.kept kept)
+    let batch = c.submit.ensures.batch in
+    lasts_answered c.submit.result c.in-Ok.replies c.in-Ok.is (batch.any_moment kept) (batch.kept kept)

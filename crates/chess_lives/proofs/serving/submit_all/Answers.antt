@@ -103,7 +103,7 @@ returns-in-Err-clause-tallied g c =
     (λ was is.
     let worn = (c.submit.ensures.worn.0 (c.in-Err.is ∙ ap (λ (f : StoreFault). Err f) is)).1 in
     let same = subst (λ (f : StoreFault). UnlessDevice f ((new.journal.device ≡ store.journal.device)
-    × (new.table ≡ store.table) × (new.failed ≡ store.failed))) is c.in-Err.ensures.unchanged in
+    × (new.table ≡ store.table) × (new.failed ≡ store.failed))) is c.in-Err.ensures.stays.unchanged in
     worn_before (g.D.Device.state new.journal.device) store.journal.header store.journal.compaction store.table
     c.batch-item.result.items
     (subst (λ (d : _). IsKept (g.D.Device.state d) store.journal.header store.journal.compaction store.table)
