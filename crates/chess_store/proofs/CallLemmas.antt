@@ -2,13 +2,16 @@
 use Rattle.std.specs.Prelude.{◌≡◌, ◌≤◌, ℕ, Bool, Result, Ok, Err, OnOk, OnErr, IfErr, is_err, true, false}
 use Rattle.std.proofs.Common.{refl, sym, subst}
 use Rattle.std.proofs.lemmas.Bool.{false≢true}
+use Rattle.sector_dev.specs.declared.device.Device.{Ghosts}
 use Rattle.sector_dev.specs.Device.{State, CountsFailure, HasRisen}
 use Rattle.sector_journal.specs.declared.fault.JournalFault.{JournalFault}
 use Rattle.chess_store.specs.Committing.{IsTried}
 use Rattle.chess_store.specs.declared.fault.StoreFault.{StoreFault}
 use Rattle.chess_store.specs.declared.fault.StoreFault.TheVariants.{Device, NoMemory, Worn}
 use Rattle.chess_store.specs.Faults.{IsDevice, UnlessDevice, CountsFault}
-use Rattle.chess_store.specs.Calling.{CallTried}
+use Rattle.chess_store.specs.declared.store.Store.{Store}
+use Rattle.chess_store.specs.Calling.{CallTried, StaysUnlessDevice}
+use Rattle.chess_store.specs.Kept.{IsStoreKept}
 
 -- what holds of a call's `Ok`, where it gave one
 pub ok_was : {T E : Type 0} (r : Result T E) (x : T) (P : Type 0) → r ≡ Ok x → OnOk r P → P
@@ -40,6 +43,36 @@ pub unless_device : {T : Type 0} (r : Result T StoreFault) (P : Type 0) → IfEr
 unless_device (Ok x) P device = tt
 unless_device (Err (Device pending)) P device = tt
 unless_device r P device = absurd device
+
+-- what holds of each fault holds of a call's
+if_any : {T E : Type 0} (r : Result T E) (P : E → Type 0) → ((e : E) → P e) → IfErr r P
+if_any (Ok x) P holds = tt
+if_any (Err e) P holds = holds e
+
+pub unless_any : (fault : StoreFault) (P : Type 0) → P → UnlessDevice fault P
+unless_any (Device pending) P holds = tt
+unless_any fault P holds = holds
+
+-- ---- what a fault leaves
+
+module _ {D T : Type 0} {ghosts : Ghosts D} (old new : Store D ghosts) {result : Result T StoreFault} where
+  -- the store is as it was, whatever the fault
+  pub stays_so : (IsStoreKept old → IsStoreKept new) → new.journal.device ≡ old.journal.device
+      → new.table ≡ old.table → new.failed ≡ old.failed → StaysUnlessDevice old new result
+  stays_so kept device table failed = record {
+    kept_err = λ was. if_any result _ (λ fault. unless_any fault (IsStoreKept new) (kept was));
+    unchanged = if_any result _ (λ fault.
+        unless_any fault ((new.journal.device ≡ old.journal.device) × (new.table ≡ old.table)
+        × (new.failed ≡ old.failed)) (device, table, failed));
+  }
+
+  -- the device alone can be at fault
+  pub stays_else : IfErr result IsDevice → StaysUnlessDevice old new result
+  stays_else device = record {
+    kept_err = λ was. unless_device result (IsStoreKept new) device;
+    unchanged = unless_device result ((new.journal.device ≡ old.journal.device) × (new.table ≡ old.table)
+        × (new.failed ≡ old.failed)) device;
+  }
 
 -- ---- what a call does to the device
 

@@ -6,4 +6,5 @@ pub mod CommitLemmas
 pub mod OpenLemmas
 pub mod WidenLemmas
 mod ShownLemmas
+mod SubmitLemmas
 mod RefusedLemmas

@@ -6,4 +6,5 @@ pub mod Means
 pub mod Committing
 pub mod Creating
 pub mod Opening
+pub mod Submitting
 pub mod Widening

@@ -15,26 +15,27 @@ returns-in-Err-clause-fault g c =
     record {
       some = search rules;
       why = batch_fault store.journal.header.seq store.table c.submit.new.self.table c.args.commands.now c.in-Err.fault
-          store.failed is.fault is.pending is.failed is.worn;
+          store.failed is.fault is.batch.pending is.failed is.worn;
     }
 
 pub returns-in-Err-clause-lasts : goal.returns-in-Err-clause-lasts
 returns-in-Err-clause-lasts g c = λ kept.
     lasts_refused (Err (Store c.in-Err.fault)) (Store c.in-Err.fault) c.in-Err.fault refl refl
-    (c.submit.ensures.any_moment kept) (c.in-Err.ensures.kept_err kept)
+    (c.submit.ensures.batch.any_moment kept) (c.in-Err.ensures.stays.kept_err kept)
 
 pub returns-in-Err-clause-tried : goal.returns-in-Err-clause-tried
 returns-in-Err-clause-tried g c =
-    tried_refused (Err (Store c.in-Err.fault)) (Store c.in-Err.fault) c.in-Err.fault refl refl c.in-Err.ensures.tried
-    c.submit.ensures.limits c.submit.ensures.bounds c.submit.ensures.idle c.in-Err.ensures.unchanged
+    let batch = c.submit.ensures.batch in
+    tried_refused (Err (Store c.in-Err.fault)) (Store c.in-Err.fault) c.in-Err.fault refl refl
+    c.in-Err.ensures.batch.tried batch.limits batch.bounds batch.idle c.in-Err.ensures.stays.unchanged
 
 pub returns-in-Ok-clause-count : goal.returns-in-Ok-clause-count
 returns-in-Ok-clause-count g c =
-    let is = c.in-Ok.ensures.replies in
+    let is = c.in-Ok.ensures.batch.replies in
     answered_count c.args.commands.now c.args.store.now.table c.in-Ok.replies.items is.entries
     c.submit.new.self.table is.answered
 
 pub returns-in-Ok-clause-lasts : goal.returns-in-Ok-clause-lasts
 returns-in-Ok-clause-lasts g c = λ kept.
-    lasts_answered c.submit.result c.in-Ok.replies c.in-Ok.is (c.submit.ensures.any_moment kept)
-    (c.submit.ensures.kept kept)
+    let batch = c.submit.ensures.batch in
+    lasts_answered c.submit.result c.in-Ok.replies c.in-Ok.is (batch.any_moment kept) (batch.kept kept)

@@ -39,7 +39,7 @@ loop-batch-init g c = record {
 pub loop-batch-preserved : goal.loop-batch-preserved
 loop-batch-preserved g c =
     let inv = c.loop-batch.invariant in
-    let e = c.in-Ok.ensures in
+    let e = c.in-Ok.ensures.batch in
     let replies = c.in-Ok.replies.items in
     let answered = e.replies in
     let told : IsAnswered c.loop-batch.store.table c.batch-item.result.items replies answered.entries
@@ -89,7 +89,7 @@ returns-in-Err-clause-tallied g c =
     c.loop-batch-test.true c.batch-item.is in
     let last : MayLast c.in-Err.fault store.table c.batch-item.result.items new.table =
     subst (λ (commands : List Command). MayLast c.in-Err.fault store.table commands new.table) c.deref.ensures.value
-    c.in-Err.ensures.pending in
+    c.in-Err.ensures.batch.pending in
     subst (λ (bs : List (List Command)). IsTallied c.args.store.now.table bs
     (record { shown = c.loop-batch.count; unsent = c.loop-batch.refused; fault = Some c.in-Err.fault })
     (g.D.Device.failures device) WasKept (g.D.Device.state new.journal.device) (g.D.Device.failures new.journal.device))
@@ -99,11 +99,11 @@ returns-in-Err-clause-tallied g c =
     around.rest c.batch-item.result.items store.table new.table c.loop-batch.count c.loop-batch.refused
     (g.D.Device.failures store.journal.device) c.in-Err.fault inv.so_far c.in-Err.ensures.fault
     (λ is. let failed : store.failed ≡ true = c.submit.ensures.failed.0 (c.in-Err.is ∙ ap (λ (f : StoreFault). Err f) is) in cc)
-    last c.in-Err.ensures.tried.cause_err inv.unfailed
+    last c.in-Err.ensures.batch.tried.cause_err inv.unfailed
     (λ was is.
     let worn = (c.submit.ensures.worn.0 (c.in-Err.is ∙ ap (λ (f : StoreFault). Err f) is)).1 in
     let same = subst (λ (f : StoreFault). UnlessDevice f ((new.journal.device ≡ store.journal.device)
-    × (new.table ≡ store.table) × (new.failed ≡ store.failed))) is c.in-Err.ensures.unchanged in
+    × (new.table ≡ store.table) × (new.failed ≡ store.failed))) is c.in-Err.ensures.stays.unchanged in
     worn_before (g.D.Device.state new.journal.device) store.journal.header store.journal.compaction store.table
     c.batch-item.result.items
     (subst (λ (d : _). IsKept (g.D.Device.state d) store.journal.header store.journal.compaction store.table)
@@ -114,8 +114,8 @@ returns-in-Err-clause-tallied g c =
     let kept = inv.kept was in
     leaves_now (g.D.Device.sector_count new.journal.device) (g.D.Device.state store.journal.device)
     (g.D.Device.state new.journal.device) (MeansEither store.table new.table)
-    (g.met.D.Device.coherent new.journal.device) (c.submit.ensures.tried.model.1 kept.keeps.model)
-    (c.submit.ensures.any_moment kept)))
+    (g.met.D.Device.coherent new.journal.device) (c.submit.ensures.batch.tried.model.1 kept.keeps.model)
+    (c.submit.ensures.batch.any_moment kept)))
 
 pub returns-in-Err-clause-fault : goal.returns-in-Err-clause-fault
 returns-in-Err-clause-fault g c =
@@ -127,9 +127,9 @@ returns-in-Err-clause-fault g c =
 pub returns-in-Err-clause-counts : goal.returns-in-Err-clause-counts
 returns-in-Err-clause-counts g c =
     subst (λ (n : ℕ). CountsFault c.in-Err.fault n (g.D.Device.failures c.submit.new.self.journal.device))
-    c.loop-batch.invariant.unfailed c.in-Err.ensures.tried.cause_err
+    c.loop-batch.invariant.unfailed c.in-Err.ensures.batch.tried.cause_err
 
 pub returns-in-Err-clause-room : goal.returns-in-Err-clause-room
 returns-in-Err-clause-room g c =
     room-err c.in-Err.fault c.loop-batch.store.table c.submit.new.self.table c.deref.result.now c.loop-batch.count
-    c.in-Err.ensures.pending c.submit.ensures.bounds c.loop-batch.invariant.so_far.count
+    c.in-Err.ensures.batch.pending c.submit.ensures.batch.bounds c.loop-batch.invariant.so_far.count
