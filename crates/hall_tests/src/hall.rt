@@ -3,7 +3,7 @@ use crate::browser::{file_of, site_of};
 use crate::frames::UPGRADE;
 use lobby_desk::Order;
 use lobby_loop::{
-    ActLog, Fault, Found, Hall, Links, Listens, NoActLog, NoLinks, Welcomed, welcome,
+    ActLog, Fault, Found, Hall, KeepsLinks, Listens, NoActLog, NoLinks, Welcomed, welcome,
 };
 use lobby_players::relinked;
 use lobby_roster::{Linked, Player};
@@ -145,7 +145,7 @@ struct Once {
 const FILE: &[u8] =
     b"ann player e3b98a4da31a127d4bde6e43033f66ba274cab0eb7eb1c70ec41402bf6273dd8 ann\neve arbiter 3f79bb7b435b05321651daefd374cdc681dc06faa65e374e38337b88ca046dea eve\n";
 
-impl Links for Once {
+impl KeepsLinks for Once {
     ghost found = { λ once. once.found.items };
 
     fn change(&mut self, order: &Order) -> Option<Linked> {

@@ -111,8 +111,8 @@ impl Counts {
         }
     }
 
-    /// A browser that asked at these moments is told a text: an answer, or a notice, which is not counted.
-    pub fn told(&mut self, text: &str, asked: &mut Asked) {
+    // A browser that asked at these moments is told a text: an answer, or a notice, which is not counted.
+    pub(crate) fn told(&mut self, text: &str, asked: &mut Asked) {
         match first_word(text) {
             "ok" => {
                 count(&mut self.ok);
@@ -127,24 +127,24 @@ impl Counts {
     }
 }
 
-/// When the messages were taken that are not answered yet: one whose answer is on its way, and one behind it.
+// When the messages were taken that are not answered yet: one whose answer is on its way, and one behind it.
 #[derive(Clone, Copy)]
-pub struct Asked {
+pub(crate) struct Asked {
     first: Option<u64>,
     second: Option<u64>,
 }
 
 impl Asked {
-    /// Nothing was asked.
-    pub fn new() -> Asked {
+    // Nothing was asked.
+    pub(crate) fn new() -> Asked {
         Asked {
             first: None,
             second: None,
         }
     }
 
-    /// A message was taken at a moment.
-    pub fn push(&mut self, at: u64) {
+    // A message was taken at a moment.
+    pub(crate) fn push(&mut self, at: u64) {
         if self.first.is_none() {
             self.first = Some(at);
         } else {
@@ -152,8 +152,8 @@ impl Asked {
         }
     }
 
-    /// The moment of the earliest that is not answered: it is now.
-    pub fn take(&mut self) -> Option<u64> {
+    // The moment of the earliest that is not answered: it is now.
+    fn take(&mut self) -> Option<u64> {
         let asked_at = self.first;
         self.first = self.second;
         self.second = None;

@@ -3,8 +3,10 @@ ghost use Rattle.std.specs.Prelude.{ℕ, ◌≡◌, None, Some, true, OnOk};
 ghost use Rattle.lobby_desk.specs.Who.{IsReady, at_table};
 ghost use Rattle.lobby_guests.specs.Guests.{IsNewGuest, IsAsBefore, IsRead, IsHeardAs, IsHeard, IsSaid, IsTold, AreTold, IsWritten, IsLookedAfter};
 
+use crate::counts::Asked;
 use crate::pieces::{Gone, PIECE_ROOM, write_piece};
-use crate::{Asked, Counts, Links, Talk, say_to_desk};
+use crate::said::say_to_desk;
+use crate::{Counts, KeepsLinks, Talk};
 use lobby_desk::Message;
 use lobby_web::{Browser, Heard, Site, Unsaid};
 use session_lines::{Came, read_piece};
@@ -124,7 +126,7 @@ impl<S> Guest<S> {
     }
 
     // What its socket gave is said to the desk.
-    fn speak<K: Links>(
+    fn speak<K: KeepsLinks>(
         &mut self,
         heard: &Heard,
         talk: &mut Talk,
@@ -167,7 +169,7 @@ impl<S> Guest<S> {
 
     /// What came next of it is said to the desk: that its socket is open, or a message, once the one before it is answered.
     /// It tells whether there was any.
-    pub fn hear<K: Links>(
+    pub fn hear<K: KeepsLinks>(
         &mut self,
         talk: &mut Talk,
         at: u64,

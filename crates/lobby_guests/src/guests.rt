@@ -6,15 +6,16 @@ ghost use Rattle.std.specs.List.{AllZip};
 ghost use Rattle.lobby_guests.specs.Guests.{IsAsBefore, IsAttended, AreAttended, AreTold, AreDelivered, IsWritten, IsLookedAfter, IsClosedIf, AreClosed, AreParted};
 
 use crate::guest::Guest;
+use crate::made::finish_all;
 use crate::pieces::PIECE_ROOM;
-use crate::{Counts, Links, Talk, finish_all};
+use crate::{Counts, KeepsLinks, Talk};
 use lobby_desk::Message;
 use lobby_web::Site;
 use std::alloc::{AllocError, Global};
 use std::io::{Read, Write};
 
 // Reads for a browser, and says to the desk what came next of it. It tells whether there was anything.
-fn attend<S: Read + Write, K: Links>(
+fn attend<S: Read + Write, K: KeepsLinks>(
     guest: &mut Guest<S>,
     site: &Site,
     talk: &mut Talk,
@@ -31,7 +32,7 @@ fn attend<S: Read + Write, K: Links>(
 }
 
 /// Reads for each, and says to the desk what came next of it. It tells whether there was anything.
-pub fn attend_all<S: Read + Write, K: Links>(
+pub fn attend_all<S: Read + Write, K: KeepsLinks>(
     guests: &mut Vec<Guest<S>>,
     site: &Site,
     talk: &mut Talk,

@@ -14,13 +14,10 @@ mod pieces;
 mod said;
 mod talk;
 
-pub use counts::{ACTS, Asked, BOUNDS, Counts};
+pub use counts::{ACTS, BOUNDS, Counts};
 pub use guest::Guest;
 pub use guests::{attend_all, deliver, let_go, look_after_all, push_guest, wake_all, write_all};
-pub use lines::hear_lines;
 pub use link::Link;
-pub use links::{Links, NoLinks};
-pub use made::finish_all;
+pub use links::{KeepsLinks, NoLinks};
 pub use pieces::PIECE_ROOM;
-pub use said::say_to_desk;
 pub use talk::Talk;

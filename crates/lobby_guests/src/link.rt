@@ -3,8 +3,9 @@ ghost use Rattle.std.specs.Prelude.{ℕ, List, ◌≡◌, ◌++◌, [], OnOk};
 ghost use Rattle.std.specs.Io.KnownBytes.{Consumes};
 ghost use Rattle.lobby_guests.specs.Held.{IsKept, TakesIn, HandsOn};
 
+use crate::lines::hear_lines;
 use crate::pieces::{Gone, PIECE_ROOM, write_piece};
-use crate::{Talk, hear_lines};
+use crate::talk::Talk;
 use session_lines::{Came, give_up, read_piece};
 use std::alloc::{AllocError, Global};
 use std::io::{Read, Write};

@@ -8,7 +8,7 @@ use lobby_desk::Order;
 use lobby_roster::Linked;
 
 /// Keeps the players' file, by which links hold, and beside it whether entries are paused.
-pub trait Links {
+pub trait KeepsLinks {
     /// The players of the file as it was read for the last change that was made.
     ghost found: { Self → List Player };
 
@@ -26,7 +26,7 @@ pub trait Links {
 #[derive(Clone, Copy)]
 pub struct NoLinks;
 
-impl Links for NoLinks {
+impl KeepsLinks for NoLinks {
     ghost found = { λ _. [] };
 
     fn change(&mut self, _order: &Order) -> Option<Linked> {

@@ -102,8 +102,8 @@ fn finish(alloc: Global, one: &mut Message) -> Result<(), AllocError>
     finish_text(alloc, one.kind, &mut one.text)
 }
 
-/// Messages, as they go out: each in its own place.
-pub fn finish_all(alloc: Global, told: &mut Vec<Message>) -> Result<(), AllocError>
+// Messages, as they go out: each in its own place.
+pub(crate) fn finish_all(alloc: Global, told: &mut Vec<Message>) -> Result<(), AllocError>
     ensures { OnOk result (AllZip IsMadeOf told.old.items told.new.items) }
 {
     for one in told.iter_mut() {

@@ -3,14 +3,14 @@ ghost use Rattle.std.specs.Prelude.{◌≡◌, Some, OnOk};
 ghost use Rattle.lobby_desk.specs.Who.{IsReady, order_asked};
 ghost use Rattle.lobby_guests.specs.Talking.{Says, IsTextSaid};
 
-use crate::links::Links;
+use crate::links::KeepsLinks;
 use crate::talk::Talk;
 use lobby_desk::Order;
 use std::alloc::AllocError;
 use std::str;
 
 // A message is said to the desk that asks for a player's link: whoever keeps the players' file is asked first.
-fn say_order<K: Links>(
+fn say_order<K: KeepsLinks>(
     shown: &str,
     number: u64,
     talk: &mut Talk,
@@ -35,7 +35,7 @@ fn say_order<K: Links>(
 }
 
 // A message is said to the desk.
-fn say<K: Links>(
+fn say<K: KeepsLinks>(
     shown: &str,
     number: u64,
     talk: &mut Talk,
@@ -57,8 +57,8 @@ fn say<K: Links>(
     }
 }
 
-/// A text of a connection is said to the desk; one that is no UTF-8 as the empty text, which is refused.
-pub fn say_to_desk<K: Links>(
+// A text of a connection is said to the desk; one that is no UTF-8 as the empty text, which is refused.
+pub(crate) fn say_to_desk<K: KeepsLinks>(
     text: &[u8],
     number: u64,
     talk: &mut Talk,

@@ -12,4 +12,4 @@ pub use door::{Entrance, Found, Listens, Welcomed, welcome};
 pub use hall::Hall;
 pub use law::{law_of_browsers, law_of_halls, law_of_lobbies};
 pub use lobby::{Lobby, Turned};
-pub use lobby_guests::{ACTS, BOUNDS, Counts, Links, NoLinks};
+pub use lobby_guests::{ACTS, BOUNDS, Counts, KeepsLinks, NoLinks};

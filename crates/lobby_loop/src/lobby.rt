@@ -9,7 +9,7 @@ ghost use Rattle.lobby_loop.specs.Logging.{Logs};
 use crate::act_log::{ActLog, Fault};
 use crate::door::{Entrance, Gate, Welcomed, welcome};
 use crate::hall::Hall;
-use lobby_guests::{Counts, Links};
+use lobby_guests::{Counts, KeepsLinks};
 use lobby_roster::Player;
 use lobby_web::{File, Site};
 use mio::net::TcpStream;
@@ -22,7 +22,7 @@ use std::net::{Net, SocketAddr};
 use std::time::Duration;
 
 /// What came of a turn.
-#[derive(Clone, Copy, PartialEq, Eq)]
+#[derive(Clone, Copy)]
 pub enum Turned {
     /// There was something to do, and there may be more.
     Worked,
@@ -294,7 +294,7 @@ impl Lobby {
 
     /// One turn at a moment, in milliseconds of a clock that does not go back. It waits for nothing but the log and
     /// the players' file.
-    pub fn turn<L: ActLog, K: Links>(
+    pub fn turn<L: ActLog, K: KeepsLinks>(
         &mut self,
         net: &impl Net,
         at: u64,

@@ -3,20 +3,20 @@
 #![tactic(auto)]
 
 mod adding;
-mod entries;
 mod faults;
 mod file;
 mod line;
 mod lines;
+mod pause_file;
 mod players;
 mod reading;
 mod relinking;
 mod token;
 
 pub use adding::{Addition, added};
-pub use entries::Entries;
 pub use faults::{AddFault, LineFault, LinkFault, PlayersFault};
 pub use file::{Hold, put_file, read_file};
+pub use pause_file::PauseFile;
 pub use players::{full_name, players_of};
 pub use reading::read;
 pub use relinking::{ChangedFile, relinked};

@@ -5,8 +5,8 @@ ghost use Rattle.lobby_roster.specs.Players.{IsRelinked};
 
 use anyhow::Result;
 use lobby_desk::Order;
-use lobby_loop::Links;
-use lobby_players::{ChangedFile, Entries, Hold, new_token, relinked};
+use lobby_loop::KeepsLinks;
+use lobby_players::{ChangedFile, Hold, PauseFile, new_token, relinked};
 use lobby_roster::{Linked, Player};
 use std::fs::File;
 use std::random::RandomSource;
@@ -19,12 +19,12 @@ pub struct FileLinks<'a, R> {
     file: &'a str,
     // The players of the file as it was read for the last change.
     found: Vec<Player>,
-    entries: Entries<'a, R>,
+    entries: PauseFile<'a, R>,
 }
 
 impl<'a, R: Files<File = File> + AllocGlobal + RandomSource> FileLinks<'a, R> {
     /// Those of this file.
-    pub fn new(rt: &'a R, file: &'a str, entries: Entries<'a, R>) -> Self {
+    pub fn new(rt: &'a R, file: &'a str, entries: PauseFile<'a, R>) -> Self {
         FileLinks {
             rt,
             file,
@@ -55,7 +55,7 @@ impl<'a, R: Files<File = File> + AllocGlobal + RandomSource> FileLinks<'a, R> {
     }
 }
 
-impl<R: Files<File = File> + AllocGlobal + RandomSource + Eprint> Links for FileLinks<'_, R> {
+impl<R: Files<File = File> + AllocGlobal + RandomSource + Eprint> KeepsLinks for FileLinks<'_, R> {
     ghost found = { λ links. links.found.items };
 
     fn change(&mut self, order: &Order) -> Option<Linked> {

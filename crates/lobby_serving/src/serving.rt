@@ -9,7 +9,7 @@ use crate::table::Table;
 use anyhow::{Context, Result};
 use lobby_commands::Serving;
 use lobby_loop::{ActLog, Entrance, Lobby, NoActLog, Turned};
-use lobby_players::Entries;
+use lobby_players::PauseFile;
 use lobby_roster::Player;
 use server_calls::Moments;
 use std::fs::File;
@@ -81,7 +81,7 @@ where
     R: Files<File = File> + AllocGlobal + Clone + Drop + Clock + Eprint + Net + RandomSource,
 {
     // Nothing was looked at or told.
-    fn new(rt: &'a R, serving: &'a Serving<'a>, entries: Entries<'a, R>) -> Result<Self> {
+    fn new(rt: &'a R, serving: &'a Serving<'a>, entries: PauseFile<'a, R>) -> Result<Self> {
         let health = Health::new(rt, serving.journals.as_slice())?;
         Ok(Beside {
             rt,
@@ -199,7 +199,7 @@ where
     fn serve_lobby<L: ActLog>(
         &self,
         players: &mut Players<'_, R>,
-        entries: Entries<'_, R>,
+        entries: PauseFile<'_, R>,
         address: SocketAddr,
         lobby: &mut Lobby,
         log: &mut L,
@@ -221,7 +221,7 @@ where
         let (rt, serving) = (self.rt, self.serving);
         let entrance = entrance_on(rt, serving.address)?;
         let address = entrance.address()?;
-        let entries = Entries::new(rt, serving.players)?;
+        let entries = PauseFile::new(rt, serving.players)?;
         let mut lobby = self.lobby(entrance, address, known, entries.is_paused())?;
         let served = self.serve_lobby(players, entries, address, &mut lobby, log);
         drop(lobby);

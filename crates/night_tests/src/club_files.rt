@@ -1,5 +1,5 @@
 //! What no clause says: who may read the players' file, who may change it, and what is kept beside it.
-use lobby_players::{Entries, Hold, put_file};
+use lobby_players::{Hold, PauseFile, put_file};
 use std::fs;
 use std::fs::File;
 use std::os::unix::fs::PermissionsExt;
@@ -65,8 +65,8 @@ fn mode<R: Files + Abort>(rt: &R) -> u32 {
 fn entries<'a, R: Files<File = File> + AllocGlobal + Eprint + Abort>(
     rt: &'a R,
     file: &str,
-) -> Entries<'a, R> {
-    Entries::new(rt, file).ok().expect(rt, "entries")
+) -> PauseFile<'a, R> {
+    PauseFile::new(rt, file).ok().expect(rt, "entries")
 }
 
 // Whether entries are paused for the lobby that keeps this, and for the next one.

@@ -12,13 +12,13 @@ const TEXT: &str =
 
 /// What is kept of that.
 #[derive(Drop)]
-pub struct Entries<'a, R> {
+pub struct PauseFile<'a, R> {
     rt: &'a R,
     file: String,
     is_paused: bool,
 }
 
-impl<'a, R: Files<File = File> + AllocGlobal + Eprint> Entries<'a, R> {
+impl<'a, R: Files<File = File> + AllocGlobal + Eprint> PauseFile<'a, R> {
     /// As it was kept beside this players' file; where they are paused that is told. It fails where the system does not tell.
     pub fn new(rt: &'a R, players: &str) -> Result<Self> {
         let file = format!(in rt.alloc(); "{players}.paused")?;
@@ -26,7 +26,7 @@ impl<'a, R: Files<File = File> + AllocGlobal + Eprint> Entries<'a, R> {
         if is_paused {
             eprintln!(rt; "entries are paused, as they were: {file} is there")?;
         }
-        Ok(Entries {
+        Ok(PauseFile {
             rt,
             file,
             is_paused,
