@@ -124,6 +124,24 @@ fn add_field(
     )
 }
 
+// The same with a value that is made; it fails too where that is none.
+fn add_value(
+    alloc: Global,
+    response: &mut Response,
+    name: &'static str,
+    value: &[u8],
+) -> Result<(), AllocError>
+    requires { IsTrue (is_header_name name.now) }
+    ensures headers { OnOk result (fields_of response.new ≡ fields_of response.old ++ (name.now, value.now) ∷ []) }
+    ensures status { response.new.status ≡ response.old.status }
+    ensures body { response.new.body ≡ response.old.body }
+{
+    let Ok(made) = HeaderValue::from_bytes(alloc, value) else {
+        return Err(AllocError);
+    };
+    response.add_header(HeaderName::from_static(name), made)
+}
+
 // The browser runs and loads only what is of the page's own host, frames it nowhere, and sends no form.
 const POLICY: &str =
     "default-src 'none'; script-src 'self'; style-src 'self'; img-src 'self'; connect-src 'self'; base-uri 'none'; form-action 'none'; frame-ancestors 'none'";
@@ -171,18 +189,6 @@ fn add_readers(response: &mut Response, kind: Kind) -> Result<(), AllocError>
     }
 }
 
-// Puts a file's entity tag behind the fields.
-fn add_tag(alloc: Global, response: &mut Response, file: &File) -> Result<(), AllocError>
-    ensures headers { OnOk result (fields_of response.new ≡ fields_of response.old ++ (codes "etag", file.now.tag.items) ∷ []) }
-    ensures status { response.new.status ≡ response.old.status }
-    ensures body { response.new.body ≡ response.old.body }
-{
-    let Ok(tag) = HeaderValue::from_bytes(alloc, file.tag()) else {
-        return Err(AllocError);
-    };
-    Ok(response.add_header(HeaderName::from_static("etag"), tag)?)
-}
-
 // A file, with its media type.
 fn send(alloc: Global, response: &mut Response, file: &File) -> Result<(), AllocError>
     requires { IsBlank response.old }
@@ -190,7 +196,7 @@ fn send(alloc: Global, response: &mut Response, file: &File) -> Result<(), Alloc
 {
     begin(response, StatusCode::OK, media_type(file.kind()))?;
     add_readers(response, file.kind())?;
-    add_tag(alloc, response, file)?;
+    add_value(alloc, response, "etag", file.tag())?;
     response.body.push(file.bytes().clone()?)
 }
 
@@ -201,7 +207,7 @@ fn spare(alloc: Global, response: &mut Response, file: &File) -> Result<(), Allo
 {
     guard(response, StatusCode::NOT_MODIFIED)?;
     add_readers(response, file.kind())?;
-    Ok(add_tag(alloc, response, file)?)
+    Ok(add_value(alloc, response, "etag", file.tag())?)
 }
 
 // Whether an entity tag is a file's: one that packs its bytes on the way makes it a weak one.
@@ -321,10 +327,7 @@ fn switch(alloc: Global, response: &mut Response, key: &[u8]) -> Result<(), Allo
     response.status = StatusCode::SWITCHING_PROTOCOLS;
     add_field(response, "connection", "Upgrade")?;
     add_field(response, "upgrade", "websocket")?;
-    let Ok(accepted) = HeaderValue::from_bytes(alloc, key) else {
-        return Err(AllocError);
-    };
-    response.add_header(HeaderName::from_static("sec-websocket-accept"), accepted)
+    add_value(alloc, response, "sec-websocket-accept", key)
 }
 
 // The upgrade for this key, or that it is none.
