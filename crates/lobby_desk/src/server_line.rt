@@ -154,7 +154,8 @@ impl ServerLine {
         ensures heard { IsHeardSame self.old self.new }
     {
         self.queue.push_back(due)?;
-        put(wire, front, rest)
+        put(wire, front, rest)?;
+        Ok(())
     }
 
     /// Passes a line on.
@@ -205,7 +206,6 @@ impl ServerLine {
     }
 
     /// Asks how a game stands, by two lines: the answer to the second is due so.
-    #[tactic(auto, using(crate::proofs::Sent::two_lines))]
     pub fn ask_standing(
         &mut self,
         game: u32,
@@ -219,7 +219,8 @@ impl ServerLine {
         ensures heard { IsHeardSame self.old self.new }
     {
         self.ask("show ", game, Due::Own, wire)?;
-        self.ask("fen ", game, due, wire)
+        self.ask("fen ", game, due, wire)?;
+        Ok(())
     }
 
     // Asks right behind an act how its game stands, if it names one.

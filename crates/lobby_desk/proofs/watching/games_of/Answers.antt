@@ -1,6 +1,6 @@
 -- One connection more that watches.
 use Rattle.std.proofs.Common.{ℕ, List, [], ◌∷◌, ◌++◌, get_or, take, ap, sym, ◌∙◌}
-use Rattle.std.proofs.lemmas.List.{take_more, map-append}
+use Rattle.std.proofs.lemmas.List.{take_more, take_all, map-append}
 use Rattle.lobby_desk.specs.declared.watching.Watch.{Watch}
 use Rattle.lobby_desk.specs.Watching.{games_of}
 use Rattle.lobby_desk.proofs.watching.games_of.Goals as goal
@@ -14,3 +14,6 @@ loop-watch-preserved c =
     c.in_ok-push.ensures.items
     ∙ (ap (λ (games : List ℕ). games ++ w.game ∷ []) c.loop-watch.invariant
     ∙ sym (ap games_of (take_more ws i none c.loop-watch-test.true) ∙ map-append (λ (w : Watch). w.game) (take i ws) (w ∷ [])))
+
+pub returns : goal.returns
+returns c = c.loop-watch.invariant ∙ ap games_of (take_all c.loop-watch.watch-index c.args.watches.now c.loop-watch-test.false)
