@@ -5,7 +5,7 @@ use Rattle.std.specs.Str.{bytes_eq}
 use Rattle.text_parts.specs.Strings.{escaped, unescaped_from}
 use Rattle.lobby_words.specs.Words.{number_in}
 
--- the signs behind the name of a field and between fields, `:` and `,`, and that between lines
+-- the signs behind the name of a field and between fields, `:` and `,`, and that between lines, of the file and of a PGN
 abbrev pub colon : ℕ
 colon = 58
 

@@ -59,7 +59,7 @@ where
         × ((before : _) × (after : _) × F.post read alloc before found result after))
         ⊎ IsErrAnd result (IsOfCommand (app_of command.entry) (map S.text words.entry.now)) }
 {
-    // (they go by calls: each way out would let go of all their parts)
+    // (the command and its matches go by calls: each way out would let go of all their parts)
     let matches = match command.try_get_matches_from_mut(words) {
         Ok(matches) => matches,
         Err(fault) => {

@@ -124,7 +124,7 @@ fn add_field(
     )
 }
 
-// The same with a value that is made; it fails too where that is none.
+// The same with a value of these bytes; it fails too where they are none of a field.
 fn add_value(
     alloc: Global,
     response: &mut Response,

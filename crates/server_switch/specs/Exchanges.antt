@@ -81,13 +81,14 @@ IsOutcome (Sends place line wait) old new =
     (new.waits ≡ old.waits ++ (name_waits place (is_new (said_at old place) old.name) ++ wait ∷ []))
     × (new.servers ≡ change_at (put_under old.name line) place old.servers) × (new.name ≡ old.name) × (new.told ≡ old.told)
 
--- A line of a game goes to the game's server, with the number that the game has there, where that server is there.
+-- A line of a game goes to the server at this place, with the number that the game has there, where that server is there.
 abbrev pub game_outcome_at : View → ℕ → List ℕ → ℕ → List ℕ → Outcome
 game_outcome_at v place word number tail =
     if nat_le (length v.servers) place then Answers (codes "no 3 NoGame\n")
     else (if is_here v place then Sends place (word ++ (codes " " ++ (decimal (game_of number) ++ tail))) (Sent place)
     else Answers (codes "no 36 NoServer\n"))
 
+-- It goes so to the game's server.
 abbrev pub game_outcome : View → List ℕ → ℕ → List ℕ → Outcome
 game_outcome v word number tail =
     if server_of number == 0 then Answers (codes "no 3 NoGame\n") else game_outcome_at v (server_of number - 1) word number tail
