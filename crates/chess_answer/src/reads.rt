@@ -18,12 +18,24 @@ use itoa::Buffer;
 use rec_codec::Name;
 use std::alloc::{AllocError, Global};
 
-/// The answer to a read: a line without its line feed, and a body of whole lines behind it, which only `pgn` and `list`
-/// have.
+/// An answer: a line without its line feed, and a body of whole lines behind it, which only those to `pgn` and `list` have.
 #[derive(Drop)]
 pub struct Reply {
     pub line: AnswerLine,
     pub body: String,
+}
+
+impl Reply {
+    /// An answer of one line.
+    pub fn alone(alloc: Global, line: AnswerLine) -> Reply
+        ensures line { result.line ≡ line }
+        ensures alone { string_bytes result.body ≡ [] }
+    {
+        Reply {
+            line,
+            body: String::new(alloc),
+        }
+    }
 }
 
 // `w` or `b` for the side on move.

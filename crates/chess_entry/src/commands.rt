@@ -1,5 +1,6 @@
-ghost use Rattle.std.specs.Prelude.{IfSome};
+ghost use Rattle.std.specs.Prelude.{◌≡◌, IfSome};
 ghost use Rattle.rec_codec.specs.Name.{IsName};
+ghost use Rattle.chess_entry.specs.Verdict.{is_read};
 
 use arrayvec::ArrayString;
 use chess_bits::Colour;
@@ -77,6 +78,21 @@ pub enum Act {
     /// All games.
     List,
 }
+
+impl Act {
+    /// Whether it is a read, which is anybody's and becomes no entry.
+    pub fn is_read(&self) -> bool
+        ensures { result ≡ is_read self.now }
+    {
+        matches!(
+            self,
+            Act::Show { .. } | Act::Fen { .. } | Act::Pgn { .. } | Act::List
+        )
+    }
+}
+
+/// The greatest moment that a command may have, in milliseconds: 2^62 - 1.
+pub const GREATEST_MOMENT: u64 = 4_611_686_018_427_387_903;
 
 /// An act, the moment at which it came in milliseconds, and who asks, if that is known.
 #[derive(Clone, Copy)]

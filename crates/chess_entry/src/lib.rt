@@ -8,7 +8,7 @@ mod laws;
 mod refusals;
 mod verdicts;
 
-pub use commands::{Act, Command, Text, know_name};
+pub use commands::{Act, Command, GREATEST_MOMENT, Text, know_name};
 pub use laws::{law_of_endings, law_of_follow, law_of_meaning, law_of_snapshots, law_of_times};
 pub use rec_codec::{Claim, Entry, Event, GameNumber, Limits, Made, Name, Opening};
 pub use refusals::Refusal;

@@ -33,11 +33,7 @@ pub struct Scoresheet {
 }
 
 impl Model for Scoresheet {
-    ghost use Rattle.chess_entry.specs.Verdict.{is_finished_at};
-    ghost use Rattle.chess_entry.specs.Bounds.{IsStart, IsScoresheet};
-    ghost use Rattle.chess_game.specs.Restored.{IsReplayed};
     ghost use Rattle.chess_game.specs.Scoresheet.{ScoresheetState};
-    ghost use Rattle.chess_entry.specs.Verdict.{is_finished_at};
     ghost use Rattle.chess_game.specs.ScoresheetInside.{scoresheet_of, IsSoundScoresheet};
 
     ghost Value = { ScoresheetState };
@@ -88,7 +84,7 @@ impl Scoresheet {
             let Some(board) = after_legal(line.board(), *mv) else {
                 return Ok(None);
             };
-            by_line = line.push_made(mv, board)?;
+            by_line = line.push_with(mv, board)?;
         }
         Ok(Some(Replayed { line, by_line }))
     }
@@ -124,11 +120,11 @@ impl Scoresheet {
         ensures refused { OnErr result (self.new ≡ self.old) }
     {
         let board = self.board.apply(*mv);
-        self.push_made(mv, board)
+        self.push_with(mv, board)
     }
 
     // The same, where the board after the move is at hand.
-    fn push_made(&mut self, mv: &Move, board: Board) -> Result<Option<Ending>, AllocError>
+    fn push_with(&mut self, mv: &Move, board: Board) -> Result<Option<Ending>, AllocError>
         requires made { board ≡ next (last_of self.old) mv.now }
         requires room { HasRoom self.old }
         ensures pushed { OnOk result (self.new ≡ with_move self.old mv.now) }

@@ -12,15 +12,12 @@ ghost use Rattle.chess_sessions.specs.Delivery.{Answered, AllAnswered, IsGiven, 
 use crate::sessions::{Session, Sessions, Sid};
 use crate::taking::Taken;
 use chess_answer::{AnswerLine, Reply, named_line, refusal_line};
-use chess_entry::{Command, Refusal};
+use chess_entry::{Command, GREATEST_MOMENT, Refusal};
 use chess_line::Request;
 use rec_codec::Name;
 use slab::Slab;
 use std::alloc::{AllocError, Global};
 use std::vec::IntoIter;
-
-// The greatest moment that a command may have.
-const GREATEST_MOMENT: u64 = 4_611_686_018_427_387_903;
 
 // Whether no command may have this moment.
 fn is_late(at: u64) -> bool
@@ -109,10 +106,7 @@ fn next_answer(alloc: Global, at: u64, line: &Option<Request>, left: &mut IntoIt
         (λ text. (said result ≡ alone text) × (into_iter_items left.old ≡ into_iter_items left.new)) }
 {
     if let Some(answer) = own_answer(at, line) {
-        return Reply {
-            line: answer,
-            body: String::new(alloc),
-        };
+        return Reply::alone(alloc, answer);
     }
     match left.next() {
         Some(reply) => reply,

@@ -85,10 +85,7 @@ impl Session {
             return None;
         }
         self.has_left = true;
-        Some(Reply {
-            line: farewell_line(),
-            body: String::new(alloc),
-        })
+        Some(Reply::alone(alloc, farewell_line()))
     }
 }
 

@@ -39,8 +39,11 @@ impl Table {
     {
         let at = self.moment().max(command.moment);
         match &command.act {
-            Act::Show { game } => Ok(self.alone(show_line(self.standing(*game), at))),
-            Act::Fen { game } => Ok(self.alone(fen_line(self.standing(*game)))),
+            Act::Show { game } => Ok(Reply::alone(
+                self.allocator(),
+                show_line(self.standing(*game), at),
+            )),
+            Act::Fen { game } => Ok(Reply::alone(self.allocator(), fen_line(self.standing(*game)))),
             Act::Pgn { game } => pgn_reply(self.allocator(), self.standing(*game)),
             Act::List => self.listed(),
             _ => unreachable!(),
@@ -61,17 +64,6 @@ impl Table {
         match self.find(number) {
             Some(game) => game,
             None => unreachable!(),
-        }
-    }
-
-    // An answer of one line.
-    fn alone(&self, line: AnswerLine) -> Reply
-        ensures line { result.line ≡ line }
-        ensures alone { string_bytes result.body ≡ [] }
-    {
-        Reply {
-            line,
-            body: String::new(self.allocator()),
         }
     }
 

@@ -9,11 +9,11 @@ ghost use Rattle.chess_entry.specs.Table.{IsEnteredOn};
 ghost use Rattle.chess_table.specs.Witness.{StatesLegal, NamesPlayer, is_fallen, Enters, opening_verdict, witness_verdict};
 
 use crate::judging::{
-    Claimed, GREATEST_MOMENT, accept_verdict, claim_verdict, decline_verdict, drop_verdict,
-    flag_verdict, join_verdict, move_verdict, offer_verdict, open_verdict, resign_verdict,
+    Claimed, accept_verdict, claim_verdict, decline_verdict, drop_verdict, flag_verdict,
+    join_verdict, move_verdict, offer_verdict, open_verdict, resign_verdict,
 };
 use crate::table::Table;
-use chess_entry::{Claim, Entry, Event, Opening, Refusal, Verdict};
+use chess_entry::{Claim, Entry, Event, GREATEST_MOMENT, Opening, Refusal, Verdict};
 use chess_game::{Game, Times};
 use chess_moves::legal;
 

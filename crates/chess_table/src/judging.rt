@@ -21,16 +21,13 @@ use chess_bits::Colour;
 use chess_board::Board;
 use chess_clock::is_time_control;
 use chess_entry::{
-    Act, Claim, Command, Entry, Event, GameNumber, Made, Name, Opening, Refusal, Text, Verdict,
-    know_name,
+    Act, Claim, Command, Entry, Event, GREATEST_MOMENT, GameNumber, Made, Name, Opening, Refusal,
+    Text, Verdict, know_name,
 };
 use chess_fen::fen_read;
 use chess_game::{Game, Times, is_finished};
 use chess_san::read;
 use rec_codec::StoredMove;
-
-// The greatest moment of a command.
-pub(crate) const GREATEST_MOMENT: u64 = 4_611_686_018_427_387_903;
 
 // What the text of a command tells: the start of a game, or a move.
 #[derive(Clone, Copy)]
@@ -470,16 +467,6 @@ fn seat_verdict(table: &Table, found: Option<&Game>, name: &Name, at: u64, asked
     }
 }
 
-// Whether an act is a read, which is anybody's.
-fn is_read(act: &Act) -> bool
-    ensures { result ≡ is_read act.now }
-{
-    matches!(
-        act,
-        Act::Show { .. } | Act::Fen { .. } | Act::Pgn { .. } | Act::List
-    )
-}
-
 // The verdict on a read.
 fn read_verdict(found: Option<&Game>, act: &Act) -> Verdict
     requires { is_read act.now ≡ true }
@@ -573,7 +560,7 @@ fn checked(table: &Table, found: Option<&Game>, command: &Command, named: &Parse
     }
     let at = table.moment().max(command.moment);
     let Some(name) = command.who else {
-        if is_read(&command.act) {
+        if command.act.is_read() {
             return read_verdict(found, &command.act);
         }
         return Verdict::Refuse(Refusal::NoName);

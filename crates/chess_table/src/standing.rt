@@ -5,7 +5,7 @@ ghost use Rattle.chess_entry.specs.State.{GameState};
 ghost use Rattle.chess_entry.specs.Table.{IsOnTable};
 ghost use Rattle.chess_table.specs.Stored.{table_from, StandFrom, IsStanding};
 
-use crate::judging::GREATEST_MOMENT;
+use chess_entry::GREATEST_MOMENT;
 use chess_game::Game;
 use rec_codec::{Limits, Meta};
 

@@ -24,7 +24,7 @@ pub struct Incoming {
 /// what waits for one client is bounded.
 const PORTION: usize = 16;
 
-/// Whether a line asks for much, by its first word: only `list` and `pgn` are answered by more than a line.
+/// Whether a line asks for much, by how it begins: only `list` and `pgn` are answered by more than a line.
 pub fn is_dear(line: &[u8]) -> bool
     ensures { result ≡ is_dear line.now }
 {

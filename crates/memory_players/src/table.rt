@@ -9,7 +9,7 @@ ghost use Rattle.rec_codec.specs.Limits.{IsInRange};
 mod stored;
 
 use chess_answer::{AnswerLine, Reply, named_line, refusal_line};
-use chess_entry::{Command, Entry, Name, Refusal, Verdict, know_name};
+use chess_entry::{Command, Entry, GREATEST_MOMENT, Name, Refusal, Verdict, know_name};
 use chess_line::{Request, parse};
 use chess_table::{Table, judge};
 use player_lines::{Fault, Sent, push_reply, read_limits, read_sent, split, text_line};
@@ -24,9 +24,6 @@ const LIMITS: Limits = Limits {
     games: 256,
     plies: 1_024,
 };
-
-// The greatest moment of a line.
-const GREATEST_MOMENT: u64 = 4_611_686_018_427_387_903;
 
 /// A table, where it takes its memory, and its records, where they were wanted.
 #[derive(Drop)]

@@ -123,7 +123,7 @@ at a time. A further connection is closed at once.
 It goes on until it is ended: kill it, by any signal. What was answered by ok or
 fallen lasts, but for names. With --turns it ends after so many turns: a turn accepts
 a connection, reads from each session, answers up to 64 lines and writes what can be
-written, and one that finds nothing to do takes 10 ms.
+written, and one that finds nothing to do waits up to 10 ms.
 
 On standard error it tells what an operator wants to know, a line for each: how many
 games and entries the journal has and how long the opening took; by how much the clock

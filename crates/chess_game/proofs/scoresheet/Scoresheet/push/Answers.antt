@@ -4,7 +4,7 @@ use Rattle.chess_board.specs.Next.{next}
 use Rattle.chess_game.specs.Scoresheet.{last_of}
 use Rattle.chess_game.proofs.scoresheet.Scoresheet.push.Goals as goal
 
-pub push_made-requires-clause-made : goal.push_made-requires-clause-made
-push_made-requires-clause-made c =
+pub push_with-requires-clause-made : goal.push_with-requires-clause-made
+push_with-requires-clause-made c =
     c.apply-board.ensures.next
     ∙ ap (λ (p : Position). next p c.args.mv.now) (c.self.invariant.board ∙ ap last_of c.self.view_is)

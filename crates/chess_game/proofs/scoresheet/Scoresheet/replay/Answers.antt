@@ -55,12 +55,12 @@ after_legal-requires-clause-fullmove c =
     (HasRoom-before c.args.start.now c.args.moves.now c.loop-mv.mv-index c.loop-mv.line c.loop-mv.by_line
     c.loop-mv.invariant c.requires.start c.loop-mv-test.true c.requires.short).fullmove
 
-pub push_made-requires-clause-made : goal.push_made-requires-clause-made
-push_made-requires-clause-made c =
+pub push_with-requires-clause-made : goal.push_with-requires-clause-made
+push_with-requires-clause-made c =
     c.in-Some.ensures.next ∙ ap (λ (p : Position). next p c.mv-item.result) c.board.ensures
 
-pub push_made-requires-clause-room : goal.push_made-requires-clause-room
-push_made-requires-clause-room c =
+pub push_with-requires-clause-room : goal.push_with-requires-clause-room
+push_with-requires-clause-room c =
     HasRoom-before c.args.start.now c.args.moves.now c.loop-mv.mv-index c.loop-mv.line c.loop-mv.by_line
     c.loop-mv.invariant c.requires.start c.loop-mv-test.true c.requires.short
 
@@ -69,9 +69,9 @@ loop-mv-preserved c =
     let moves = c.args.moves.now in
     let i = c.loop-mv.mv-index in
     let P : Position → Type 0 = λ p. IsLegal p c.mv-item.result in
-    let Q : List Move → Type 0 = λ ms. IsReplayed c.args.start.now ms c.push_made.new.self c.in_ok-by_line.by_line in
+    let Q : List Move → Type 0 = λ ms. IsReplayed c.args.start.now ms c.push_with.new.self c.in_ok-by_line.by_line in
     subst Q (sym (taken moves i c.mv-item.result c.loop-mv-test.true c.mv-item.is))
-    (IsReplayed-push c.args.start.now (take i moves) c.mv-item.result c.loop-mv.line c.push_made.new.self c.loop-mv.by_line
+    (IsReplayed-push c.args.start.now (take i moves) c.mv-item.result c.loop-mv.line c.push_with.new.self c.loop-mv.by_line
     c.in_ok-by_line.by_line c.loop-mv.invariant (none_from c.loop-mv.by_line (sym c.is_some.ensures ∙ c.if-is_some.false))
     (subst P c.board.ensures c.in-Some.ensures.legal) c.in_ok-by_line.ensures.pushed
     c.in_ok-by_line.ensures.ending)

@@ -5,7 +5,7 @@ use Rattle.chess_board.specs.Next.{next}
 use Rattle.chess_board.specs.Line.{positions_of}
 use Rattle.chess_game.specs.Scoresheet.{last_of}
 use Rattle.chess_game.proofs.ScoresheetKept.{length-history, IsSoundScoresheet-push, ending-answered}
-use Rattle.chess_game.proofs.scoresheet.Scoresheet.push_made.Goals as goal
+use Rattle.chess_game.proofs.scoresheet.Scoresheet.push_with.Goals as goal
 
 pub push-requires : goal.push-requires
 push-requires c =
