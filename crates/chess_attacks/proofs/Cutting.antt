@@ -1,13 +1,13 @@
 -- A ray without the ray of its first blocker holds the squares to which a man slides.
 use Rattle.std.proofs.Common.{ℕ, ◌≡◌, ◌≤◌, Bool, true, not, List, [], ap, sym, subst, ◌∙◌, inl, inr, arith, Some}
-use Rattle.std.proofs.lemmas.Bool.{cases_lt, false≢true, and_parts, and_from}
+use Rattle.std.proofs.lemmas.Bool.{cases_lt, false≢true, not-true, and_parts, and_from}
 use Rattle.chess_bits.specs.declared.steps.Step.{Step}
 use Rattle.chess_bits.specs.Square.{Square, IsOnBoard}
 use Rattle.chess_bits.specs.Table.{has, meet, without, members, head_of, empty, IsSetOf, IsGreatest}
 use Rattle.chess_bits.specs.Attack.{along, SlidesAlong}
 use Rattle.chess_bits.proofs.SetLemmas.{has-meet, has-without, length-without, has-none}
 use Rattle.chess_attacks.proofs.WayLemmas.{Adds, Rises, Falls}
-use Rattle.chess_attacks.proofs.Nearest.{IsRay, empty_slide, on_ray, not_true, second_false, Differs, rises-differs, falls-differs, IsNearest, rising_nearest, falling_nearest, beyond_far, not_beyond}
+use Rattle.chess_attacks.proofs.Nearest.{IsRay, empty_slide, on_ray, second_false, Differs, rises-differs, falls-differs, IsNearest, rising_nearest, falling_nearest, beyond_far, not_beyond}
 
 -- the squares up to a man
 abbrev IsSlide : List Bool → List Bool → Square → Step → Type 0
@@ -58,7 +58,7 @@ cut whole beyond occupied a c step k on adds differs ray ray_beyond blocker =
             let parts = and_parts (has whole b) (not (has beyond b)) (sym (has-without whole beyond b len) ∙ here) in
             let slide = (ray.exact b on_b).0 parts.0 in
             let not_past : slide.distance ≤ k = elim (cases_lt k slide.distance) [
-              | inl past ↦ absurd (false≢true (sym (not_true (has beyond b) parts.1)
+              | inl past ↦ absurd (false≢true (sym (not-true (has beyond b) parts.1)
                   ∙ beyond_far beyond occupied a c b step k slide.distance adds ray_beyond blocker on_b slide.there past))
               | inr within ↦ within
             ] in

@@ -1,5 +1,5 @@
 -- The nearest square of a set in a way, and what lies beyond it.
-use Rattle.std.proofs.Common.{ℕ, ◌≡◌, ◌+◌, ◌-◌, ◌<◌, ◌≤◌, Bool, true, false, not, ◌&&◌, List, refl, ap, sym, subst, ◌∙◌, inl, inr, arith, Some}
+use Rattle.std.proofs.Common.{ℕ, ◌≡◌, ◌+◌, ◌-◌, ◌<◌, ◌≤◌, Bool, true, false, ◌&&◌, List, refl, ap, sym, subst, ◌∙◌, inl, inr, arith, Some}
 use Rattle.std.proofs.lemmas.Bool.{cases_order, false≢true, and_parts, false_from_ne_true}
 use Rattle.chess_bits.specs.declared.steps.Step.{Step}
 use Rattle.chess_bits.specs.Square.{Square, IsOnBoard, number_of}
@@ -31,10 +31,6 @@ pub on_ray : (whole : List Bool) (a : Square) (step : Step) (n j : ℕ) → IsOn
 on_ray whole a step n j on ray there positive within =
     let on_j : IsOnBoard (along j step a) = along-between j n step a on within there in
     (on_j, (ray.exact (along j step a) on_j).1 (empty_slide a (along j step a) step j on on_j positive refl))
-
-pub not_true : (x : Bool) → not x ≡ true → x ≡ false
-not_true true e = sym e
-not_true false e = refl
 
 pub second_false : (x y : Bool) → x ≡ true → (x && y) ≡ false → y ≡ false
 second_false true y e both = both

@@ -17,6 +17,13 @@ coordinate-next : (n start more less : ℕ) → 1 ≤ coordinate n start more le
     coordinate (n + 1) start more less ≡ coordinate 1 (coordinate n start more less) more less
 coordinate-next n start more less h = omega arith
 
+pub product-split : (n k m : ℕ) → k ≤ n → n * m ≡ k * m + (n - k) * m
+product-split n k m le =
+    let whole : n ≡ k + (n - k) = omega arith in ap (λ (x : ℕ). x * m) whole ∙ distributed k (n - k) m
+  where
+    distributed : (a b m : ℕ) → (a + b) * m ≡ a * m + b * m
+    distributed a b m = grind arith
+
 -- what is off the board stays off the board
 coordinate-off : (k n start more less : ℕ) → 1 ≤ start → start ≤ 8 → k ≤ n → 1 ≤ coordinate n start more less →
     coordinate n start more less ≤ 8 →
@@ -27,23 +34,17 @@ coordinate-off k n start more less low high le on_low on_high =
           let rest : ℕ = n - k in
           let bigger : rest * more ≤ rest * less = mul-le-mul_left rest (omega arith) in
           let here : k * more ≤ k * less = mul-le-mul_left k (omega arith) in
-          let n_more : n * more ≡ k * more + rest * more = split n k more le in
-          let n_less : n * less ≡ k * less + rest * less = split n k less le in
+          let n_more : n * more ≡ k * more + rest * more = product-split n k more le in
+          let n_less : n * less ≡ k * less + rest * less = product-split n k less le in
           (omega arith, omega arith)
       | inr larger ↦
           let rest : ℕ = n - k in
           let bigger : rest * less ≤ rest * more = mul-le-mul_left rest larger in
           let here : k * less ≤ k * more = mul-le-mul_left k larger in
-          let n_more : n * more ≡ k * more + rest * more = split n k more le in
-          let n_less : n * less ≡ k * less + rest * less = split n k less le in
+          let n_more : n * more ≡ k * more + rest * more = product-split n k more le in
+          let n_less : n * less ≡ k * less + rest * less = product-split n k less le in
           (omega arith, omega arith)
     ]
-  where
-    split : (n k m : ℕ) → k ≤ n → n * m ≡ k * m + (n - k) * m
-    split n k m le = let whole : n ≡ k + (n - k) = omega arith in ap (λ (x : ℕ). x * m) whole ∙ distributed k (n - k) m
-      where
-        distributed : (a b m : ℕ) → (a + b) * m ≡ a * m + b * m
-        distributed a b m = grind arith
 
 -- eight steps that change a coordinate leave the board
 coordinate-far : (n start more less : ℕ) → 1 ≤ start → start ≤ 8 → 8 ≤ n → 1 ≤ coordinate n start more less →

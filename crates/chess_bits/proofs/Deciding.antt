@@ -1,8 +1,8 @@
-use Rattle.std.specs.Prelude.{ℕ, ◌≡◌, ◌+◌, ◌-◌, ◌<◌, ◌≤◌, ◌⊎◌, Bool, true, false, ◌&&◌, ◌||◌, not, List, [], ◌∷◌, ◌++◌, map}
+use Rattle.std.specs.Prelude.{ℕ, ◌≡◌, ◌+◌, ◌-◌, ◌<◌, ◌≤◌, ◌⊎◌, Bool, false, ◌&&◌, ◌||◌, not, List, [], ◌∷◌, ◌++◌, map}
 use Rattle.std.specs.Bool.{Decides}
 use Rattle.std.specs.List.{list_any, list_all, range_with_len}
 use Rattle.std.proofs.Common.{arith, ap, sym, subst, inl, inr, zero, suc, refl}
-use Rattle.std.proofs.lemmas.Bool.{false≢true, cases_eq}
+use Rattle.std.proofs.lemmas.Bool.{false≢true, cases_eq, not-true, not_from_false}
 use Rattle.std.proofs.lemmas.Bool.Decides.{Decides-and, Decides-or, Decides-not, Decides-like}
 use Rattle.chess_bits.specs.declared.men.Colour.{Colour}
 use Rattle.chess_bits.specs.declared.men.Kind.{Kind}
@@ -142,8 +142,7 @@ Decides-reaches steps a b =
 -- Slides.
 
 pub Decides-is_false : (b : Bool) → Decides (not b) (b ≡ false)
-Decides-is_false true = (λ e. sym e, λ e. sym e)
-Decides-is_false false = (λ _. refl, λ _. refl)
+Decides-is_false b = (not-true b, not_from_false b)
 
 -- the squares before the n-th are empty
 abbrev IsClear : List Bool → Square → Step → ℕ → Type 0
@@ -175,10 +174,10 @@ Decides-slides_along occupied a b direction near =
     (λ s. (s.distance, s.positive, slide_is_near occupied a b direction near s, (s.there, s.between_empty)))
     some
 
-same_file : (a b : Square) → a ≡ b → a.file ≡ b.file
+pub same_file : (a b : Square) → a ≡ b → a.file ≡ b.file
 same_file a b e = ap (λ (s : Square). s.file) e
 
-same_rank : (a b : Square) → a ≡ b → a.rank ≡ b.rank
+pub same_rank : (a b : Square) → a ≡ b → a.rank ≡ b.rank
 same_rank a b e = ap (λ (s : Square). s.rank) e
 
 near-north : (a b : Square) → IsOnBoard a → IsOnBoard b → IsNear a b north

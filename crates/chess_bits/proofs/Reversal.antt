@@ -9,6 +9,7 @@ use Rattle.chess_bits.specs.Square.{Square, IsOnBoard}
 use Rattle.chess_bits.specs.Man.{other}
 use Rattle.chess_bits.specs.Table.{has}
 use Rattle.chess_bits.specs.Attack.{along, north, east, south, west, north_east, south_east, south_west, north_west, straight, diagonal, adjoining, knight_steps, pawn_attacks, SomeOf, SlidesAlong, Attacks}
+use Rattle.chess_bits.proofs.AlongLemmas.{product-split}
 use Rattle.chess_bits.proofs.TableLemmas.{same_square}
 
 -- the step back
@@ -25,13 +26,6 @@ along-back n step a b on e =
     same_square a (along n (reverse_step step) b)
     (coordinate_back n a.file b.file step.right step.left on.file_from (ap (λ (s : Square). s.file) e))
     (coordinate_back n a.rank b.rank step.up step.down on.rank_from (ap (λ (s : Square). s.rank) e))
-
-product-split : (n k m : ℕ) → k ≤ n → n * m ≡ k * m + (n - k) * m
-product-split n k m le =
-    let whole : n ≡ k + (n - k) = omega arith in ap (λ (x : ℕ). x * m) whole ∙ distributed k (n - k) m
-  where
-    distributed : (a b m : ℕ) → (a + b) * m ≡ a * m + b * m
-    distributed a b m = grind arith
 
 coordinate_part : (n k a b more less : ℕ) → k ≤ n → 1 ≤ b → b ≡ a + n * more - n * less →
     b + k * less - k * more ≡ a + (n - k) * more - (n - k) * less

@@ -1,20 +1,20 @@
 -- What a set of squares has.
 use Rattle.std.proofs.Common.{ℕ, zero, suc, ◌≡◌, ◌+◌, ◌-◌, ◌*◌, ◌^◌, ◌<◌, ◌≤◌, Bool, true, false, not, eqb, ◌||◌, ◌&&◌, List, [], ◌∷◌, Some, length, get_or, map, refl, ap, sym, subst, ◌∙◌, inl, inr, arith}
-use Rattle.std.specs.Prelude.{◌⊎◌, ◌↔◌}
+use Rattle.std.specs.Prelude.{◌⊎◌}
 use Rattle.std.specs.Int.{bit_at}
 use Rattle.std.specs.Int.Count.{count_leading_zeros}
 use Rattle.std.specs.List.{filter, range_with_len}
-use Rattle.std.proofs.lemmas.Bool.{false≢true, cases_Bool, cases_eq, cases_lt, false_from_ne_true}
+use Rattle.std.proofs.lemmas.Bool.{false≢true, cases_Bool, cases_eq, cases_lt, and_right, or_cases, or_left, or_right, false_from_ne_true}
 use Rattle.std.proofs.lemmas.Option.{same_Some}
 use Rattle.std.proofs.lemmas.Nat.{leading_top}
 use Rattle.std.proofs.lemmas.Nat.Bits.{bit_at_above, bit_at_cat_high}
 use Rattle.std.proofs.lemmas.List.{get_or_past}
 use Rattle.chess_bits.specs.Square.{Square, IsOnBoard, on_board, number_of, square_at, number_of-square_at}
-use Rattle.chess_bits.specs.Table.{has, put, each, union, meet, without, members, head_of, IsSetOf, IsGreatest}
+use Rattle.chess_bits.specs.Table.{has, each, union, meet, without, members, head_of, IsSetOf, IsGreatest}
 use Rattle.chess_bits.specs.Word.{bools_of}
 use Rattle.chess_bits.specs.Attack.{SomeOf}
 use Rattle.chess_bits.proofs.TableLemmas.{at-on_board, at-off_board, at-square_at, number_of-below, IsOnBoard-square_at, IsOnBoard-from_test, on_board-true}
-use Rattle.chess_bits.proofs.WordLemmas.{bit, length-bools_of, get_or-bools_of, length-each, get_or-each}
+use Rattle.chess_bits.proofs.WordLemmas.{bit, get_or-bools_of, length-each, get_or-each}
 use Rattle.chess_bits.proofs.MemberLemmas.{filter-here, filter-not_here, numbers_in, members-numbers}
 use Rattle.chess_bits.proofs.AlongLemmas.{SomeOf-members}
 
@@ -52,16 +52,12 @@ IsGreatest-word w set s positive fits shown there =
 
 -- ---- unions and the like
 
-and-false : (b : Bool) → (b && false) ≡ false
-and-false true = refl
-and-false false = refl
-
 get_or-meet : (xs ys : List Bool) (i : ℕ) →
     get_or (meet xs ys) i false ≡ (get_or xs i false && get_or ys i false)
 unfolding meet
 get_or-meet [] ys i = refl
-get_or-meet (x ∷ xs) [] zero = sym (and-false x)
-get_or-meet (x ∷ xs) [] (suc i) = sym (and-false (get_or xs i false))
+get_or-meet (x ∷ xs) [] zero = sym (and_right x false refl)
+get_or-meet (x ∷ xs) [] (suc i) = sym (and_right (get_or xs i false) false refl)
 get_or-meet (x ∷ xs) (y ∷ ys) zero = refl
 get_or-meet (x ∷ xs) (y ∷ ys) (suc i) = get_or-meet xs ys i
 
@@ -114,14 +110,9 @@ pub length-without : (a b : List Bool) → length a ≡ length b → length (wit
 unfolding without
 length-without a b len = length-each (λ x y. x && not y) a b len
 
-either_true : (x y : Bool) → (x || y) ≡ true → (x ≡ true) ⊎ (y ≡ true)
-either_true true y e = inl refl
-either_true false y e = inr e
-
-true_either : (x y : Bool) → (x ≡ true) ⊎ (y ≡ true) → (x || y) ≡ true
-true_either true y e = refl
-true_either false y (inl e) = absurd (false≢true e)
-true_either false y (inr e) = e
+pub length-meet : (a b : List Bool) → length a ≡ length b → length (meet a b) ≡ length a
+unfolding meet
+length-meet a b len = length-each (λ x y. x && y) a b len
 
 -- the union of the sets of the squares that are so, and so
 pub IsSetOf-union : (a b : List Bool) (P Q : Square → Type 0) → IsSetOf a P → IsSetOf b Q →
@@ -131,14 +122,14 @@ IsSetOf-union a b P Q of_a of_b =
     record {
       whole = length-union a b len ∙ of_a.whole;
       exact = λ s on. (
-        (λ here. elim (either_true (has a s) (has b s) (sym (has-union a b s len) ∙ here)) [
+        (λ here. elim (or_cases (has a s) (has b s) (sym (has-union a b s len) ∙ here)) [
           | inl in_a ↦ inl ((of_a.exact s on).0 in_a)
           | inr in_b ↦ inr ((of_b.exact s on).0 in_b)
         ]),
-        (λ some. has-union a b s len ∙ true_either (has a s) (has b s) (elim some [
-          | inl p ↦ inl ((of_a.exact s on).1 p)
-          | inr q ↦ inr ((of_b.exact s on).1 q)
-        ])),
+        (λ some. has-union a b s len ∙ elim some [
+          | inl p ↦ or_left (has a s) (has b s) ((of_a.exact s on).1 p)
+          | inr q ↦ or_right (has a s) (has b s) ((of_b.exact s on).1 q)
+        ]),
       );
     }
 

@@ -7,6 +7,7 @@ mod Examples
 pub mod LegalMoves
 pub mod LineLemmas
 pub mod ManAfter
+pub mod MenChanges
 pub mod MenLemmas
 pub mod Moved
 pub mod Outward

@@ -181,7 +181,7 @@ set_at : (bits : List Bool) (s q : Square) (b : Bool) → length bits ≡ 64 →
     has (put bits s b) q ≡ cond (is_square q s) b (has bits q)
 set_at bits s q b len on_s = at-put false bits s q b len on_s
 
-length-squares_with : (is : Man → Bool) (sets : Inside) (bits : List Bool) →
+pub length-squares_with : (is : Man → Bool) (sets : Inside) (bits : List Bool) →
     squares_with is (placement_of sets) ≡ bits → length bits ≡ 64
 length-squares_with is sets bits e = ap length (sym e) ∙ length-map (placement_of sets) (holds is)
     ∙ length-placement_of sets

@@ -1,7 +1,7 @@
 -- A square is attacked where a man of a kind stands on a square that a man of that kind on it would attack.
-use Rattle.std.proofs.Common.{◌≡◌, Bool, true, false, ◌||◌, not, List, [], ◌∷◌, Option, Some, refl, ap, sym, subst, ◌∙◌, inl, inr}
-use Rattle.std.specs.Prelude.{◌⊎◌, ◌↔◌, IsTrue}
-use Rattle.std.proofs.lemmas.Bool.{false≢true, and_parts, and_from}
+use Rattle.std.proofs.Common.{◌≡◌, Bool, true, ◌||◌, not, List, [], ◌∷◌, Some, refl, sym, subst, ◌∙◌, inl, inr}
+use Rattle.std.specs.Prelude.{◌↔◌, IsTrue}
+use Rattle.std.proofs.lemmas.Bool.{both_ways, and_parts, and_from, or_cases, or_left, or_right, not-true, not_from_false, false_from_ne_true}
 use Rattle.chess_bits.specs.declared.men.Colour.{Colour}
 use Rattle.chess_bits.specs.declared.men.Kind.{Kind}
 use Rattle.chess_bits.specs.declared.men.Kind.TheVariants.{Pawn, Knight, Bishop, Rook, Queen, King}
@@ -14,7 +14,7 @@ use Rattle.chess_bits.proofs.AlongLemmas.{SomeOf-members, PassesEach, PassesEach
 use Rattle.chess_bits.proofs.SetLemmas.{has-meet}
 use Rattle.chess_bits.proofs.Reversal.{facing, Attacks-back}
 use Rattle.chess_board.specs.Occupancy.{squares_with}
-use Rattle.chess_board.specs.Position.{Placement, man_at, occupied_of, IsAttacker, IsAttacked}
+use Rattle.chess_board.specs.Position.{Placement, man_at, occupied_of, IsAttacked}
 use Rattle.chess_board.proofs.AttackLemmas.{has-man, man-has}
 use Rattle.chess_board.proofs.Candidates.{IsOnBoard-from_man}
 
@@ -32,14 +32,6 @@ first_of set (m ∷ ms) passes some = (m, passes.0)
 pub not_empty : (set : List Bool) → (members set ≡ [] → ⊥) → (s : Square) × (has set s ≡ true)
 not_empty set some = first_of set (members set) (PassesEach-members set) some
 
-pub not_true : (x : Bool) → not x ≡ true → x ≡ true → ⊥
-not_true true e f = false≢true e
-not_true false e f = false≢true f
-
-pub true_not : (x : Bool) → (x ≡ true → ⊥) → not x ≡ true
-true_not true never = absurd (never refl)
-true_not false never = refl
-
 -- the set of these squares with men of the kind is not empty exactly where one stands there
 pub among-meet : (placement : Placement) (side : Colour) (kind : Kind) (set : List Bool) (empty : Bool) →
     (IsTrue empty ↔ (members (meet set (squares_with (is_man (side, kind)) placement)) ≡ [])) →
@@ -47,17 +39,17 @@ pub among-meet : (placement : Placement) (side : Colour) (kind : Kind) (set : Li
 among-meet placement side kind set empty tested =
     let men : List Bool = squares_with (is_man (side, kind)) placement in (
       (λ some.
-          let (s, both) = not_empty (meet set men) (λ none. not_true empty some (tested.1 none)) in
+          let (s, both) = not_empty (meet set men) (λ none. both_ways empty (not-true empty some) (tested.1 none)) in
           let parts = and_parts (has set s) (has men s) (sym (has-meet set men s) ∙ both) in
           (s, man-has placement side kind s parts.1, parts.0)),
       (λ stands.
-          true_not empty (λ none.
+          not_from_false empty (false_from_ne_true empty (λ none.
           let None' : List Square → Type 0 = SomeOf (λ _. Unit {0}) in
           let on : IsOnBoard stands.0 = IsOnBoard-from_man placement stands.0 (side, kind) stands.1 in
           let both : has (meet set men) stands.0 ≡ true =
           has-meet set men stands.0 ∙ and_from (has set stands.0) (has men stands.0) stands.2
           (has-man placement side kind stands.0 stands.1) in
-          subst None' (tested.0 none) (SomeOf-members (λ _. Unit {0}) (meet set men) stands.0 on both tt))),
+          subst None' (tested.0 none) (SomeOf-members (λ _. Unit {0}) (meet set men) stands.0 on both tt)))),
     )
 
 facing-facing : (kind : Kind) (side : Colour) → facing kind (facing kind side) ≡ side
@@ -90,18 +82,6 @@ stands_from placement side kind b a set on of stands attacks = (
   (of.exact a (IsOnBoard-from_man placement a (side, kind) stands)).1
       (Attacks-back (occupied_of placement) side kind a b on attacks),
 )
-
-or_left : (x y : Bool) → x ≡ true → (x || y) ≡ true
-or_left true y e = refl
-or_left false y e = absurd (false≢true e)
-
-or_right : (x y : Bool) → y ≡ true → (x || y) ≡ true
-or_right true y e = refl
-or_right false y e = e
-
-or_parts : (x y : Bool) → (x || y) ≡ true → (x ≡ true) ⊎ (y ≡ true)
-or_parts true y e = inl refl
-or_parts false y e = inr e
 
 -- a test of each kind of man
 pub record Tests (placement : Placement) (side : Colour) (b : Square) (p n k r d q : Bool) : Type 0 where
@@ -141,15 +121,15 @@ some_test placement side b p n k r d q on t Queen a stands attacks =
 pub tests_decide : (placement : Placement) (side : Colour) (b : Square) (p n k r d q : Bool) → IsOnBoard b →
     Tests placement side b p n k r d q → IsTrue (((((p || n) || k) || r) || d) || q) ↔ IsAttacked placement side b
 tests_decide placement side b p n k r d q on t = (
-  (λ some. elim (or_parts ((((p || n) || k) || r) || d) q some) [
+  (λ some. elim (or_cases ((((p || n) || k) || r) || d) q some) [
     | inr e ↦ attacker_from placement side Queen b t.queen.0 t.queen.1 (t.queen.2.0 e)
-    | inl some4 ↦ elim (or_parts (((p || n) || k) || r) d some4) [
+    | inl some4 ↦ elim (or_cases (((p || n) || k) || r) d some4) [
       | inr e ↦ attacker_from placement side Bishop b t.bishop.0 t.bishop.1 (t.bishop.2.0 e)
-      | inl some3 ↦ elim (or_parts ((p || n) || k) r some3) [
+      | inl some3 ↦ elim (or_cases ((p || n) || k) r some3) [
         | inr e ↦ attacker_from placement side Rook b t.rook.0 t.rook.1 (t.rook.2.0 e)
-        | inl some2 ↦ elim (or_parts (p || n) k some2) [
+        | inl some2 ↦ elim (or_cases (p || n) k some2) [
           | inr e ↦ attacker_from placement side King b t.king.0 t.king.1 (t.king.2.0 e)
-          | inl some1 ↦ elim (or_parts p n some1) [
+          | inl some1 ↦ elim (or_cases p n some1) [
             | inr e ↦ attacker_from placement side Knight b t.knight.0 t.knight.1 (t.knight.2.0 e)
             | inl e ↦ attacker_from placement side Pawn b t.pawn.0 t.pawn.1 (t.pawn.2.0 e)
           ]

@@ -1,9 +1,9 @@
 ghost use Rattle.std.specs.Prelude.{◌≡◌, not, None, Some, replicate};
 ghost use Rattle.chess_bits.specs.declared.men.Kind.TheVariants.{King};
-ghost use Rattle.chess_bits.specs.Table.{put};
+ghost use Rattle.chess_bits.specs.Table.{put, union, without};
 ghost use Rattle.chess_bits.specs.Man.{holds, is_man as same_man, is_of as man_is_of};
 ghost use Rattle.chess_board.specs.Position.{man_at, occupied_of, count_of};
-ghost use Rattle.chess_board.specs.Occupancy.{squares_with, is_a as man_is_a, there_if};
+ghost use Rattle.chess_board.specs.Occupancy.{squares_with, is_a as man_is_a, there_if, HasChanges};
 
 use chess_bits::{Bits, Colour, Kind, Square};
 use std::marker::Model;
@@ -171,6 +171,29 @@ impl Men {
     {
         self.white.union(self.black)
     }
+
+    /// The squares on which not the same stands on another board.
+    pub fn changes(&self, other: &Men) -> Bits
+        ensures { HasChanges self.now other.now result }
+    {
+        let white = difference(self.white, other.white);
+        let black = difference(self.black, other.black);
+        let pawns = difference(self.pawns, other.pawns);
+        let knights = difference(self.knights, other.knights);
+        let bishops = difference(self.bishops, other.bishops);
+        let rooks = difference(self.rooks, other.rooks);
+        let queens = difference(self.queens, other.queens);
+        // A man of none of the other five kinds is a king.
+        let light = bishops.union(knights.union(pawns));
+        white.union(black.union(queens.union(rooks.union(light))))
+    }
+}
+
+// The squares in one of two sets and not in the other.
+fn difference(a: Bits, b: Bits) -> Bits
+    ensures { result ≡ union (without a b) (without b a) }
+{
+    a.without(b).union(b.without(a))
 }
 
 // Whether there is a man of the colour.

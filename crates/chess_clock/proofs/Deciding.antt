@@ -1,12 +1,13 @@
 -- Tests of the conditions under which a clock goes through a list of events. They compute, so that a caller with a list
 -- that is written out shows the conditions by `refl`.
-use Rattle.std.proofs.Common.{ℕ, ◌≡◌, Bool, true, false, ◌&&◌, List, [], ◌∷◌, ◌++◌, refl, sym, ap, ◌∙◌, subst, arith, append_assoc}
+use Rattle.std.proofs.Common.{ℕ, ◌≡◌, Bool, true, ◌&&◌, List, [], ◌∷◌, ◌++◌, sym, ap, ◌∙◌, subst, arith, append_assoc}
 use Rattle.std.specs.Prelude.{nat_lt}
+use Rattle.std.proofs.lemmas.Bool.{and_parts}
 use Rattle.std.proofs.lemmas.Bool.Decides.{nat_tests}
 use Rattle.std.proofs.lemmas.List.{append-nil}
 use Rattle.chess_bits.specs.declared.men.Colour.{Colour}
-use Rattle.chess_bits.specs.declared.men.Colour.TheVariants.{White, Black}
 use Rattle.chess_bits.specs.Man.{is_colour}
+use Rattle.chess_bits.proofs.ManLemmas.{is_colour-true}
 use Rattle.chess_clock.specs.declared.events.ClockEvent.{ClockEvent}
 use Rattle.chess_clock.specs.declared.events.ClockEvent.TheVariants.{Turn, WrongClaim}
 use Rattle.chess_clock.specs.ClockState.{ClockState, clock_after, time_of, TimesFit}
@@ -30,26 +31,16 @@ abbrev pub all_fit : ClockState → List ClockEvent → List ClockEvent → Bool
 all_fit start before [] = times_fit (clock_after start before)
 all_fit start before (event ∷ rest) = times_fit (clock_after start before) && all_fit start (before ++ event ∷ []) rest
 
-both_true : (a b : Bool) → (a && b) ≡ true → (a ≡ true) × (b ≡ true)
-both_true true b h = (refl, h)
-both_true false b h = absurd cc
-
-same_colour : (a b : Colour) → is_colour a b ≡ true → a ≡ b
-same_colour White White h = refl
-same_colour White Black h = absurd cc
-same_colour Black White h = absurd cc
-same_colour Black Black h = refl
-
 EndsInTime-from_test : (clock : ClockState) (side : Colour) (length : ℕ)
     → may_come clock (Turn side length) ≡ true → EndsInTime clock side length
 EndsInTime-from_test clock side length h =
-    let parts = both_true (is_colour side clock.side) (nat_lt length (time_of side clock).held) h in
+    let parts = and_parts (is_colour side clock.side) (nat_lt length (time_of side clock).held) h in
     let below : nat_lt length (time_of side clock).held ≡ true = parts.1 in
-    record { on_move = same_colour side clock.side parts.0; in_time = grind (arith, nat_tests) }
+    record { on_move = is_colour-true side clock.side parts.0; in_time = grind (arith, nat_tests) }
 
 TimesFit-from_test : (clock : ClockState) → times_fit clock ≡ true → TimesFit clock
 TimesFit-from_test clock h =
-    let parts = both_true (nat_lt clock.white.held 4294967296) (nat_lt clock.black.held 4294967296) h in
+    let parts = and_parts (nat_lt clock.white.held 4294967296) (nat_lt clock.black.held 4294967296) h in
     let white : nat_lt clock.white.held 4294967296 ≡ true = parts.0 in
     let black : nat_lt clock.black.held 4294967296 ≡ true = parts.1 in
     record { white_fits = grind (arith, nat_tests); black_fits = grind (arith, nat_tests) }
@@ -72,12 +63,12 @@ turns_at : (start : ClockState) (before rest : List ClockEvent) → all_may_come
 turns_at start before [] h [] side length end e = absurd cc
 turns_at start before [] h (x ∷ more) side length end e = absurd cc
 turns_at start before (event ∷ rest) h [] side length end e =
-    let parts = both_true (may_come (clock_after start before) event) (all_may_come start (before ++ event ∷ []) rest) h in
+    let parts = and_parts (may_come (clock_after start before) event) (all_may_come start (before ++ event ∷ []) rest) h in
     let this = subst (λ x. may_come (clock_after start before) x ≡ true) (same_head e) parts.0 in
     subst (λ es. EndsInTime (clock_after start es) side length) (sym (append-nil before))
     (EndsInTime-from_test (clock_after start before) side length this)
 turns_at start before (event ∷ rest) h (x ∷ more) side length end e =
-    let parts = both_true (may_come (clock_after start before) event) (all_may_come start (before ++ event ∷ []) rest) h in
+    let parts = and_parts (may_come (clock_after start before) event) (all_may_come start (before ++ event ∷ []) rest) h in
     subst (λ es. EndsInTime (clock_after start es) side length) (moved_on before event x more (same_head e))
     (turns_at start (before ++ event ∷ []) rest parts.1 more side length end (same_tail e))
 
@@ -87,11 +78,11 @@ fits_at start before [] h [] end e =
     subst (λ es. TimesFit (clock_after start es)) (sym (append-nil before)) (TimesFit-from_test (clock_after start before) h)
 fits_at start before [] h (x ∷ more) end e = absurd cc
 fits_at start before (event ∷ rest) h [] end e =
-    let parts = both_true (times_fit (clock_after start before)) (all_fit start (before ++ event ∷ []) rest) h in
+    let parts = and_parts (times_fit (clock_after start before)) (all_fit start (before ++ event ∷ []) rest) h in
     subst (λ es. TimesFit (clock_after start es)) (sym (append-nil before))
     (TimesFit-from_test (clock_after start before) parts.0)
 fits_at start before (event ∷ rest) h (x ∷ more) end e =
-    let parts = both_true (times_fit (clock_after start before)) (all_fit start (before ++ event ∷ []) rest) h in
+    let parts = and_parts (times_fit (clock_after start before)) (all_fit start (before ++ event ∷ []) rest) h in
     subst (λ es. TimesFit (clock_after start es)) (moved_on before event x more (same_head e))
     (fits_at start (before ++ event ∷ []) rest parts.1 more end (same_tail e))
 

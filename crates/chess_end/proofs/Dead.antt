@@ -11,10 +11,9 @@ use Rattle.chess_bits.specs.Square.{Square, IsOnBoard, is_square}
 use Rattle.chess_bits.specs.Man.{Man, is_kind, holds}
 use Rattle.chess_bits.specs.Table.{at, has, put, meet, without, members, IsSetOf}
 use Rattle.chess_bits.specs.Placement.{Placement, man_at}
-use Rattle.chess_bits.proofs.WordLemmas.{length-each}
 use Rattle.chess_bits.proofs.TableLemmas.{length-put, at-put, is_square-true, is_square-false, count_by-put, square_from_count_by, same_from_count_by}
 use Rattle.chess_bits.proofs.ManLemmas.{same_man, is_kind-true}
-use Rattle.chess_bits.proofs.SetLemmas.{has-meet, has-without}
+use Rattle.chess_bits.proofs.SetLemmas.{has-meet, has-without, length-meet}
 use Rattle.chess_bits.proofs.Deciding.{and_decides}
 use Rattle.chess_board.specs.Occupancy.{squares_with, is_a}
 use Rattle.chess_board.proofs.AttackLemmas.{has-squares_with}
@@ -25,10 +24,6 @@ use Rattle.chess_end.proofs.EachManLemmas.{each_man-empty, Decides-kind, either,
 use Rattle.chess_end.proofs.Shades.{Decides-is_shade}
 
 -- ---- bishops
-
-length-meet : (a b : List Bool) → length a ≡ length b → length (meet a b) ≡ length a
-unfolding meet
-length-meet a b len = length-each (λ x y. x && y) a b len
 
 shaded : (here : Option Man) (x : Bool) →
     (holds is_other here && not (holds (is_a Bishop) here && x)) ≡

@@ -1,6 +1,7 @@
 -- The law of `follow` for one game: what its entries mean with one entry more is the game before it, followed.
 use Rattle.std.specs.Prelude.{ℕ, ◌≡◌, ◌-◌, Bool, true, false, ◌&&◌, ◌||◌, not, if◌then◌else◌, List, [], ◌∷◌, ◌++◌, length, Option, Some, None, is_some}
 use Rattle.std.proofs.Common.{ap, sym, ◌∙◌, refl, append_assoc}
+use Rattle.std.proofs.lemmas.Bool.{or_right}
 use Rattle.std.proofs.lemmas.List.{append-nil}
 use Rattle.chess_bits.specs.declared.men.Colour.{Colour}
 use Rattle.chess_bits.specs.declared.men.Colour.TheVariants.{White, Black}
@@ -19,10 +20,10 @@ use Rattle.chess_entry.specs.Outcome.{is_granted, claimed_draw, ending_after, en
 use Rattle.chess_entry.specs.GameTimes.{claimant_turn}
 use Rattle.chess_entry.specs.Games.{control_of, game_in}
 use Rattle.chess_entry.specs.Follow.{follow_game, joined, with_offer, ended, ended_if, turn_ended, moved_if, claimed_wrongly}
-use Rattle.chess_entry.proofs.OneMore.{given_or-none}
+use Rattle.chess_entry.proofs.OneMore.{given_or-none, or_false}
 use Rattle.chess_entry.proofs.Fields.{joiner_in}
 use Rattle.chess_entry.proofs.HeldLemmas.{AreTimed, AreTimed-claim}
-use Rattle.chess_entry.proofs.Shown.{Parts, parts, running, and_true, or_false, or_true, running-joined, running-offered, running-declined, running-moved, after_claim, running-claimed}
+use Rattle.chess_entry.proofs.Shown.{Parts, parts, running, and_true, running-joined, running-offered, running-declined, running-moved, after_claim, running-claimed}
 use Rattle.chess_entry.proofs.GameMore.{parts-same, parts_of, parts_more, game_in-running, game_in-more}
 use Rattle.chess_entry.proofs.Allowed.{IsAllowed}
 use Rattle.chess_entry.proofs.InPlay.{IsSound, is_joined-in, none-not_some, on_move-in, mover-in}
@@ -130,7 +131,8 @@ if-and_kept b c false = if-and_true b c
 wrong_parts : (p : Parts) (by : Colour) (at : ℕ) → claim_parts p by false None at ≡ after_claim p by
 wrong_parts p by at =
     parts-same (given_or-none p.joiner) refl (if-and_kept (is_colour White by) p.white (is_colour Black by))
-    (if-and_kept (is_colour Black by) p.black (is_colour White by)) refl (or_true p.claimed) (append-nil p.moves)
+    (if-and_kept (is_colour Black by) p.black (is_colour White by)) refl (or_right p.claimed true refl)
+    (append-nil p.moves)
 
 turn_offers_white : (by : Colour) (white : Bool) →
     (if is_colour White by then true else (white && not (is_colour Black by && true)))

@@ -2,7 +2,7 @@
 use Rattle.std.specs.Prelude.{ℕ, ◌≡◌, ◌⊎◌, ◌-◌, ◌+◌, ◌*◌, ◌<◌, ◌≤◌, ◌==◌, nat_le, ◌&&◌, ◌||◌, not, Bool, true, false, if◌then◌else◌, List, [], ◌∷◌, ◌++◌, filter, map, Option, Some, None}
 use Rattle.std.specs.List.{flat_map, last_or, list_any, range_with_len}
 use Rattle.std.proofs.Common.{arith, ap, sym, subst, ◌∙◌, refl, inl, inr, zero, suc}
-use Rattle.std.proofs.lemmas.Bool.{cases_Bool, cases_eq, eq-eqb, ne_eqb, eqb-true, and_parts, leb-true, lt-leb}
+use Rattle.std.proofs.lemmas.Bool.{cases_Bool, cases_eq, eq-eqb, ne_eqb, eqb-true, and_parts, or_right, leb-true, lt-leb}
 use Rattle.std.proofs.lemmas.List.{append-nil, map-append}
 use Rattle.chess_bits.specs.declared.men.Colour.TheVariants.{White, Black}
 use Rattle.chess_clock.specs.TimeControl.{time_control}
@@ -18,8 +18,7 @@ use Rattle.chess_entry.specs.Story.{entries_of, first_given, given_or, opening_o
 use Rattle.chess_entry.specs.Games.{game_in, game_if, game_shown, number_of, last_number, games_shown}
 use Rattle.chess_entry.specs.Verdict.{is_period}
 use Rattle.chess_entry.specs.Follow.{follow_game, follow_if, last_after, new_game, fresh_seat}
-use Rattle.chess_entry.proofs.OneMore.{filter-more, first_given-more, given_or-none, list_any-more, last_passing-more, flat_map-more, range-more}
-use Rattle.chess_entry.proofs.Shown.{or_false, or_true}
+use Rattle.chess_entry.proofs.OneMore.{filter-more, first_given-more, given_or-none, or_false, list_any-more, last_passing-more, flat_map-more, range-more}
 
 -- ---- lists
 
@@ -182,7 +181,7 @@ own-gone : (xs : List Entry) (g at : ℕ) →
     ≡ filter (λ (game : GameState). not (game.number == g)) (game_shown g xs)
 own-gone xs g at =
     ap (λ (b : Bool). shown_if b (opened_in (xs ++ entry g at event.Drop ∷ [])) g (xs ++ entry g at event.Drop ∷ []))
-    (dropped_in-more xs (entry g at event.Drop) ∙ or_true (dropped_in xs))
+    (dropped_in-more xs (entry g at event.Drop) ∙ or_right (dropped_in xs) true refl)
     ∙ sym (own-dropped g (dropped_in xs) (opened_in xs) xs)
 
 pub games-dropped : (es : List Entry) (g at : ℕ) →

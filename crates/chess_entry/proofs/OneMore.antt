@@ -61,7 +61,7 @@ last_passing-more {A = A} p xs x =
     by_test true = last_or-more None (filter p xs) x
     by_test false = ap (last_or None) (append-nil (filter p xs))
 
-or_false : (b : Bool) → (b || false) ≡ b
+pub or_false : (b : Bool) → (b || false) ≡ b
 or_false true = refl
 or_false false = refl
 

@@ -1,6 +1,7 @@
 -- A game by its parts, and what the entries of a game that runs do to them.
-use Rattle.std.specs.Prelude.{ℕ, ◌≡◌, ◌+◌, ◌-◌, Bool, true, false, ◌&&◌, ◌||◌, not, if◌then◌else◌, List, [], ◌∷◌, ◌++◌, length, Option, Some, None, is_some, is_none}
+use Rattle.std.specs.Prelude.{ℕ, ◌≡◌, ◌+◌, ◌-◌, Bool, true, false, ◌&&◌, not, if◌then◌else◌, List, [], ◌∷◌, ◌++◌, length, Option, Some, None, is_some, is_none}
 use Rattle.std.proofs.Common.{ap, ◌∙◌, refl}
+use Rattle.std.proofs.lemmas.Bool.{and_right}
 use Rattle.chess_bits.specs.declared.men.Colour.{Colour}
 use Rattle.chess_bits.specs.declared.men.Colour.TheVariants.{White, Black}
 use Rattle.chess_bits.specs.Man.{is_colour, other}
@@ -86,18 +87,6 @@ pub and_true : (b : Bool) → (b && true) ≡ b
 and_true true = refl
 and_true false = refl
 
-pub and_false : (b : Bool) → (b && false) ≡ false
-and_false true = refl
-and_false false = refl
-
-pub or_false : (b : Bool) → (b || false) ≡ b
-or_false true = refl
-or_false false = refl
-
-pub or_true : (b : Bool) → (b || true) ≡ true
-or_true true = refl
-or_true false = refl
-
 -- ---- the join
 
 seated-name : (here : Bool) (opener name : List ℕ) →
@@ -137,9 +126,10 @@ pub running-declined : (number : ℕ) (opening : Opening) (p : Parts) (by : Colo
     ≡ with_offer (running number opening p) (other by) false
 running-declined number opening p White =
     ap (λ (b : Bool). running number opening (record p { white = b; black = p.black && false })) (and_true p.white)
-    ∙ ap (λ (b : Bool). running number opening (record p { black = b })) (and_false p.black)
+    ∙ ap (λ (b : Bool). running number opening (record p { black = b })) (and_right p.black false refl)
 running-declined number opening p Black =
-    ap (λ (b : Bool). running number opening (record p { white = b; black = p.black && true })) (and_false p.white)
+    ap (λ (b : Bool). running number opening (record p { white = b; black = p.black && true }))
+    (and_right p.white false refl)
     ∙ ap (λ (b : Bool). running number opening (record p { white = false; black = b })) (and_true p.black)
 
 -- ---- a completed move
@@ -160,9 +150,9 @@ seat-turn : (first mover side : Colour) (control : TimeControl) (events : List C
 seat-turn first White White control events plies length name offers timed on_move =
     seat-same name _ _ _ _ (held-own_turn first White control events plies length (timed White) on_move) (and_true offers)
 seat-turn first White Black control events plies length name offers timed on_move =
-    seat-same name _ _ _ _ (held-others_turn White control events length) (and_false offers)
+    seat-same name _ _ _ _ (held-others_turn White control events length) (and_right offers false refl)
 seat-turn first Black White control events plies length name offers timed on_move =
-    seat-same name _ _ _ _ (held-others_turn Black control events length) (and_false offers)
+    seat-same name _ _ _ _ (held-others_turn Black control events length) (and_right offers false refl)
 seat-turn first Black Black control events plies length name offers timed on_move =
     seat-same name _ _ _ _ (held-own_turn first Black control events plies length (timed Black) on_move) (and_true offers)
 

@@ -1,7 +1,7 @@
 -- The letters of the men by the numbers of their squares.
-use Rattle.std.proofs.Common.{ℕ, ◌≡◌, ◌≢◌, ◌<◌, Bool, true, false, cond, ◌||◌, List, ◌∷◌, length, get_or, set, Option, Some, None, refl, ap, sym, ◌∙◌, inl, inr, arith, min}
+use Rattle.std.proofs.Common.{ℕ, ◌≡◌, ◌≢◌, ◌<◌, Bool, true, false, cond, ◌||◌, List, ◌∷◌, length, get_or, set, Option, Some, None, refl, ap, ◌∙◌, inl, inr, arith, min}
 use Rattle.std.specs.List.{list_any}
-use Rattle.std.proofs.lemmas.Bool.{cases_Bool, false≢true}
+use Rattle.std.proofs.lemmas.Bool.{cases_Bool}
 use Rattle.std.proofs.lemmas.List.{get_or-set_same, get_or-set_other}
 use Rattle.chess_bits.specs.declared.men.Colour.TheVariants.{White, Black}
 use Rattle.chess_bits.specs.declared.men.Kind.TheVariants.{Pawn, Knight, Bishop, Rook, Queen, King}
@@ -24,10 +24,6 @@ listed set' s on here =
     (Decides-some_of (is_square s) (λ x. s ≡ x) (members set')
     (each_decides (is_square s) (λ x. s ≡ x) (Decides-is_square s) (members set'))).1
     (SomeOf-members (λ x. s ≡ x) set' s on here refl)
-
-not_left : (x y : Bool) → (x || y) ≡ false → (x ≡ false) × (y ≡ false)
-not_left true y e = absurd (false≢true (sym e))
-not_left false y e = (refl, e)
 
 -- a square that is not the one marked keeps its letter
 pub other_place : (letters : List ℕ) (q s : Square) (letter : ℕ) → IsOnBoard q → IsOnBoard s → s ≢ q →

@@ -1,92 +1,20 @@
 -- What changes between two boards, and the texts of their ranks.
-use Rattle.std.proofs.Common.{ℕ, ◌≡◌, ◌≢◌, ◌≤◌, ◌<◌, Bool, true, false, not, ◌||◌, ◌&&◌, List, ◌∷◌, ◌++◌, length, get_or, set, Option, Some, None, refl, ap, sym, ◌∙◌, inl, inr, arith, length-append, take, replicate, ◌+◌, ◌-◌}
+use Rattle.std.proofs.Common.{ℕ, ◌≡◌, ◌≢◌, ◌≤◌, ◌<◌, Bool, true, false, ◌||◌, List, ◌∷◌, ◌++◌, length, get_or, set, refl, ap, sym, ◌∙◌, inl, inr, arith, length-append, take, replicate, ◌+◌, ◌-◌}
 use Rattle.std.specs.List.{list_any}
 use Rattle.std.specs.Prelude.{slice_index_or, ◌==◌}
 use Rattle.std.proofs.lemmas.Bool.{cases_Bool, false≢true}
 use Rattle.std.proofs.lemmas.Bool.Decides.{Decides-eqb}
 use Rattle.std.proofs.lemmas.List.{get_or-set_same, get_or-set_other, get_or-replicate, get_or-take, length-take-le}
 use Rattle.std.proofs.Math.Seq.{take-append-add, take-append_seam, get_or-append_right}
-use Rattle.chess_bits.specs.declared.men.Colour.TheVariants.{White, Black}
-use Rattle.chess_bits.specs.declared.men.Kind.{Kind}
-use Rattle.chess_bits.specs.declared.men.Kind.TheVariants as kinds
 use Rattle.chess_bits.specs.Square.{Square, IsOnBoard, is_square, number_of, square}
-use Rattle.chess_bits.specs.Man.{Man, is_of, holds}
-use Rattle.chess_bits.specs.Table.{has, empty, union, without}
-use Rattle.chess_bits.proofs.ManLemmas.{is_kind-true, is_kind-same}
-use Rattle.chess_bits.proofs.SetLemmas.{has-union, has-without, length-union, length-without}
+use Rattle.chess_bits.specs.Table.{has}
 use Rattle.chess_bits.proofs.TableLemmas.{is_square-true, is_square-false, number_of-below}
-use Rattle.chess_board.specs.Occupancy.{squares_with, is_a}
+use Rattle.chess_board.specs.Occupancy.{HasChanges}
 use Rattle.chess_board.specs.Position.{Placement, man_at}
-use Rattle.chess_board.proofs.AttackLemmas.{has-squares_with}
 use Rattle.chess_notation.specs.Fen.{rank_of, row_text, letter_or_zero}
-use Rattle.chess_fen.specs.Shown.{HasChanges, TellsRanks, IsRankText, filled_up}
+use Rattle.chess_fen.specs.Shown.{TellsRanks, IsRankText, filled_up}
 use Rattle.chess_fen.specs.declared.shown.RankText.{RankText}
 use Rattle.chess_fen.proofs.LetterLemmas.{other_place}
-
--- ---- sets that differ
-
-neither : (x y : Bool) → (x || y) ≡ false → (x ≡ false) × (y ≡ false)
-neither true y e = absurd (false≢true (sym e))
-neither false y e = (refl, e)
-
-same_bits : (x y : Bool) → (x && not y) ≡ false → (y && not x) ≡ false → x ≡ y
-same_bits true true e f = refl
-same_bits true false e f = absurd (false≢true (sym e))
-same_bits false true e f = absurd (false≢true (sym f))
-same_bits false false e f = refl
-
-module _ (before a b : List Bool) (whole : length before ≡ 64) (whole_a : length a ≡ 64) (whole_b : length b ≡ 64) where
-  abbrev apart : List Bool
-  apart = union (without a b) (without b a)
-
-  parts : length (without a b) ≡ length (without b a)
-  parts = length-without a b (whole_a ∙ sym whole_b) ∙ whole_a ∙ sym whole_b
-      ∙ sym (length-without b a (whole_b ∙ sym whole_a))
-
-  whole_apart : length before ≡ length apart
-  whole_apart = whole ∙ sym (length-union (without a b) (without b a) parts
-      ∙ length-without a b (whole_a ∙ sym whole_b) ∙ whole_a)
-
-  pub differing-whole : length (union before apart) ≡ 64
-  differing-whole = length-union before apart whole_apart ∙ whole
-
-  pub differing-none : (s : Square) → has (union before apart) s ≡ false →
-      (has before s ≡ false) × (has a s ≡ has b s)
-  differing-none s none =
-      let (first, rest) = neither (has before s) (has apart s) (sym (has-union before apart s whole_apart) ∙ none) in
-      let (left, right) = neither (has (without a b) s) (has (without b a) s)
-      (sym (has-union (without a b) (without b a) s parts) ∙ rest) in (
-        first,
-        same_bits (has a s) (has b s) (sym (has-without a b s (whole_a ∙ sym whole_b)) ∙ left)
-            (sym (has-without b a s (whole_b ∙ sym whole_a)) ∙ right),
-      )
-
--- ---- men that all sets tell alike
-
-same_man : (m n : Option Man) → holds (is_of White) m ≡ holds (is_of White) n →
-    holds (is_of Black) m ≡ holds (is_of Black) n → ((k : Kind) → holds (is_a k) m ≡ holds (is_a k) n) → m ≡ n
-same_man None None w b k = refl
-same_man None (Some (White, kind)) w b k = absurd (false≢true w)
-same_man None (Some (Black, kind)) w b k = absurd (false≢true b)
-same_man (Some (White, kind)) None w b k = absurd (false≢true (sym w))
-same_man (Some (Black, kind)) None w b k = absurd (false≢true (sym b))
-same_man (Some (White, one)) (Some (White, other)) w b k =
-    ap (λ (x : Kind). Some (White, x)) (is_kind-true one other (sym (k one) ∙ is_kind-same one))
-same_man (Some (White, one)) (Some (Black, other)) w b k = absurd (false≢true (sym w))
-same_man (Some (Black, one)) (Some (White, other)) w b k = absurd (false≢true w)
-same_man (Some (Black, one)) (Some (Black, other)) w b k =
-    ap (λ (x : Kind). Some (Black, x)) (is_kind-true one other (sym (k one) ∙ is_kind-same one))
-
-told-same : (is : Man → Bool) (old new : Placement) (s : Square) →
-    has (squares_with is old) s ≡ has (squares_with is new) s → holds is (man_at old s) ≡ holds is (man_at new s)
-told-same is old new s e = sym (has-squares_with is old s) ∙ e ∙ has-squares_with is new s
-
-pub same_there : (old new : Placement) (s : Square) →
-    has (squares_with (is_of White) old) s ≡ has (squares_with (is_of White) new) s →
-    has (squares_with (is_of Black) old) s ≡ has (squares_with (is_of Black) new) s →
-    ((k : Kind) → has (squares_with (is_a k) old) s ≡ has (squares_with (is_a k) new) s) → man_at old s ≡ man_at new s
-same_there old new s w b k = same_man (man_at old s) (man_at new s) (told-same (is_of White) old new s w)
-    (told-same (is_of Black) old new s b) (λ kind. told-same (is_a kind) old new s (k kind))
 
 -- ---- letters and ranks, square by square
 
@@ -153,22 +81,6 @@ AreTextsFrom from until texts placement = (rank : ℕ) (d : RankText) → from �
     IsRankText (slice_index_or texts (rank - 1) d) placement rank
 
 -- ---- for the calls
-
-pub whole-empty : length empty ≡ 64
-unfolding empty
-whole-empty = refl
-
-pub by_sets : (a b x y : List Bool) (s : Square) → a ≡ x → b ≡ y → has a s ≡ has b s → has x s ≡ has y s
-by_sets a b x y s e f h = ap (λ (bs : List Bool). has bs s) (sym e) ∙ h ∙ ap (λ (bs : List Bool). has bs s) f
-
-pub each_kind : (P : Kind → Type 0) → P kinds.Pawn → P kinds.Knight → P kinds.Bishop → P kinds.Rook → P kinds.Queen →
-    P kinds.King → (k : Kind) → P k
-each_kind P pawn knight bishop rook queen king kinds.Pawn = pawn
-each_kind P pawn knight bishop rook queen king kinds.Knight = knight
-each_kind P pawn knight bishop rook queen king kinds.Bishop = bishop
-each_kind P pawn knight bishop rook queen king kinds.Rook = rook
-each_kind P pawn knight bishop rook queen king kinds.Queen = queen
-each_kind P pawn knight bishop rook queen king kinds.King = king
 
 pub ranks_told : (old new : Placement) (changed touched : List Bool) → HasChanges old new changed →
     ((s : Square) → IsOnBoard s → has changed s ≡ true → slice_index_or touched s.rank false ≡ true) →

@@ -1,8 +1,6 @@
 -- What a board keeps of its text while it changes.
 use Rattle.std.specs.Prelude.{ℕ, ◌≡◌, ◌-◌, ◌≤◌, ◌<◌, ◌++◌, Bool, false, List, length, take, replicate, slice_index, slice_index_or}
-use Rattle.chess_bits.specs.Square.{Square}
-use Rattle.chess_bits.specs.Table.{has}
-use Rattle.chess_board.specs.Position.{Placement, man_at}
+use Rattle.chess_board.specs.Position.{Placement}
 use Rattle.chess_notation.specs.Fen.{rank_of, row_text}
 use Rattle.chess_notation.specs.Letters.{slash}
 use Rattle.chess_fen.specs.declared.shown.RankText.{RankText}
@@ -30,10 +28,6 @@ pub record IsRankText (text : RankText) (placement : Placement) (rank : ℕ) : T
 abbrev pub AreRankTexts : List RankText → Placement → Type 0
 AreRankTexts texts placement = (rank : ℕ) (d : RankText) → 1 ≤ rank → rank ≤ 8 →
     IsRankText (slice_index_or texts (rank - 1) d) placement rank
-
--- Where the set has no square, the same stands on it in both placements.
-abbrev pub HasChanges : Placement → Placement → List Bool → Type 0
-HasChanges old new set = (s : Square) → has set s ≡ false → man_at old s ≡ man_at new s
 
 -- A rank of which this is false has the same men in both placements.
 abbrev pub TellsRanks : Placement → Placement → List Bool → Type 0

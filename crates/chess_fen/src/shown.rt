@@ -1,15 +1,14 @@
 //! A board with its FEN at hand.
-ghost use Rattle.std.specs.Prelude.{◌≡◌, ◌≤◌, ◌+◌, ◌++◌, ◌∷◌, ℕ, false, [], length};
+ghost use Rattle.std.specs.Prelude.{◌≡◌, ◌≤◌, ◌+◌, ◌++◌, ◌∷◌, ℕ, [], length};
 ghost use Rattle.arrayvec.specs.ArrayString.{array_string_len};
-ghost use Rattle.chess_bits.specs.Square.{Square, IsOnBoard};
-ghost use Rattle.chess_bits.specs.Table.{has};
-ghost use Rattle.chess_board.specs.Occupancy.{squares_with, is_a};
+ghost use Rattle.chess_bits.specs.Square.{IsOnBoard};
+ghost use Rattle.chess_board.specs.Occupancy.{HasChanges};
 ghost use Rattle.chess_notation.specs.Fen.{rank_of, placement_text, fen_of, IsFenOf, AreLetters};
-ghost use Rattle.chess_fen.specs.Shown.{IsFilled, filled_up, shown_part, IsRankText, AreRankTexts, HasChanges, TellsRanks};
+ghost use Rattle.chess_fen.specs.Shown.{IsFilled, filled_up, shown_part, IsRankText, AreRankTexts, TellsRanks};
 
 use crate::fen::{FenText, push, push_fields, push_rank};
 use crate::letters::{letter_at, letters_of};
-use chess_bits::{Bits, Colour, Kind};
+use chess_bits::Bits;
 use chess_board::{Board, Men};
 use std::marker::Model;
 
@@ -71,8 +70,7 @@ impl ShownBoard {
     pub fn set(&mut self, board: Board)
         ensures { self.new ≡ board }
     {
-        let _valid = (self.board.rights(), board.rights());
-        let changed = changes(self.board.men(), board.men());
+        let changed = self.board.men().changes(board.men());
         let touched = reletter(&mut self.letters, self.board.men(), board.men(), changed);
         renew_all(
             &mut self.ranks,
@@ -130,47 +128,6 @@ fn rank_texts(men: &Men, letters: &[u8; 64]) -> [RankText; 8]
         texts[usize::from(rank) - 1] = rank_text(men, letters, rank);
     }
     texts
-}
-
-// Adds the squares that one of two sets has alone.
-fn with_differing(so_far: Bits, a: Bits, b: Bits) -> Bits
-    requires so_far { length so_far ≡ 64 }
-    requires a { length a ≡ 64 }
-    requires b { length b ≡ 64 }
-    ensures whole { length result ≡ 64 }
-    ensures before { (s : Square) → has result s ≡ false → has so_far s ≡ false }
-    ensures same { (s : Square) → has result s ≡ false → has a s ≡ has b s }
-{
-    so_far.union(a.without(b).union(b.without(a)))
-}
-
-// Adds the squares that hold a man of the kind on one of two boards alone.
-fn with_moved(so_far: Bits, old: &Men, new: &Men, kind: Kind) -> Bits
-    requires so_far { length so_far ≡ 64 }
-    requires old { length old.now ≡ 64 }
-    requires new { length new.now ≡ 64 }
-    ensures whole { length result ≡ 64 }
-    ensures before { (s : Square) → has result s ≡ false → has so_far s ≡ false }
-    ensures same { (s : Square) → has result s ≡ false
-        → has (squares_with (is_a kind) old.now) s ≡ has (squares_with (is_a kind) new.now) s }
-{
-    with_differing(so_far, old.of_kind(kind), new.of_kind(kind))
-}
-
-// The squares on which something else stands than before.
-fn changes(old: &Men, new: &Men) -> Bits
-    requires old { length old.now ≡ 64 }
-    requires new { length new.now ≡ 64 }
-    ensures { HasChanges old.now new.now result }
-{
-    let white = with_differing(Bits::new(), old.of(Colour::White), new.of(Colour::White));
-    let colours = with_differing(white, old.of(Colour::Black), new.of(Colour::Black));
-    let pawns = with_moved(colours, old, new, Kind::Pawn);
-    let knights = with_moved(pawns, old, new, Kind::Knight);
-    let bishops = with_moved(knights, old, new, Kind::Bishop);
-    let rooks = with_moved(bishops, old, new, Kind::Rook);
-    let queens = with_moved(rooks, old, new, Kind::Queen);
-    with_moved(queens, old, new, Kind::King)
 }
 
 // Writes the letters on the squares that changed, and tells the ranks of these. The men before stand in the contract

@@ -2,7 +2,7 @@
 use Rattle.std.specs.Prelude.{ℕ, ◌≡◌, ◌⊎◌, ◌+◌, ◌*◌, ◌≤◌, Bool, true, false, cond, ◌||◌, ◌==◌, nat_le, List, [], length, filter, Some}
 use Rattle.std.specs.Bool.{Decides}
 use Rattle.std.specs.List.{list_all}
-use Rattle.std.proofs.Common.{arith, refl, sym, ap, ◌∙◌, inl, inr}
+use Rattle.std.proofs.Common.{arith, refl, sym, ◌∙◌, inl, inr}
 use Rattle.std.proofs.lemmas.Bool.{cases_Bool, leb-true, le-leb}
 use Rattle.std.proofs.lemmas.Bool.Decides.{Decides-eqb}
 use Rattle.chess_bits.specs.declared.men.Colour.{Colour}
@@ -14,7 +14,7 @@ use Rattle.chess_bits.specs.Man.{other, is_of, holds}
 use Rattle.chess_bits.specs.Table.{has, members}
 use Rattle.chess_bits.specs.Attack.{along, north, east, south, west, north_east, south_east, south_west, north_west, forward, straight, diagonal, adjoining, knight_steps, pawn_attacks, Reaches, Slides, reaches}
 use Rattle.chess_bits.proofs.TableLemmas.{Decides-is_square}
-use Rattle.chess_bits.proofs.Deciding.{or_decides, Decides-reaches, Decides-each_square}
+use Rattle.chess_bits.proofs.Deciding.{or_decides, Decides-reaches, Decides-each_square, same_file, same_rank}
 use Rattle.chess_bits.proofs.MemberLemmas.{length-members_map}
 use Rattle.chess_board.specs.declared.castling.Wing.{Wing}
 use Rattle.chess_board.specs.declared.castling.Wing.TheVariants as wing
@@ -60,12 +60,6 @@ can_go side Bishop a b = on_line a b
 can_go side Rook a b = on_line a b
 can_go side Queen a b = on_line a b
 can_go side King a b = on_line a b
-
-same_file : (a b : Square) → a ≡ b → a.file ≡ b.file
-same_file a b e = ap (λ (s : Square). s.file) e
-
-same_rank : (a b : Square) → a ≡ b → a.rank ≡ b.rank
-same_rank a b e = ap (λ (s : Square). s.rank) e
 
 line-straight : (occupied : List Bool) (a b : Square) → IsOnBoard b → Slides occupied straight a b → OnLine a b
 line-straight occupied a b on (inl s) = inl (omega (arith, same_file b (along s.distance _ a) s.there))

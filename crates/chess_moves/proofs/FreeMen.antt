@@ -1,7 +1,7 @@
 -- Where men go that no slider pins and that take nothing en passant.
-use Rattle.std.specs.Prelude.{◌≡◌, ◌≢◌, ◌⊎◌, ◌+◌, ◌-◌, ◌&&◌, not, Bool, true, false, List, length, Option, Some, None}
+use Rattle.std.specs.Prelude.{◌≡◌, ◌≢◌, ◌⊎◌, ◌+◌, ◌-◌, not, Bool, true, false, List, length, Option, Some, None}
 use Rattle.std.proofs.Common.{arith, refl, sym, ap, subst, ◌∙◌, inl, inr}
-use Rattle.std.proofs.lemmas.Bool.{false≢true, and_parts, false_from_ne_true}
+use Rattle.std.proofs.lemmas.Bool.{false≢true, both_ways, and_parts, and_from, not-true, not_from_false, false_from_ne_true}
 use Rattle.chess_bits.specs.declared.men.Colour.{Colour}
 use Rattle.chess_bits.specs.declared.men.Colour.TheVariants.{White, Black}
 use Rattle.chess_bits.specs.declared.men.Kind.{Kind}
@@ -12,7 +12,7 @@ use Rattle.chess_bits.specs.Table.{has, union, meet, without, empty, IsSetOf}
 use Rattle.chess_bits.specs.Attack.{along, forward, pawn_attacks, Reaches, Attacks}
 use Rattle.chess_bits.proofs.TableLemmas.{same_square}
 use Rattle.chess_bits.proofs.ManLemmas.{not_of_both, same_kind}
-use Rattle.chess_bits.proofs.SetLemmas.{has-meet, has-without, length-without, IsSetOf-like}
+use Rattle.chess_bits.proofs.SetLemmas.{has-meet, has-without, length-without, length-meet, IsSetOf-like}
 use Rattle.chess_bits.proofs.Reversal.{Attacks-back}
 use Rattle.chess_board.specs.Occupancy.{squares_with, is_a}
 use Rattle.chess_board.specs.Position.{Position, man_at, occupied_of, target_rank, IsValid}
@@ -23,7 +23,7 @@ use Rattle.chess_moves.specs.Targets.{plain, GoesTo, GoesSafely, IsPiece}
 use Rattle.chess_moves.specs.Masks.{EndsChecks, KeepsLine, HoldsMasks}
 use Rattle.chess_moves.specs.Counting.{IsFree, AreFree}
 use Rattle.chess_moves.proofs.Watching.{own_on}
-use Rattle.chess_moves.proofs.SetForms.{both_set, length-meet, pawn_set}
+use Rattle.chess_moves.proofs.SetForms.{both_set, target_there, pawn_set}
 use Rattle.chess_moves.proofs.Foes.{kind_set}
 use Rattle.chess_moves.proofs.Safely.{piece_goes_set, pawn_set_none, pawn_set_away}
 
@@ -74,21 +74,12 @@ without_set a b P Q of_a of_b =
         (λ here.
             let both = and_parts (has a s) (not (has b s)) (sym (has-without a b s len) ∙ here) in (
               (of_a.exact s on).0 both.0,
-              λ q. never (has b s) both.1 ((of_b.exact s on).1 q),
+              λ q. both_ways (has b s) (not-true (has b s) both.1) ((of_b.exact s on).1 q),
             )),
-        (λ is. has-without a b s len ∙ kept (has a s) (has b s) ((of_a.exact s on).1 is.0)
-            (λ here. is.1 ((of_b.exact s on).0 here))),
+        (λ is. has-without a b s len ∙ and_from (has a s) (not (has b s)) ((of_a.exact s on).1 is.0)
+            (not_from_false (has b s) (false_from_ne_true (has b s) (λ here. is.1 ((of_b.exact s on).0 here))))),
       );
     }
-  where
-    never : (b : Bool) → not b ≡ true → b ≡ true → ⊥
-    never true e f = false≢true e
-    never false e f = false≢true f
-
-    kept : (a b : Bool) → a ≡ true → (b ≡ true → ⊥) → (a && not b) ≡ true
-    kept true true e away = absurd (away refl)
-    kept true false e away = refl
-    kept false b e away = absurd (false≢true e)
 
 pub free_piece_set : (p : Position) (masks : Masks) (kind : Kind) (from : Square) (seen own : List Bool) →
     HoldsMasks p masks → IsFree p masks.pinned kind from → IsPiece kind →
@@ -193,19 +184,12 @@ passing_from p seen s t r on on_r of is e reaches =
     let same : t ≡ r = target_there p.target r t is e in
     let Reaches' : Square → Type 0 = Reaches (pawn_attacks p.side) s in
     (of.exact s on).1 (Attacks-back empty p.side Pawn s r on_r (subst Reaches' same reaches))
-  where
-    target_there : (target : Option Square) (t s : Square) → target ≡ Some t → target ≡ Some s → s ≡ t
-    target_there target t s e f = cc
 
 pub no_passing : (p : Position) (t : Square) → p.target ≡ None → p.target ≡ Some t → ⊥
 no_passing p t e f = clash p.target t e f
   where
     clash : (target : Option Square) (t : Square) → target ≡ None → target ≡ Some t → ⊥
     clash target t e f = absurd (cc)
-
-not-true : (b : Bool) → not b ≡ true → b ≡ false
-not-true true e = sym e
-not-true false e = refl
 
 of_kind_there : (here : Option (Colour × Kind)) (side c : Colour) (kind own : Kind) → here ≡ Some (side, own) →
     here ≡ Some (c, kind) → here ≡ Some (side, kind)

@@ -1,21 +1,20 @@
 -- The path from the king to the nearest slider, and what stands on it.
 use Rattle.std.specs.Prelude.{ℕ, ◌≡◌, ◌⊎◌, ◌-◌, ◌<◌, ◌≤◌, Bool, true, false, not, ◌&&◌, List, [], length, Some}
 use Rattle.std.proofs.Common.{arith, refl, sym, ap, subst, ◌∙◌, inl, inr}
-use Rattle.std.proofs.lemmas.Bool.{false≢true, cases_eq, cases_order, and_parts, and_from, false_from_ne_true}
+use Rattle.std.proofs.lemmas.Bool.{false≢true, cases_eq, cases_order, and_parts, and_from, not-true, false_from_ne_true}
 use Rattle.chess_bits.specs.declared.steps.Step.{Step}
 use Rattle.chess_bits.specs.Square.{Square, IsOnBoard, squares}
 use Rattle.chess_bits.specs.Table.{has, meet, without, members, head_of, IsSetOf, IsGreatest}
 use Rattle.chess_bits.specs.Attack.{along, SlidesAlong}
 use Rattle.chess_bits.proofs.AlongLemmas.{along-between}
-use Rattle.chess_bits.proofs.SetLemmas.{has-meet, has-without, length-without, has-none}
+use Rattle.chess_bits.proofs.SetLemmas.{has-meet, has-without, length-without, length-meet, has-none}
 use Rattle.chess_attacks.specs.Ways.{way_step, IsRising, IsFalling}
 use Rattle.chess_attacks.proofs.WayLemmas.{Adds, rising-rises, falling-falls}
-use Rattle.chess_attacks.proofs.Nearest.{IsRay, empty_slide, not_true, Differs, IsNearest, rising_nearest, falling_nearest, beyond_far, not_beyond}
+use Rattle.chess_attacks.proofs.Nearest.{IsRay, empty_slide, Differs, IsNearest, rising_nearest, falling_nearest, beyond_far, not_beyond}
 use Rattle.chess_moves.specs.Masks.{IsAloneBetween, IsPathTo, NoneAhead}
 use Rattle.chess_moves.proofs.Ways.{way-differs, way-adds}
 use Rattle.chess_moves.proofs.ListLemmas.{filter-none}
 use Rattle.chess_moves.proofs.Listed.{on_board-squares}
-use Rattle.chess_moves.proofs.SetForms.{length-meet}
 
 -- a set of squares without a square has no members
 pub no_members : (set : List Bool) → ((q : Square) → IsOnBoard q → has set q ≡ false) → members set ≡ []
@@ -55,7 +54,7 @@ path whole beyond sliders k s d n adds differs on ray ray_beyond nearest =
                   there = nearest.there;
                   here = slide.there;
                 })
-                | inr (inr farther) ↦ absurd (false≢true (sym (not_true (has beyond q) parts.1)
+                | inr (inr farther) ↦ absurd (false≢true (sym (not-true (has beyond q) parts.1)
                     ∙ beyond_far beyond sliders k s q d n slide.distance adds ray_beyond nearest on_q slide.there
                     farther))
               ]),
@@ -197,7 +196,7 @@ between_parts occupied sliders path k q d differs on_q of_occupied of_sliders se
     (sym (has-between path occupied sliders q seen.squares.whole of_occupied of_sliders) ∙ here) in
     let inner = and_parts (has path q) (has occupied q) parts.0 in
     elim ((seen.squares.exact q on_q).0 inner.0) [
-      | inl e ↦ absurd (false≢true (sym (not_true (has sliders q) parts.1) ∙ ap (has sliders) e ∙ seen.member))
+      | inl e ↦ absurd (false≢true (sym (not-true (has sliders q) parts.1) ∙ ap (has sliders) e ∙ seen.member))
       | inr between ↦
           let same : between.far ≡ seen.slide.distance =
           differs k between.far seen.slide.distance (subst IsOnBoard between.there seen.on_board)

@@ -1,7 +1,7 @@
 -- The sets of squares to which a man may go.
 use Rattle.std.specs.Prelude.{ℕ, ◌≡◌, ◌≢◌, ◌⊎◌, ◌↔◌, ◌%◌, Bool, true, false, cond, not, List, [], ◌∷◌, length, Option, Some, None, IsTrue}
 use Rattle.std.proofs.Common.{refl, sym, ap, subst, ◌∙◌, inl, inr}
-use Rattle.std.proofs.lemmas.Bool.{false≢true, cases_Bool, false_from_ne_true}
+use Rattle.std.proofs.lemmas.Bool.{false≢true, both_ways, cases_Bool, not-true, not_from_false, false_from_ne_true}
 use Rattle.chess_bits.specs.declared.men.Kind.{Kind}
 use Rattle.chess_bits.specs.declared.men.Kind.TheVariants.{Pawn, Knight, Bishop, Rook, Queen, King}
 use Rattle.chess_bits.specs.Square.{Square, IsOnBoard, is_square}
@@ -15,7 +15,7 @@ use Rattle.chess_bits.proofs.SetLemmas.{has-none, IsSetOf-union, IsSetOf-like}
 use Rattle.chess_board.specs.Position.{Position, man_at, occupied_of, IsValid}
 use Rattle.chess_board.specs.Next.{is_target, is_en_passant}
 use Rattle.chess_board.proofs.Candidates.{IsOnBoard-from_man, no_en_passant, no_target_is_plain, is_target-true}
-use Rattle.chess_board.proofs.Outward.{not_empty, not_true, true_not}
+use Rattle.chess_board.proofs.Outward.{not_empty}
 use Rattle.chess_moves.specs.declared.masks.Masks.{Masks}
 use Rattle.chess_moves.specs.Targets.{plain, GoesTo, LeavesKingSafe, GoesSafely, IsPiece}
 use Rattle.chess_moves.specs.Masks.{SlidesIn, IsSlider, IsLeaper, EndsChecks, KeepsLine, IsAttackedWithout, HoldsMasks}
@@ -113,12 +113,12 @@ pub attacked_told : (p : Position) (k q : Square) (attackers : List Bool) (none 
     (IsTrue none ↔ (members attackers ≡ [])) → IsTrue (not none) ↔ IsAttackedWithout p k q
 attacked_told p k q attackers none on of told = (
   λ some.
-      let found = some_square attackers (λ empty. not_true none some (told.1 empty)) in
+      let found = some_square attackers (λ empty. both_ways none (not-true none some) (told.1 empty)) in
       attacked_from p k q found.0 found.1 ((of.exact found.0 found.1).0 found.2),
-  λ attacked. true_not none (λ empty.
+  λ attacked. not_from_false none (false_from_ne_true none (λ empty.
       let on_c = IsOnBoard-from_man p.placement attacked.0 (other p.side, attacked.1) attacked.2 in
       false≢true (sym (has-none attackers attacked.0 on_c (told.0 empty))
-      ∙ (of.exact attacked.0 on_c).1 (attacker_seen p k q on attacked))),
+      ∙ (of.exact attacked.0 on_c).1 (attacker_seen p k q on attacked)))),
 )
 
 -- ---- men that are not the king

@@ -1,7 +1,7 @@
 -- The sets of squares that the targets of a man are made of.
 use Rattle.std.specs.Prelude.{◌≡◌, ◌⊎◌, ◌↔◌, Bool, true, false, cond, not, ◌&&◌, List, length, Option, Some, None}
 use Rattle.std.proofs.Common.{refl, sym, ap, ◌∙◌, inl, inr}
-use Rattle.std.proofs.lemmas.Bool.{false≢true, and_parts, and_from}
+use Rattle.std.proofs.lemmas.Bool.{false≢true, both_ways, and_parts, and_from, not-true, not_from_false, false_from_ne_true}
 use Rattle.std.proofs.lemmas.List.{length-map}
 use Rattle.chess_bits.specs.declared.men.Colour.{Colour}
 use Rattle.chess_bits.specs.declared.men.Kind.{Kind}
@@ -11,8 +11,7 @@ use Rattle.chess_bits.specs.Man.{other, is_of, holds}
 use Rattle.chess_bits.specs.Table.{has, put, empty, union, meet, without, IsSetOf}
 use Rattle.chess_bits.specs.Attack.{along, forward, pawn_attacks, Reaches, Attacks}
 use Rattle.chess_bits.proofs.TableLemmas.{length-put, at-put, is_square-true, is_square-same}
-use Rattle.chess_bits.proofs.WordLemmas.{length-each}
-use Rattle.chess_bits.proofs.SetLemmas.{has-meet, has-without, length-without, IsSetOf-union, IsSetOf-like}
+use Rattle.chess_bits.proofs.SetLemmas.{has-meet, has-without, length-without, length-meet, IsSetOf-union, IsSetOf-like}
 use Rattle.chess_bits.proofs.AlongLemmas.{along-next}
 use Rattle.chess_attacks.proofs.Listed.{length-empty, has-empty}
 use Rattle.chess_board.specs.declared.castling.Wing.{Wing}
@@ -142,7 +141,7 @@ own_set p colour whole = record {
 some_target : (target : Option Square) (t s : Square) → target ≡ Some t → s ≡ t → target ≡ Some s
 some_target target t s e same = e ∙ ap Some (sym same)
 
-target_there : (target : Option Square) (t s : Square) → target ≡ Some t → target ≡ Some s → s ≡ t
+pub target_there : (target : Option Square) (t s : Square) → target ≡ Some t → target ≡ Some s → s ≡ t
 target_there target t s e f = cc
 
 pub takable_set : (p : Position) (theirs mark : List Bool) (t : Square) →
@@ -167,10 +166,6 @@ takable_set_none p theirs of e =
     (λ s. HoldsColour p s (other p.side) ⊎ (p.target ≡ Some s)) of
     (λ s on held. inl held)
     (λ s on some. elim some [ inl held ↦ held | inr is ↦ absurd (no_target p.target s e is) ])
-
-pub length-meet : (a b : List Bool) → length a ≡ length b → length (meet a b) ≡ length a
-unfolding meet
-length-meet a b len = length-each (λ x y. x && y) a b len
 
 -- the squares in both sets
 pub both_set : (a b : List Bool) (P Q : Square → Type 0) → IsSetOf a P → IsSetOf b Q →
@@ -204,14 +199,6 @@ takes_set p from set of =
 
 -- ---- pieces
 
-not_held : (b : Bool) → not b ≡ true → b ≡ true → ⊥
-not_held true e f = false≢true e
-not_held false e f = false≢true f
-
-free_from : (b : Bool) → (b ≡ true → ⊥) → not b ≡ true
-free_from true h = absurd (h refl)
-free_from false h = refl
-
 pub piece_set : (p : Position) (from : Square) (kind : Kind) (seen own : List Bool) →
     IsSetOf seen (Attacks (occupied_of p.placement) p.side kind from) →
     IsSetOf own (λ s. HoldsColour p s p.side) →
@@ -225,12 +212,13 @@ piece_set p from kind seen own of_seen of_own =
             let both = and_parts (has seen s) (not (has own s)) (sym (has-without seen own s len) ∙ here) in
             record {
               attacked = (of_seen.exact s on).0 both.0;
-              free = λ held. not_held (has own s) both.1 ((of_own.exact s on).1 held);
+              free = λ held. both_ways (has own s) (not-true (has own s) both.1) ((of_own.exact s on).1 held);
               no_promotion = refl;
             }),
         (λ move. has-without seen own s len
             ∙ and_from (has seen s) (not (has own s)) ((of_seen.exact s on).1 move.attacked)
-            (free_from (has own s) (λ here. move.free ((of_own.exact s on).0 here)))),
+            (not_from_false (has own s) (false_from_ne_true (has own s) (λ here.
+            move.free ((of_own.exact s on).0 here))))),
       );
     }
 

@@ -1,7 +1,7 @@
 -- What the sets of squares tell of the men.
-use Rattle.std.specs.Prelude.{◌≡◌, Bool, true, false, not, List, Option, Some, None, is_some}
+use Rattle.std.specs.Prelude.{◌≡◌, true, false, not, List, Option, Some, None, is_some}
 use Rattle.std.proofs.Common.{refl, sym, ap, ◌∙◌}
-use Rattle.std.proofs.lemmas.Bool.{false≢true}
+use Rattle.std.proofs.lemmas.Bool.{false≢true, not-true}
 use Rattle.chess_bits.specs.declared.men.Colour.{Colour}
 use Rattle.chess_bits.specs.declared.men.Kind.{Kind}
 use Rattle.chess_bits.specs.Square.{Square}
@@ -16,10 +16,6 @@ use Rattle.chess_board.proofs.AttackLemmas.{has-squares_with}
 is_some-false : (here : Option Man) → is_some here ≡ false → here ≡ None
 is_some-false None e = refl
 is_some-false (Some man) e = absurd (false≢true (sym e))
-
-not-true : (b : Bool) → not b ≡ true → b ≡ false
-not-true true e = sym e
-not-true false e = refl
 
 -- a square is empty exactly where the occupied squares lack it
 pub empty-from_test : (placement : List (Option Man)) (s : Square) → not (has (occupied_of placement) s) ≡ true →

@@ -1,7 +1,7 @@
 -- Counts of legal moves that are made part by part.
 use Rattle.std.specs.Prelude.{ℕ, ◌≡◌, ◌+◌, ◌*◌, ◌≤◌, ◌&&◌, Bool, true, false, not, List, [], ◌∷◌, length, filter, flat_map, Some}
 use Rattle.std.proofs.Common.{arith, refl, sym, ap, subst, ◌∙◌, inl, inr, length-append}
-use Rattle.std.proofs.lemmas.Bool.{false≢true, cases_Bool}
+use Rattle.std.proofs.lemmas.Bool.{false≢true, and_parts, cases_Bool}
 use Rattle.chess_bits.specs.declared.men.Kind.{Kind}
 use Rattle.chess_bits.specs.declared.men.Kind.TheVariants.{Pawn}
 use Rattle.chess_bits.specs.Square.{Square, squares}
@@ -101,11 +101,8 @@ few_moves p pinned kind count left men valid tally free =
 
 left_in : (left men : List Bool) (s : Square) → length left ≡ length men → has (without left men) s ≡ true →
     has left s ≡ true
-left_in left men s len here = first (has left s) (has men s) (sym (has-without left men s len) ∙ here)
-  where
-    first : (a b : Bool) → (a && not b) ≡ true → a ≡ true
-    first true b e = refl
-    first false b e = e
+left_in left men s len here =
+    (and_parts (has left s) (not (has men s)) (sym (has-without left men s len) ∙ here)).0
 
 pub tally_next : (p : Position) (pinned : List Bool) (kind : Kind) (count more : ℕ) (left men : List Bool) →
     IsTally p count left → AreFree p pinned kind left men → more ≡ moves_of p men →

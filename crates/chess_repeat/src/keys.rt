@@ -1,7 +1,7 @@
-ghost use Rattle.std.specs.Prelude.{◌≡◌, ◌+◌, ◌*◌, ◌<◌, ◌↔◌, IsTrue, Some, slice_index, false, length};
+ghost use Rattle.std.specs.Prelude.{◌≡◌, ◌+◌, ◌*◌, ◌<◌, ◌↔◌, IsTrue, Some, slice_index};
 ghost use Rattle.chess_bits.specs.declared.men.Kind.TheVariants as kinds;
-ghost use Rattle.chess_bits.specs.Square.{Square as Geometric, IsOnBoard, square_at, number_of};
-ghost use Rattle.chess_bits.specs.Table.{has, union, without, IsSetOf};
+ghost use Rattle.chess_bits.specs.Square.{IsOnBoard, square_at, number_of};
+ghost use Rattle.chess_bits.specs.Table.{IsSetOf};
 ghost use Rattle.chess_bits.specs.Attack.{Reaches, pawn_attacks};
 ghost use Rattle.chess_board.specs.declared.moves.Move.{Move};
 ghost use Rattle.chess_board.specs.Position.{man_at, IsValid};
@@ -10,8 +10,8 @@ ghost use Rattle.chess_repeat.specs.SamePosition.{IsLegalEnPassant, HasLegalEnPa
 ghost use Rattle.chess_repeat.specs.Key.{kind_code, man_code, here_code, code_at, men_byte, men_bytes, state_byte, side_bit, target_byte, is_live, key_of};
 
 use chess_attacks::pawn;
-use chess_bits::{Bits, Colour, Kind, Square};
-use chess_board::{Board, Men, Move, Wing};
+use chess_bits::{Colour, Kind, Square};
+use chess_board::{Board, Move, Wing};
 use chess_moves::legal;
 
 // The code of a kind, 1 to 6.
@@ -117,48 +117,14 @@ pub fn key(board: &Board) -> [u8; 34]
     bytes
 }
 
-// The squares in one of two sets and not in the other.
-fn difference(a: Bits, b: Bits) -> Bits
-    ensures { result ≡ union (without a b) (without b a) }
-{
-    a.without(b).union(b.without(a))
-}
-
-// The squares that tell two sets apart.
-fn apart(a: Bits, b: Bits) -> Bits
-    requires { length a ≡ length b }
-    ensures whole { length result ≡ length a }
-    ensures same { (s : Geometric) → has result s ≡ false → has a s ≡ has b s }
-{
-    difference(a, b)
-}
-
-// The squares on which not the same stands, by colours and kinds: a man of none of the other five kinds is a king.
-fn changed(before: &Men, men: &Men) -> Bits
-    requires before { length before.now ≡ 64 }
-    requires men { length men.now ≡ 64 }
-    ensures { (s : Geometric) → has result s ≡ false → man_at before.now s ≡ man_at men.now s }
-{
-    let white = apart(before.of(Colour::White), men.of(Colour::White));
-    let black = apart(before.of(Colour::Black), men.of(Colour::Black));
-    let pawns = apart(before.of_kind(Kind::Pawn), men.of_kind(Kind::Pawn));
-    let knights = apart(before.of_kind(Kind::Knight), men.of_kind(Kind::Knight));
-    let bishops = apart(before.of_kind(Kind::Bishop), men.of_kind(Kind::Bishop));
-    let rooks = apart(before.of_kind(Kind::Rook), men.of_kind(Kind::Rook));
-    let queens = apart(before.of_kind(Kind::Queen), men.of_kind(Kind::Queen));
-    let light = bishops.union(knights.union(pawns));
-    white.union(black.union(queens.union(rooks.union(light))))
-}
-
 /// The key of a position, by that of another: only where not the same stands the bytes are made anew, so that it is soon
 /// done after a move.
 pub fn key_from(before: &Board, known: &[u8; 34], board: &Board) -> [u8; 34]
     requires { known.now ≡ key_of before.now }
     ensures { result ≡ key_of board.now }
 {
-    let _valid = (before.rights(), board.rights());
     let mut bytes = *known;
-    for square in changed(before.men(), board.men()).iter() {
+    for square in before.men().changes(board.men()).iter() {
         let pair = square.number() / 2;
         bytes[usize::from(pair)] = men_byte(board, pair);
     }

@@ -2,7 +2,7 @@
 use Rattle.std.proofs.Common.{ℕ, ◌≡◌, ◌≢◌, ◌+◌, ◌∙◌, Bool, true, false, ◌||◌, eqb, List, [], ◌∷◌, ◌++◌, length, take, drop, get_or, Option, Some, None, ap, sym, subst, refl, inl, inr, arith, length-append}
 use Rattle.std.specs.Prelude.{◌⊎◌, ◌==◌, ◌↔◌, IfSome, IfNone}
 use Rattle.std.specs.Cmp.Lexicographic.{pointwise}
-use Rattle.std.proofs.lemmas.Bool.{false≢true, eq-eqb}
+use Rattle.std.proofs.lemmas.Bool.{false≢true, or_left, or_right, eq-eqb}
 use Rattle.std.proofs.lemmas.Bool.Decides.{Decides-eqb}
 use Rattle.std.proofs.lemmas.List.{append-nil}
 use Rattle.std.proofs.lemmas.Slice.Eq.{starts_is, slice_eq-Decides}
@@ -114,32 +114,18 @@ own_told p m text told =
 
 second_is : (x : ℕ) (m : Move) →
     (x ≡ 120) ⊎ (x ≡ 96 + m.from.file) ⊎ (x ≡ 48 + m.from.rank) ⊎ (x ≡ 96 + m.to.file) → is_second x m ≡ true
-second_is x m (inl e) = first_so (x == 120) (x == 96 + m.from.file) (x == 48 + m.from.rank) (x == 96 + m.to.file)
-    (eq-eqb x 120 e)
-  where
-    first_so : (a b c d : Bool) → a ≡ true → (a || b || c || d) ≡ true
-    first_so a b c d e = rw e refl
-second_is x m (inr (inl e)) = second_so (x == 120) (x == 96 + m.from.file) (x == 48 + m.from.rank)
-    (x == 96 + m.to.file) (eq-eqb x (96 + m.from.file) e)
-  where
-    second_so : (a b c d : Bool) → b ≡ true → (a || b || c || d) ≡ true
-    second_so true b c d e = refl
-    second_so false b c d e = rw e refl
-second_is x m (inr (inr (inl e))) = third_so (x == 120) (x == 96 + m.from.file) (x == 48 + m.from.rank)
-    (x == 96 + m.to.file) (eq-eqb x (48 + m.from.rank) e)
-  where
-    third_so : (a b c d : Bool) → c ≡ true → (a || b || c || d) ≡ true
-    third_so true b c d e = refl
-    third_so false true c d e = refl
-    third_so false false c d e = rw e refl
-second_is x m (inr (inr (inr e))) = fourth_so (x == 120) (x == 96 + m.from.file) (x == 48 + m.from.rank)
-    (x == 96 + m.to.file) (eq-eqb x (96 + m.to.file) e)
-  where
-    fourth_so : (a b c d : Bool) → d ≡ true → (a || b || c || d) ≡ true
-    fourth_so true b c d e = refl
-    fourth_so false true c d e = refl
-    fourth_so false false true d e = refl
-    fourth_so false false false d e = e
+second_is x m (inl e) =
+    or_left _ (x == 96 + m.to.file) (or_left _ (x == 48 + m.from.rank) (or_left (x == 120) (x == 96 + m.from.file)
+    (eq-eqb x 120 e)))
+second_is x m (inr (inl e)) =
+    or_left _ (x == 96 + m.to.file) (or_left _ (x == 48 + m.from.rank) (or_right (x == 120) (x == 96 + m.from.file)
+    (eq-eqb x (96 + m.from.file) e)))
+second_is x m (inr (inr (inl e))) =
+    or_left _ (x == 96 + m.to.file) (or_right (x == 120 || x == 96 + m.from.file) (x == 48 + m.from.rank)
+    (eq-eqb x (48 + m.from.rank) e))
+second_is x m (inr (inr (inr e))) =
+    or_right (x == 120 || x == 96 + m.from.file || x == 48 + m.from.rank) (x == 96 + m.to.file)
+    (eq-eqb x (96 + m.to.file) e)
 
 second_byte : (m : Move) (letter : ℕ) (o : Origin) (takes : Bool) (rest : List ℕ) →
     is_second (get_or (letter ∷ (origin_text o m.from ++ (capture_text takes ++ (square_name m.to ++ rest)))) 1 0) m ≡ true

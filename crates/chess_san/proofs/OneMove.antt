@@ -2,7 +2,7 @@
 use Rattle.std.proofs.Common.{ℕ, ◌≡◌, ◌≢◌, ◌+◌, ◌≤◌, ◌∙◌, Bool, true, false, ◌||◌, ◌&&◌, not, List, ◌∷◌, ◌++◌, get_or, Option, Some, None, is_some, ap, sym, refl, inl, inr, arith}
 use Rattle.std.specs.Prelude.{◌⊎◌, ◌==◌, if◌then◌else◌, drop}
 use Rattle.std.proofs.lemmas.Option.{same_Some}
-use Rattle.std.proofs.lemmas.Bool.{cases_Bool, false≢true, and_from, ne_eqb, not_from_false}
+use Rattle.std.proofs.lemmas.Bool.{cases_Bool, both_ways, and_from, or_right, ne_eqb, not_from_false}
 use Rattle.chess_bits.specs.declared.men.Colour.{Colour}
 use Rattle.chess_bits.specs.declared.men.Colour.TheVariants.{White, Black}
 use Rattle.chess_bits.specs.declared.men.Kind.{Kind}
@@ -88,10 +88,6 @@ pieces_from p a b text x y same there = elim (cases_Bool (is_square a.from b.fro
 
 -- ---- pawns
 
-or-true : (x : Bool) → (x || true) ≡ true
-or-true true = refl
-or-true false = refl
-
 passes_en_passant : (p : Position) (m : Move) → man_at p.placement m.from ≡ Some (p.side, Pawn) →
     m.from.file ≢ m.to.file → p.target ≡ Some m.to → is_en_passant p m ≡ true
 passes_en_passant p m own away crossed =
@@ -127,7 +123,7 @@ pawn_way p m own on_to move = elim move.way [
       inl (
         ap (λ (b : Bool). is_some (man_at p.placement m.to) || b)
             (passes_en_passant p m own (attacks_from p.side m.from m.to on_from on_to passes.attacked).0 passes.crossed)
-            ∙ or-true (is_some (man_at p.placement m.to)),
+            ∙ or_right (is_some (man_at p.placement m.to)) true refl,
         passes.attacked,
       )
 ]
@@ -200,9 +196,6 @@ pawn_files false true fa fb ta tb ra rb on_a on_b e =
     absurd (omega (arith, ap (λ (t : List ℕ). get_or t 1 0) e, on_a.rank_to))
 pawn_files false false fa fb ta tb ra rb on_a on_b e = inr (refl, refl)
 
-true_false : (x : Bool) → x ≡ true → x ≡ false → ⊥
-true_false x t f = false≢true (sym f ∙ t)
-
 pawn_ways_from : (p : Position) (a b : Move) (text : List ℕ) → IsPawnShape p a text → IsPawnShape p b text →
     a.to ≡ b.to → IsPawnWay p a → IsPawnWay p b →
     ((is_capture p a ≡ true) × (is_capture p b ≡ true) × (a.from.file ≡ b.from.file)) ⊎
@@ -218,13 +211,13 @@ pawn_ways_from p a b text x y there (inr way_a) (inr way_b) told =
     straight_from p a b x.own y.own (IsOnBoard-from_man p.placement a.from (p.side, Pawn) x.own)
     (IsOnBoard-from_man p.placement b.from (p.side, Pawn) y.own) x.legal.candidate.on_board there way_a.1 way_b.1
 pawn_ways_from p a b text x y there (inl way_a) way_b (inr told) =
-    absurd (true_false (is_capture p a) way_a.0 told.0)
+    absurd (both_ways (is_capture p a) told.0 way_a.0)
 pawn_ways_from p a b text x y there way_a (inl way_b) (inr told) =
-    absurd (true_false (is_capture p b) way_b.0 told.1)
+    absurd (both_ways (is_capture p b) told.1 way_b.0)
 pawn_ways_from p a b text x y there (inr way_a) way_b (inl told) =
-    absurd (true_false (is_capture p a) told.0 way_a.0)
+    absurd (both_ways (is_capture p a) way_a.0 told.0)
 pawn_ways_from p a b text x y there way_a (inr way_b) (inl told) =
-    absurd (true_false (is_capture p b) told.1 way_b.0)
+    absurd (both_ways (is_capture p b) way_b.0 told.1)
 
 pawns_from : (p : Position) (a b : Move) (text : List ℕ) → IsPawnShape p a text → IsPawnShape p b text → a.to ≡ b.to →
     a.from ≡ b.from

@@ -1,12 +1,13 @@
-use Rattle.std.proofs.Common.{ℕ, ◌≡◌, ◌∙◌, inl, inr, set, length, get_or, refl, ap, sym, subst, List, arith, false}
+use Rattle.std.proofs.Common.{ℕ, ◌≡◌, ◌∙◌, inl, inr, length, get_or, ap, sym, subst, List, arith}
 use Rattle.std.proofs.lemmas.Bool.{cases_eq}
 use Rattle.std.proofs.lemmas.Grind.{get_or-set_at}
 use Rattle.std.proofs.lemmas.List.{get_or-set_other, length-set}
 use Rattle.chess_bits.specs.Square.{Square}
-use Rattle.chess_bits.specs.Table.{has, members}
+use Rattle.chess_bits.specs.Table.{members}
 use Rattle.chess_bits.specs.Attack.{SomeOf}
 use Rattle.chess_bits.specs.SquaresOf.{squares_left}
-use Rattle.chess_board.specs.Position.{Placement, man_at}
+use Rattle.chess_board.specs.Occupancy.{HasChanges}
+use Rattle.chess_board.specs.Position.{Placement}
 use Rattle.chess_repeat.specs.Key.{men_byte}
 use Rattle.chess_repeat.proofs.KeyBytes.{key_of-written, key_of-men, length-key_of}
 use Rattle.chess_repeat.proofs.KeyChanges.{PointsTo, byte_kept}
@@ -16,17 +17,17 @@ pub loop-square-init : goal.loop-square-init
 loop-square-init c =
     let before = c.args.before.now in
     let p = c.args.board.now in
-    let start : squares_left c.into_iter-square-iterator.result ≡ members c.changed.result =
+    let start : squares_left c.into_iter-square-iterator.result ≡ members c.changes.result =
     ap squares_left c.into_iter-square-iterator.ensures.into_iter_gives ∙ c.iter-square-items.ensures in
-    let same : (s : Square) → has c.changed.result s ≡ false → man_at before.placement s ≡ man_at p.placement s =
-    λ s out. ap (λ (t : Placement). man_at t s) (sym c.men.ensures) ∙ c.changed.ensures s out
-    ∙ ap (λ (t : Placement). man_at t s) c.men-2.ensures in
+    let same : HasChanges before.placement p.placement c.changes.result =
+    subst (λ (old : Placement). HasChanges old p.placement c.changes.result) c.men.ensures
+    (subst (λ (new : Placement). HasChanges c.men.result.now new c.changes.result) c.men-2.ensures c.changes.ensures) in
     record {
       whole = ap length c.requires ∙ length-key_of before;
       written = λ k below none.
           let Some' : List Square → Type 0 = SomeOf (PointsTo k) in
           ap (λ (bytes : List ℕ). get_or bytes k 0) c.requires ∙ key_of-men before k below
-          ∙ byte_kept before.placement p.placement c.changed.result k same below
+          ∙ byte_kept before.placement p.placement c.changes.result k same below
           (λ some. none (subst Some' (sym start) some));
     }
 

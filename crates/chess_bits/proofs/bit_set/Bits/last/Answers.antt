@@ -1,4 +1,4 @@
-use Rattle.std.proofs.Common.{◌∙◌, ℕ, ap, sym, List, Bool, arith}
+use Rattle.std.proofs.Common.{◌∙◌, ℕ, ap, sym, arith}
 use Rattle.chess_bits.specs.Table.{members}
 use Rattle.chess_bits.specs.Word.{bools_of}
 use Rattle.chess_bits.proofs.MemberLemmas.{members-zero}

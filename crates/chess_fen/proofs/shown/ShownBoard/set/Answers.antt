@@ -1,7 +1,8 @@
 use Rattle.std.proofs.Common.{◌∙◌, sym, subst}
+use Rattle.chess_board.specs.Occupancy.{HasChanges}
 use Rattle.chess_board.specs.Position.{Placement}
 use Rattle.chess_notation.specs.Fen.{AreLetters}
-use Rattle.chess_fen.specs.Shown.{AreRankTexts, HasChanges}
+use Rattle.chess_fen.specs.Shown.{AreRankTexts}
 use Rattle.chess_fen.proofs.shown.ShownBoard.set.Goals as goal
 
 pub reletter-touched-requires-clause-letters : goal.reletter-touched-requires-clause-letters
