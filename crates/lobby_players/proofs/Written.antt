@@ -3,7 +3,7 @@ use Rattle.std.proofs.Common.{ℕ, suc, ◌≡◌, ◌≢◌, ◌+◌, Bool, tru
 use Rattle.std.specs.Prelude.{◌==◌, ◌-◌, nat_le, slice_index}
 use Rattle.std.specs.Str.{bytes_eq}
 use Rattle.std.specs.List.{All, AllZip, AllPairs, list_any, list_all, filter, onto_first, position_or_len}
-use Rattle.std.proofs.lemmas.Bool.{false≢true, and_from, and_parts, or_parts}
+use Rattle.std.proofs.lemmas.Bool.{false≢true, false_from_ne_true, ne_eqb, not-true, and_from, and_parts, or_parts}
 use Rattle.std.proofs.lemmas.Bool.Decides.{Decides-eqb}
 use Rattle.std.proofs.lemmas.List.Elements.{All-nil, All-cons, All-head, All-tail}
 use Rattle.std.proofs.lemmas.List.Folds.{list_all-append}
@@ -35,12 +35,8 @@ abbrev pub HaveNoFeed : List (List ℕ) → Type 0
 HaveNoFeed [] = Unit {0}
 HaveNoFeed (line ∷ lines) = HasNoFeed line × HaveNoFeed lines
 
-flipped : (b : Bool) → not b ≡ true → b ≡ false
-flipped true h = absurd (false≢true h)
-flipped false h = refl
-
 is_no_feed : (b : ℕ) → not_feed b ≡ true → (b == 10) ≡ false
-is_no_feed b h = flipped (b == 10) h
+is_no_feed b h = not-true (b == 10) h
 
 -- a line is read back
 line_end : (line rest : List ℕ) → HasNoFeed line → parts_of 10 (line ++ (10 ∷ rest)) ≡ line ∷ parts_of 10 rest
@@ -125,14 +121,10 @@ word_by b bs x other rest =
     let n = position_or_len (λ (c : ℕ). c == 32) (bs ++ (32 ∷ x)) in
     rw other (ap (λ (k : ℕ). take k (b ∷ (bs ++ (32 ∷ x)))) (one_more_than n) ∙ ap (λ (t : List ℕ). b ∷ t) rest)
 
-not_space : (b : ℕ) (is : Bool) → (b == 32) ≡ is → b ≢ 32 → is ≡ false
-not_space b true e other = absurd (other ((Decides-eqb b 32).0 e))
-not_space b false e other = refl
-
 pub word_first : (a x : List ℕ) → IsWord a → word_of (a ++ (32 ∷ x)) ≡ a
 word_first [] x word = refl
 word_first (b ∷ bs) x word =
-    word_by b bs x (not_space b (b == 32) refl (word 0 (omega arith))) (word_first bs x (λ i below. word (suc i) (omega arith)))
+    word_by b bs x (ne_eqb b 32 (word 0 (omega arith))) (word_first bs x (λ i below. word (suc i) (omega arith)))
 
 line_word : (line : List ℕ) (e : Entry) → IsLineOf line e → word_of line ≡ e.name
 line_word line e is =
@@ -158,12 +150,9 @@ silent_unnamed name (b ∷ bs) is silent e =
     false≢true (ap is_name_byte (sym (ap head_of (word_head 35 bs refl)))
     ∙ (ap (λ (c : ℕ). is_name_byte (head_of (word_of (c ∷ bs)))) (sym same) ∙ (ap is_name_byte (ap head_of e) ∙ head_named name is)))
 
-not_of : (name line : List ℕ) (is : Bool) → is_of name line ≡ is → word_of line ≢ name → is ≡ false
-not_of name line true e other = absurd (other ((bytes_eq-Decides (word_of line) name).0 e))
-not_of name line false e other = refl
-
 silent_not_of : (name line : List ℕ) → IsName name → is_silent line ≡ true → is_of name line ≡ false
-silent_not_of name line is silent = not_of name line (is_of name line) refl (silent_unnamed name line is silent)
+silent_not_of name line is silent =
+    false_from_ne_true (is_of name line) (λ same. silent_unnamed name line is silent ((bytes_eq-Decides (word_of line) name).0 same))
 
 -- ---- a line in its place
 
@@ -237,16 +226,13 @@ ours_first e one es other ours =
 flipped_two : (a b : Entry) → AreTwo a b → AreTwo b a
 flipped_two a b two = record { names = λ e. two.names (sym e); sums = λ e. two.sums (sym e) }
 
-unnamed : (e one : Entry) (is : Bool) → has_name e.name one ≡ is → one.name ≢ e.name → has_name e.name one ≡ false
-unnamed e one true h other = absurd (other ((bytes_eq-Decides one.name e.name).0 h))
-unnamed e one false h other = h
-
 -- who stands apart from the one that had the name stands apart from the new one
 behind_apart : (e one : Entry) (es : List Entry) → one.name ≡ e.name → All (AreTwo one) es → IsOurs e es → All (AreTwo e) es
 behind_apart e one [] same all ours = All-nil (AreTwo e)
 behind_apart e one (two ∷ es) same all ours =
     let apart = All-head (AreTwo one) two es all in
-    let other : has_name e.name two ≡ false = unnamed e two (has_name e.name two) refl (λ h. apart.names (same ∙ sym h)) in
+    let other : has_name e.name two ≡ false =
+    false_from_ne_true (has_name e.name two) (λ h. apart.names (same ∙ sym ((bytes_eq-Decides two.name e.name).0 h))) in
     All-cons (AreTwo e) two es (flipped_two two e (two_if two e other (ours_first e two es other ours)))
     (behind_apart e one es same (All-tail (AreTwo one) two es all) (ours_more e two es ours))
 

@@ -1,9 +1,9 @@
 use anyhow::Result;
+use night_files::folder_of;
 use std::alloc::Global;
 use std::fs::{File, OpenFile, OpenOptions, Permissions};
 use std::io::Write;
 use std::os::unix::fs::{OpenOptionsExt, PermissionsExt};
-use std::path::Path;
 use std::rt::Files;
 use std::{fs, io};
 
@@ -44,14 +44,6 @@ fn write_new<R: Files>(rt: &R, file: &str, permissions: Permissions, text: &str)
     new.write_all(text.as_bytes())?;
     fs::set_permissions(rt, file, permissions)?;
     new.sync_all()
-}
-
-// The folder in which a file's name stands.
-fn folder_of(file: &str) -> Path<'_> {
-    match Path::new(file).parent() {
-        Some(folder) if !folder.as_str().is_empty() => folder,
-        _ => Path::new("."),
-    }
 }
 
 /// Puts a text in the place of a file's, at once, for those who may read and write it as before; a new one is its owner's

@@ -2,7 +2,7 @@
 use Rattle.std.proofs.Common.{ℕ, zero, suc, ◌≡◌, ◌+◌, ◌-◌, ◌<◌, ◌≤◌, ◌==◌, Bool, true, false, ◌||◌, List, [], ◌∷◌, ◌++◌, length, map, take, drop, Option, Some, None, inl, inr, refl, sym, ap, subst, ◌∙◌, arith, append-nil}
 use Rattle.std.specs.Prelude.{slice_get, option_map, flat_map, codes, decimal, nat_le, not, replicate, if◌then◌else◌}
 use Rattle.std.specs.List.{list_any, last_or}
-use Rattle.std.proofs.lemmas.Bool.{ne_eqb, eqb-true, eqb-false, true≢false}
+use Rattle.std.proofs.lemmas.Bool.{ne_eqb, eqb-true, eqb-false, true≢false, not-true, false_from_ne_true}
 use Rattle.std.proofs.lemmas.Bool.Decides.{nat_tests}
 use Rattle.std.proofs.lemmas.List.{length-append, length-drop, map-append, length-map, length-replicate, drop-append-le}
 use Rattle.std.proofs.lemmas.Grind.{flat_map-append}
@@ -56,10 +56,6 @@ le_from m n h = grind (arith, nat_tests, h)
 
 lt_from : (m n : ℕ) → nat_le m n ≡ false → n < m
 lt_from m n h = grind (arith, nat_tests, h)
-
-away_by : (c : Bool) → (c ≡ true → ⊥) → c ≡ false
-away_by true h = absurd (h refl)
-away_by false h = refl
 
 first_by : (b : Bool) (more from place : ℕ) (past : List Call) → from ≤ place → there place past ≡ true → (from == place) ≡ b →
     (from < place → there from past ≡ false) → (from < place → first_there (suc from) more past ≡ Some place) →
@@ -201,7 +197,7 @@ at_server : (q servers : ℕ) (calls : List Call) (s : Story) (b : Bool) → nat
 at_server q servers calls s true e inside =
     ap joined (ticket_past 0 servers q calls s (le_from servers q e))
     ∙ sym (ap (λ (b : Bool). if b then Some (record { connection = connections q calls; number = length (s.sent q) }) else None)
-    (away_by (there q calls) (λ stays. let less = inside stays in omega (arith, less, le_from servers q e))))
+    (false_from_ne_true (there q calls) (λ stays. let less = inside stays in omega (arith, less, le_from servers q e))))
 at_server q servers calls s false e inside =
     ap joined (ticket_far 0 servers q q calls s (omega arith) (lt_from servers q e))
 
@@ -730,13 +726,9 @@ here_at_dealt at q past sent asks false e away dealt =
     dealt_at q past (Here at ∷ past) sent asks (here_there at q past other) (here_count at q past other) (λ n. refl)
     (λ t. here_other at past q t other) dealt
 
-not_true : (b : Bool) → not b ≡ true → b ≡ false
-not_true true h = absurd (true≢false (sym h))
-not_true false h = refl
-
 away_of : (o : Option Standing) → is_away_of o ≡ true → is_here_of o ≡ false
 away_of None h = refl
-away_of (Some st) h = not_true st.is_here h
+away_of (Some st) h = not-true st.is_here h
 
 here_goes : (servers at : ℕ) (past : List Call) (s : Story) (old v : View) → Goes servers past s old → is_away old at ≡ true → IsHere at old v →
     Goes servers (Here at ∷ past) (begun_at at s) v

@@ -1,12 +1,12 @@
 -- What a line asks for, by where it is cut.
-use Rattle.std.proofs.Common.{ℕ, suc, ◌+◌, ◌≤◌, ◌≡◌, ◌<◌, ◌^◌, ◌==◌, Bool, true, false, ◌&&◌, ◌||◌, not, List, [], ◌∷◌, ◌++◌, length, get_or, take, drop, decimal, Option, Some, None, refl, sym, ap, subst, ◌∙◌, arith}
+use Rattle.std.proofs.Common.{ℕ, suc, ◌+◌, ◌≤◌, ◌≡◌, ◌<◌, ◌^◌, ◌==◌, Bool, true, false, ◌&&◌, ◌||◌, not, List, [], ◌∷◌, ◌++◌, length, get_or, take, drop, decimal, Option, Some, None, refl, sym, ap, subst, ⊎_elim, ◌∙◌, arith}
 use Rattle.std.specs.Prelude.{◌≢◌, codes, IfSome}
 use Rattle.std.specs.Borrow.{Bor}
 use Rattle.std.specs.List.{list_all, position_or_len}
 use Rattle.std.specs.Str.{bytes_eq}
 use Rattle.std.proofs.lemmas.Slice.Eq.{bytes_eq-Decides}
 use Rattle.std.specs.Str.Parse.{AllDigits}
-use Rattle.std.proofs.lemmas.Bool.{eqb-true, ne_eqb, and_parts, false≢true}
+use Rattle.std.proofs.lemmas.Bool.{eqb-true, ne_eqb, and_parts, or_cases, false≢true}
 use Rattle.std.proofs.lemmas.Fmt.{decimal_is_IsNumeral}
 use Rattle.std.proofs.lemmas.Str.Parse.{tells_digits}
 use Rattle.std.proofs.Math.Seq.{take-append_seam}
@@ -31,10 +31,6 @@ free : (w : List ℕ) → is_word w ≡ true → (i : ℕ) → i < length w → 
 free w whole i inside = λ at.
     false≢true (subst (λ (b : ℕ). not (b == 32) ≡ true) at (AllPass-from_list_all (λ (b : ℕ). not (b == 32)) w whole i 0 inside))
 
-either : (a b : Bool) (P : Type 0) → (a ≡ true → P) → (b ≡ true → P) → (a || b) ≡ true → P
-either true b P f g h = f refl
-either false b P f g h = g h
-
 pub same : (w v : List ℕ) → bytes_eq w v ≡ true → w ≡ v
 same w v h = (bytes_eq-Decides w v).0 h
 
@@ -48,10 +44,10 @@ word_of_these : (so_far : Bool) (vs : List (List ℕ)) (w : List ℕ) → (so_fa
 unfolding one_of
 word_of_these so_far [] w before all h = before h
 word_of_these so_far (v ∷ vs) w before all h =
+    let parts = and_parts (is_word v) (list_all is_word vs) all in
     word_of_these (so_far || bytes_eq w v) vs w
-    (either so_far (bytes_eq w v) (is_word w ≡ true) before
-    (λ is. subst (λ (u : List ℕ). is_word u ≡ true) (sym (same w v is)) (and_parts (is_word v) (list_all is_word vs) all).0))
-    (and_parts (is_word v) (list_all is_word vs) all).1 h
+    (λ either. ⊎_elim before (λ is. subst (λ (u : List ℕ). is_word u ≡ true) (sym (same w v is)) parts.0) (or_cases so_far (bytes_eq w v) either))
+    parts.1 h
 
 play_word : (w : List ℕ) → is_play_word w ≡ true → is_word w ≡ true
 unfolding is_play_word one_of
@@ -65,9 +61,8 @@ unfolding names_game one_of
 game_word w h =
     word_of_these (bytes_eq w (codes "join") || is_play_word w)
     (codes "drop" ∷ codes "show" ∷ codes "fen" ∷ codes "pgn" ∷ []) w
-    (either (bytes_eq w (codes "join")) (is_play_word w) (is_word w ≡ true)
-    (λ is. subst (λ (u : List ℕ). is_word u ≡ true) (sym (same w (codes "join") is)) refl)
-    (play_word w)) refl h
+    (λ either. ⊎_elim (λ is. subst (λ (u : List ℕ). is_word u ≡ true) (sym (same w (codes "join") is)) refl) (play_word w)
+    (or_cases (bytes_eq w (codes "join")) (is_play_word w) either)) refl h
 
 no_name : names_game (codes "name") ≡ false
 unfolding names_game is_play_word

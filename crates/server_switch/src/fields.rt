@@ -7,7 +7,6 @@ ghost use Rattle.server_switch.specs.Fields as fields;
 ghost use Rattle.server_switch.specs.Fields.{tail_text, tail_of};
 
 use crate::numbers::number_of;
-use itoa::Buffer;
 use lobby_words::number_named;
 use std::alloc::AllocError;
 
@@ -69,7 +68,6 @@ pub fn push_tail(text: &mut String, sign: char, tail: Option<&str>) -> Result<()
 pub fn push_number(text: &mut String, number: u32, tail: Option<&str>) -> Result<(), AllocError>
     ensures { OnOk result (string_bytes text.new ≡ string_bytes text.old ++ (decimal number ++ tail_text 32 tail.entry)) }
 {
-    let mut buffer = Buffer::new();
-    text.push_str(buffer.format(number))?;
+    text_parts::push_number(text, u64::from(number))?;
     push_tail(text, ' ', tail)
 }

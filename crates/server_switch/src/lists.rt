@@ -9,11 +9,10 @@ ghost use Rattle.server_switch.specs.Lines.{standing_of};
 ghost use Rattle.server_switch.specs.Waits as waits;
 ghost use Rattle.server_switch.specs.Waits.{is_due, share_of, wait_of, rows_in, listing};
 
-use crate::answers::{NO_SERVER, joined};
+use crate::answers::NO_SERVER;
 use crate::fields::{push_number, renumbered};
 use crate::pending::Pending;
 use crate::server_line::ServerLine;
-use itoa::Buffer;
 use lobby_words::is_list;
 use std::alloc::{AllocError, Global};
 use text_parts::parts;
@@ -155,8 +154,9 @@ fn all_rows(alloc: Global, parts: &[Part]) -> Result<String, AllocError>
 fn headed(alloc: Global, rows: &str) -> Result<String, AllocError>
     ensures { IfOk result (λ text. string_bytes text ≡ waits.list_text rows.now) }
 {
-    let mut buffer = Buffer::new();
-    let mut text = joined(alloc, "ok list ", buffer.format(count_lines(rows)), '\n')?;
+    let mut text = String::from_str(alloc, "ok list ")?;
+    text_parts::push_number(&mut text, count_lines(rows) as u64)?;
+    text.push('\n')?;
     text.push_str(rows)?;
     Ok(text)
 }

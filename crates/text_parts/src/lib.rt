@@ -9,4 +9,4 @@ mod numbers;
 pub use cutting::{before, behind, cut, parts};
 pub use escaping::{behind_string, push_escaped, unescaped};
 pub use law::law_of_strings;
-pub use numbers::{number_named, number_of_32_bits};
+pub use numbers::{number_named, number_of_32_bits, push_number};

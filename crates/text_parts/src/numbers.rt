@@ -1,8 +1,10 @@
-//! The number that a text spells.
-ghost use Rattle.std.specs.Prelude.{ℕ, ◌≡◌, ◌<◌, ◌^◌, Some, IfSome, SomeIff, decimal};
+//! The number that a text spells, and a text with a number put behind it.
+ghost use Rattle.std.specs.Prelude.{ℕ, ◌≡◌, ◌<◌, ◌^◌, ◌++◌, Some, IfSome, SomeIff, OnOk, OnErr, decimal};
+ghost use Rattle.std.specs.String.{string_bytes};
 ghost use Rattle.text_parts.specs.Numbers.{number_below, number_in};
 
 use itoa::Buffer;
+use std::alloc::AllocError;
 
 /// The number below 2 ^ 64 that a text spells, in its one spelling.
 pub fn number_named(text: &str) -> Option<u64>
@@ -42,4 +44,13 @@ fn below_32_bits(number: u64) -> Option<u32>
     ensures { SomeIff result (number < 2 ^ 32) number }
 {
     u32::try_from(number).ok()
+}
+
+/// Puts a number behind a text, in decimal digits. The text stays as it was where memory is refused.
+pub fn push_number(text: &mut String, number: u64) -> Result<(), AllocError>
+    ensures put { OnOk result (string_bytes text.new ≡ string_bytes text.old ++ decimal number) }
+    ensures unchanged { OnErr result (string_bytes text.new ≡ string_bytes text.old) }
+{
+    let mut buffer = Buffer::new();
+    text.push_str(buffer.format(number))
 }
