@@ -6,7 +6,6 @@ use lobby_players::full_name;
 use lobby_roster::Player;
 use server_link::{Answer, Link, Row};
 use std::alloc::Global;
-use std::net::{Net, SocketAddr, TcpStream};
 
 /// What a PGN is made with: the players, what the tags are to say, and what the log has.
 #[derive(Clone, Copy)]
@@ -17,14 +16,6 @@ pub struct Knowledge<'a> {
     pub records: &'a [Record],
     /// Whether there is a log: without one no game has clocks.
     pub is_logged: bool,
-}
-
-/// A connection to a server.
-pub fn link_to<R: Net<Stream = TcpStream> + AllocGlobal>(
-    rt: &R,
-    server: SocketAddr,
-) -> Result<Link> {
-    Link::open(rt, server).context(format_args!("the server at {server}"))
 }
 
 // The server's answer to `pgn`.
