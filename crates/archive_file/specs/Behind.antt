@@ -2,7 +2,7 @@
 use Rattle.std.specs.Prelude.{ℕ, ◌==◌, ◌&&◌, ◌||◌, ◌-◌, Bool, true, false, not, nat_le, List, [], ◌∷◌, codes, length, drop, take}
 use Rattle.std.specs.List.{list_any, starts_with}
 use Rattle.night_files.specs.Torn.{begins}
-use Rattle.archive_file.specs.Line.{line_feed}
+use Rattle.text_parts.specs.Signs.{line_feed}
 
 -- how each line begins
 abbrev pub beginning : List ℕ

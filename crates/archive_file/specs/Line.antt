@@ -2,18 +2,9 @@
 use Rattle.std.specs.Prelude.{ℕ, Bool, false, ◌==◌, ◌||◌, ◌&&◌, not, nat_le, List, ◌++◌, codes, decimal, Option, Some, None, drop, if◌then◌else◌}
 use Rattle.std.specs.List.{list_all, before_first, after_first}
 use Rattle.std.specs.Str.{bytes_eq}
+use Rattle.text_parts.specs.Signs.{line_feed, comma, colon}
 use Rattle.text_parts.specs.Strings.{escaped, unescaped_from}
 use Rattle.lobby_words.specs.Words.{number_in}
-
--- the signs behind the name of a field and between fields, `:` and `,`, and that between lines, of the file and of a PGN
-abbrev pub colon : ℕ
-colon = 58
-
-abbrev pub comma : ℕ
-comma = 44
-
-abbrev pub line_feed : ℕ
-line_feed = 10
 
 abbrev pub front : List ℕ
 front = codes "{\"game\""

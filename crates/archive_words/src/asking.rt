@@ -1,12 +1,11 @@
 //! A game's PGN as the archive has it, asked of the server.
-use act_log::{Record, Shown, clocks, shown_of};
+use act_log::{LogEntry, Shown, clocks, shown_of};
 use anyhow::{Context, Error, Result, anyhow};
 use archive_text::{Heading, archived};
 use lobby_players::full_name;
 use lobby_roster::Player;
 use server_link::{Answer, Link, Row};
 use std::alloc::Global;
-use std::net::{Net, SocketAddr, TcpStream};
 
 /// What a PGN is made with: the players, what the tags are to say, and what the log has.
 #[derive(Clone, Copy)]
@@ -14,17 +13,9 @@ pub struct Knowledge<'a> {
     pub players: &'a [Player],
     /// Of White and Black it says nothing yet.
     pub heading: Heading<'a>,
-    pub records: &'a [Record],
+    pub entries: &'a [LogEntry],
     /// Whether there is a log: without one no game has clocks.
     pub is_logged: bool,
-}
-
-/// A connection to a server.
-pub fn link_to<R: Net<Stream = TcpStream> + AllocGlobal>(
-    rt: &R,
-    server: SocketAddr,
-) -> Result<Link> {
-    Link::open(rt, server).context(format_args!("the server at {server}"))
 }
 
 // The server's answer to `pgn`.
@@ -98,12 +89,12 @@ fn clocks_of(
     row: Row<'_>,
 ) -> Result<Vec<Option<u64>>> {
     let Row { game, ply, .. } = row;
-    let logged = clocks(alloc, known.records, None, game, ply)?;
+    let logged = clocks(alloc, known.entries, None, game, ply)?;
     if !known.is_logged || !matches!(logged.last(), Some(None)) {
         return Ok(logged);
     }
     let asked = shown(alloc, link, game)?;
-    Ok(clocks(alloc, known.records, asked, game, ply)?)
+    Ok(clocks(alloc, known.entries, asked, game, ply)?)
 }
 
 /// Asks for the PGN of a game, and makes it as the archive has it, with the clocks that the log knows, and where it is given

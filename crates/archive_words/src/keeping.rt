@@ -4,7 +4,6 @@ ghost use Rattle.lobby_archive.specs.Files.{contains};
 ghost use Rattle.lobby_archive.specs.Night.{AreAll};
 ghost use Rattle.archive_words.specs.Games.{games_over_in};
 
-use crate::asking::link_to;
 use crate::command_line::Keeping;
 use crate::keeper::{Counts, Done, Keeper, NOTHING, Onlookers};
 use crate::rows::{games_over, rows_of};
@@ -73,7 +72,7 @@ impl<R: Files + AllocGlobal> Looking<'_, R> {
             self.sources.log.read_on(self.rt, rows)?;
         }
         let over = games_over(self.rt.alloc(), rows)?;
-        Ok(in_order(self.rt.alloc(), self.sources.log.records(), over.as_slice())?)
+        Ok(in_order(self.rt.alloc(), self.sources.log.entries(), over.as_slice())?)
     }
 }
 
@@ -154,7 +153,7 @@ where
 
     // The same of the list as it is now.
     fn look(&mut self) -> Result<(Counts, Result<()>)> {
-        let mut link = link_to(self.rt, self.keeping.source.server)?;
+        let mut link = Link::open(self.rt, self.keeping.source.server)?;
         let list = link.list()?;
         let rows = rows_of(self.rt.alloc(), list.as_str())?;
         self.look_at(link, rows.as_slice())

@@ -1,5 +1,5 @@
 //! The word that writes the games of a night where others fetch them.
-use crate::asking::{has_left, link_to, pgn_of};
+use crate::asking::{has_left, pgn_of};
 use crate::command_line::Living;
 use crate::reading::found;
 use crate::rows::rows_of;
@@ -242,7 +242,7 @@ where
     fn push_told(&mut self, boards: &mut Vec<Board>) -> Result<Vec<u32>> {
         let mut link = match self.link.take() {
             Some(link) => link,
-            None => link_to(self.rt, self.living.source.server)?,
+            None => Link::open(self.rt, self.living.source.server)?,
         };
         let away = self.push_table(boards, &mut link)?;
         self.link = Some(link);

@@ -5,8 +5,8 @@ use lobby_players::players_of;
 use pairing_commands::Starting;
 use pairing_texts::Pairing;
 use round_games::{
-    Became, Board, RoundFile, boards_of, check_notes, check_players, check_times, connect,
-    pairings_of, take_words,
+    Became, Board, RoundFile, boards_of, check_notes, check_players, check_times, pairings_of,
+    take_words,
 };
 use server_link::Link;
 use std::alloc::Global;
@@ -113,7 +113,7 @@ impl<'a> Rounds<'a> {
     {
         let mut held = match link.take() {
             Some(held) => held,
-            None => connect(rt, server)?,
+            None => Link::open(rt, server)?,
         };
         self.go_on_over(rt, server, &mut held, board)?;
         *link = Some(held);

@@ -1,7 +1,7 @@
 -- Games that are safe or have left the table, one more; and what is so of a night behind a step.
 use Rattle.std.proofs.Common.{ℕ, ◌≡◌, ◌<◌, Bool, true, false, not, ◌||◌, ◌&&◌, ◌==◌, List, [], ◌∷◌, ◌++◌, Option, None, Some, length, get_or, refl, sym, ap, ◌∙◌}
 use Rattle.std.specs.Prelude.{is_some, is_none, if◌then◌else◌}
-use Rattle.std.proofs.lemmas.Bool.{false≢true}
+use Rattle.std.proofs.lemmas.Bool.{false≢true, or_right, cond-true, cond-false}
 use Rattle.std.proofs.lemmas.Bool.Decides.{Decides-eqb}
 use Rattle.std.proofs.lemmas.List.Folds.{list_any_at}
 use Rattle.lobby_archive.specs.declared.clerk.Stage.{Stage}
@@ -12,13 +12,9 @@ use Rattle.lobby_archive.specs.Night.{IsTold, IsAsking, AreSettled, AreSettledBu
 use Rattle.lobby_archive.proofs.Lists.{contains_more}
 use Rattle.lobby_archive.proofs.Runs.{same_game, either}
 
-or_second : (a b : Bool) → b ≡ true → (a || b) ≡ true
-or_second true b h = refl
-or_second false b h = h
-
 or_later : (a b c d : Bool) → (a ≡ true → c ≡ true) → (b ≡ true → d ≡ true) → (a || b) ≡ true → (c || d) ≡ true
 or_later true b c d f k h = ap (λ (x : Bool). x || d) (f refl)
-or_later false b c d f k h = or_second c d (k h)
+or_later false b c d f k h = or_right c d (k h)
 
 pub done_more : (safe left safe_now left_now : ℕ → Bool) (game : ℕ) (games more : List ℕ) → IsLater safe safe_now → IsLater left left_now →
     AreDone safe left games → (safe_now game || left_now game) ≡ true → more ≡ games ++ game ∷ [] → AreDone safe_now left_now more
@@ -53,18 +49,6 @@ here_is game = (Decides-eqb game game).1 refl
 pub contains_at : (games : List ℕ) (i : ℕ) → i < length games → contains (get_or games i 0) games ≡ true
 contains_at games i h = list_any_at (λ one. one == get_or games i 0) games i 0 h (here_is (get_or games i 0))
 
-pub both : (a b : Bool) → a ≡ true → b ≡ true → (a && b) ≡ true
-both true b e h = h
-both false b e h = absurd (false≢true e)
-
-same_at : {A : Type 0} (b : Bool) (x y : A) → b ≡ true → (if b then x else y) ≡ x
-same_at true x y h = refl
-same_at false x y h = absurd (false≢true h)
-
-pub other_at : {A : Type 0} (b : Bool) (x y : A) → b ≡ false → (if b then x else y) ≡ y
-other_at true x y h = absurd (false≢true (sym h))
-other_at false x y h = refl
-
 asked_stage : (stage : Option Stage) (t : Bool) → (is_none stage && t) ≡ true →
     (if is_none stage then (if t then Some Asked else Some Found) else stage) ≡ Some Asked
 asked_stage None true h = refl
@@ -77,11 +61,11 @@ module _ (game : ℕ) (droppable : Bool) (old new : View) (asked : asks old game
   new_stage : new.stage game ≡ Some Asked
   new_stage =
       step.stage_is game
-      ∙ (same_at (game == game) (seen old game droppable) (old.stage game) (here_is game)
+      ∙ (cond-true (game == game) (seen old game droppable) (old.stage game) (here_is game)
       ∙ asked_stage (old.stage game) (droppable || not (old.has game)) asked)
 
   other_stage : (g : ℕ) → (game == g) ≡ false → new.stage g ≡ old.stage g
-  other_stage g other = step.stage_is g ∙ other_at (game == g) (seen old game droppable) (old.stage g) other
+  other_stage g other = step.stage_is g ∙ cond-false (game == g) (seen old game droppable) (old.stage g) other
 
   pub over_asking : (safe matched : ℕ → Bool) → IsTold old safe matched → IsAsking game new safe matched
   over_asking safe matched told = record {
@@ -102,10 +86,10 @@ module _ (game : ℕ) (droppable : Bool) (old new : View) (asked : asks old game
 -- the table has not the game any more
 module _ (game : ℕ) (old new : View) (step : IsStaged old game None new) where
   gone_stage : (g : ℕ) → (game == g) ≡ true → new.stage g ≡ None
-  gone_stage g same = step.stage_is g ∙ same_at (game == g) None (old.stage g) same
+  gone_stage g same = step.stage_is g ∙ cond-true (game == g) None (old.stage g) same
 
   kept_stage : (g : ℕ) → (game == g) ≡ false → new.stage g ≡ old.stage g
-  kept_stage g other = step.stage_is g ∙ other_at (game == g) None (old.stage g) other
+  kept_stage g other = step.stage_is g ∙ cond-false (game == g) None (old.stage g) other
 
   pub refused_told : (safe safe_now matched matched_now : ℕ → Bool) → IsAsking game old safe matched → Stays safe safe_now →
       BecomesAt game false matched matched_now → IsTold new safe_now matched_now
@@ -119,7 +103,7 @@ module _ (game : ℕ) (old new : View) (step : IsStaged old game None new) where
     matched = λ g k.
         by_same (game == g) (matched_now g ≡ true)
         (λ same. absurd (false≢true (sym (ap is_kept (gone_stage g same)) ∙ k)))
-        (λ other. becomes g ∙ (other_at (game == g) false (matched g) other ∙ h.matched g (sym (ap is_kept (kept_stage g other)) ∙ k)));
+        (λ other. becomes g ∙ (cond-false (game == g) false (matched g) other ∙ h.matched g (sym (ap is_kept (kept_stage g other)) ∙ k)));
   }
 
   pub refused_settled : (drops drops_now : Bool) (settled settled_now : ℕ → Bool) → AreSettledBut game old drops settled → drops_now ≡ drops →
@@ -128,5 +112,5 @@ module _ (game : ℕ) (old new : View) (step : IsStaged old game None new) where
       by_same (game == g) (settled_now g ≡ true)
       (λ same. absurd (false≢true (sym (ap is_some (gone_stage g same)) ∙ some)))
       (λ other. becomes g
-      ∙ (other_at (game == g) false (settled g) other
+      ∙ (cond-false (game == g) false (settled g) other
       ∙ h (sym same_drops ∙ d) g other (sym (ap is_some (kept_stage g other)) ∙ some) (sym (ap is_kept (kept_stage g other)) ∙ kept)))

@@ -1,7 +1,7 @@
 -- What is promised holds of each run.
 use Rattle.std.proofs.Common.{ℕ, ◌≡◌, ◌⊎◌, inl, inr, Bool, true, false, not, ◌&&◌, ◌||◌, ◌==◌, List, [], ◌∷◌, ◌++◌, Option, None, refl, sym, ap, ◌∙◌, append_assoc, append-nil}
 use Rattle.std.specs.Prelude.{if◌then◌else◌, is_some, is_none}
-use Rattle.std.proofs.lemmas.Bool.{false≢true, and_parts}
+use Rattle.std.proofs.lemmas.Bool.{false≢true, and_parts, or_right, not-true}
 use Rattle.std.proofs.lemmas.Bool.Decides.{Decides-eqb}
 use Rattle.lobby_archive.specs.declared.clerk.Stage.{Stage}
 use Rattle.lobby_archive.specs.Steps.{Step, Begun, Over, Came, Refused, Synced, Left}
@@ -11,7 +11,7 @@ use Rattle.lobby_archive.specs.Files.{contains, archive_in, safe_in, fresh_in, I
 use Rattle.lobby_archive.specs.Clerk.{View, is_asked, is_kept, asks, puts, drops, seen, come, left, Begins, IsStep, IsNothing, IsRun}
 use Rattle.lobby_archive.specs.Laws.{IsOnce, is_seen, is_waiting, is_matched, is_sent, is_dropped, was_over, was_put, IsHanded, IsDropStep, IsHandedStep, AllHanded, AllRight, AllDrops}
 use Rattle.lobby_archive.proofs.Lists.{contains-append, contains_more, front_contains, once_front, once_more}
-use Rattle.lobby_archive.proofs.Stages.{is_settled, not_settled, waits_or_settled, pick, over_some, over_waits, over_settled, over_keeps, seen_over, said_keeps, come_keeps, waits_come, come_settled, matched_come, stays, refused_keeps, left_keeps, left_settled, kept_some, kept_matched, not_true, has_left, has_matched, kept_is, none_not, asked_some, and_both, left_left}
+use Rattle.lobby_archive.proofs.Stages.{is_settled, not_settled, waits_or_settled, pick, over_some, over_waits, over_settled, over_keeps, seen_over, said_keeps, come_keeps, waits_come, come_settled, matched_come, stays, refused_keeps, left_keeps, left_settled, kept_some, kept_matched, has_left, has_matched, kept_is, none_not, asked_some, and_both, left_left}
 
 -- what is so behind a past, by what the clerk knows then
 pub record Good (steps : List Step) (now : View) : Type 0 where
@@ -208,7 +208,7 @@ is_safe_now : (past : List Step) (old : View) → Good past old → (game : ℕ)
 is_safe_now past old G game h =
     G.safe game (or_rest (contains game G.front) (contains game old.fresh)
     (sym (contains-append game G.front old.fresh) ∙ (ap (contains game) (sym G.joined) ∙ (sym (G.has game) ∙ (and_parts (old.has game) (not (contains game old.fresh)) h).0)))
-    (not_true (contains game old.fresh) (and_parts (old.has game) (not (contains game old.fresh)) h).1))
+    (not-true (contains game old.fresh) (and_parts (old.has game) (not (contains game old.fresh)) h).1))
 
 left_good : (game : ℕ) (says : Bool) (past : List Step) (old new : View) → Good past old → IsStep old (Left game says) new → Good (Left game says ∷ past) new
 left_good game says past old new G h =
@@ -329,7 +329,7 @@ once_put false game archive f h = h
 
 put_new : (past : List Step) (old : View) (game : ℕ) → Good past old → puts old game ≡ true → contains game (archive_in past) ≡ false
 put_new past old game G h =
-    sym (G.has game) ∙ not_true (old.has game) (and_parts (is_asked (old.stage game)) (not (old.has game)) h).1
+    sym (G.has game) ∙ not-true (old.has game) (and_parts (is_asked (old.stage game)) (not (old.has game)) h).1
 
 step_once : (s : Step) (past : List Step) (old new : View) → Good past old → IsStep old s new → IsHonestStep s past → IsOnce (archive_in past) → IsOnce (archive_in (s ∷ past))
 step_once (Begun archive) past old new G h k f = once_front archive (archive_in past) k.1 f
@@ -461,11 +461,7 @@ step_finished : (s : Step) (past : List Step) (old new : View) → Good past old
     (contains game (archive_in past) ≡ true → was_over past game ≡ true) →
     contains game (archive_in (s ∷ past)) ≡ true → was_over (s ∷ past) game ≡ true
 step_finished (Begun archive) past old new G h k game f m = f (front_contains game archive (archive_in past) k.1 m)
-step_finished (Over g d says) past old new G h k game f m = or_more (g == game) (was_over past game) (f m)
-  where
-    or_more : (a b : Bool) → b ≡ true → (a || b) ≡ true
-    or_more true b e = refl
-    or_more false b e = e
+step_finished (Over g d says) past old new G h k game f m = or_right (g == game) (was_over past game) (f m)
 step_finished (Came g same says) past old new G h k game f m =
     put_ever says g game (archive_in past) (was_over past game)
     (λ e same. ap (λ (n : ℕ). was_over past n) (sym (same_game g game same)) ∙ asked_ever past old g G (sym h.0 ∙ e)) f m

@@ -188,10 +188,6 @@ pub kept_some : (stage : Option Stage) → is_kept stage ≡ true → is_some st
 kept_some None h = h
 kept_some (Some x) h = refl
 
-pub not_true : (a : Bool) → not a ≡ true → a ≡ false
-not_true true h = absurd (false≢true h)
-not_true false h = refl
-
 pub left_left : (d : Bool) (stage : Option Stage) → (d || has_left stage) ≡ has_left (if d then Some Dropped else stage)
 left_left true stage = refl
 left_left false stage = refl

@@ -43,8 +43,8 @@ fn list_of(alloc: Global, archive: &[u32]) -> Result<Vec<u32>, AllocError>
     Ok(games)
 }
 
-// Whether a game is among games.
-fn is_among(games: &[u32], game: u32) -> bool
+/// Whether a game is among games.
+pub fn is_among(games: &[u32], game: u32) -> bool
     ensures { result ≡ contains game games.now }
 {
     games.iter().any(|one| *one == game)

@@ -6,6 +6,6 @@ mod clerk;
 mod law;
 mod night;
 
-pub use clerk::{Clerk, Stage};
+pub use clerk::{Clerk, Stage, is_among};
 pub use law::{law_of_decisions, law_of_drops, law_of_games, law_of_safety};
 pub use night::{Night, look};

@@ -14,4 +14,4 @@ pub use checks::{check_players, check_times};
 pub use files::{Paired, check_notes, paired_of, pairings_of};
 pub use round_file::RoundFile;
 pub use said::take_words;
-pub use table::{Shown, connect, show_game};
+pub use table::{Shown, show_game};

@@ -1,19 +1,10 @@
 //! What the server tells of its table.
-use anyhow::{Context, Result};
+use anyhow::Result;
 use pairing_texts::{Row, Seats};
 use rec_codec::Name;
 use server_link::{Answer, Link, refused, row_of};
 use std::alloc::{AllocError, Global};
-use std::net::{Net, SocketAddr, TcpStream};
 use text_parts::parts;
-
-/// A connection to the server.
-pub fn connect<R: Net<Stream = TcpStream> + AllocGlobal>(
-    rt: &R,
-    server: SocketAddr,
-) -> Result<Link> {
-    Link::open(rt, server).context(format_args!("the server at {server}"))
-}
 
 // Who sits in a seat that is told as a name or `-`.
 fn seat_of(text: &str) -> Option<Name> {

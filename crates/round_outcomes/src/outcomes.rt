@@ -7,7 +7,7 @@ use pairing_commands::Source;
 use pairing_texts::{Note, Pairing, Seats, game_in, last_of};
 use pgn_tags::{is_move, is_tag, unescaped, value_in};
 use rec_codec::Name;
-use round_games::{Shown, connect, show_game};
+use round_games::{Shown, show_game};
 use server_link::Link;
 use std::alloc::{AllocError, Global};
 use std::net::{Net, SocketAddr, TcpStream};
@@ -216,7 +216,7 @@ fn link_of<R: Net<Stream = TcpStream> + AllocGlobal>(
 ) -> Result<Option<Link>> {
     match server {
         None => Ok(None),
-        Some(server) => Ok(Some(connect(rt, server)?)),
+        Some(server) => Ok(Some(Link::open(rt, server)?)),
     }
 }
 

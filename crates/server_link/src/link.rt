@@ -1,5 +1,5 @@
 //! A connection to the server.
-use anyhow::{Error, Result, anyhow};
+use anyhow::{Context, Error, Result, anyhow};
 use std::alloc::Global;
 use std::io::{self, BufRead, BufReader, ErrorKind, Write};
 use std::net::{Net, SocketAddr, TcpStream};
@@ -51,8 +51,17 @@ pub fn refused(line: &str, first: &str) -> Error {
 }
 
 impl Link {
-    /// Connects to the server. It fails where the server does not answer within ten seconds, as each call below does.
+    /// Connects to the server. It fails where the server does not answer within ten seconds, as each call below does; the
+    /// error of this one names the server.
     pub fn open<R: Net<Stream = TcpStream> + AllocGlobal>(
+        rt: &R,
+        server: SocketAddr,
+    ) -> Result<Link> {
+        Link::connect(rt, server).context(format_args!("the server at {server}"))
+    }
+
+    // Connects to the server, whichever it is.
+    fn connect<R: Net<Stream = TcpStream> + AllocGlobal>(
         rt: &R,
         server: SocketAddr,
     ) -> Result<Link> {

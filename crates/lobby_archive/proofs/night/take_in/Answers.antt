@@ -1,9 +1,8 @@
 use Rattle.std.proofs.Common.{◌==◌, false, not, sym, ap, ◌∙◌}
 use Rattle.std.specs.Prelude.{is_none}
-use Rattle.std.proofs.lemmas.Bool.{false≢true, and_parts}
+use Rattle.std.proofs.lemmas.Bool.{false≢true, and_parts, cond-false, not-true}
 use Rattle.lobby_archive.specs.Clerk.{View, view, is_asked}
-use Rattle.lobby_archive.proofs.Stages.{not_true}
-use Rattle.lobby_archive.proofs.Nights.{here_is, other_at, refused_told, refused_settled}
+use Rattle.lobby_archive.proofs.Nights.{here_is, refused_told, refused_settled}
 use Rattle.lobby_archive.proofs.night.take_in.Goals as goal
 
 pub ask-requires : goal.ask-requires
@@ -24,7 +23,7 @@ put-requires g c =
       new = c.is_same.ensures.safe game
           ∙ (c.ask.ensures.safe game
           ∙ (sym (c.requires.asking.has game)
-          ∙ not_true (old.has game) (and_parts (is_asked (old.stage game)) (not (old.has game)) puts).1));
+          ∙ not-true (old.has game) (and_parts (is_asked (old.stage game)) (not (old.has game)) puts).1));
       told = c.is_same.ensures.told game c.in-Some.pgn ∙ (told game ∙ here_is game);
     }
 
@@ -46,5 +45,5 @@ returns-in_default g c =
       settled = refused_settled game old new c.refused.ensures (g.N.Night.drops_games night) (g.N.Night.drops_games asked)
           (g.N.Night.is_settled night) (g.N.Night.is_settled asked) c.requires.settled c.ask.ensures.drops c.ask.ensures.settled;
       seen = λ e. absurd (false≢true e);
-      others = λ n other. c.ask.ensures.settled n ∙ other_at (game == n) false (g.N.Night.is_settled night n) other;
+      others = λ n other. c.ask.ensures.settled n ∙ cond-false (game == n) false (g.N.Night.is_settled night n) other;
     }
