@@ -172,7 +172,7 @@ impl Men {
         self.white.union(self.black)
     }
 
-    /// The squares on which not the same stands on another board.
+    /// Squares outside of which the same stands on another board.
     pub fn changes(&self, other: &Men) -> Bits
         ensures { HasChanges self.now other.now result }
     {
