@@ -2,13 +2,14 @@
 use Rattle.std.proofs.Common.{ℕ, ◌≡◌, ◌-◌, ◌*◌, ◌<◌, ◌≤◌, Bool, true, false, List, [], ◌∷◌, ◌++◌, length, Option, Some, None, refl, sym, ap, ◌∙◌, subst, inl, inr}
 use Rattle.std.specs.Prelude.{◌&&◌, not, if◌then◌else◌, ◌==◌, nat_eq, nat_le, replicate, IsTrue, ◌↔◌}
 use Rattle.std.specs.Cmp.Lexicographic.{pointwise, bytes_decides}
-use Rattle.std.proofs.lemmas.Bool.{cases_Bool, false≢true}
+use Rattle.std.proofs.lemmas.Bool.{cases_Bool, false≢true, and_parts, and_from}
 use Rattle.std.proofs.lemmas.Bool.Decides.{Decides-eqb}
 use Rattle.std.proofs.lemmas.List.{append_cancel_right}
 use Rattle.rec_codec.specs.Name.{padded}
 use Rattle.chess_bits.specs.declared.men.Colour.{Colour}
 use Rattle.chess_bits.specs.declared.men.Colour.TheVariants.{White, Black}
 use Rattle.chess_bits.specs.Man.{is_colour}
+use Rattle.chess_bits.proofs.ManLemmas.{is_colour-true}
 use Rattle.chess_board.specs.declared.moves.Move.{Move}
 use Rattle.chess_board.specs.Position.{Position}
 use Rattle.chess_clock.specs.declared.events.ClockEvent.TheVariants.{WrongClaim}
@@ -185,16 +186,10 @@ TimesFit-claim g game by shows way =
     same_clock White = refl
     same_clock Black = refl
 
-same_colour : (a b : Colour) → is_colour a b ≡ true → a ≡ b
-same_colour White White h = refl
-same_colour White Black h = absurd cc
-same_colour Black White h = absurd cc
-same_colour Black Black h = refl
-
 -- the side on move
 pub on_move : (game : GameState) (by : Colour) → is_colour by (position_of game).side ≡ true
     → (position_of game).side ≡ by
-on_move game by h = sym (same_colour by (position_of game).side h)
+on_move game by h = sym (is_colour-true by (position_of game).side h)
 
 -- a claim that may be judged, where it is wrong
 pub IsOnWay-judged : (game : GameState) (at : ℕ) (claim : Claim) → IsGame 20000 game → IsInTime game at
@@ -313,26 +308,18 @@ new-shown number opening clock white black c w b =
 
 -- ---- names
 
-both_true : (a b : Bool) → (a && b) ≡ true → (a ≡ true) × (b ≡ true)
-both_true true b h = (refl, h)
-both_true false b h = absurd cc
-
-and_true : (a b : Bool) → a ≡ true → b ≡ true → (a && b) ≡ true
-and_true true b x y = y
-and_true false b x y = absurd cc
-
 -- two names as they are kept: their lengths, and their texts with zeros after them
 abbrev same_kept : List ℕ → List ℕ → Bool
 same_kept a b = (length a == length b) && pointwise nat_eq (padded a) (padded b)
 
 same_kept-itself : (a : List ℕ) → same_kept a a ≡ true
 same_kept-itself a =
-    and_true (length a == length a) (pointwise nat_eq (padded a) (padded a)) ((Decides-eqb (length a) (length a)).1 refl)
+    and_from (length a == length a) (pointwise nat_eq (padded a) (padded a)) ((Decides-eqb (length a) (length a)).1 refl)
     ((bytes_decides (padded a) (padded a)).1 refl)
 
 same_kept-same : (a b : List ℕ) → same_kept a b ≡ true → a ≡ b
 same_kept-same a b told =
-    let parts = both_true (length a == length b) (pointwise nat_eq (padded a) (padded b)) told in
+    let parts = and_parts (length a == length b) (pointwise nat_eq (padded a) (padded b)) told in
     let long : length a ≡ length b = (Decides-eqb (length a) (length b)).0 parts.0 in
     let texts : padded a ≡ padded b = (bytes_decides (padded a) (padded b)).0 parts.1 in
     append_cancel_right a b (replicate (16 - length a) 0)

@@ -2,7 +2,7 @@
 use Rattle.std.proofs.Common.{ℕ, ◌≡◌, ◌+◌, ◌-◌, ◌*◌, ◌^◌, ◌<◌, ◌≤◌, Bool, true, false, List, [], ◌∷◌, ◌++◌, length, Option, Some, None, refl, sym, ap, ◌∙◌, subst, arith, length-append}
 use Rattle.std.specs.Prelude.{◌&&◌, ◌||◌, if◌then◌else◌, is_some, IfSome, nat_le}
 use Rattle.std.proofs.Math.Nat.{le_refl, le_trans}
-use Rattle.std.proofs.lemmas.Bool.{false≢true, le-leb}
+use Rattle.std.proofs.lemmas.Bool.{both_ways, le-leb}
 use Rattle.chess_bits.specs.declared.men.Colour.{Colour}
 use Rattle.chess_bits.specs.declared.men.Colour.TheVariants.{White, Black}
 use Rattle.chess_bits.specs.Man.{other, is_colour}
@@ -41,9 +41,6 @@ pub record IsOnWay (game : GameState) : Type 0 where
   pub line : IsScoresheet game.start game.moves
   pub white_held : IsHeldWithin game White
   pub black_held : IsHeldWithin game Black
-
-true_not_false : (b : Bool) {P : Type 0} → b ≡ true → b ≡ false → P
-true_not_false b so not_so = absurd (false≢true (sym not_so ∙ so))
 
 pub IsOnWay-of : (game : GameState) → IsGame 20000 game → is_joined game ≡ true → is_over game ≡ false → IsOnWay game
 IsOnWay-of game is joined running = record {
@@ -92,11 +89,11 @@ IsGame-going game way none = record {
   number = way.number;
   opened = way.opened;
   short = way.short;
-  waiting = λ not_so. true_not_false (is_joined game) way.joined not_so;
+  waiting = λ not_so. absurd (both_ways (is_joined game) not_so way.joined);
   played = record {
     line = way.line;
     ending = agrees_none (ending_by_last game.start game.moves) game.ending none way.running;
-    quiet_at_end = λ over. true_not_false (is_over game) over way.running;
+    quiet_at_end = λ over. absurd (both_ways (is_over game) way.running over);
     white = way.white_held;
     black = way.black_held;
   };
@@ -140,7 +137,7 @@ IsGame-ended game at e way agrees = record {
   number = way.number;
   opened = way.opened;
   short = way.short;
-  waiting = λ not_so. true_not_false (is_joined game) way.joined not_so;
+  waiting = λ not_so. absurd (both_ways (is_joined game) not_so way.joined);
   played = record {
     line = way.line;
     ending = agrees;
@@ -349,7 +346,7 @@ not_fallen game at up fallen =
     let mover = (position_of game).side in
     let same = held_for game mover in
     let down : (seat_of mover game).held ≤ at - game.moment = subst (λ (n : ℕ). n ≤ at - game.moment) same fallen in
-    true_not_false (has_fallen game at) (le-leb (seat_of mover game).held (at - game.moment) down) up
+    absurd (both_ways (has_fallen game at) up (le-leb (seat_of mover game).held (at - game.moment) down))
 
 -- ---- a wrong claim
 

@@ -1,9 +1,9 @@
 -- The line of moves that were handed in.
-use Rattle.std.proofs.Common.{ℕ, ◌≡◌, ◌<◌, ◌≤◌, ◌+◌, suc, Bool, true, false, List, [], ◌∷◌, ◌++◌, length, take, drop, get_or, Option, Some, None, refl, sym, ap, ◌∙◌, subst, append_assoc, arith}
+use Rattle.std.proofs.Common.{ℕ, ◌≡◌, ◌<◌, ◌≤◌, ◌+◌, suc, true, false, List, [], ◌∷◌, ◌++◌, length, take, drop, get_or, Option, Some, None, refl, sym, ap, ◌∙◌, subst, append_assoc, arith}
 use Rattle.std.specs.Prelude.{◌||◌, is_some, nat_le}
 use Rattle.std.proofs.Math.Seq.{drop-cons}
 use Rattle.std.proofs.lemmas.List.{take-append-drop, take_more, length-take-le}
-use Rattle.std.proofs.lemmas.Bool.{false≢true}
+use Rattle.std.proofs.lemmas.Bool.{false≢true, or_parts}
 use Rattle.std.proofs.lemmas.Bool.Decides.{nat_tests}
 use Rattle.chess_board.specs.declared.moves.Move.{Move}
 use Rattle.chess_board.specs.Position.{Position}
@@ -71,10 +71,6 @@ taken moves i m below here = take_more moves i m below
 
 -- ---- room
 
-or_last : (a b : Bool) → (a || b) ≡ false → b ≡ false
-or_last true b h = absurd (false≢true (sym h))
-or_last false b h = h
-
 low_number : (n : ℕ) → nat_le 150 n ≡ false → n < 150
 low_number n low = grind (arith, nat_tests)
 
@@ -82,7 +78,7 @@ low_number n low = grind (arith, nat_tests)
 pub low_halfmove : (p : Position) → is_finished_at p ≡ false → p.halfmove < 150
 low_halfmove p goes_on =
     low_number p.halfmove
-    (or_last (is_checkmate p || is_stalemate p || is_listed_dead p.placement) (nat_le 150 p.halfmove) goes_on)
+    (or_parts (is_checkmate p || is_stalemate p || is_listed_dead p.placement) (nat_le 150 p.halfmove) goes_on).1
 
 low_most : {n : ℕ} → n < 150 → n ≤ 9999
 low_most low = omega arith

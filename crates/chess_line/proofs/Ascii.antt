@@ -3,6 +3,7 @@ use Rattle.std.proofs.Common.{◌≡◌, ℕ, zero, suc, ◌<◌, ◌≤◌, ◌
 use Rattle.std.specs.Prelude.{codes, Bool, true, false, nat_lt, IfSome}
 use Rattle.std.specs.List.{join_with_byte, list_all}
 use Rattle.std.specs.Str.{IsAscii}
+use Rattle.std.proofs.lemmas.Bool.{and_parts, ltb-true}
 use Rattle.std.proofs.lemmas.Bool.Decides.{nat_tests}
 use Rattle.std.proofs.lemmas.Fmt.{IsAscii-decimal}
 use Rattle.std.proofs.lemmas.List.Elements.{All-weaker}
@@ -39,15 +40,11 @@ abbrev is_plain : List ℕ → Bool
 is_plain [] = true
 is_plain (c ∷ text) = nat_lt c 128 && is_plain text
 
-plain_head : (c : ℕ) (rest : Bool) → (nat_lt c 128 && rest) ≡ true → (c < 128) × (rest ≡ true)
-plain_head c true e = (grind (arith, nat_tests), refl)
-plain_head c false e = grind (arith, nat_tests)
-
 plain : (text : List ℕ) → is_plain text ≡ true → IsAscii text
 plain [] e = IsAscii-nil
 plain (c ∷ text) e =
-    let here = plain_head c (is_plain text) e in
-    ascii_cons c text here.0 (plain text here.1)
+    let here = and_parts (nat_lt c 128) (is_plain text) e in
+    ascii_cons c text (ltb-true c 128 here.0) (plain text here.1)
 
 number_ascii : (n : ℕ) → IsNumber n → IsAscii (decimal n)
 number_ascii n small = IsAscii-decimal n (omega arith)
@@ -88,13 +85,8 @@ is_name_byte-ascii c e = grind (arith, nat_tests)
 name_ascii_by : (name : List ℕ) → list_all is_name_byte name ≡ true → IsAscii name
 name_ascii_by [] e = IsAscii-nil
 name_ascii_by (c ∷ name) e =
-    let here = head_and (is_name_byte c) (list_all is_name_byte name) e in
+    let here = and_parts (is_name_byte c) (list_all is_name_byte name) e in
     ascii_cons c name (is_name_byte-ascii c here.0) (name_ascii_by name here.1)
-  where
-    head_and : (a b : Bool) → (a && b) ≡ true → (a ≡ true) × (b ≡ true)
-    head_and true true e = (refl, refl)
-    head_and true false e = cc
-    head_and false b e = cc
 
 act_ascii : (act : Act) → IsSayable act → AreAscii (act_fields act)
 act_ascii (acts.Open colour initial increment fen period) h =

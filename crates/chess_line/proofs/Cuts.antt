@@ -1,6 +1,7 @@
 -- A text that is cut at a byte is cut in one way, and a number's text has digits alone.
-use Rattle.std.proofs.Common.{◌≡◌, ◌≢◌, ℕ, zero, suc, ◌<◌, ◌==◌, Bool, true, false, not, ◌&&◌, List, [], ◌∷◌, ◌++◌, length, get_or, decimal, Option, Some, None, refl, ap, ◌∙◌, sym, arith}
+use Rattle.std.proofs.Common.{◌≡◌, ◌≢◌, ℕ, zero, suc, ◌<◌, ◌==◌, Bool, true, not, ◌&&◌, List, [], ◌∷◌, ◌++◌, length, get_or, decimal, Option, Some, None, refl, ap, ◌∙◌, sym, arith}
 use Rattle.std.specs.Str.Parse.{AllDigits, digits_value}
+use Rattle.std.proofs.lemmas.Bool.{and_parts}
 use Rattle.std.proofs.lemmas.Bool.Decides.{nat_tests}
 use Rattle.std.proofs.lemmas.Fmt.{digits_decimal, decimal_injective}
 use Rattle.std.proofs.lemmas.Str.Parse.{IsNumeralModel, digit_at}
@@ -54,9 +55,8 @@ abbrev pub clear : ℕ → List ℕ → Bool
 clear c [] = true
 clear c (d ∷ text) = not (d == c) && clear c text
 
-clear_head : (c d : ℕ) (rest : Bool) → (not (d == c) && rest) ≡ true → (d ≢ c) × (rest ≡ true)
-clear_head c d true e = (grind (arith, nat_tests), refl)
-clear_head c d false e = grind (arith, nat_tests)
+other_byte : (c d : ℕ) → not (d == c) ≡ true → d ≢ c
+other_byte c d e = grind (arith, nat_tests)
 
 pub without_cons : (c d : ℕ) (text : List ℕ) → d ≢ c → Without c text → Without c (d ∷ text)
 without_cons c d text h rest zero below = h
@@ -70,8 +70,8 @@ without_append c (d ∷ a) b ha hb =
 pub clear_without : (c : ℕ) (text : List ℕ) → clear c text ≡ true → Without c text
 clear_without c [] e = λ i below. absurd (omega arith)
 clear_without c (d ∷ text) e =
-    let here = clear_head c d (clear c text) e in
-    without_cons c d text here.0 (clear_without c text here.1)
+    let here = and_parts (not (d == c)) (clear c text) e in
+    without_cons c d text (other_byte c d here.0) (clear_without c text here.1)
 
 -- the digits of a number
 own : IsNumeralModel (AllDigits 10) (digits_value 10)

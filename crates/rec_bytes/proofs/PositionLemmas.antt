@@ -1,15 +1,15 @@
 -- Positions and their bytes.
-use Rattle.std.proofs.Common.{◌≡◌, ℕ, ◌+◌, ◌*◌, ◌/◌, ◌%◌, ◌<◌, Bool, true, List, length, map, get_or, set, Option, Some, None, refl, sym, ap, ◌∙◌, subst, ⊎_elim, arith}
-use Rattle.std.specs.Prelude.{nat_le, if◌then◌else◌, IfSome}
+use Rattle.std.proofs.Common.{◌≡◌, ℕ, ◌+◌, ◌*◌, ◌/◌, ◌%◌, ◌<◌, Bool, List, length, map, get_or, set, Option, Some, None, refl, sym, ap, ◌∙◌, subst, ⊎_elim, arith}
+use Rattle.std.specs.Prelude.{IfSome}
 use Rattle.std.specs.List.{range_with_len}
-use Rattle.std.proofs.lemmas.Bool.{le-leb, cases_eq}
+use Rattle.std.proofs.lemmas.Bool.{cases_eq}
 use Rattle.std.proofs.lemmas.List.{get_or-set_same, get_or-set_other, length-set}
 use Rattle.std.proofs.lemmas.List.FromFn.{get_or-map-range_with_len}
 use Rattle.chess_bits.specs.declared.men.Colour.TheVariants.{White, Black}
 use Rattle.chess_bits.specs.declared.men.Kind.TheVariants.{Pawn, Knight, Bishop, Rook, Queen, King}
 use Rattle.chess_bits.specs.Man.{Man}
-use Rattle.chess_bits.specs.Square.{Square, on_board, IsOnBoard, number_of, square_at, number_of-square_at}
-use Rattle.chess_bits.specs.Table.{at}
+use Rattle.chess_bits.specs.Square.{Square, IsOnBoard, square_at}
+use Rattle.chess_bits.proofs.TableLemmas.{at-square_at}
 use Rattle.chess_board.specs.Position.{Position, IsValid, man_at}
 use Rattle.chess_board.specs.Position.{Rights}
 use Rattle.chess_bits.specs.declared.men.Colour.{Colour}
@@ -48,27 +48,16 @@ square_number-below (Some (Black, Rook)) = omega arith
 square_number-below (Some (Black, Queen)) = omega arith
 square_number-below (Some (Black, King)) = omega arith
 
--- what stands on a square is what the placement has at its number
-at_number : (p : List (Option Man)) (n : ℕ) → n < 64 → man_at p (square_at n) ≡ get_or p n None
-unfolding at
-at_number p n h =
-    let a : nat_le 1 (n % 8 + 1) ≡ true = le-leb 1 (n % 8 + 1) (omega arith) in
-    let b : nat_le (n % 8 + 1) 8 ≡ true = le-leb (n % 8 + 1) 8 (omega arith) in
-    let c : nat_le 1 (n / 8 + 1) ≡ true = le-leb 1 (n / 8 + 1) (omega arith) in
-    let d : nat_le (n / 8 + 1) 8 ≡ true = le-leb (n / 8 + 1) 8 (omega arith) in
-    let whole : on_board (square_at n) ≡ true = rw (a, b, c, d) refl in
-    ap (λ test. if test then get_or p (number_of (square_at n)) None else None) whole
-    ∙ ap (λ m. get_or p m None) (number_of-square_at n)
-
 -- the two men of a byte
 pair : (p : List (Option Man)) (bytes : List ℕ) (k : ℕ) → k < 32 → bytes ≡ map (pair_byte p) (range_with_len 0 32) →
     get_or bytes k 0 ≡ square_number (get_or p (2 * k) None) + 16 * square_number (get_or p (2 * k + 1) None)
 pair p bytes k low e =
     ap (λ xs. get_or xs k 0) e
     ∙ (get_or-map-range_with_len (pair_byte p) 0 32 k k 0 low (omega arith)
-    ∙ (ap (λ m. square_number m + 16 * square_number (man_at p (square_at (2 * k + 1)))) (at_number p (2 * k)
-    (omega arith))
-    ∙ ap (λ m. square_number (get_or p (2 * k) None) + 16 * square_number m) (at_number p (2 * k + 1) (omega arith))))
+    ∙ (ap (λ m. square_number m + 16 * square_number (man_at p (square_at (2 * k + 1))))
+    (at-square_at None p (2 * k) (omega arith))
+    ∙ ap (λ m. square_number (get_or p (2 * k) None) + 16 * square_number m)
+    (at-square_at None p (2 * k + 1) (omega arith))))
 
 pub low_man : (p : List (Option Man)) (bytes : List ℕ) (k : ℕ) → k < 32 →
     bytes ≡ map (pair_byte p) (range_with_len 0 32) →

@@ -1,8 +1,8 @@
 -- A list of moves and its 60 places.
-use Rattle.std.proofs.Common.{◌≡◌, ℕ, zero, suc, ◌+◌, ◌-◌, ◌*◌, ◌/◌, ◌%◌, ◌<◌, ◌≤◌, Bool, true, false, ◌&&◌, List, [], ◌∷◌, ◌++◌, length, map, take, drop, replicate, get_or, refl, sym, ap, ◌∙◌, subst, arith, append_assoc}
+use Rattle.std.proofs.Common.{◌≡◌, ℕ, zero, suc, ◌+◌, ◌-◌, ◌*◌, ◌/◌, ◌%◌, ◌<◌, ◌≤◌, Bool, true, List, [], ◌∷◌, ◌++◌, length, map, take, drop, replicate, get_or, refl, sym, ap, ◌∙◌, subst, arith, append_assoc}
 use Rattle.std.specs.Prelude.{◌==◌, nat_lt, slice_set}
 use Rattle.std.specs.List.{list_all, flat_map, AllByRecursion}
-use Rattle.std.proofs.lemmas.Bool.{false≢true}
+use Rattle.std.proofs.lemmas.Bool.{and_parts, and_from}
 use Rattle.std.proofs.lemmas.Bool.Decides.{nat_tests}
 use Rattle.std.proofs.lemmas.List.{take_at, drop_at, take_more, take-append-drop, map-append, length-map, length-take-le, length-replicate, length-append, length-drop, set_at, same_lists}
 use Rattle.byteorder.specs.Endian.{little_bytes, little_number, IsRead}
@@ -13,14 +13,6 @@ use Rattle.rec_codec.specs.declared.moves.MoveList.TheInside.{Inside}
 use Rattle.rec_codec.specs.Moves.{CanBecome, IsStorable, IsMoveList, promotion_of, move_code, move_of, move_code-move_of, codes_of, are_codes}
 use Rattle.rec_codec.specs.MovesInside.{inside_of, IsSound}
 use Rattle.rec_codec.proofs.MoveLemmas.{move_code-below, move_of-move_code}
-
-pub both : (a b : Bool) → (a && b) ≡ true → (a ≡ true) × (b ≡ true)
-both true b h = (refl, h)
-both false b h = absurd (false≢true h)
-
-from_both : (a b : Bool) → a ≡ true → b ≡ true → (a && b) ≡ true
-from_both true b h k = k
-from_both false b h k = absurd (false≢true h)
 
 -- Numbers of moves.
 abbrev is_code : ℕ → Bool
@@ -35,7 +27,7 @@ tested c h = grind (arith, nat_tests)
 map-codes : (cs : List ℕ) → list_all is_code cs ≡ true → map move_code (map move_of cs) ≡ cs
 map-codes [] h = refl
 map-codes (c ∷ cs) h =
-    let parts = both (is_code c) (list_all is_code cs) h in
+    let parts = and_parts (is_code c) (list_all is_code cs) h in
     ap (λ x. x ∷ map move_code (map move_of cs)) (move_code-move_of c (below c parts.0))
     ∙ ap (λ xs. c ∷ xs) (map-codes cs parts.1)
 
@@ -60,7 +52,7 @@ IsStorable-move_of c h = record {
 storable : (cs : List ℕ) → list_all is_code cs ≡ true → AllByRecursion IsStorable (map move_of cs)
 storable [] h = tt
 storable (c ∷ cs) h =
-    let parts = both (is_code c) (list_all is_code cs) h in
+    let parts = and_parts (is_code c) (list_all is_code cs) h in
     (IsStorable-move_of c (below c parts.0), storable cs parts.1)
 
 is_zero : (c : ℕ) → (c == 0) ≡ true → c ≡ 0
@@ -69,7 +61,7 @@ is_zero c h = grind (arith, nat_tests)
 zeros : (cs : List ℕ) → list_all (λ code. code == 0) cs ≡ true → cs ≡ replicate (length cs) 0
 zeros [] h = refl
 zeros (c ∷ cs) h =
-    let parts = both (c == 0) (list_all (λ code. code == 0) cs) h in
+    let parts = and_parts (c == 0) (list_all (λ code. code == 0) cs) h in
     ap (λ x. x ∷ cs) (is_zero c parts.0) ∙ ap (λ xs. 0 ∷ xs) (zeros cs parts.1)
 
 -- what is read from a field is sound
@@ -77,7 +69,7 @@ pub IsSound-read : (count : ℕ) (codes : List ℕ) → 1 ≤ count → count �
     are_codes count codes ≡ true →
     IsSound (record { count = count; codes = codes })
 IsSound-read count codes some few whole h =
-    let parts = both (list_all is_code (take count codes)) (list_all (λ code. code == 0) (drop count codes)) h in
+    let parts = and_parts (list_all is_code (take count codes)) (list_all (λ code. code == 0) (drop count codes)) h in
     let front : length (take count codes) ≡ count = length-take-le count codes (omega arith) in
     let len : length (map move_of (take count codes)) ≡ count = simp length-map front in
     let rest : length (drop count codes) ≡ 60 - count = simp length-drop (omega arith) in
@@ -106,7 +98,7 @@ map-back (m ∷ ms) h =
 codes-pass : (ms : List Move) → AllByRecursion IsStorable ms → list_all is_code (map move_code ms) ≡ true
 codes-pass [] h = refl
 codes-pass (m ∷ ms) h =
-    from_both _ _ (tested (move_code m) (move_code-below m h.0)) (codes-pass ms h.1)
+    and_from _ _ (tested (move_code m) (move_code-below m h.0)) (codes-pass ms h.1)
 
 zeros-pass : (n : ℕ) → list_all (λ code. code == 0) (replicate n 0) ≡ true
 zeros-pass zero = refl
@@ -124,7 +116,7 @@ moves_of-codes_of ms h = ap (map move_of) (take-codes_of ms) ∙ map-back ms h
 
 pub are_codes-codes_of : (ms : List Move) → AllByRecursion IsStorable ms → are_codes (length ms) (codes_of ms) ≡ true
 are_codes-codes_of ms h =
-    from_both _ _ (ap (list_all is_code) (take-codes_of ms) ∙ codes-pass ms h)
+    and_from _ _ (ap (list_all is_code) (take-codes_of ms) ∙ codes-pass ms h)
     (ap (list_all (λ code. code == 0)) (drop-codes_of ms) ∙ zeros-pass (60 - length ms))
 
 pub length-codes_of : (ms : List Move) → length ms ≤ 60 → length (codes_of ms) ≡ 60
