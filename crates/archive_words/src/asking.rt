@@ -1,5 +1,5 @@
 //! A game's PGN as the archive has it, asked of the server.
-use act_log::{Record, Shown, clocks, shown_of};
+use act_log::{LogEntry, Shown, clocks, shown_of};
 use anyhow::{Context, Error, Result, anyhow};
 use archive_text::{Heading, archived};
 use lobby_players::full_name;
@@ -13,7 +13,7 @@ pub struct Knowledge<'a> {
     pub players: &'a [Player],
     /// Of White and Black it says nothing yet.
     pub heading: Heading<'a>,
-    pub records: &'a [Record],
+    pub entries: &'a [LogEntry],
     /// Whether there is a log: without one no game has clocks.
     pub is_logged: bool,
 }
@@ -89,12 +89,12 @@ fn clocks_of(
     row: Row<'_>,
 ) -> Result<Vec<Option<u64>>> {
     let Row { game, ply, .. } = row;
-    let logged = clocks(alloc, known.records, None, game, ply)?;
+    let logged = clocks(alloc, known.entries, None, game, ply)?;
     if !known.is_logged || !matches!(logged.last(), Some(None)) {
         return Ok(logged);
     }
     let asked = shown(alloc, link, game)?;
-    Ok(clocks(alloc, known.records, asked, game, ply)?)
+    Ok(clocks(alloc, known.entries, asked, game, ply)?)
 }
 
 /// Asks for the PGN of a game, and makes it as the archive has it, with the clocks that the log knows, and where it is given

@@ -189,14 +189,14 @@ impl<O> Keeper<'_, O> {
     // The game that goes on in a game with this PGN, where the log tells how an arbiter opened it.
     fn half_of(&self, game: u32, pgn: &str) -> Result<Option<u32>> {
         let alloc = self.alloc;
-        let records = self.known.records;
+        let entries = self.known.entries;
         let white = row_of(self.rows, game)?.white;
-        if !is_opened_for(records, game, white) {
+        if !is_opened_for(entries, game, white) {
             return Ok(None);
         }
         let mut ended = Vec::new(alloc);
         self.push_halves(&mut ended, pgn)?;
-        Ok(first_half(alloc, records, game, white, ended.as_slice())?)
+        Ok(first_half(alloc, entries, game, white, ended.as_slice())?)
     }
 
     // A PGN with the game that it continues.

@@ -72,7 +72,7 @@ impl<R: Files + AllocGlobal> Looking<'_, R> {
             self.sources.log.read_on(self.rt, rows)?;
         }
         let over = games_over(self.rt.alloc(), rows)?;
-        Ok(in_order(self.rt.alloc(), self.sources.log.records(), over.as_slice())?)
+        Ok(in_order(self.rt.alloc(), self.sources.log.entries(), over.as_slice())?)
     }
 }
 

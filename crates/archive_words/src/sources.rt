@@ -38,7 +38,7 @@ impl<R> Sources<'_, R> {
         Knowledge {
             players: self.players.known(),
             heading: self.source.heading,
-            records: self.log.records(),
+            entries: self.log.entries(),
             is_logged: self.source.log.is_some(),
         }
     }
