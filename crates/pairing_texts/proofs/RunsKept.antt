@@ -2,7 +2,7 @@
 use Rattle.std.proofs.Common.{ℕ, ◌≡◌, ◌≤◌, ◌==◌, ◌&&◌, ◌||◌, Bool, true, false, not, List, [], ◌∷◌, ◌++◌, length, filter, Option, Some, None, refl, sym, ap, ◌∙◌, subst, arith, inl, inr, ◌⊎◌, if◌then◌else◌}
 use Rattle.std.specs.List.{list_any}
 use Rattle.std.specs.Str.{bytes_eq}
-use Rattle.std.proofs.lemmas.Bool.{false≢true, and_from, and_parts}
+use Rattle.std.proofs.lemmas.Bool.{false≢true, and_from, and_parts, or_right}
 use Rattle.std.proofs.lemmas.Bool.Decides.{Decides-eqb}
 use Rattle.std.proofs.lemmas.List.{map-append}
 use Rattle.std.proofs.lemmas.List.Folds.{list_all-append}
@@ -65,13 +65,9 @@ the_one b noted game one rows alone there =
     let among : list_any (λ x. x == game) (one ∷ []) ≡ true = ap (list_any (λ x. x == game)) (sym alone) ∙ (found b noted game rows ∙ there) in
     sym ((Decides-eqb one game).0 (sym (or_false (one == game)) ∙ among))
 
-either : (a b : Bool) → b ≡ true → (a || b) ≡ true
-either true b h = refl
-either false b h = h
-
 any_append : {A : Type 0} (p : A → Bool) (xs : List A) (x : A) → p x ≡ true → list_any p (xs ++ x ∷ []) ≡ true
 any_append p [] x h = or_false (p x) ∙ h
-any_append p (y ∷ ys) x h = either (p y) (list_any p (ys ++ x ∷ [])) (any_append p ys x h)
+any_append p (y ∷ ys) x h = or_right (p y) (list_any p (ys ++ x ∷ [])) (any_append p ys x h)
 
 -- a game that is newer than was noted, and has the board's times, may be the board's where White sits in it
 there_by : (b : Board) (noted : List ℕ) (game n : ℕ) (s : Bool) → is_newer noted game ≡ true → b.fits game ≡ true → ((n == game) && s) ≡ true →
@@ -84,7 +80,7 @@ there_by b noted game n s new fits h =
 
 or_more : (a b c d : Bool) → (a ≡ true → c ≡ true) → (b ≡ true → d ≡ true) → (a || b) ≡ true → (c || d) ≡ true
 or_more true b c d f g h = ap (λ (x : Bool). x || d) (f refl)
-or_more false b c d f g h = either c d (g h)
+or_more false b c d f g h = or_right c d (g h)
 
 found_by : (b : Board) (noted : List ℕ) (game : ℕ) (rows : List Row) → is_newer noted game ≡ true → b.fits game ≡ true →
     has_game b.white game rows ≡ true → has_found b noted game rows ≡ true

@@ -1,16 +1,12 @@
 -- A look at which each server was heard sees the whole table.
-use Rattle.std.proofs.Common.{ℕ, ◌≡◌, ◌==◌, ◌||◌, Bool, true, false, not, List, [], ◌∷◌, ◌++◌, filter, map, refl, sym, ap, subst, if◌then◌else◌}
+use Rattle.std.proofs.Common.{ℕ, ◌≡◌, ◌==◌, ◌||◌, Bool, true, false, not, List, [], ◌∷◌, ◌++◌, filter, map, refl, ap, subst, if◌then◌else◌}
 use Rattle.std.specs.List.{list_any, list_all}
-use Rattle.std.proofs.lemmas.Bool.{false≢true, and_from, and_parts}
+use Rattle.std.proofs.lemmas.Bool.{false≢true, and_from, and_parts, not-false}
 use Rattle.std.proofs.lemmas.Bool.Decides.{Decides-eqb}
 use Rattle.pairing_texts.specs.declared.steps.Row.{Row}
 use Rattle.lobby_words.specs.Servers.{server_of}
 use Rattle.pairing_texts.specs.Steps.{is_heard, unheard}
 use Rattle.pairing_texts.specs.Runs.{is_of, seen_of, are_of}
-
-not_false : (a : Bool) → not a ≡ false → a ≡ true
-not_false true h = refl
-not_false false h = absurd (false≢true (sym h))
 
 -- ---- the servers that were heard
 
@@ -23,7 +19,7 @@ heard_one : (heard servers rest : List ℕ) (one server : ℕ) (u same : Bool) �
     (rest ≡ [] → Among servers server → Among heard server) → Among heard server
 heard_one heard servers rest one server true same is none e among more = cc
 heard_one heard servers rest one server false true is none e among more =
-    subst (λ (s : ℕ). Among heard s) ((Decides-eqb one server).0 e) (not_false (list_any (λ x. x == one) heard) is)
+    subst (λ (s : ℕ). Among heard s) ((Decides-eqb one server).0 e) (not-false (list_any (λ x. x == one) heard) is)
 heard_one heard servers rest one server false false is none e among more = more none among
 
 heard_all : (heard servers : List ℕ) (server : ℕ) → filter (λ s. not (is_heard heard s)) servers ≡ [] → Among servers server → Among heard server
