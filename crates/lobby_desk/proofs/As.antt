@@ -1,16 +1,15 @@
 -- The line of a message `as NAME LINE`.
-use Rattle.std.proofs.Common.{ℕ, zero, suc, ◌≡◌, ◌≤◌, ◌+◌, ◌==◌, Bool, true, false, ◌&&◌, ◌||◌, not, List, [], ◌∷◌, length, drop, codes, refl, sym, ap, ◌∙◌, subst, arith}
+use Rattle.std.proofs.Common.{ℕ, zero, suc, ◌≡◌, ◌≤◌, ◌+◌, ◌==◌, Bool, true, false, ◌&&◌, ◌||◌, not, List, [], ◌∷◌, length, drop, codes, refl, sym, ap, ◌∙◌, subst, ⊎_elim, arith}
 use Rattle.std.specs.Prelude.{if◌then◌else◌, nat_le}
 use Rattle.std.specs.List.{list_all, position_or_len}
 use Rattle.std.specs.Str.{bytes_eq}
-use Rattle.std.proofs.lemmas.Bool.{false≢true}
+use Rattle.std.proofs.lemmas.Bool.{false≢true, and_parts, or_cases}
 use Rattle.std.proofs.lemmas.Bool.Decides.{nat_tests}
 use Rattle.std.proofs.lemmas.List.{length-drop}
 use Rattle.std.proofs.lemmas.Slice.Eq.{bytes_eq-Decides}
 use Rattle.lobby_words.specs.declared.words.Sort.{Sort}
 use Rattle.lobby_words.specs.declared.words.Sort.TheVariants as sorts
 use Rattle.lobby_words.specs.Words.{word_of, rest_of, as_line, is_message, is_message_byte, is_play_word, is_read_word, is_act_word, as_sort, own_sort, whole_sort, sort_of, is_as_sort}
-use Rattle.lobby_roster.proofs.Found.{and_first, and_second}
 use Rattle.lobby_desk.proofs.Lines.{message}
 
 -- ---- where a message asks for that, LINE is an act
@@ -96,18 +95,15 @@ each_play P w move offer accept decline resign claim flag h =
     (λ is. subst P (sym ((bytes_eq-Decides w (codes "move")).0 is)) move) offer)
     accept) decline) resign) claim) flag h
 
-either : (P : Type 0) (a b : Bool) → (a ≡ true → P) → (b ≡ true → P) → (a || b) ≡ true → P
-either P true b first second h = first refl
-either P false b first second h = second h
-
 each_word : (P : List ℕ → Type 0) (w : List ℕ) → P (codes "open") → P (codes "join") → (is_play_word w ≡ true → P w) →
     is_act_word w ≡ true → P w
 unfolding is_act_word
 each_word P w opens joins plays h =
-    either (P w) (bytes_eq w (codes "open") || bytes_eq w (codes "join")) (is_play_word w)
+    ⊎_elim
     (λ is. among P w (codes "join") (bytes_eq w (codes "open"))
     (λ first. subst P (sym ((bytes_eq-Decides w (codes "open")).0 first)) opens) joins is)
-    plays h
+    plays
+    (or_cases (bytes_eq w (codes "open") || bytes_eq w (codes "join")) (is_play_word w) h)
 
 -- what such a word is
 abbrev pub IsActWord : List ℕ → Type 0
@@ -142,7 +138,7 @@ as_acts text is = act_by_word (as_line text) (plays_acts (word_of (as_line text)
 shown_behind : (n : ℕ) (text : List ℕ) → list_all is_message_byte text ≡ true → list_all is_message_byte (drop n text) ≡ true
 shown_behind zero text h = h
 shown_behind (suc n) [] h = refl
-shown_behind (suc n) (b ∷ bs) h = shown_behind n bs (and_second (is_message_byte b) (list_all is_message_byte bs) h)
+shown_behind (suc n) (b ∷ bs) h = shown_behind n bs (and_parts (is_message_byte b) (list_all is_message_byte bs) h).1
 
 -- what stands behind a first space
 behind_space : (text : List ℕ) → list_all is_message_byte text ≡ true → list_all is_message_byte (rest_of text) ≡ true
@@ -167,11 +163,8 @@ at_most n h = grind (arith, nat_tests)
 parts : (text : List ℕ) → is_message text ≡ true → Parts text
 parts text h =
     let len = length text in
-    let counted = and_first (nat_le 1 len && nat_le len 255) (list_all is_message_byte text) h in
-    record {
-      short = at_most (length text) (and_second (nat_le 1 len) (nat_le len 255) counted);
-      shown = and_second (nat_le 1 len && nat_le len 255) (list_all is_message_byte text) h;
-    }
+    let both = and_parts (nat_le 1 len && nat_le len 255) (list_all is_message_byte text) h in
+    record { short = at_most (length text) (and_parts (nat_le 1 len) (nat_le len 255) both.0).1; shown = both.1 }
 
 pub as_whole : (text : List ℕ) → is_message text ≡ true → sort_of text ≡ sorts.As → is_message (as_line text) ≡ true
 as_whole text is sort =

@@ -3,6 +3,7 @@ use Rattle.std.proofs.Common.{ℕ, ◌≡◌, ◌<◌, ◌≤◌, ◌^◌, true,
 use Rattle.std.specs.Int.{IsInRange}
 use Rattle.std.specs.List.{list_all}
 use Rattle.std.specs.Str.Parse.{AllDigits}
+use Rattle.std.proofs.lemmas.Bool.{and_from, and_parts}
 use Rattle.std.proofs.lemmas.Bool.Decides.{nat_tests}
 use Rattle.std.proofs.lemmas.Fmt.{digits_decimal, length-decimal-le}
 use Rattle.std.proofs.lemmas.List.Folds.{list_all-append}
@@ -12,7 +13,6 @@ use Rattle.lobby_words.specs.declared.words.Sort.TheVariants as sorts
 use Rattle.lobby_words.specs.Words.{is_message, is_message_byte, sort_of, rest_of, is_read_word}
 use Rattle.lobby_desk.specs.Lines.{name_line, game_line}
 use Rattle.lobby_words.proofs.Numbers.{own}
-use Rattle.lobby_roster.proofs.Found.{and_first, and_second, and_both}
 
 byte_shown : (c : ℕ) → 32 ≤ c → c ≤ 126 → is_message_byte c ≡ true
 byte_shown c low high = grind (arith, nat_tests)
@@ -21,7 +21,7 @@ digits_shown : (ds : List ℕ) → AllDigits 10 ds → list_all is_message_byte 
 digits_shown [] h = refl
 digits_shown (c ∷ cs) h =
     let here : IsInRange 48 57 c = digit_at (c ∷ cs) 0 h (omega arith) in
-    and_both (is_message_byte c) (list_all is_message_byte cs) (byte_shown c (omega arith) (omega arith)) (digits_shown cs h.1)
+    and_from (is_message_byte c) (list_all is_message_byte cs) (byte_shown c (omega arith) (omega arith)) (digits_shown cs h.1)
 
 -- a text of at most 255 bytes that may stand in a message
 pub message : (text : List ℕ) → 1 ≤ length text → length text ≤ 255 → list_all is_message_byte text ≡ true → is_message text ≡ true
@@ -62,9 +62,8 @@ name_byte_shown c h = grind (arith, nat_tests)
 name_shown : (name : List ℕ) → list_all is_name_byte name ≡ true → list_all is_message_byte name ≡ true
 name_shown [] h = refl
 name_shown (c ∷ cs) h =
-    and_both (is_message_byte c) (list_all is_message_byte cs)
-    (name_byte_shown c (and_first (is_name_byte c) (list_all is_name_byte cs) h))
-    (name_shown cs (and_second (is_name_byte c) (list_all is_name_byte cs) h))
+    let parts = and_parts (is_name_byte c) (list_all is_name_byte cs) h in
+    and_from (is_message_byte c) (list_all is_message_byte cs) (name_byte_shown c parts.0) (name_shown cs parts.1)
 
 pub name_whole : (name : List ℕ) → IsName name → is_message (name_line name) ≡ true
 name_whole name is =

@@ -1,7 +1,7 @@
 -- For whom connections act.
 use Rattle.std.proofs.Common.{ℕ, ◌≡◌, ◌==◌, ◌&&◌, ◌||◌, Bool, true, false, not, List, [], ◌∷◌, Option, None, Some, refl, ap, sym, ◌∙◌}
 use Rattle.std.specs.Prelude.{◌↔◌, is_some, if◌then◌else◌, option_and_then, cond}
-use Rattle.std.specs.Cmp.{nat_cmp_is}
+use Rattle.std.specs.Cmp.{nat_cmp_is, both_ways}
 use Rattle.std.specs.Ordering.{is_eq, nat_cmp, eq_by_cmp}
 use Rattle.std.specs.Set.{is_member}
 use Rattle.std.specs.declared.cmp.Ordering.{Ordering}
@@ -9,7 +9,6 @@ use Rattle.std.specs.declared.cmp.Ordering.TheVariants.{Less, Equal, Greater}
 use Rattle.std.proofs.lemmas.Bool.{false≢true}
 use Rattle.std.proofs.lemmas.Map.Lookups.{exact_unsigned}
 use Rattle.lobby_desk.specs.declared.visitors.Visitor.{Visitor}
-use Rattle.lobby_roster.proofs.Found.{same_test}
 use Rattle.std.proofs.lemmas.Bool.Decides.{Decides-eqb}
 use Rattle.lobby_words.specs.declared.planning.Plan.{Plan}
 use Rattle.lobby_words.specs.declared.planning.Identity.{Identity}
@@ -48,7 +47,7 @@ is_equal Greater h = absurd (false≢true h)
 
 same_key : (a b : ℕ) → is_eq (nat_cmp a b) ≡ (a == b)
 same_key a b =
-    same_test (is_eq (nat_cmp a b)) (a == b)
+    both_ways (is_eq (nat_cmp a b)) (a == b)
     (λ h. (Decides-eqb a b).1 (exact_unsigned a b (is_equal (nat_cmp a b) h)))
     (λ h. ap is_eq (sym (nat_cmp_is a b Equal ((Decides-eqb a b).0 h))))
 
@@ -85,7 +84,7 @@ removed_open k q o =
     ∙ elim (k == q) as (λ b. is_some (cond b None o) ≡ (if b then false else is_some o)) [ true ↦ refl | false ↦ refl ]
 
 swap : (a b : ℕ) → (a == b) ≡ (b == a)
-swap a b = same_test (a == b) (b == a) (λ h. (Decides-eqb b a).1 (sym ((Decides-eqb a b).0 h))) (λ h. (Decides-eqb a b).1 (sym ((Decides-eqb b a).0 h)))
+swap a b = both_ways (a == b) (b == a) (λ h. (Decides-eqb b a).1 (sym ((Decides-eqb a b).0 h))) (λ h. (Decides-eqb a b).1 (sym ((Decides-eqb b a).0 h)))
 
 -- whether a number is among others
 pub member_is : (xs : List ℕ) (q : ℕ) → is_member (eq_by_cmp nat_cmp) xs q ≡ at_table xs q

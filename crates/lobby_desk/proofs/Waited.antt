@@ -1,13 +1,13 @@
 -- How many games of a player wait.
 use Rattle.std.proofs.Common.{ℕ, ◌≡◌, ◌+◌, ◌-◌, ◌==◌, List, [], ◌∷◌, ◌++◌, map, fold, Bool, refl, sym, ap, ◌∙◌, arith, cond}
 use Rattle.std.specs.Prelude.{nat_le}
+use Rattle.std.specs.Cmp.{both_ways}
 use Rattle.std.specs.List.{count_by}
 use Rattle.std.proofs.lemmas.Bool.Decides.{nat_tests}
 use Rattle.std.proofs.lemmas.List.Sums.{sum_by-append}
 use Rattle.lobby_desk.specs.declared.server_line.Due.{Due}
 use Rattle.lobby_desk.specs.Events.{owed_of}
 use Rattle.lobby_desk.specs.Waiting.{is_opening}
-use Rattle.lobby_roster.proofs.Found.{same_test}
 
 count_map : {X Y : Type 0} (f : X → Y) (p : Y → Bool) (xs : List X) → count_by p (map f xs) ≡ count_by (λ x. p (f x)) xs
 count_map {X} {Y} f p xs = along 0 xs
@@ -26,4 +26,4 @@ openings_both name dues first second is =
     ∙ (ap (count_by (λ (due : Due). is_opening name (owed_of due))) is ∙ sym (count_map owed_of (is_opening name) dues))
 
 pub many : (a b c : ℕ) → (16 - a - b - c == 0) ≡ nat_le 16 (a + (b + c))
-many a b c = same_test (16 - a - b - c == 0) (nat_le 16 (a + (b + c))) (λ h. grind (arith, nat_tests)) (λ h. grind (arith, nat_tests))
+many a b c = both_ways (16 - a - b - c == 0) (nat_le 16 (a + (b + c))) (λ h. grind (arith, nat_tests)) (λ h. grind (arith, nat_tests))

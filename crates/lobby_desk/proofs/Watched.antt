@@ -10,9 +10,6 @@ use Rattle.lobby_desk.specs.declared.server_line.Due.{Due}
 use Rattle.lobby_desk.specs.Events.{MessageValue, owed_of}
 use Rattle.lobby_desk.specs.Tellings.{is_number, owes, waiter, lost_of, lost}
 
-pub or_first : (a b : Bool) → a ≡ true → (a || b) ≡ true
-or_first a b h = ap (λ t. t || b) h
-
 -- those who watch a game are found one by one
 abbrev pub watching : ℕ → List Watch → List ℕ
 watching game watches = map (λ (w : Watch). w.by) (filter (λ (w : Watch). w.game == game) watches)

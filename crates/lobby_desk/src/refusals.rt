@@ -1,11 +1,10 @@
 //! The acts that the server refused, of each game since it accepted one there.
 ghost use Rattle.std.specs.Prelude.{◌≡◌, ◌==◌, codes, OnOk};
 ghost use Rattle.std.specs.List.{starts_with};
-ghost use Rattle.lobby_words.specs.Words.{line_said};
 ghost use Rattle.lobby_desk.specs.Refusals as spec;
 
 use crate::desk::number_after;
-use lobby_words::{as_line, cut, game_told, is_accepted, is_table_act, number_named};
+use lobby_words::{cut, game_told, is_accepted, is_table_act, line_said, number_named};
 use std::alloc::AllocError;
 
 /// A game, and how many acts of who plays in it were refused since one was accepted there.
@@ -61,14 +60,6 @@ fn is_refusal(answer: &str) -> bool
     let is_no = is_no(answer);
     let is_of_seated = is_of_seated(number_named(number));
     is_no & is_of_seated
-}
-
-// The line of the server that a message is.
-fn line_said(text: &str) -> &str
-    ensures { result.now ≡ line_said text.entry.now }
-{
-    let (word, _) = cut(text);
-    if word == "as" { as_line(text) } else { text }
 }
 
 /// The game that the line of an act names.

@@ -4,6 +4,7 @@ use Rattle.std.specs.List.{before_first, after_first}
 use Rattle.std.specs.Str.{bytes_eq}
 use Rattle.std.specs.Option.{option_map}
 use Rattle.text_parts.specs.Parts.{parts_of}
+use Rattle.text_parts.specs.Signs.{line_feed, quote}
 use Rattle.pgn_tags.specs.Pgn.{is_tag, is_move}
 use Rattle.chess_board.specs.declared.moves.Move.{Move}
 use Rattle.chess_board.specs.Position.{Position, IsValid}
@@ -13,13 +14,6 @@ use Rattle.chess_board.specs.Legal.{IsLegal}
 use Rattle.chess_notation.specs.Letters.{space}
 use Rattle.chess_notation.specs.Naming.{Names}
 use Rattle.chess_notation.specs.Fen.{IsFenOf}
-
--- the signs between lines and around the value of a tag
-abbrev pub line_feed : ℕ
-line_feed = 10
-
-abbrev pub quote : ℕ
-quote = 34
 
 abbrev pub lines_of : List ℕ → List (List ℕ)
 lines_of text = parts_of line_feed text

@@ -1,5 +1,5 @@
 //! The rows of an answer.
-ghost use Rattle.std.specs.Prelude.{◌≡◌, ◌++◌, codes, decimal, IfOk, OnOk};
+ghost use Rattle.std.specs.Prelude.{◌≡◌, ◌++◌, codes, IfOk, OnOk};
 ghost use Rattle.std.specs.String.{string_bytes};
 ghost use Rattle.chess_board.specs.Legal.{IsLegal};
 ghost use Rattle.chess_notation.specs.Fen.{fen_of};
@@ -10,16 +10,8 @@ use crate::telling::push_move;
 use chess_board::{Board, Move};
 use chess_fen::fen_write;
 use chess_san::write;
-use itoa::Buffer;
 use std::alloc::{AllocError, Global};
-
-// Appends a number.
-fn push_number(text: &mut String, number: usize) -> Result<(), AllocError>
-    ensures { OnOk result (string_bytes text.new ≡ string_bytes text.old ++ decimal number) }
-{
-    let mut buffer = Buffer::new();
-    text.push_str(buffer.format(number))
-}
+use text_parts::push_number;
 
 // Appends a space, a position's FEN and a line feed.
 fn push_fen(text: &mut String, board: &Board) -> Result<(), AllocError>
@@ -51,7 +43,7 @@ fn push_row(
     requires { IsLegal before.now mv.now }
     ensures { OnOk result (PutsRow number before.now mv.now after.now (string_bytes text.old) (string_bytes text.new)) }
 {
-    push_number(text, number)?;
+    push_number(text, number as u64)?;
     text.push(' ')?;
     text.push_str(write(before, *mv).as_str())?;
     push_move(text, mv)?;
@@ -86,9 +78,9 @@ pub fn answer_text(
     ensures { IfOk result (λ text. IsLineAnswer game start.now moves.now (string_bytes text)) }
 {
     let mut text = String::from_str(alloc, "ok line ")?;
-    push_number(&mut text, game as usize)?;
+    push_number(&mut text, u64::from(game))?;
     text.push(' ')?;
-    push_number(&mut text, moves.len())?;
+    push_number(&mut text, moves.len() as u64)?;
     text.push('\n')?;
     push_start(&mut text, start)?;
     push_rows(&mut text, start, moves)?;

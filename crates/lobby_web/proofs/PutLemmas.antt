@@ -2,14 +2,13 @@
 use Rattle.std.proofs.Common.{ℕ, ◌≡◌, ◌≢◌, inl, inr, List, [], ◌∷◌, ◌++◌, Option, None, Some, Bool, true, false, cond, not, filter, set, length, get_or, refl, sym, ap, ◌∙◌, nat_lt, arith}
 use Rattle.std.specs.List.{find, position, position_or_len}
 use Rattle.std.specs.Str.{bytes_eq}
-use Rattle.std.proofs.lemmas.Bool.{cases_Bool, ltb-false}
+use Rattle.std.proofs.lemmas.Bool.{cases_Bool, ltb-false, false_from_ne_true}
 use Rattle.std.proofs.lemmas.List.Folds.{find_at, find-set, find_past}
 use Rattle.std.proofs.lemmas.List.Quantifiers.{position-Some}
 use Rattle.std.proofs.lemmas.List.Sums.{position_or_len_is}
 use Rattle.std.proofs.lemmas.Option.{slice_get_past}
 use Rattle.std.proofs.lemmas.Slice.Eq.{bytes_eq-Decides}
 use Rattle.lobby_web.specs.declared.site.File.{File}
-use Rattle.lobby_web.proofs.OriginLemmas.{false-unless}
 
 -- the file has this path
 abbrev pub is_at : List ℕ → File → Bool
@@ -20,7 +19,7 @@ its_own file = (bytes_eq-Decides file.path.items file.path.items).1 refl
 
 -- a file of one path has no other
 pub one_path : (path other : List ℕ) (file : File) → other ≢ path → is_at path file ≡ true → is_at other file ≡ false
-one_path path other file differ is = false-unless (is_at other file)
+one_path path other file differ is = false_from_ne_true (is_at other file)
     (λ same. differ (sym ((bytes_eq-Decides file.path.items other).0 same) ∙ (bytes_eq-Decides file.path.items path).0 is))
 
 -- ---- in the place of another

@@ -1,6 +1,6 @@
 -- A socket on which nothing more may be said stays so.
 use Rattle.std.proofs.Common.{ℕ, ◌≡◌, inl, inr, List, [], ◌∷◌, drop, Option, None, Some, Ok, Err, Bool, true, false, not, ◌&&◌, sym, ap, ◌∙◌}
-use Rattle.std.proofs.lemmas.Bool.{cases_Bool}
+use Rattle.std.proofs.lemmas.Bool.{cases_Bool, both_ways}
 use Rattle.websocket.specs.Content.{Content}
 use Rattle.websocket.specs.Connection.{Connection, can_write}
 use Rattle.lobby_web.specs.declared.socket.Socket.{Socket}
@@ -46,9 +46,6 @@ gives-shut old new words gives shut =
           ]
     ]
 
-said-or-shut : (b : Bool) → b ≡ true → b ≡ false → ⊥
-said-or-shut b is not = cc (is, not)
-
 -- where nothing may be said, nothing may be said later
 pub stays-shut : (event : SocketStep) (old new : Socket) → Does event old new → may_say old ≡ false → may_say new ≡ false
 stays-shut (came bytes) old new does shut =
@@ -59,7 +56,7 @@ stays-shut (came bytes) old new does shut =
 stays-shut (asked None) old new does shut = gives-shut old new None does.1 shut
 stays-shut (asked (Some Opened)) old new does shut = kept-shut old new does.1.0 does.1.3 shut
 stays-shut (asked (Some (Words found))) old new does shut = gives-shut old new (Some found.items) does.1 shut
-stays-shut (said content (Ok x)) old new does shut = absurd (said-or-shut (may_say old) does.0 shut)
+stays-shut (said content (Ok x)) old new does shut = absurd (both_ways (may_say old) shut does.0)
 stays-shut (said content (Err NotOpen)) old new does shut = kept-shut old new does.1.0 does.1.3 shut
 stays-shut (said content (Err NotText)) old new does shut = absurd does
 stays-shut (said content (Err Slow)) old new does shut = over-shut new does.2

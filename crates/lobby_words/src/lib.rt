@@ -18,5 +18,6 @@ pub use planning::{Identity, Order, Plan, Standing, order_of, plan_of};
 pub use refusals::Refusal;
 pub use servers::{GAMES_OF_A_SERVER, SERVERS_MOST, server_of};
 pub use words::{
-    Sort, actor, are_message_bytes, as_line, as_name, cut, is_play_word, number_named, number_or_0,
+    Sort, actor, are_message_bytes, as_line, as_name, cut, is_play_word, line_said, number_named,
+    number_or_0,
 };

@@ -1,8 +1,9 @@
 -- An array of numbers that was written is read as it was.
 use Rattle.std.proofs.Common.{ℕ, ◌≡◌, ◌<◌, ◌^◌, ◌==◌, Bool, false, List, [], ◌∷◌, ◌++◌, length, decimal, map, refl, sym, ap, ◌∙◌, arith, append_assoc, append-nil, if◌then◌else◌}
 use Rattle.std.specs.List.{list_any, onto_first}
+use Rattle.std.proofs.lemmas.Bool.{or_parts}
 use Rattle.std.proofs.lemmas.Fmt.{decimal_nonempty}
-use Rattle.text_parts.proofs.Cuts.{Lacks, or_first, or_second, lacks_more, lacks_both, before_at, after_at}
+use Rattle.text_parts.proofs.Cuts.{Lacks, lacks_more, lacks_both, before_at, after_at}
 use Rattle.text_parts.specs.Parts.{parts_of}
 use Rattle.lobby_words.specs.Words.{number_or_0}
 use Rattle.pairing_texts.specs.Times.{front_of}
@@ -12,11 +13,12 @@ use Rattle.pairing_texts.proofs.Spelled.{lacks_below, lacks_above, number_back}
 -- a text that is alone, and one before the first comma
 alone : (b : ℕ) (bs : List ℕ) → Lacks 44 (b ∷ bs) → parts_of 44 (b ∷ bs) ≡ (b ∷ bs) ∷ []
 alone b [] h =
-    let here : (b == 44) ≡ false = or_first (b == 44) false h in
+    let here : (b == 44) ≡ false = (or_parts (b == 44) false h).0 in
     rw here refl
 alone b (c ∷ bs) h =
-    let here : (b == 44) ≡ false = or_first (b == 44) (list_any (λ x. x == 44) (c ∷ bs)) h in
-    rw here (ap (onto_first b) (alone c bs (or_second (b == 44) (list_any (λ x. x == 44) (c ∷ bs)) h)))
+    let parts = or_parts (b == 44) (list_any (λ x. x == 44) (c ∷ bs)) h in
+    let here : (b == 44) ≡ false = parts.0 in
+    rw here (ap (onto_first b) (alone c bs parts.1))
 
 pub part_alone : (text : List ℕ) → 0 < length text → Lacks 44 text → parts_of 44 text ≡ text ∷ []
 part_alone [] some h = absurd (omega arith)
@@ -25,8 +27,9 @@ part_alone (b ∷ bs) some h = alone b bs h
 pub part_first : (text rest : List ℕ) → Lacks 44 text → parts_of 44 (text ++ (44 ∷ rest)) ≡ text ∷ parts_of 44 rest
 part_first [] rest h = refl
 part_first (b ∷ bs) rest h =
-    let here : (b == 44) ≡ false = or_first (b == 44) (list_any (λ x. x == 44) bs) h in
-    rw here (ap (onto_first b) (part_first bs rest (or_second (b == 44) (list_any (λ x. x == 44) bs) h)))
+    let parts = or_parts (b == 44) (list_any (λ x. x == 44) bs) h in
+    let here : (b == 44) ≡ false = parts.0 in
+    rw here (ap (onto_first b) (part_first bs rest parts.1))
 
 lacks_comma : (n : ℕ) → n < 2 ^ 32 → Lacks 44 (decimal n)
 lacks_comma n small = lacks_below 44 n (omega arith) small
@@ -52,7 +55,7 @@ lacks_commas c (n ∷ ns) high are =
 
 no_array : (text : List ℕ) → Lacks 91 text → is_array text ≡ false
 no_array [] h = refl
-no_array (b ∷ bs) h = or_first (b == 91) (list_any (λ x. x == 91) bs) h
+no_array (b ∷ bs) h = (or_parts (b == 91) (list_any (λ x. x == 91) bs) h).0
 
 several : (n : ℕ) (ns : List ℕ) → n < 2 ^ 32 → AreNumbers ns →
     array_in (91 ∷ (decimal n ++ (behind_commas ns ++ (93 ∷ [])))) ≡ n ∷ ns

@@ -1,12 +1,11 @@
 //! The times of a game.
-ghost use Rattle.std.specs.Prelude.{◌≡◌, ◌++◌, decimal, OnOk, IfOk};
+ghost use Rattle.std.specs.Prelude.{◌≡◌, ◌++◌, OnOk, IfOk};
 ghost use Rattle.std.specs.String.{string_bytes};
 ghost use Rattle.pairing_texts.specs.Times as spec;
 
-use itoa::Buffer;
 use lobby_words::number_or_0;
 use std::alloc::{AllocError, Global};
-use text_parts::cut;
+use text_parts::{cut, push_number};
 
 /// The first period's moves, and the seconds that stand for the second.
 #[derive(Clone, Copy)]
@@ -65,23 +64,14 @@ fn likely_times(text: &str) -> Times
     long_times(moves, first, second)
 }
 
-/// A number behind a text.
-pub fn push_number(text: &mut String, number: u32) -> Result<(), AllocError>
-    ensures { OnOk result (string_bytes text.new ≡ string_bytes text.old ++ decimal number) }
-{
-    let mut buffer = Buffer::new();
-    text.push_str(buffer.format(number))?;
-    Ok(())
-}
-
 // Seconds and the increment.
 fn push_span(text: &mut String, seconds: u32, increment: u32) -> Result<(), AllocError>
     ensures { OnOk result (string_bytes text.new ≡ string_bytes text.old ++ spec.span_text seconds increment) }
 {
-    push_number(text, seconds)?;
+    push_number(text, u64::from(seconds))?;
     if increment > 0 {
         text.push('+')?;
-        push_number(text, increment)?;
+        push_number(text, u64::from(increment))?;
     }
     Ok(())
 }
@@ -91,7 +81,7 @@ fn push_moves(text: &mut String, period: Option<Period>) -> Result<(), AllocErro
     ensures { OnOk result (string_bytes text.new ≡ string_bytes text.old ++ spec.moves_text period) }
 {
     if let Some(period) = period {
-        push_number(text, period.moves)?;
+        push_number(text, u64::from(period.moves))?;
         text.push('/')?;
     }
     Ok(())

@@ -1,7 +1,7 @@
 -- A text that was joined at a sign is cut there.
-use Rattle.std.proofs.Common.{ℕ, zero, suc, ◌≡◌, ◌≢◌, ◌<◌, ◌+◌, ◌==◌, ◌||◌, Bool, true, false, List, [], ◌∷◌, ◌++◌, length, take, drop, get_or, refl, sym, ap, ◌∙◌, arith, if◌then◌else◌}
+use Rattle.std.proofs.Common.{ℕ, zero, suc, ◌≡◌, ◌≢◌, ◌<◌, ◌+◌, ◌==◌, Bool, true, false, List, [], ◌∷◌, ◌++◌, length, take, drop, get_or, refl, sym, ap, ◌∙◌, arith, if◌then◌else◌}
 use Rattle.std.specs.List.{list_any, before_first, after_first, position_or_len}
-use Rattle.std.proofs.lemmas.Bool.{false≢true}
+use Rattle.std.proofs.lemmas.Bool.{or_from, or_parts}
 use Rattle.std.proofs.lemmas.Bool.Decides.{Decides-eqb}
 use Rattle.std.proofs.lemmas.List.{take_at, drop_all}
 use Rattle.std.proofs.lemmas.List.Recursion.{is_position_or_len}
@@ -11,24 +11,12 @@ use Rattle.std.proofs.Math.Seq.{take-length}
 abbrev pub Lacks : ℕ → List ℕ → Type 0
 Lacks c text = list_any (λ b. b == c) text ≡ false
 
-pub or_first : (a b : Bool) → (a || b) ≡ false → a ≡ false
-or_first true b h = absurd (false≢true (sym h))
-or_first false b h = refl
-
-pub or_second : (a b : Bool) → (a || b) ≡ false → b ≡ false
-or_second true b h = absurd (false≢true (sym h))
-or_second false b h = h
-
-pub both_false : (a b : Bool) → a ≡ false → b ≡ false → (a || b) ≡ false
-both_false true b h k = absurd (false≢true (sym h))
-both_false false b h k = k
-
 not_same_by : (a b : ℕ) (t : Bool) → (a == b) ≡ t → a ≢ b → (a == b) ≡ false
 not_same_by a b true e h = absurd (h ((Decides-eqb a b).0 e))
 not_same_by a b false e h = e
 
 pub lacks_more : (c d : ℕ) (text : List ℕ) → d ≢ c → Lacks c text → Lacks c (d ∷ text)
-lacks_more c d text other h = both_false (d == c) (list_any (λ b. b == c) text) (not_same_by d c (d == c) refl other) h
+lacks_more c d text other h = or_from (d == c) (list_any (λ b. b == c) text) (not_same_by d c (d == c) refl other) h
 
 pub lacks_each : (c : ℕ) (text : List ℕ) → ((i : ℕ) → i < length text → get_or text i 0 ≢ c) → Lacks c text
 lacks_each c [] h = refl
@@ -37,8 +25,8 @@ lacks_each c (d ∷ text) h = lacks_more c d text (h zero (omega arith)) (lacks_
 pub lacks_both : (c : ℕ) (one other : List ℕ) → Lacks c one → Lacks c other → Lacks c (one ++ other)
 lacks_both c [] other h k = k
 lacks_both c (d ∷ one) other h k =
-    both_false (d == c) (list_any (λ b. b == c) (one ++ other)) (or_first (d == c) (list_any (λ b. b == c) one) h)
-    (lacks_both c one other (or_second (d == c) (list_any (λ b. b == c) one) h) k)
+    let parts = or_parts (d == c) (list_any (λ b. b == c) one) h in
+    or_from (d == c) (list_any (λ b. b == c) (one ++ other)) parts.0 (lacks_both c one other parts.1 k)
 
 -- where a byte stands first
 abbrev spot : ℕ → List ℕ → ℕ
@@ -54,16 +42,18 @@ spot_here c rest = let same : (c == c) ≡ true = (Decides-eqb c c).1 refl in rw
 spot_at : (c : ℕ) (text rest : List ℕ) → Lacks c text → spot c (text ++ (c ∷ rest)) ≡ length text
 spot_at c [] rest h = spot_here c rest
 spot_at c (d ∷ text) rest h =
-    let on = spot_on c d (text ++ (c ∷ rest)) (or_first (d == c) (list_any (λ b. b == c) text) h) in
-    let more = spot_at c text rest (or_second (d == c) (list_any (λ b. b == c) text) h) in
+    let parts = or_parts (d == c) (list_any (λ b. b == c) text) h in
+    let on = spot_on c d (text ++ (c ∷ rest)) parts.0 in
+    let more = spot_at c text rest parts.1 in
     let next : 1 + spot c (text ++ (c ∷ rest)) ≡ length (d ∷ text) = omega (arith, more) in
     on ∙ next
 
 spot_none : (c : ℕ) (text : List ℕ) → Lacks c text → spot c text ≡ length text
 spot_none c [] h = refl
 spot_none c (d ∷ text) h =
-    let on = spot_on c d text (or_first (d == c) (list_any (λ b. b == c) text) h) in
-    let more = spot_none c text (or_second (d == c) (list_any (λ b. b == c) text) h) in
+    let parts = or_parts (d == c) (list_any (λ b. b == c) text) h in
+    let on = spot_on c d text parts.0 in
+    let more = spot_none c text parts.1 in
     let next : 1 + spot c text ≡ length (d ∷ text) = omega (arith, more) in
     on ∙ next
 

@@ -3,16 +3,13 @@ use Rattle.std.proofs.Common.{ℕ, ◌≡◌, ◌<◌, ◌≤◌, ◌^◌, Bool,
 use Rattle.std.specs.Prelude.{if◌then◌else◌, nat_lt, SomeIff}
 use Rattle.std.specs.Str.{bytes_eq}
 use Rattle.std.specs.Str.Parse.{digits_value}
+use Rattle.std.proofs.lemmas.Bool.{and_from}
 use Rattle.std.proofs.lemmas.Bool.Decides.{nat_tests}
 use Rattle.std.proofs.lemmas.Fmt.{digits_value-decimal}
 use Rattle.std.proofs.lemmas.Option.{none-some, same_Some}
 use Rattle.std.proofs.lemmas.Slice.Eq.{bytes_eq-Decides}
 use Rattle.text_parts.specs.Numbers.{number_below}
 use Rattle.text_parts.proofs.Digits.{own}
-
-and_both : (a b : Bool) → a ≡ true → b ≡ true → (a && b) ≡ true
-and_both true b h k = k
-and_both false b h k = h
 
 below : (bound v : ℕ) → nat_lt v bound ≡ true → v < bound
 below bound v h = grind (arith, nat_tests)
@@ -43,7 +40,7 @@ unfolding number_below
 number_spelled bound n small wide =
     let value : digits_value 10 (decimal n) ≡ n = digits_value-decimal own n wide in
     let test : (nat_lt n bound && bytes_eq (decimal n) (decimal n)) ≡ true =
-    and_both (nat_lt n bound) (bytes_eq (decimal n) (decimal n)) (is_below bound n small) ((bytes_eq-Decides (decimal n) (decimal n)).1 refl) in
+    and_from (nat_lt n bound) (bytes_eq (decimal n) (decimal n)) (is_below bound n small) ((bytes_eq-Decides (decimal n) (decimal n)).1 refl) in
     ap (λ (v : ℕ). if nat_lt v bound && bytes_eq (decimal v) (decimal n) then Some v else None) value
     ∙ ap (λ (b : Bool). if b then Some n else None) test
 
