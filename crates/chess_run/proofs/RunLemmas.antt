@@ -213,7 +213,8 @@ of_source given fault made y before after was is same h =
 
 -- ---- faults
 
-none-of : (o : Option Session) → option_map shown o ≡ None → o ≡ None
+-- no session is seen where there is none
+pub none-of : (o : Option Session) → option_map shown o ≡ None → o ≡ None
 none-of None e = refl
 none-of (Some x) e = absurd (let bad : Some (shown x) ≡ None = e in cc)
 

@@ -2,7 +2,7 @@
 use Rattle.std.proofs.Common.{◌≡◌, ℕ, zero, suc, ◌<◌, ◌+◌, true, false, List, [], ◌∷◌, ◌++◌, length, sym, refl, ap, ◌∙◌, subst, arith, append-nil, Option, None, Some, Result, Ok, Err, OnOk, IfErr}
 use Rattle.std.specs.Prelude.{◌↔◌, IsErrOf, ◌≢◌, Bool, cond, map, option_map, is_some, IsSome, IfSome, IsSomeAnd, slice_index_or}
 use Rattle.std.proofs.lemmas.Bool.{eq-eqb, false≢true}
-use Rattle.std.proofs.lemmas.List.Elements.{All-head, All-tail, All-nil}
+use Rattle.std.proofs.lemmas.List.Elements.{All-head, All-tail}
 use Rattle.std.specs.Option.{MatchOption}
 use Rattle.std.specs.Io.BufRead.{strip_last}
 use Rattle.slab.specs.Slab.{get, entries_from, entries}
@@ -10,6 +10,7 @@ use Rattle.session_lines.specs.Lines.{is_feed, HasNoFeed, IsUnfinished, lines_of
 use Rattle.session_lines.specs.Heard.{Heard, heard, heard_more}
 use Rattle.session_lines.proofs.LineLemmas.{lines-feed, lines-rest, long-feed, long-rest}
 use Rattle.session_lines.proofs.Wholes.{kept-feed, kept-rest}
+use Rattle.line_loop.proofs.Runs.{unfinished-nil}
 use Rattle.rec_codec.specs.declared.record.Entry.{Entry}
 use Rattle.chess_entry.specs.State.{TableState}
 use Rattle.chess_entry.specs.declared.commands.Command.{Command}
@@ -34,6 +35,7 @@ use Rattle.chess_store.specs.Means.{IsKept}
 use Rattle.chess_hub.specs.Turning.{AreRefused, TurnLasts, TurnTried}
 use Rattle.chess_hub.specs.Sessions.{IsLineAnswered}
 use Rattle.chess_run.specs.Running.{Kept, written, stands, Serves, AnswersLine, RefusesLine, IsAlone, waits, IsTalking, asks, IsTold, LineAsksFor}
+use Rattle.chess_run.proofs.RunLemmas.{none-of}
 
 -- ---- a session that is alone
 
@@ -66,9 +68,6 @@ alone-first old new sid t none c = record {
 
 pub alone-name : (s : Sessions) (sid : ℕ) (state : SessionState) → IsAlone s sid state → name_at s sid ≡ state.name
 alone-name s sid state h = ap name_of h.one
-
-unfinished-nil : IsUnfinished []
-unfinished-nil = record { no_feed = All-nil (λ b. is_feed b ≡ false); short = omega arith }
 
 -- it sends a line, and then the line feed
 pub hears-part : (part : List ℕ) → IsUnfinished part → heard_more (heard [] false) part ≡ heard part false
@@ -129,10 +128,6 @@ hears-or-none s sid state result h short known long =
     IsErrOf result LineTooLong ↔ (s.heard.is_long ≡ true)) h.one long) short
 
 -- ---- the lines of a turn
-
-none-of : (o : Option Session) → option_map shown o ≡ None → o ≡ None
-none-of None e = refl
-none-of (Some x) e = absurd (let bad : Some (shown x) ≡ None = e in cc)
 
 some-of : (o : Option Session) (state : SessionState) → option_map shown o ≡ Some state →
     (x : Session) × (o ≡ Some x) × (shown x ≡ state)

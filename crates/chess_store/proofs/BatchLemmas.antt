@@ -1,6 +1,6 @@
 -- What a batch that is answered makes of a table.
 use Rattle.std.proofs.Common.{◌≡◌, ◌∙◌, ◌+◌, ◌≤◌, ◌&&◌, not, nat_lt, ℕ, Bool, true, false, if◌then◌else◌, Option, Some, None, is_none, List, [], ◌∷◌, ◌++◌, length, refl, sym, ap, subst, inl, inr, arith, cond, append_assoc, ◌<◌, suc, take, drop, get_or, map, add-one, length-append}
-use Rattle.std.proofs.lemmas.Bool.{false≢true}
+use Rattle.std.proofs.lemmas.Bool.{false≢true, false_from_ne_true}
 use Rattle.std.proofs.lemmas.List.{append-nil, map-append, length-map}
 use Rattle.std.proofs.lemmas.List.Sums.{sum_by-cons}
 use Rattle.std.proofs.Math.Seq.{drop-cons, take-suc}
@@ -22,10 +22,6 @@ use Rattle.chess_entry.specs.Table.{IsEnteredOn, AreEnteredOn, followed}
 use Rattle.chess_entry.proofs.MeaningMore.{AreEnteredOn-none, AreEnteredOn-cons, AreEnteredOn-append, followed-append}
 use Rattle.chess_answer.specs.declared.reads.Reply.{Reply}
 use Rattle.chess_store.specs.Batch.{IsNothing, Becomes, IsOutcome, IsAnswered, AreRecorded, act_count}
-
-false_of : (b : Bool) → (b ≡ true → ⊥) → b ≡ false
-false_of true no_proof = absurd (no_proof refl)
-false_of false no_proof = refl
 
 -- entries that may come, and the table with them
 pub record Come (before : TableState) (entries : List Entry) (after : TableState) : Type 0 where
@@ -124,7 +120,7 @@ read_enters_none table command e is =
     (refused_or (not (is_read command.act) && is_none command.who) NoName
     (player_verdict table (effective table command.moment) (name_or_none command.who) is.parsed command.act)
     (read_none table (effective table command.moment) (name_or_none command.who) is.parsed command.act read))) in
-    false_of (is_read command.act) no_entry
+    false_from_ne_true (is_read command.act) no_entry
 
 -- The entries of a command are one at most, and none of a read.
 becomes_few : (verdict : Verdict) (before : TableState) (command : Command) (reply : Reply) (entries : List Entry)

@@ -163,10 +163,6 @@ pub not_closed : {A : Type 0} (m : Option A) (P : Type 0) → IsSome m → m ≡
 not_closed None P is_open e = absurd (false≢true is_open)
 not_closed (Some s) P is_open e = absurd (let bad : Some s ≡ None = e in cc)
 
-pub on_true : {P : Type 0} (b : Bool) → (b ≡ true → P) → OnTrue b P
-on_true true p = p refl
-on_true false p = tt
-
 pub both_true : {P Q : Type 0} (b : Bool) → (b ≡ true → P → Q) → OnTrue b P → OnTrue b Q
 both_true true q p = q refl p
 both_true false q p = tt

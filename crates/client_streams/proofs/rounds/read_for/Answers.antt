@@ -1,6 +1,6 @@
 -- What came is held back, and goes to the session.
 use Rattle.std.proofs.Common.{◌∙◌, ℕ, List, None, ap, refl, subst, sym}
-use Rattle.std.proofs.lemmas.Bool.{false≢true}
+use Rattle.std.proofs.lemmas.Bool.{false≢true, OnTrue_from}
 use Rattle.session_lines.specs.Lines.{IsUnfinished}
 use Rattle.std.specs.Prelude.{IsSome, IsSomeAnd}
 use Rattle.std.specs.Io.KnownBytes.{Keeps}
@@ -13,7 +13,7 @@ use Rattle.client_streams.specs.Sending.{waiting}
 use Rattle.client_streams.proofs.TakingLemmas.{some_closed, up_unfinished}
 use Rattle.client_streams.specs.Rounds.{intake, IsRead}
 use Rattle.client_streams.proofs.HeardLemmas.{heard_on, end_on}
-use Rattle.client_streams.proofs.RoundLemmas.{not_closed, passed_over, is_read, read_nothing, sends, unchanged_by, silent_written, silent_reason, reason_of_trouble, on_true, both_true, on_false}
+use Rattle.client_streams.proofs.RoundLemmas.{not_closed, passed_over, is_read, read_nothing, sends, unchanged_by, silent_written, silent_reason, reason_of_trouble, both_true, on_false}
 use Rattle.client_streams.proofs.rounds.read_for.Goals as goal
 
 pub returns-then-not-is_open-clause-read : goal.returns-then-not-is_open-clause-read
@@ -63,7 +63,7 @@ returns-then-is_quiet-clause-read g c =
     c.take_in-any.ensures.ended (ap rest stream) has_ended)
     (subst (λ s. Keeps (rest client.wire.stream) (rest s)) (sym stream) kept) (holds ∙ same)
     (subst (λ (l : List ℕ). IsUnfinished l) (sym holds) none) (still ∙ wait) open_now
-    (on_true done (λ is. sym peer.1 ∙ silent_written silence after between at (c.close_silent.ensures.silent.0 is)))
+    (OnTrue_from done _ (λ is. sym peer.1 ∙ silent_written silence after between at (c.close_silent.ensures.silent.0 is)))
     (λ waits. stream ∙ (c.take_in-any.ensures.unread waits).0)
     (subst (λ s. OnTrue done (Changes s new client.sid None)) stays
     (subst (λ n. OnTrue done (Changes between new n None)) peer.0 c.close_silent.ensures.closed))
