@@ -3,7 +3,7 @@
 
 use command_words::{NotDone, end_of, words_given};
 use lobby_commands::{Word, add_player, command, print_evidence, read_words};
-use lobby_serving::Server;
+use lobby_serving::serve;
 use std::process::ExitCode;
 
 fn main(rt: HostRuntime) -> ExitCode {
@@ -14,7 +14,7 @@ fn main(rt: HostRuntime) -> ExitCode {
 fn do_words(rt: &HostRuntime) -> Result<(), NotDone> {
     let words = words_given(rt, command(rt.alloc())?)?;
     match read_words(rt.alloc(), words.as_slice())? {
-        Word::Serve(serving) => Server::new(rt, &serving).serve(),
+        Word::Serve(serving) => serve(rt, &serving),
         Word::Player(adding) => add_player(rt, &adding),
         Word::Evidence(asked) => print_evidence(rt, &asked),
     }

@@ -11,4 +11,4 @@ mod players;
 mod serving;
 mod table;
 
-pub use serving::Server;
+pub use serving::serve;

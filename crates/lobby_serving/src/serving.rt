@@ -147,31 +147,17 @@ fn entrance_on<R: Net>(rt: &R, address: SocketAddr) -> Result<Entrance> {
     Entrance::open(rt, address).context(format_args!("listening on {address}"))
 }
 
-/// The lobby's server, as the command line asks for it.
+// The lobby's server, as the command line asks for it.
 #[derive(Drop)]
-pub struct Server<'a, R> {
+struct Server<'a, R> {
     rt: &'a R,
     serving: &'a Serving<'a>,
 }
 
-// (What is large goes by a call of `drop`: each way out would let go of all its parts.)
-impl<'a, R> Server<'a, R>
+impl<R> Server<'_, R>
 where
-    R: Files<File = File>
-        + AllocGlobal
-        + Clone
-        + Drop
-        + Clock
-        + Print
-        + Eprint
-        + Net
-        + RandomSource,
+    R: Files + AllocGlobal + Clone + Drop + Net + RandomSource,
 {
-    /// It has not begun.
-    pub fn new(rt: &'a R, serving: &'a Serving<'a>) -> Self {
-        Server { rt, serving }
-    }
-
     // The lobby of those who come in there.
     fn lobby(
         &self,
@@ -194,7 +180,21 @@ where
             is_paused,
         )?)
     }
+}
 
+// (What is large goes by a call of `drop`: each way out would let go of all its parts.)
+impl<R> Server<'_, R>
+where
+    R: Files<File = File>
+        + AllocGlobal
+        + Clone
+        + Drop
+        + Clock
+        + Print
+        + Eprint
+        + Net
+        + RandomSource,
+{
     // Prints the page's address, and takes turns until something is at fault.
     fn serve_lobby<L: ActLog>(
         &self,
@@ -227,17 +227,28 @@ where
         drop(lobby);
         served
     }
+}
 
-    /// Serves browsers, and first prints the page's address. It ends where something is at fault: at the start the players' file,
-    /// the page, the log or the address, then a turn.
-    pub fn serve(&self) -> Result<()> {
-        let (rt, serving) = (self.rt, self.serving);
-        let mut players = Players::new(rt, serving.players);
-        let known = players.read()?;
-        let Some(file) = serving.log else {
-            return self.serve_with(&mut players, known, &mut NoActLog);
-        };
-        let mut log = FileLog::open(rt, file).context(format_args!("opening {file}"))?;
-        self.serve_with(&mut players, known, &mut log)
-    }
+/// Serves browsers, and first prints the page's address. It ends where something is at fault: at the start the players' file, the
+/// page, the log or the address, then a turn.
+pub fn serve<R>(rt: &R, serving: &Serving<'_>) -> Result<()>
+where
+    R: Files<File = File>
+        + AllocGlobal
+        + Clone
+        + Drop
+        + Clock
+        + Print
+        + Eprint
+        + Net
+        + RandomSource,
+{
+    let server = Server { rt, serving };
+    let mut players = Players::new(rt, serving.players);
+    let known = players.read()?;
+    let Some(file) = serving.log else {
+        return server.serve_with(&mut players, known, &mut NoActLog);
+    };
+    let mut log = FileLog::open(rt, file).context(format_args!("opening {file}"))?;
+    server.serve_with(&mut players, known, &mut log)
 }
