@@ -1,18 +1,15 @@
 -- Tokens that fit into lines.
 use Rattle.std.proofs.Common.{◌≡◌, ◌≢◌, ℕ, Bool, true, false, ◌==◌, get_or, ◌<◌, List, [], ◌∷◌, length, refl, sym, ◌∙◌, arith}
 use Rattle.std.proofs.lemmas.Bool.{false≢true}
-use Rattle.std.proofs.lemmas.Bool.Decides.{nat_tests}
 use Rattle.std.proofs.lemmas.List.Sums.{AllPass-from_list_all}
 use Rattle.chess_text.specs.Movetext.{IsToken, is_token, are_tokens}
+use Rattle.chess_text.proofs.Lines.{IsToken-from_test}
 use Rattle.archive_text.specs.Archived.{is_laid}
-
-from_test : (token : List ℕ) → is_token token ≡ true → IsToken token
-from_test token e = record { filled = grind (arith, nat_tests); short = grind (arith, nat_tests) }
 
 pub token_at : (tokens : List (List ℕ)) (i : ℕ) (d : List ℕ) → is_laid tokens ≡ true → i < length tokens → IsToken (get_or tokens i d)
 token_at [] i d e within = absurd (omega arith)
 token_at (token ∷ tokens) i d e within =
-    from_test (get_or (token ∷ tokens) i d) (AllPass-from_list_all is_token (token ∷ tokens) e i d within)
+    IsToken-from_test (get_or (token ∷ tokens) i d) (AllPass-from_list_all is_token (token ∷ tokens) e i d within)
 
 pub laid_some : (tokens : List (List ℕ)) → is_laid tokens ≡ true → tokens ≢ []
 laid_some [] e = absurd (false≢true e)

@@ -1,19 +1,15 @@
 -- Each line has one answer.
-use Rattle.std.proofs.Common.{◌≡◌, ℕ, ◌<◌, ◌≤◌, Bool, ◌⊎◌, List, ◌++◌, sym, refl, ap, ◌∙◌, inl, inr, subst, arith, codes}
+use Rattle.std.proofs.Common.{◌≡◌, ℕ, ◌<◌, ◌≤◌, Bool, ◌⊎◌, List, sym, refl, ap, ◌∙◌, inl, inr, subst, arith, codes}
 use Rattle.std.specs.Prelude.{◌==◌, ◌||◌}
 use Rattle.std.specs.Bool.{Decides}
 use Rattle.std.proofs.lemmas.Bool.{false≢true, cases_Bool}
 use Rattle.std.proofs.lemmas.Bool.Decides.{Decides-eqb, Decides-or}
-use Rattle.chess_bits.specs.Square.{squares}
-use Rattle.chess_bits.specs.Table.{at}
 use Rattle.chess_board.specs.declared.moves.Move.{Move}
 use Rattle.chess_board.specs.Position.{Position, IsValid}
-use Rattle.chess_board.specs.Initial.{initial}
 use Rattle.chess_board.specs.Next.{next}
 use Rattle.chess_board.specs.Legal.{IsLegal}
 use Rattle.chess_notation.specs.Coordinate.{IsCoordinateOf}
 use Rattle.chess_san.proofs.OneMove.{coordinate_one}
-use Rattle.chess_board.proofs.Deciding.{Decides-is_valid}
 use Rattle.chess_board.proofs.ValidNext.{IsValid-next}
 use Rattle.chess_notation.specs.Fen.{IsFenOf, fen_of}
 use Rattle.chess_fen.proofs.Positions.{IsFenOf-fen_of, fen_of-IsFenOf}
@@ -29,10 +25,6 @@ pub record HasAnswer (before : Position) (line : List ℕ) : Type 0 where
   pub answer : List ℕ
   pub after : Position
   pub is : IsAnswer before line answer after
-
-pub initial-valid : IsValid initial
-unfolding at squares
-initial-valid = (Decides-is_valid initial).0 refl
 
 -- a position at the limit, or not
 at_limit : Position → Bool

@@ -9,7 +9,8 @@ use Rattle.line_loop.specs.declared.answerer.LoopFault.{LoopFault}
 use Rattle.line_loop.proofs.EndLemmas.{whole-of, whole-long}
 use Rattle.board_session.specs.Answer.{IsAnswer}
 use Rattle.board_session.specs.Run.{IsBoardText, AppendsText, AppendsFront, AnswersTaken, AnswersInPart}
-use Rattle.board_session.proofs.AnswerLemmas.{answers, valid_after, one_answer, initial-valid}
+use Rattle.board_session.proofs.AnswerLemmas.{answers, valid_after, one_answer}
+use Rattle.chess_board.proofs.Deciding.{IsValid-initial}
 use Rattle.board_session.proofs.Cuts.{BringsLines, brings}
 
 abbrev IsRun : Position → List (List ℕ) → List ℕ → Position → Type 0
@@ -78,7 +79,7 @@ record Begins (input front : List ℕ) : Type 0 where
 begins-done : (input : List ℕ) (done left : List (List ℕ)) (said : List ℕ) (mid : Position) →
     lines_of input ≡ done ++ left → IsRun initial done said mid → Begins input said
 begins-done input done left said mid lines run =
-    let rest = runs mid left (run-valid initial done said mid initial-valid run) in
+    let rest = runs mid left (run-valid initial done said mid IsValid-initial run) in
     record {
       rest = rest.text ++ loop.farewell (has_long_line input);
       is = record {

@@ -1,5 +1,5 @@
 -- Sets of squares that are listed one by one, and the words that stand for them.
-use Rattle.std.proofs.Common.{ℕ, zero, suc, ◌≡◌, ◌+◌, ◌*◌, ◌/◌, ◌%◌, ◌^◌, ◌<◌, Bool, true, false, cond, eqb, ◌||◌, List, [], ◌∷◌, length, map, replicate, refl, ap, sym, ◌∙◌, inl, inr, arith}
+use Rattle.std.proofs.Common.{ℕ, ◌≡◌, ◌+◌, ◌*◌, ◌/◌, ◌%◌, Bool, true, false, cond, eqb, ◌||◌, List, [], ◌∷◌, length, replicate, refl, ap, sym, ◌∙◌, inl, inr, arith}
 use Rattle.std.specs.Prelude.{◌↔◌}
 use Rattle.std.specs.List.{filter, list_any}
 use Rattle.std.proofs.lemmas.Bool.{cases_Bool, false≢true}
@@ -8,7 +8,7 @@ use Rattle.std.proofs.lemmas.List.{length-replicate, get_or-replicate}
 use Rattle.chess_bits.specs.Square.{Square, IsOnBoard, on_board, is_square, number_of}
 use Rattle.chess_bits.specs.Table.{has, put, empty, IsSetOf}
 use Rattle.chess_bits.specs.Word.{bools_of, word_of}
-use Rattle.chess_bits.proofs.TableLemmas.{at-put, at-on_board, IsOnBoard-from_test, on_board-true, is_square-true, is_square-other, length-put, number_of-below}
+use Rattle.chess_bits.proofs.TableLemmas.{at-put, at-on_board, IsOnBoard-from_test, on_board-true, is_square-other, length-put, number_of-below}
 use Rattle.chess_bits.proofs.MemberLemmas.{filter-here, filter-not_here}
 
 -- the set of the squares of a list

@@ -1,6 +1,6 @@
 -- The slides in several ways together.
-use Rattle.std.proofs.Common.{◌≡◌, ◌∙◌, ap, sym, subst, List, [], ◌∷◌, ◌++◌, Bool, inl, inr}
-use Rattle.std.specs.Prelude.{◌⊎◌, ◌↔◌}
+use Rattle.std.proofs.Common.{List, [], ◌∷◌, ◌++◌, Bool, inl, inr}
+use Rattle.std.specs.Prelude.{◌⊎◌}
 use Rattle.chess_bits.specs.declared.steps.Step.{Step}
 use Rattle.chess_bits.specs.Square.{Square}
 use Rattle.chess_bits.specs.Table.{union, IsSetOf}

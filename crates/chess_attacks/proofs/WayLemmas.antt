@@ -1,6 +1,5 @@
 -- How squares follow one another in the eight ways.
-use Rattle.std.proofs.Common.{ℕ, zero, suc, ◌≡◌, ◌+◌, ◌*◌, ◌<◌, ◌≤◌, ap, arith, ◌∙◌, inl, inr}
-use Rattle.std.specs.Prelude.{◌⊎◌}
+use Rattle.std.proofs.Common.{ℕ, zero, suc, ◌≡◌, ◌+◌, ◌<◌, arith}
 use Rattle.chess_bits.specs.declared.steps.Step.{Step}
 use Rattle.chess_bits.specs.Square.{Square, IsOnBoard, number_of}
 use Rattle.chess_bits.specs.Attack.{along, north, east, south, west, north_east, south_east, south_west, north_west}

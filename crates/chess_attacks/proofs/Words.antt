@@ -1,15 +1,14 @@
 -- The words of the tables are those of the squares that the rules name.
-use Rattle.std.proofs.Common.{ℕ, ◌≡◌, ◌+◌, ◌<◌, ◌≤◌, Bool, true, false, List, [], ◌∷◌, length, map, refl, get_or, sym, ap, subst, ◌∙◌, inl, inr, arith}
+use Rattle.std.proofs.Common.{ℕ, ◌≡◌, ◌+◌, ◌<◌, ◌≤◌, true, List, [], map, refl, get_or, sym, ap, subst, ◌∙◌, inl, inr, arith}
 use Rattle.std.specs.Prelude.{◌↔◌}
 use Rattle.std.specs.List.{range_with_len, list_any}
 use Rattle.std.proofs.lemmas.Bool.{cases_lt}
 use Rattle.std.proofs.lemmas.List.{get_or-map}
 use Rattle.std.proofs.lemmas.List.FromFn.{get_or-map-range_with_len}
-use Rattle.chess_bits.specs.declared.men.Colour.{Colour}
 use Rattle.chess_bits.specs.declared.men.Colour.TheVariants.{White, Black}
 use Rattle.chess_bits.specs.declared.steps.Step.{Step}
 use Rattle.chess_bits.specs.Square.{Square, IsOnBoard, is_square, square_at}
-use Rattle.chess_bits.specs.Table.{at, put, empty, IsSetOf}
+use Rattle.chess_bits.specs.Table.{put, empty, IsSetOf}
 use Rattle.chess_bits.specs.Word.{bools_of}
 use Rattle.chess_bits.specs.Attack.{along, north, adjoining, knight_steps, pawn_attacks, Reaches, SlidesAlong}
 use Rattle.chess_bits.proofs.TableLemmas.{Decides-is_square, IsOnBoard-square_at}

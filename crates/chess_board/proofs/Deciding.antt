@@ -8,7 +8,8 @@ use Rattle.chess_bits.specs.declared.men.Colour.{Colour}
 use Rattle.chess_bits.specs.declared.men.Colour.TheVariants.{White, Black}
 use Rattle.chess_bits.specs.declared.men.Kind.{Kind}
 use Rattle.chess_bits.specs.declared.men.Kind.TheVariants.{Pawn, Knight, Bishop, Rook, Queen, King}
-use Rattle.chess_bits.specs.Square.{Square, IsOnBoard, on_board}
+use Rattle.chess_bits.specs.Square.{Square, IsOnBoard, on_board, squares}
+use Rattle.chess_bits.specs.Table.{at}
 use Rattle.chess_bits.specs.Man.{Man, other, is_colour, is_kind, is_man, is_of, holds}
 use Rattle.chess_bits.specs.Attack.{along, forward, pawn_attacks, Attacks, attacks}
 use Rattle.chess_bits.proofs.ManLemmas.{Decides-is_colour, Decides-is_kind, same_man, Decides-holds_is_man}
@@ -18,6 +19,7 @@ use Rattle.chess_board.specs.declared.castling.Wing.{Wing}
 use Rattle.chess_board.specs.declared.castling.Wing.TheVariants as wing
 use Rattle.chess_board.specs.declared.moves.Move.{Move}
 use Rattle.chess_board.specs.Position.{Position, has_right, man_at, occupied_of, IsAttacker, IsAttacked, IsInCheck, is_attacker, is_attacked, is_in_check, king_home, rook_home, count_of, target_rank, IsTarget, HasKings, HasFewMen, HasPawnsInside, HasNoCheck, HasTrueRights, HasTrueTarget, HasCounters, IsValid}
+use Rattle.chess_board.specs.Initial.{initial}
 use Rattle.chess_board.specs.Next.{next, is_target, castled_king, castled_rook}
 use Rattle.chess_board.specs.Legal.{last_rank, pawn_rank, IsPromotionKind, IsPromotion, HoldsColour, Advances, AdvancesTwo, PawnTakes, TakesEnPassant, IsPawnMove, IsPieceMove, between, EachOf, Castles, IsMoveOf, IsCandidate, IsLegal}
 use Rattle.chess_board.specs.Computing.{holds_colour, is_empty, is_promotion_kind, is_promotion, advances, advances_two, pawn_takes, takes_en_passant, is_pawn_move, is_piece_move, is_unattacked, castles, is_move_of, is_candidate, is_legal, of_both, is_whole, has_kings, has_few_men, is_inside, has_pawns_inside, has_no_check, has_true_right, has_true_rights, is_true_target, has_true_target, has_counters, is_valid}
@@ -413,3 +415,7 @@ Decides-is_valid p =
     (and_decides (Decides-is_whole p) (and_decides (Decides-has_kings p) (and_decides (Decides-has_few_men p)
     (and_decides (Decides-has_pawns_inside p) (and_decides (Decides-has_no_check p)
     (and_decides (Decides-has_true_rights p) (and_decides (Decides-has_true_target p) (Decides-has_counters p))))))))
+
+pub IsValid-initial : IsValid initial
+unfolding at squares
+IsValid-initial = (Decides-is_valid initial).0 refl

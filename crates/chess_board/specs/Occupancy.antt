@@ -1,4 +1,4 @@
-use Rattle.std.specs.Prelude.{◌≡◌, Bool, false, if◌then◌else◌, List, map, Option, Some, None}
+use Rattle.std.specs.Prelude.{◌≡◌, ◌↔◌, Bool, false, if◌then◌else◌, List, map, Option, Some, None}
 use Rattle.chess_bits.specs.declared.men.Kind.{Kind}
 use Rattle.chess_bits.specs.Square.{Square}
 use Rattle.chess_bits.specs.Man.{Man, is_kind, holds}
@@ -13,9 +13,9 @@ squares_with is placement = map (holds is) placement
 abbrev pub is_a : Kind → Man → Bool
 is_a kind man = is_kind kind man.1
 
--- Where the set has no square, the same stands on it in both placements.
-abbrev pub HasChanges : Placement → Placement → List Bool → Type 0
-HasChanges old new set = (s : Square) → has set s ≡ false → man_at old s ≡ man_at new s
+-- The set has the squares on which the two placements differ: it lacks a square just where the same stands on it.
+abbrev pub AreChanges : Placement → Placement → List Bool → Type 0
+AreChanges old new set = (s : Square) → has set s ≡ false ↔ man_at old s ≡ man_at new s
 
 -- the man, or none
 abbrev pub there_if : Bool → Man → Option Man

@@ -3,7 +3,7 @@ ghost use Rattle.chess_bits.specs.declared.men.Kind.TheVariants.{King};
 ghost use Rattle.chess_bits.specs.Table.{put, union, without};
 ghost use Rattle.chess_bits.specs.Man.{holds, is_man as same_man, is_of as man_is_of};
 ghost use Rattle.chess_board.specs.Position.{man_at, occupied_of, count_of};
-ghost use Rattle.chess_board.specs.Occupancy.{squares_with, is_a as man_is_a, there_if, HasChanges};
+ghost use Rattle.chess_board.specs.Occupancy.{squares_with, is_a as man_is_a, there_if, AreChanges};
 
 use chess_bits::{Bits, Colour, Kind, Square};
 use std::marker::Model;
@@ -172,9 +172,9 @@ impl Men {
         self.white.union(self.black)
     }
 
-    /// Squares outside of which the same stands on another board.
+    /// The squares on which not the same stands on another board.
     pub fn changes(&self, other: &Men) -> Bits
-        ensures { HasChanges self.now other.now result }
+        ensures { AreChanges self.now other.now result }
     {
         let white = difference(self.white, other.white);
         let black = difference(self.black, other.black);

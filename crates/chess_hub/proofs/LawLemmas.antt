@@ -13,6 +13,7 @@ use Rattle.chess_entry.specs.State.{TableState}
 use Rattle.chess_sessions.specs.declared.sessions.Session.{Session}
 use Rattle.chess_sessions.specs.declared.sessions.Sessions.{Sessions}
 use Rattle.chess_sessions.specs.declared.taking.Taken.{Taken}
+use Rattle.chess_sessions.proofs.RoomLemmas.{shown-some}
 use Rattle.chess_sessions.specs.Session.{Said, SessionState, shown, session_at, fresh, Changes, due, farewell, first_due, given_one, is_none_waiting}
 use Rattle.chess_sessions.specs.Turn.{Waiting, SessionLine, turn_lines, waiting, waiting_of, AreTakenAs}
 use Rattle.chess_sessions.specs.Answers.{name_of, name_at}
@@ -182,10 +183,6 @@ opens-same : (v : View) (merged : List Merged) (answers : List Said) (o : Option
     IsOne v merged answers o → v.is_open ≡ is_some o
 opens-same v merged answers None is = is
 opens-same v merged answers (Some s) is = is.opens
-
-shown-some : (o : Option Session) → is_some (option_map shown o) ≡ is_some o
-shown-some None = refl
-shown-some (Some s) = refl
 
 -- a number is of an open session exactly where its slot has one
 slot-open : (table : TableState) (calls : List Call) (s : HubState) (merged : List Merged) (answers : List Said) →

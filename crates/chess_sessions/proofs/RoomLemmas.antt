@@ -52,7 +52,7 @@ same-after old mid new sid same one others k =
       | inr ne ↦ ap (option_map shown) (others k ne) ∙ same k
     ]
 
-shown-some : (o : Option Session) → is_some (option_map shown o) ≡ is_some o
+pub shown-some : (o : Option Session) → is_some (option_map shown o) ≡ is_some o
 shown-some None = refl
 shown-some (Some s) = refl
 

@@ -4,7 +4,7 @@ use Rattle.std.specs.Prelude.{ℕ, ◌≡◌, ◌≤◌, ◌&&◌, not, nat_lt, 
 use Rattle.std.specs.Cmp.Lexicographic.{pointwise, bytes_decides}
 use Rattle.std.specs.Option.{ForSome}
 use Rattle.std.proofs.Common.{ap, sym, subst, ◌∙◌, refl, inl, inr, arith}
-use Rattle.std.proofs.lemmas.Bool.{cases_Bool, not-false}
+use Rattle.std.proofs.lemmas.Bool.{cases_Bool, not-false, and_parts}
 use Rattle.std.proofs.lemmas.Bool.Decides.{nat_tests}
 use Rattle.arrayvec.specs.ArrayString.{ArrayString}
 use Rattle.chess_bits.specs.declared.men.Colour.{Colour}
@@ -75,10 +75,6 @@ module _ (game : GameState) (white_named : IfSome game.white.name IsName) (black
       (not_white game.white.name name (subst (λ (o : Option (List ℕ)). AreDifferent game.white.name o) is apart))
       ∙ ap (λ (b : Bool). if b then Some Black else None) (ap (is_named name) is ∙ (bytes_decides name name).1 refl)
 
-  both : (a b : Bool) → (a && b) ≡ true → (a ≡ true) × (b ≡ true)
-  both true b h = (refl, h)
-  both false b h = absurd (cc)
-
   some-of : (o : Option (List ℕ)) → is_some o ≡ true → (name : List ℕ) × (o ≡ Some name)
   some-of None so = absurd (cc)
   some-of (Some name) so = (name, refl)
@@ -86,14 +82,14 @@ module _ (game : GameState) (white_named : IfSome game.white.name IsName) (black
   -- each side of a joined game has a player
   player : is_joined game ≡ true → (side : Colour) → Player game side
   player joined White =
-      let is = some-of game.white.name (both (is_some game.white.name) (is_some game.black.name) joined).0 in
+      let is = some-of game.white.name (and_parts (is_some game.white.name) (is_some game.black.name) joined).0 in
       record {
         name = is.0;
         named = subst (λ (o : Option (List ℕ)). IfSome o IsName) is.1 white_named;
         sits = white-player is.0 is.1;
       }
   player joined Black =
-      let is = some-of game.black.name (both (is_some game.white.name) (is_some game.black.name) joined).1 in
+      let is = some-of game.black.name (and_parts (is_some game.white.name) (is_some game.black.name) joined).1 in
       record {
         name = is.0;
         named = subst (λ (o : Option (List ℕ)). IfSome o IsName) is.1 black_named;

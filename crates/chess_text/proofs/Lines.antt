@@ -284,7 +284,7 @@ pushed_filled [] token = λ e. cc
 pushed_filled (first ∷ tokens) token = λ e. cc
 
 -- tokens that pass the test
-IsToken-from_test : (token : List ℕ) → is_token token ≡ true → IsToken token
+pub IsToken-from_test : (token : List ℕ) → is_token token ≡ true → IsToken token
 IsToken-from_test token e = record { filled = grind (arith, nat_tests); short = grind (arith, nat_tests) }
 
 pub tokens_from_test : (tokens : List (Bor (List ℕ))) → are_tokens (map (λ token. token.now) tokens) ≡ true →

@@ -1,6 +1,6 @@
 -- The figures of an image are those of the content that it stands for.
-use Rattle.std.proofs.Common.{◌≡◌, ◌⊎◌, ◌<◌, ◌≤◌, ◌+◌, ◌-◌, ◌*◌, ◌/◌, ◌%◌, ◌∙◌, ◌++◌, ◌∷◌, [], ℕ, zero, suc, List, length, length-append, take, drop, refl, sym, ap, subst, arith, inl, inr}
-use Rattle.std.specs.Prelude.{Option, Some, None, slice_get}
+use Rattle.std.proofs.Common.{◌≡◌, ◌⊎◌, ◌≤◌, ◌+◌, ◌-◌, ◌*◌, ◌/◌, ◌%◌, ◌∙◌, ◌++◌, ◌∷◌, [], ℕ, zero, suc, List, length, length-append, take, drop, refl, sym, ap, subst, arith, inl, inr}
+use Rattle.std.specs.Prelude.{Option, Some, slice_get}
 use Rattle.std.proofs.lemmas.Option.{same_Some}
 use Rattle.sector_dev.specs.Image.{Sectors}
 use Rattle.rec_codec.specs.declared.record.Record.{Record}
@@ -12,7 +12,7 @@ use Rattle.rec_codec.specs.Sector.{sector_bytes}
 use Rattle.rec_bytes.proofs.OneRecord.{one_record, one_sector}
 use Rattle.journal_layout.specs.declared.part.Part.{Part}
 use Rattle.journal_layout.specs.declared.part.Part.TheVariants.{Snapshot, Journal}
-use Rattle.journal_layout.specs.Parts.{bytes_at, IsSectorOf, IsSlotOf, SectorsHold, SlotsHold}
+use Rattle.journal_layout.specs.Parts.{IsSectorOf, IsSlotOf, SectorsHold, SlotsHold}
 use Rattle.journal_layout.specs.Stands.{Content, Shows, HasRecords, half_start, journal_start}
 use Rattle.journal_layout.proofs.ForceLemmas.{one_in_force}
 use Rattle.lobby_figures.specs.declared.reading.Figures.{Figures}

@@ -1,5 +1,5 @@
 -- What stands still while figures are read, and what was so where there are none.
-use Rattle.std.proofs.Common.{◌≡◌, ◌≢◌, ◌⊎◌, ◌<◌, ◌≤◌, ◌+◌, ◌∙◌, ℕ, List, refl, sym, ap, subst, arith, inl, inr}
+use Rattle.std.proofs.Common.{◌≡◌, ◌<◌, ◌≤◌, ◌∙◌, ℕ, List, refl, sym, subst, arith, inl, inr}
 use Rattle.std.specs.Prelude.{Some, Result, Ok, Err, IfOk, IfErr, IsErrAnd}
 use Rattle.sector_dev.specs.Image.{Sectors}
 use Rattle.rec_codec.specs.declared.header.Header.{Header}
@@ -15,7 +15,7 @@ use Rattle.lobby_figures.specs.declared.fault.FiguresFault.{FiguresFault}
 use Rattle.lobby_figures.specs.declared.fault.FiguresFault.TheVariants as fault
 use Rattle.lobby_figures.specs.declared.reading.Figures.{Figures}
 use Rattle.lobby_figures.specs.Figures.{HasNoMoment, AreFiguresOf}
-use Rattle.lobby_figures.specs.Faults.{HasGoneOn, IsCause, of_copy}
+use Rattle.lobby_figures.specs.Faults.{IsCause, of_copy}
 
 -- a sector that the header names has at the header's moment what was read between it and one that follows
 pub stood : (image : ℕ → Sectors) (from mid high to : ℕ) (h next : Header) (at : ℕ) (bytes : List ℕ) → IsWritten image

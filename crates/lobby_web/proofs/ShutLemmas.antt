@@ -1,5 +1,5 @@
 -- A socket on which nothing more may be said stays so.
-use Rattle.std.proofs.Common.{ℕ, ◌≡◌, inl, inr, List, [], ◌∷◌, drop, Option, None, Some, Ok, Err, Bool, true, false, not, ◌&&◌, sym, ap, ◌∙◌}
+use Rattle.std.proofs.Common.{ℕ, ◌≡◌, inl, inr, List, [], ◌∷◌, drop, Option, None, Some, Ok, Err, true, false, not, ◌&&◌, sym, ap, ◌∙◌}
 use Rattle.std.proofs.lemmas.Bool.{cases_Bool, both_ways}
 use Rattle.websocket.specs.Content.{Content}
 use Rattle.websocket.specs.Connection.{Connection, can_write}

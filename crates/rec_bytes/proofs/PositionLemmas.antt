@@ -15,65 +15,65 @@ use Rattle.chess_board.specs.Position.{Rights}
 use Rattle.chess_bits.specs.declared.men.Colour.{Colour}
 use Rattle.rec_codec.specs.Field.{AllStand}
 use Rattle.rec_codec.specs.Flags.{is_black, colour_of}
-use Rattle.rec_codec.specs.Position.{square_number, pair_byte, man_numbered, position_fields, position_bytes}
+use Rattle.rec_codec.specs.Position.{content_number, pair_byte, man_numbered, position_fields, position_bytes}
 use Rattle.rec_bytes.proofs.FieldLemmas.{laid-stand, length-laid}
 
-pub man_numbered-square_number : (man : Option Man) → man_numbered (square_number man) ≡ man
-man_numbered-square_number None = refl
-man_numbered-square_number (Some (White, Pawn)) = refl
-man_numbered-square_number (Some (White, Knight)) = refl
-man_numbered-square_number (Some (White, Bishop)) = refl
-man_numbered-square_number (Some (White, Rook)) = refl
-man_numbered-square_number (Some (White, Queen)) = refl
-man_numbered-square_number (Some (White, King)) = refl
-man_numbered-square_number (Some (Black, Pawn)) = refl
-man_numbered-square_number (Some (Black, Knight)) = refl
-man_numbered-square_number (Some (Black, Bishop)) = refl
-man_numbered-square_number (Some (Black, Rook)) = refl
-man_numbered-square_number (Some (Black, Queen)) = refl
-man_numbered-square_number (Some (Black, King)) = refl
+pub man_numbered-content_number : (man : Option Man) → man_numbered (content_number man) ≡ man
+man_numbered-content_number None = refl
+man_numbered-content_number (Some (White, Pawn)) = refl
+man_numbered-content_number (Some (White, Knight)) = refl
+man_numbered-content_number (Some (White, Bishop)) = refl
+man_numbered-content_number (Some (White, Rook)) = refl
+man_numbered-content_number (Some (White, Queen)) = refl
+man_numbered-content_number (Some (White, King)) = refl
+man_numbered-content_number (Some (Black, Pawn)) = refl
+man_numbered-content_number (Some (Black, Knight)) = refl
+man_numbered-content_number (Some (Black, Bishop)) = refl
+man_numbered-content_number (Some (Black, Rook)) = refl
+man_numbered-content_number (Some (Black, Queen)) = refl
+man_numbered-content_number (Some (Black, King)) = refl
 
-square_number-below : (man : Option Man) → square_number man < 16
-square_number-below None = omega arith
-square_number-below (Some (White, Pawn)) = omega arith
-square_number-below (Some (White, Knight)) = omega arith
-square_number-below (Some (White, Bishop)) = omega arith
-square_number-below (Some (White, Rook)) = omega arith
-square_number-below (Some (White, Queen)) = omega arith
-square_number-below (Some (White, King)) = omega arith
-square_number-below (Some (Black, Pawn)) = omega arith
-square_number-below (Some (Black, Knight)) = omega arith
-square_number-below (Some (Black, Bishop)) = omega arith
-square_number-below (Some (Black, Rook)) = omega arith
-square_number-below (Some (Black, Queen)) = omega arith
-square_number-below (Some (Black, King)) = omega arith
+content_number-below : (man : Option Man) → content_number man < 16
+content_number-below None = omega arith
+content_number-below (Some (White, Pawn)) = omega arith
+content_number-below (Some (White, Knight)) = omega arith
+content_number-below (Some (White, Bishop)) = omega arith
+content_number-below (Some (White, Rook)) = omega arith
+content_number-below (Some (White, Queen)) = omega arith
+content_number-below (Some (White, King)) = omega arith
+content_number-below (Some (Black, Pawn)) = omega arith
+content_number-below (Some (Black, Knight)) = omega arith
+content_number-below (Some (Black, Bishop)) = omega arith
+content_number-below (Some (Black, Rook)) = omega arith
+content_number-below (Some (Black, Queen)) = omega arith
+content_number-below (Some (Black, King)) = omega arith
 
 -- the two men of a byte
 pair : (p : List (Option Man)) (bytes : List ℕ) (k : ℕ) → k < 32 → bytes ≡ map (pair_byte p) (range_with_len 0 32) →
-    get_or bytes k 0 ≡ square_number (get_or p (2 * k) None) + 16 * square_number (get_or p (2 * k + 1) None)
+    get_or bytes k 0 ≡ content_number (get_or p (2 * k) None) + 16 * content_number (get_or p (2 * k + 1) None)
 pair p bytes k low e =
     ap (λ xs. get_or xs k 0) e
     ∙ (get_or-map-range_with_len (pair_byte p) 0 32 k k 0 low (omega arith)
-    ∙ (ap (λ m. square_number m + 16 * square_number (man_at p (square_at (2 * k + 1))))
+    ∙ (ap (λ m. content_number m + 16 * content_number (man_at p (square_at (2 * k + 1))))
     (at-square_at None p (2 * k) (omega arith))
-    ∙ ap (λ m. square_number (get_or p (2 * k) None) + 16 * square_number m)
+    ∙ ap (λ m. content_number (get_or p (2 * k) None) + 16 * content_number m)
     (at-square_at None p (2 * k + 1) (omega arith))))
 
 pub low_man : (p : List (Option Man)) (bytes : List ℕ) (k : ℕ) → k < 32 →
     bytes ≡ map (pair_byte p) (range_with_len 0 32) →
     man_numbered (get_or bytes k 0 % 16) ≡ get_or p (2 * k) None
 low_man p bytes k low e =
-    let a = square_number-below (get_or p (2 * k) None) in
-    let n : get_or bytes k 0 % 16 ≡ square_number (get_or p (2 * k) None) = omega (arith, pair p bytes k low e) in
-    ap man_numbered n ∙ man_numbered-square_number (get_or p (2 * k) None)
+    let a = content_number-below (get_or p (2 * k) None) in
+    let n : get_or bytes k 0 % 16 ≡ content_number (get_or p (2 * k) None) = omega (arith, pair p bytes k low e) in
+    ap man_numbered n ∙ man_numbered-content_number (get_or p (2 * k) None)
 
 pub high_man : (p : List (Option Man)) (bytes : List ℕ) (k : ℕ) → k < 32 →
     bytes ≡ map (pair_byte p) (range_with_len 0 32) →
     man_numbered (get_or bytes k 0 / 16) ≡ get_or p (2 * k + 1) None
 high_man p bytes k low e =
-    let a = square_number-below (get_or p (2 * k) None) in
-    let n : get_or bytes k 0 / 16 ≡ square_number (get_or p (2 * k + 1) None) = omega (arith, pair p bytes k low e) in
-    ap man_numbered n ∙ man_numbered-square_number (get_or p (2 * k + 1) None)
+    let a = content_number-below (get_or p (2 * k) None) in
+    let n : get_or bytes k 0 / 16 ≡ content_number (get_or p (2 * k + 1) None) = omega (arith, pair p bytes k low e) in
+    ap man_numbered n ∙ man_numbered-content_number (get_or p (2 * k + 1) None)
 
 -- two more men in their places
 pub next_pair : (p men : List (Option Man)) (k : ℕ) (a b : Option Man) → k < 32 → length men ≡ 64 →

@@ -6,7 +6,7 @@ ghost use Rattle.chess_bits.specs.Square.{Square, IsOnBoard};
 ghost use Rattle.chess_bits.specs.Man.{Man};
 ghost use Rattle.chess_board.specs.Position.{Position, IsValid};
 ghost use Rattle.chess_board.specs.RightsOf.{rights_of};
-ghost use Rattle.rec_codec.specs.Position.{square_number, pair_byte, target_number, position_flags, position_bytes, kind_number, kind_numbered, with_colour, man_numbered};
+ghost use Rattle.rec_codec.specs.Position.{content_number, pair_byte, target_number, position_flags, position_bytes, kind_number, kind_numbered, with_colour, man_numbered};
 
 use crate::fields::{colour_of, is_black, is_set, put, put_u8, put_u16, u8_at, u16_at};
 use chess_bits::{Colour, Kind, Square};
@@ -28,8 +28,8 @@ fn kind_number(kind: Kind) -> u8
 }
 
 // The number of what stands on a square.
-fn square_number(man: Option<(Colour, Kind)>) -> u8
-    ensures number { result ≡ square_number man }
+fn content_number(man: Option<(Colour, Kind)>) -> u8
+    ensures number { result ≡ content_number man }
     ensures few { result ≤ 14 }
 {
     match man {
@@ -82,8 +82,8 @@ fn men_bytes(board: &Board) -> [u8; 32]
 {
     let mut bytes = [0; 32];
     for k in 0..32 {
-        let low = square_number(board.piece_at(Square::new(2 * k as u8)));
-        let high = square_number(board.piece_at(Square::new(2 * k as u8 + 1)));
+        let low = content_number(board.piece_at(Square::new(2 * k as u8)));
+        let high = content_number(board.piece_at(Square::new(2 * k as u8 + 1)));
         bytes[k] = low + 16 * high;
     }
     bytes

@@ -24,14 +24,14 @@ man_number (White, kind) = kind_number kind
 man_number (Black, kind) = 8 + kind_number kind
 
 -- what stands on a square as a number: 0 for an empty one
-abbrev pub square_number : Option Man → ℕ
-square_number None = 0
-square_number (Some man) = man_number man
+abbrev pub content_number : Option Man → ℕ
+content_number None = 0
+content_number (Some man) = man_number man
 
 -- byte k of the men: square 2k in its low four bits, square 2k + 1 in its high four
 abbrev pub pair_byte : List (Option Man) → ℕ → ℕ
 pair_byte placement k =
-    square_number (man_at placement (square_at (2 * k))) + 16 * square_number (man_at placement (square_at (2 * k + 1)))
+    content_number (man_at placement (square_at (2 * k))) + 16 * content_number (man_at placement (square_at (2 * k + 1)))
 
 abbrev pub men : ℕ → List (Option Man) → Field
 men at placement = record { offset = at; width = 32; bytes = map (pair_byte placement) (range_with_len 0 32) }

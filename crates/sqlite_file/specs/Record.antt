@@ -1,6 +1,6 @@
 -- The record of a row (SQLite's file format, section 2.1): a header with its own length and the serial types of the columns, and
 -- behind it the contents of the columns.
-use Rattle.std.specs.Prelude.{ℕ, ◌+◌, ◌*◌, ◌^◌, ◌<◌, ◌≤◌, ◌==◌, List, [], ◌++◌, length, nat_lt, flat_map, if◌then◌else◌}
+use Rattle.std.specs.Prelude.{ℕ, ◌+◌, ◌*◌, ◌^◌, ◌==◌, List, [], ◌++◌, length, nat_lt, flat_map, if◌then◌else◌}
 use Rattle.std.specs.Int.{bytes_high_first}
 use Rattle.sqlite_file.specs.declared.record.Value.{Value}
 use Rattle.sqlite_file.specs.declared.record.Value.TheVariants.{Null, Number, Text}

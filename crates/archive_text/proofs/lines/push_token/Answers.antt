@@ -1,4 +1,4 @@
-use Rattle.std.proofs.Common.{◌≡◌, ◌∙◌, ◌+◌, List, ℕ, [], ◌∷◌, ◌++◌, length, ap, sym, subst, refl, append_assoc}
+use Rattle.std.proofs.Common.{◌∙◌, ◌+◌, List, ℕ, [], ◌∷◌, ◌++◌, length, ap, sym, subst, refl, append_assoc}
 use Rattle.chess_text.specs.Movetext.{IsUnderWay}
 use Rattle.archive_text.proofs.lines.push_token.Goals as goal
 

@@ -1,5 +1,5 @@
 use Rattle.std.proofs.Common.{ℕ, ◌∙◌, arith, List, Bool, ap, sym, subst}
-use Rattle.chess_bits.specs.Square.{square_at, Square}
+use Rattle.chess_bits.specs.Square.{square_at}
 use Rattle.chess_bits.specs.Table.{IsSetOf, empty}
 use Rattle.chess_bits.specs.Attack.{SlidesAlong}
 use Rattle.chess_attacks.specs.Ways.{way_step}

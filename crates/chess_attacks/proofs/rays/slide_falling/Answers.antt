@@ -1,6 +1,5 @@
-use Rattle.std.proofs.Common.{◌≡◌, ◌∙◌, ap, sym, subst, List, Bool, [], Some, None}
-use Rattle.chess_bits.specs.Square.{Square}
-use Rattle.chess_bits.specs.Table.{members, meet, without, head_of, IsSetOf, IsGreatest}
+use Rattle.std.proofs.Common.{◌∙◌, ap, sym, subst, List, Bool}
+use Rattle.chess_bits.specs.Table.{members, meet, without, IsSetOf, IsGreatest}
 use Rattle.chess_bits.specs.Attack.{SlidesAlong}
 use Rattle.chess_attacks.specs.Ways.{way_step}
 use Rattle.chess_attacks.proofs.WayLemmas.{falling-adds, falling-falls}

@@ -1,4 +1,4 @@
-use Rattle.std.proofs.Common.{◌≡◌, ◌∙◌, ap, sym, subst, List, Bool}
+use Rattle.std.proofs.Common.{◌∙◌, ap, sym, subst, List, Bool}
 use Rattle.chess_bits.specs.Table.{union, IsSetOf}
 use Rattle.chess_bits.specs.Attack.{Slides, diagonal, north_east, south_east, south_west, north_west}
 use Rattle.chess_attacks.proofs.Uniting.{four_ways}

@@ -1,4 +1,4 @@
-use Rattle.std.proofs.Common.{◌≡◌, ◌∙◌, ap, sym, subst, List, Bool}
+use Rattle.std.proofs.Common.{sym, subst, List, Bool}
 use Rattle.chess_bits.specs.Table.{IsSetOf}
 use Rattle.chess_bits.specs.Attack.{Slides, adjoining}
 use Rattle.chess_attacks.proofs.Uniting.{both_ways}

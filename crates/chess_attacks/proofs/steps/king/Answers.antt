@@ -1,5 +1,5 @@
-use Rattle.std.proofs.Common.{ℕ, ◌∙◌, arith, List, Bool, ap, sym, subst}
-use Rattle.chess_bits.specs.Square.{square_at, Square}
+use Rattle.std.proofs.Common.{◌∙◌, arith, List, Bool, ap, sym, subst}
+use Rattle.chess_bits.specs.Square.{square_at}
 use Rattle.chess_bits.specs.Table.{IsSetOf}
 use Rattle.chess_bits.specs.Attack.{Reaches, adjoining}
 use Rattle.chess_attacks.proofs.Words.{king_set}

@@ -1,12 +1,12 @@
-use Rattle.std.proofs.Common.{◌≡◌, ◌∙◌, ap, sym, subst, List, Bool}
+use Rattle.std.proofs.Common.{sym, subst, List, Bool}
 use Rattle.chess_bits.specs.declared.men.Colour.{Colour}
 use Rattle.chess_bits.specs.declared.men.Kind.TheVariants.{Pawn, Bishop, Rook, Queen}
 use Rattle.chess_bits.specs.Man.{other}
-use Rattle.chess_bits.specs.Table.{union, IsSetOf}
+use Rattle.chess_bits.specs.Table.{IsSetOf}
 use Rattle.chess_bits.specs.Attack.{Attacks}
 use Rattle.chess_attacks.proofs.Uniting.{both_ways}
 use Rattle.chess_board.specs.Position.{occupied_of}
-use Rattle.chess_board.proofs.Outward.{Tests, tests_decide, IsOutward}
+use Rattle.chess_board.proofs.Outward.{tests_decide}
 use Rattle.chess_board.proofs.attack.is_attacked.Goals as goal
 use Rattle.chess_board.proofs.attack.is_attacked.Goals.{After-stands_among-6}
 

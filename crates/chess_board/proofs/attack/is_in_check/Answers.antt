@@ -1,4 +1,4 @@
-use Rattle.std.proofs.Common.{◌≡◌, List, Bool, ◌∙◌, ap, subst, sym, refl}
+use Rattle.std.proofs.Common.{◌≡◌, List, ◌∙◌, ap, subst, sym, refl}
 use Rattle.chess_bits.specs.declared.men.Colour.{Colour}
 use Rattle.chess_bits.specs.declared.men.Kind.TheVariants.{King}
 use Rattle.chess_bits.specs.Man.{other, is_man}

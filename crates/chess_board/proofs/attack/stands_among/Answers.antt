@@ -1,4 +1,4 @@
-use Rattle.std.proofs.Common.{◌≡◌, ◌∙◌, ap, sym, subst, [], List, Bool, true}
+use Rattle.std.proofs.Common.{◌≡◌, ◌∙◌, ap, subst, [], List, Bool}
 use Rattle.std.specs.Prelude.{◌↔◌, IsTrue}
 use Rattle.chess_bits.specs.Table.{members, meet}
 use Rattle.chess_board.proofs.Outward.{among-meet}

@@ -6,7 +6,7 @@ use Rattle.chess_bits.specs.Square.{Square}
 use Rattle.chess_bits.specs.Table.{members}
 use Rattle.chess_bits.specs.Attack.{SomeOf}
 use Rattle.chess_bits.specs.SquaresOf.{squares_left}
-use Rattle.chess_board.specs.Occupancy.{HasChanges}
+use Rattle.chess_board.specs.Occupancy.{AreChanges}
 use Rattle.chess_board.specs.Position.{Placement}
 use Rattle.chess_repeat.specs.Key.{men_byte}
 use Rattle.chess_repeat.proofs.KeyBytes.{key_of-written, key_of-men, length-key_of}
@@ -19,9 +19,9 @@ loop-square-init c =
     let p = c.args.board.now in
     let start : squares_left c.into_iter-square-iterator.result ≡ members c.changes.result =
     ap squares_left c.into_iter-square-iterator.ensures.into_iter_gives ∙ c.iter-square-items.ensures in
-    let same : HasChanges before.placement p.placement c.changes.result =
-    subst (λ (old : Placement). HasChanges old p.placement c.changes.result) c.men.ensures
-    (subst (λ (new : Placement). HasChanges c.men.result.now new c.changes.result) c.men-2.ensures c.changes.ensures) in
+    let same : AreChanges before.placement p.placement c.changes.result =
+    subst (λ (old : Placement). AreChanges old p.placement c.changes.result) c.men.ensures
+    (subst (λ (new : Placement). AreChanges c.men.result.now new c.changes.result) c.men-2.ensures c.changes.ensures) in
     record {
       whole = ap length c.requires ∙ length-key_of before;
       written = λ k below none.

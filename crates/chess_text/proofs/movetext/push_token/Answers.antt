@@ -1,4 +1,4 @@
-use Rattle.std.proofs.Common.{◌≡◌, ◌∙◌, ◌+◌, List, ℕ, [], ◌∷◌, ◌++◌, length, ap, sym, subst, refl, append_assoc}
+use Rattle.std.proofs.Common.{◌∙◌, ◌+◌, List, ℕ, [], ◌∷◌, ◌++◌, length, ap, sym, subst, refl, append_assoc}
 use Rattle.std.specs.String.{string_bytes}
 use Rattle.chess_text.specs.Movetext.{IsUnderWay}
 use Rattle.chess_text.proofs.movetext.push_token.Goals as goal

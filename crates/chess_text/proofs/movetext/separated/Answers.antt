@@ -1,4 +1,4 @@
-use Rattle.std.proofs.Common.{◌≡◌, ◌+◌, ◌++◌, List, [], ◌∷◌, length, sym, subst, arith}
+use Rattle.std.proofs.Common.{◌≡◌, ◌+◌, ◌++◌, [], ◌∷◌, length, subst, arith}
 use Rattle.chess_text.specs.Movetext.{IsUnderWay}
 use Rattle.chess_text.proofs.Lines.{first_token, same_line, next_line}
 use Rattle.chess_text.proofs.movetext.separated.Goals as goal

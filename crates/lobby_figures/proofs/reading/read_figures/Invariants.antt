@@ -1,4 +1,3 @@
-use Rattle.std.proofs.Common.{◌≤◌, ℕ}
 use Rattle.journal_copy.specs.Source.{ReadsOn}
 use Rattle.lobby_figures.proofs.reading.read_figures.Given as goal
 

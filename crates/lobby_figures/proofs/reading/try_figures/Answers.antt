@@ -1,4 +1,4 @@
-use Rattle.std.proofs.Common.{◌≡◌, ◌≤◌, ◌<◌, ◌∙◌, ℕ, refl, sym, subst, arith, inl, inr, Some}
+use Rattle.std.proofs.Common.{◌≡◌, ◌≤◌, ◌∙◌, ℕ, refl, sym, subst, arith, inr, Some}
 use Rattle.std.proofs.lemmas.Bool.{false≢true}
 use Rattle.sector_dev.specs.Image.{Sectors}
 use Rattle.rec_codec.specs.declared.header.Header.{Header}

@@ -1,4 +1,4 @@
-use Rattle.std.proofs.Common.{◌≡◌, ◌≤◌, ◌<◌, ◌+◌, ◌*◌, ◌^◌, ◌++◌, length}
+use Rattle.std.proofs.Common.{◌≡◌, ◌<◌, ◌+◌, ◌*◌, ◌^◌, ◌++◌, length}
 use Rattle.std.specs.Prelude.{vec_len}
 use Rattle.sqlite_file.specs.Cell.{chain, pages_for}
 use Rattle.sqlite_file.proofs.overflow.push_overflow.Given as goal

@@ -1,4 +1,4 @@
-use Rattle.std.proofs.Common.{◌≡◌, ◌≤◌, ◌++◌, replicate}
+use Rattle.std.proofs.Common.{◌≡◌, ◌++◌, replicate}
 use Rattle.sqlite_file.proofs.overflow.push_zeros.Given as goal
 
 abbrev pub invariant-loop-left : goal.invariant-loop-left

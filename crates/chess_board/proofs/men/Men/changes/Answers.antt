@@ -1,11 +1,11 @@
-use Rattle.chess_board.proofs.MenChanges.{HasChanges-differences}
+use Rattle.chess_board.proofs.MenChanges.{AreChanges-differences}
 use Rattle.chess_board.proofs.men.Men.changes.Goals as goal
 
 pub returns : goal.returns
 returns c =
-    let changes = HasChanges-differences c.self.inside c.other.inside c.self.invariant c.other.invariant c.args.self.now
+    let changes = AreChanges-differences c.self.inside c.other.inside c.self.invariant c.other.invariant c.args.self.now
     c.args.other.now c.self.view_is c.other.view_is in
-    λ s out. changes s (rw (
+    λ s. rw (
       c.union-5.ensures,
       c.union-4.ensures,
       c.union-3.ensures,
@@ -19,4 +19,4 @@ returns c =
       c.difference-bishops.ensures,
       c.difference-rooks.ensures,
       c.difference-queens.ensures,
-    ) at out)
+    ) (changes s)

@@ -1,5 +1,5 @@
 use Rattle.std.proofs.Common.{◌∙◌, sym, subst}
-use Rattle.chess_board.specs.Occupancy.{HasChanges}
+use Rattle.chess_board.specs.Occupancy.{AreChanges}
 use Rattle.chess_board.specs.Position.{Placement}
 use Rattle.chess_notation.specs.Fen.{AreLetters}
 use Rattle.chess_fen.specs.Shown.{AreRankTexts}
@@ -11,9 +11,9 @@ reletter-touched-requires-clause-letters c =
 
 pub reletter-touched-requires-clause-changed : goal.reletter-touched-requires-clause-changed
 reletter-touched-requires-clause-changed c =
-    subst (λ (old : Placement). HasChanges old c.men-4.result.now c.changes-changed.result)
+    subst (λ (old : Placement). AreChanges old c.men-4.result.now c.changes-changed.result)
     (c.men.ensures ∙ sym c.men-3.ensures)
-    (subst (λ (new : Placement). HasChanges c.men.result.now new c.changes-changed.result)
+    (subst (λ (new : Placement). AreChanges c.men.result.now new c.changes-changed.result)
     (c.men-2.ensures ∙ sym c.men-4.ensures) c.changes-changed.ensures)
 
 pub renew_all-requires-clause-letters : goal.renew_all-requires-clause-letters
