@@ -9,9 +9,9 @@ use Rattle.chess_entry.specs.State.{TableState}
 use Rattle.chess_entry.specs.Table.{IsTable}
 use Rattle.chess_answer.specs.declared.reads.Reply.{Reply}
 use Rattle.chess_sessions.specs.declared.sessions.Sessions.{Sessions}
-use Rattle.chess_sessions.specs.declared.taking.Taken.{Taken}
+use Rattle.chess_sessions.specs.declared.turn.TurnLine.{TurnLine}
 use Rattle.chess_sessions.specs.Session.{said}
-use Rattle.chess_sessions.specs.Turn.{AreTakenAs, turn_lines, waiting_of}
+use Rattle.chess_sessions.specs.Turn.{AreTurnLines, turn_lines, waiting_of}
 use Rattle.chess_sessions.specs.Answers.{name_at, commands_of, AreAnswers}
 use Rattle.chess_sessions.specs.Delivery.{Answered, AllAnswered}
 use Rattle.chess_store.specs.declared.fault.StoreFault.{StoreFault}
@@ -27,8 +27,8 @@ use Rattle.chess_hub.specs.Faults.{IsDevice, UnlessDevice, CountsFault}
 -- A turn at a moment: lines that waited were taken, round the sessions by rising number; their commands were answered
 -- on the store's table as one batch, and each session has the answers to its lines.
 pub record HasTurned (at most : ℕ) (old new : Sessions) (before after : TableState) : Type 0 where
-  pub taken : List Taken
-  pub lines : AreTakenAs (turn_lines most (waiting_of old)) taken
+  pub taken : List TurnLine
+  pub lines : AreTurnLines (turn_lines most (waiting_of old)) taken
   pub replies : List Reply
   pub batch : AreAnswered before (commands_of at (name_at old) taken) replies after
   pub answered : List Answered
@@ -38,8 +38,8 @@ pub record HasTurned (at most : ℕ) (old new : Sessions) (before after : TableS
 
 -- what holds of the commands of the lines that a turn takes
 pub record AsksFor (at most : ℕ) (old : Sessions) (P : List Command → Type 0) : Type 0 where
-  pub taken : List Taken
-  pub lines : AreTakenAs (turn_lines most (waiting_of old)) taken
+  pub taken : List TurnLine
+  pub lines : AreTurnLines (turn_lines most (waiting_of old)) taken
   pub those : P (commands_of at (name_at old) taken)
 
 -- A store may be asked these commands: its device has not failed, unless there is no command, and they do not wear it out.
