@@ -17,7 +17,7 @@ use Rattle.chess_sessions.specs.Delivery.{Answered, AllAnswered}
 use Rattle.chess_store.specs.declared.fault.StoreFault.{StoreFault}
 use Rattle.chess_store.specs.declared.fault.StoreFault.TheVariants as store
 use Rattle.chess_store.specs.Means.{MeansEither, IsKept}
-use Rattle.chess_store.specs.Batch.{AreAnswered, AreEntered, IsWornOut, act_count}
+use Rattle.chess_store.specs.Batch.{AreAnswered, AreEntered, IsWornOut, change_count}
 use Rattle.chess_hub.specs.declared.fault.HubFault.{HubFault}
 use Rattle.chess_hub.specs.declared.fault.HubFault.TheVariants.{NoMemory, Store}
 use Rattle.chess_hub.specs.Faults.{IsDevice, UnlessDevice, CountsFault}
@@ -45,7 +45,7 @@ pub record AsksFor (at most : ℕ) (old : Sessions) (P : List Command → Type 0
 -- A store may be asked these commands: its device has not failed, unless there is no command, and they do not wear it out.
 abbrev pub MayBeAsked : Bool → ℕ → ℕ → List Command → Type 0
 MayBeAsked failed seq entries commands =
-    (failed ≡ true → commands ≡ []) × (IsWornOut seq entries (act_count commands) → ⊥)
+    (failed ≡ true → commands ≡ []) × (IsWornOut seq entries (change_count commands) → ⊥)
 
 -- ---- which fault
 
@@ -53,12 +53,13 @@ MayBeAsked failed seq entries commands =
 -- where the device failed its entries may last or not.
 abbrev pub IsBatchFault : StoreFault → ℕ → Bool → TableState → TableState → List Command → Type 0
 IsBatchFault (store.Device pending) seq failed before after commands =
-    (failed ≡ false) × (IsWornOut seq before.entries (act_count commands) → ⊥) × AreEntered before commands pending after
+    (failed ≡ false) × (IsWornOut seq before.entries (change_count commands) → ⊥)
+    × AreEntered before commands pending after
 IsBatchFault store.Failed seq failed before after commands = (failed ≡ true) × (after ≡ before)
 IsBatchFault store.Worn seq failed before after commands =
-    (failed ≡ false) × IsWornOut seq before.entries (act_count commands) × (after ≡ before)
+    (failed ≡ false) × IsWornOut seq before.entries (change_count commands) × (after ≡ before)
 IsBatchFault store.NoMemory seq failed before after commands =
-    (failed ≡ false) × (IsWornOut seq before.entries (act_count commands) → ⊥) × (after ≡ before)
+    (failed ≡ false) × (IsWornOut seq before.entries (change_count commands) → ⊥) × (after ≡ before)
 IsBatchFault fault seq failed before after commands = ⊥
 
 -- the store was called with these commands, and refused them
