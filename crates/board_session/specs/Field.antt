@@ -1,8 +1,8 @@
 -- What a line asks for.
 use Rattle.std.specs.Prelude.{ℕ, ◌≡◌, ◌<◌, ◌≤◌, List, ◌++◌, length, codes}
 use Rattle.std.specs.List.{All}
-use Rattle.board_session.specs.declared.line.Command.{Command}
-use Rattle.board_session.specs.declared.line.Command.TheVariants.{Move, Bad}
+use Rattle.board_session.specs.declared.line.BoardCommand.{BoardCommand}
+use Rattle.board_session.specs.declared.line.BoardCommand.TheVariants.{Move, Bad}
 
 -- one or more visible characters of ASCII, which leaves out the space
 pub record IsVisibleText (text : List ℕ) : Type 0 where
@@ -15,6 +15,6 @@ pub record AsksMove (line text : List ℕ) : Type 0 where
   pub field : IsVisibleText text
 
 -- what a line asks for: a move, or nothing that is known
-abbrev pub IsCommand : List ℕ → Command → Type 0
+abbrev pub IsCommand : List ℕ → BoardCommand → Type 0
 IsCommand line (Move text) = AsksMove line text.now
 IsCommand line Bad = (text : List ℕ) → ¬ AsksMove line text

@@ -4,7 +4,7 @@ ghost use Rattle.chess_notation.specs.Coordinate.{IsCoordinateOf};
 ghost use Rattle.chess_notation.specs.Fen.{IsFenOf};
 ghost use Rattle.board_session.specs.Answer.{AnswersText, IsAnswer, IsAtLimit, as_line};
 
-use crate::line::{Command, parse};
+use crate::line::{BoardCommand, parse};
 use arrayvec::ArrayString;
 use chess_board::{Board, Move};
 use chess_fen::ShownBoard;
@@ -21,8 +21,8 @@ pub fn answer(board: &mut ShownBoard, line: &[u8], said: &mut AnswerLine)
     ensures { IsAnswer board.old line.now (as_line said.new.bytes) board.new }
 {
     match parse(line) {
-        Command::Move(text) => answer_move(board, text, said),
-        Command::Bad => say(said, "no 1 BadLine"),
+        BoardCommand::Move(text) => answer_move(board, text, said),
+        BoardCommand::Bad => say(said, "no 1 BadLine"),
     }
 }
 

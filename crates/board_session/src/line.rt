@@ -6,7 +6,7 @@ use std::str;
 
 /// What a line asks for.
 #[derive(Clone, Copy)]
-pub enum Command<'a> {
+pub enum BoardCommand<'a> {
     /// To make the move of this text.
     Move(&'a str),
     /// Nothing that is known.
@@ -14,17 +14,17 @@ pub enum Command<'a> {
 }
 
 /// Reads a line, without the line feed that ends it.
-pub fn parse(line: &[u8]) -> Command<'_>
+pub fn parse(line: &[u8]) -> BoardCommand<'_>
     ensures { IsCommand line.now result }
 {
     let Some(field) = line.strip_prefix(b"move ") else {
-        return Command::Bad;
+        return BoardCommand::Bad;
     };
     if !is_visible_text(field) {
-        return Command::Bad;
+        return BoardCommand::Bad;
     }
     match str::from_utf8(field) {
-        Ok(text) => Command::Move(text),
+        Ok(text) => BoardCommand::Move(text),
         Err(_) => unreachable!("a field is of ASCII"),
     }
 }

@@ -10,7 +10,7 @@ use Rattle.chess_entry.specs.State.{TableState}
 use Rattle.chess_line.specs.declared.lines.Request.{Request}
 use Rattle.chess_line.specs.declared.lines.Request.TheVariants.{Called, Act}
 use Rattle.chess_answer.specs.declared.reads.Reply.{Reply}
-use Rattle.chess_sessions.specs.declared.taking.Taken.{Taken}
+use Rattle.chess_sessions.specs.declared.turn.TurnLine.{TurnLine}
 use Rattle.chess_sessions.specs.Session.{Said, said}
 use Rattle.chess_sessions.specs.Answers.{alone, given_name, renamed, names_after, asked, commands_of, own_answer, AreAnswers}
 use Rattle.chess_store.specs.Batch.{IsAnswered, IsOutcome}
@@ -19,10 +19,10 @@ use Rattle.chess_hub.specs.Sessions.{Merged, name_from, AreAnsweredAfter}
 use Rattle.chess_hub.proofs.CallLemmas.{same-session}
 
 -- a line that a turn at a moment took, as it stands in the merged list
-abbrev pub merged_of : List Call → ℕ → Taken → Merged
+abbrev pub merged_of : List Call → ℕ → TurnLine → Merged
 merged_of calls at t = record { session = which t.sid calls; at = at; line = t.line }
 
-abbrev pub AllOpen : List Call → List Taken → Type 0
+abbrev pub AllOpen : List Call → List TurnLine → Type 0
 AllOpen calls taken = All (λ t. is_open t.sid calls ≡ true) taken
 
 -- ---- names
@@ -38,7 +38,7 @@ abbrev pub AreNames : List Call → List Merged → (ℕ → Option (List ℕ)) 
 AreNames calls merged names =
     (sid : ℕ) → is_open sid calls ≡ true → names sid ≡ name_from (which sid calls) None merged
 
-names-step : (calls : List Call) (at : ℕ) (before : List Merged) (names : ℕ → Option (List ℕ)) (t : Taken) →
+names-step : (calls : List Call) (at : ℕ) (before : List Merged) (names : ℕ → Option (List ℕ)) (t : TurnLine) →
     is_open t.sid calls ≡ true → AreNames calls before names →
     AreNames calls (before ++ merged_of calls at t ∷ []) (names_after at names t)
 names-step calls at before names t opens are sid other =
@@ -75,14 +75,14 @@ FirstAnswer own Rest replies answers =
     (λ line. (rest : List Said) × (answers ≡ alone line ∷ rest) × Rest replies rest)
 
 -- what is shown of the lines after the first
-abbrev pub Later : ℕ → List Command → List Taken → List Merged → List Merged → TableState → Type 0
+abbrev pub Later : ℕ → List Command → List TurnLine → List Merged → List Merged → TableState → Type 0
 Later at commands taken before merged after =
     (table : TableState) (replies : List Reply) (entries : List Entry) (answers : List Said) →
     IsAnswered table commands replies entries after → AreAnswers at taken (map said replies) answers →
     AreAnsweredAfter before table merged answers after
 
 first-answered : (at session sid : ℕ) (line : Option Request) (name : Option (List ℕ)) (commands : List Command)
-    (taken : List Taken) (before merged : List Merged) (table after : TableState) (replies : List Reply)
+    (taken : List TurnLine) (before merged : List Merged) (table after : TableState) (replies : List Reply)
     (entries : List Entry) (answers : List Said) → name ≡ name_from session None before →
     IsAnswered table (asked at name line ++ commands) replies entries after →
     FirstAnswer (own_answer at line) (AreAnswers at taken) (map said replies) answers →
@@ -133,7 +133,7 @@ none-answered at before table after [] entries answers h k = (k.1, h.same)
 none-answered at before table after (reply ∷ replies) entries answers h k = absurd h
 
 pub lines-answered : (calls : List Call) (at : ℕ) (names : ℕ → Option (List ℕ)) (before : List Merged)
-    (taken : List Taken) (after : TableState) → AreNames calls before names → AllOpen calls taken →
+    (taken : List TurnLine) (after : TableState) → AreNames calls before names → AllOpen calls taken →
     Later at (commands_of at names taken) taken before (map (merged_of calls at) taken) after
 lines-answered calls at names before [] after are opens table replies entries answers h k =
     none-answered at before table after replies entries answers h k

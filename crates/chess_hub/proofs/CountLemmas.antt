@@ -8,14 +8,14 @@ use Rattle.std.proofs.lemmas.Option.{slice_get_past}
 use Rattle.slab.specs.Slab.{Slab, get, entries_from}
 use Rattle.session_lines.specs.Lines.{lines_of}
 use Rattle.chess_sessions.specs.declared.sessions.Session.{Session}
-use Rattle.chess_sessions.specs.declared.taking.Taken.{Taken}
-use Rattle.chess_sessions.specs.Turn.{SessionLine, session_line, lines_at, rounds, turn_lines, waiting, waiting_in, AreTakenAs}
+use Rattle.chess_sessions.specs.declared.turn.TurnLine.{TurnLine}
+use Rattle.chess_sessions.specs.Turn.{SessionLine, session_line, lines_at, rounds, turn_lines, waiting, waiting_in, AreTurnLines}
 
 -- how many lines are of a session
 abbrev pub lines_count : ℕ → List SessionLine → ℕ
 lines_count sid lines = count_by (λ l. l.sid == sid) lines
 
-abbrev pub taken_of : ℕ → List Taken → ℕ
+abbrev pub taken_of : ℕ → List TurnLine → ℕ
 taken_of sid taken = count_by (λ t. t.sid == sid) taken
 
 abbrev pub line_count : Session → ℕ
@@ -121,20 +121,20 @@ rounds-few sid (suc n) slab s found =
           (omega arith, omega arith)
     ]
 
-taken-counted : (sid : ℕ) (lines : List SessionLine) (taken : List Taken) → AreTakenAs lines taken →
+taken-counted : (sid : ℕ) (lines : List SessionLine) (taken : List TurnLine) → AreTurnLines lines taken →
     taken_of sid taken ≡ lines_count sid lines
 taken-counted sid [] [] zip = refl
 taken-counted sid [] (t ∷ taken) zip = absurd zip
 taken-counted sid (l ∷ lines) [] zip = absurd zip
 taken-counted sid (l ∷ lines) (t ∷ taken) zip =
-    sum_by-cons (λ (t : Taken). cond (t.sid == sid) 1 0) t taken
+    sum_by-cons (λ (t : TurnLine). cond (t.sid == sid) 1 0) t taken
     ∙ ap (λ n. cond (n == sid) 1 0 + taken_of sid taken) zip.0.sid
     ∙ ap (λ n. cond (l.sid == sid) 1 0 + n) (taken-counted sid lines taken zip.1)
     ∙ sym (count-cons sid l lines)
 
 -- A turn takes no more lines of a session than wait.
-pub taken-few : (sid most : ℕ) (slab : Slab Session) (s : Session) (taken : List Taken) → get slab sid ≡ Some s →
-    AreTakenAs (turn_lines most (waiting_in slab)) taken → taken_of sid taken ≤ line_count s
+pub taken-few : (sid most : ℕ) (slab : Slab Session) (s : Session) (taken : List TurnLine) → get slab sid ≡ Some s →
+    AreTurnLines (turn_lines most (waiting_in slab)) taken → taken_of sid taken ≤ line_count s
 taken-few sid most slab s taken found zip =
     let e : taken_of sid taken ≡ lines_count sid (turn_lines most (waiting_in slab)) =
     taken-counted sid (turn_lines most (waiting_in slab)) taken zip in

@@ -12,13 +12,13 @@ use Rattle.session_lines.specs.Heard.{heard_more}
 use Rattle.chess_entry.specs.State.{TableState}
 use Rattle.chess_sessions.specs.declared.sessions.Session.{Session}
 use Rattle.chess_sessions.specs.declared.sessions.Sessions.{Sessions}
-use Rattle.chess_sessions.specs.declared.taking.Taken.{Taken}
+use Rattle.chess_sessions.specs.declared.turn.TurnLine.{TurnLine}
 use Rattle.chess_sessions.proofs.RoomLemmas.{shown-some}
 use Rattle.chess_sessions.specs.Session.{Said, SessionState, shown, session_at, fresh, Changes, due, farewell, first_due, given_one, is_none_waiting}
-use Rattle.chess_sessions.specs.Turn.{Waiting, SessionLine, turn_lines, waiting, waiting_of, AreTakenAs}
+use Rattle.chess_sessions.specs.Turn.{Waiting, SessionLine, turn_lines, waiting, waiting_of, AreTurnLines}
 use Rattle.chess_sessions.specs.Answers.{name_of, name_at}
 use Rattle.chess_sessions.specs.Delivery.{Answered, own, HasAnswered}
-use Rattle.chess_sessions.proofs.TakingLemmas.{open-turn, open-taken}
+use Rattle.chess_sessions.proofs.TurnLineLemmas.{open-turn, open-read}
 use Rattle.chess_hub.specs.Calls.{Call, Connected, Closed, Fed, Turned, Given, is_open, begun_count, which, input_of, given_to}
 use Rattle.chess_hub.specs.Sessions.{Merged, AreOpenIn, IsMergedAs, AreMerged, AreAnsweredAfter, taken_count, name_from, answers_to, lines_left, waiting_lines, session_text}
 use Rattle.chess_hub.specs.Turning.{HasTurned}
@@ -231,7 +231,7 @@ waiting-same table calls s merged answers h =
     (λ (e : ℕ × Session). waiting_lines calls merged e.0 ≡ waiting e)
     (entry-waits table calls s merged answers h) (entries s.sessions.slab) (entries-are s.sessions.slab))
 
-merged-as : (calls : List Call) (at : ℕ) (lines : List SessionLine) (taken : List Taken) → AreTakenAs lines taken →
+merged-as : (calls : List Call) (at : ℕ) (lines : List SessionLine) (taken : List TurnLine) → AreTurnLines lines taken →
     AllZip (IsMergedAs calls at) lines (map (merged_of calls at) taken)
 merged-as calls at [] [] zip = tt
 merged-as calls at [] (t ∷ taken) zip = absurd zip
@@ -269,15 +269,15 @@ count-mapped sid (a ∷ answered) =
       | true ↦ omega (arith, count-mapped sid answered)
       | false ↦ omega (arith, count-mapped sid answered)
     ]
-    ∙ sym (sum_by-cons (λ (t : Taken). cond (t.sid == sid) 1 0) a.taken (map (λ a. a.taken) answered))
+    ∙ sym (sum_by-cons (λ (t : TurnLine). cond (t.sid == sid) 1 0) a.taken (map (λ a. a.taken) answered))
 
 taken-open : (table : TableState) (calls : List Call) (s : HubState) (merged : List Merged) (answers : List Said)
-    (most : ℕ) (taken : List Taken) → Holds table calls s merged answers →
-    AreTakenAs (turn_lines most (waiting_of s.sessions)) taken → AllOpen calls taken
+    (most : ℕ) (taken : List TurnLine) → Holds table calls s merged answers →
+    AreTurnLines (turn_lines most (waiting_of s.sessions)) taken → AllOpen calls taken
 taken-open table calls s merged answers most taken h zip =
-    All-weaker (λ (t : Taken). IsSome (get s.sessions.slab t.sid)) (λ (t : Taken). is_open t.sid calls ≡ true)
+    All-weaker (λ (t : TurnLine). IsSome (get s.sessions.slab t.sid)) (λ (t : TurnLine). is_open t.sid calls ≡ true)
     (λ t some. slot-open table calls s merged answers h t.sid ∙ some) taken
-    (open-taken s.sessions.slab (turn_lines most (waiting_of s.sessions)) taken zip (open-turn s.sessions.slab most))
+    (open-read s.sessions.slab (turn_lines most (waiting_of s.sessions)) taken zip (open-turn s.sessions.slab most))
 
 -- ---- a turn: one session
 
@@ -352,7 +352,7 @@ holds-turned table calls at most old new merged answers h turn =
     ∙ map-over (λ (a : Answered). a.taken) (merged_of calls at) answered in
     let opens : AllOpen calls turn.taken = taken-open table calls old merged answers most turn.taken h turn.lines in
     let all : AnsweredOpen calls answered =
-    all-mapped (λ (t : Taken). is_open t.sid calls ≡ true) (λ (a : Answered). a.taken) answered
+    all-mapped (λ (t : TurnLine). is_open t.sid calls ≡ true) (λ (a : Answered). a.taken) answered
     (subst (AllOpen calls) (sym turn.whose) opens) in
     let each : (sid : ℕ) → IsOne (view calls sid) more others (session_at new.sessions sid) = λ sid.
     one-turned at (view calls sid) (own sid answered) merged more answers others (get old.sessions.slab sid)

@@ -16,7 +16,7 @@ use Rattle.chess_sessions.specs.Session.{SessionState, session_at, IsUnchanged}
 use Rattle.chess_sessions.specs.Delivery.{Answered, AllAnswered, HasAnswered, own}
 use Rattle.chess_store.specs.declared.fault.StoreFault.{StoreFault}
 use Rattle.chess_store.specs.declared.fault.StoreFault.TheVariants as store
-use Rattle.chess_store.specs.Batch.{IsAnswered, IsWornOut, act_count}
+use Rattle.chess_store.specs.Batch.{IsAnswered, IsWornOut, change_count}
 use Rattle.chess_store.specs.Faults as faults
 use Rattle.chess_store.specs.Calling.{CallTried}
 use Rattle.chess_store.specs.Means.{MeansEither, IsKept}
@@ -110,7 +110,7 @@ module _ {T : Type 0} (seq : ℕ) (before after : TableState) (commands : List C
   pub batch_fault : (fault : StoreFault) (failed : Bool) → faults.IsSubmitFault fault
       → faults.MayLast fault before commands after
       → ComesAs T fault store.Failed (failed ≡ true)
-      → ComesAs T fault store.Worn ((failed ≡ false) × IsWornOut seq before.entries (act_count commands))
+      → ComesAs T fault store.Worn ((failed ≡ false) × IsWornOut seq before.entries (change_count commands))
       → IsBatchFault fault seq failed before after commands
   batch_fault (store.Device pending) failed is may stopped worn =
       let works = not_failed (store.Device pending) failed (λ e. cc) stopped in

@@ -9,15 +9,15 @@ use Rattle.chess_entry.specs.State.{TableState}
 use Rattle.chess_entry.specs.Table.{IsTable}
 use Rattle.chess_answer.specs.declared.reads.Reply.{Reply}
 use Rattle.chess_sessions.specs.declared.sessions.Sessions.{Sessions}
-use Rattle.chess_sessions.specs.declared.taking.Taken.{Taken}
+use Rattle.chess_sessions.specs.declared.turn.TurnLine.{TurnLine}
 use Rattle.chess_sessions.specs.Session.{said}
-use Rattle.chess_sessions.specs.Turn.{AreTakenAs, turn_lines, waiting_of}
+use Rattle.chess_sessions.specs.Turn.{AreTurnLines, turn_lines, waiting_of}
 use Rattle.chess_sessions.specs.Answers.{name_at, commands_of, AreAnswers}
 use Rattle.chess_sessions.specs.Delivery.{Answered, AllAnswered}
 use Rattle.chess_store.specs.declared.fault.StoreFault.{StoreFault}
 use Rattle.chess_store.specs.declared.fault.StoreFault.TheVariants as store
 use Rattle.chess_store.specs.Means.{MeansEither, IsKept}
-use Rattle.chess_store.specs.Batch.{AreAnswered, AreEntered, IsWornOut, act_count}
+use Rattle.chess_store.specs.Batch.{AreAnswered, AreEntered, IsWornOut, change_count}
 use Rattle.chess_hub.specs.declared.fault.HubFault.{HubFault}
 use Rattle.chess_hub.specs.declared.fault.HubFault.TheVariants.{NoMemory, Store}
 use Rattle.chess_hub.specs.Faults.{IsDevice, UnlessDevice, CountsFault}
@@ -27,8 +27,8 @@ use Rattle.chess_hub.specs.Faults.{IsDevice, UnlessDevice, CountsFault}
 -- A turn at a moment: lines that waited were taken, round the sessions by rising number; their commands were answered
 -- on the store's table as one batch, and each session has the answers to its lines.
 pub record HasTurned (at most : ℕ) (old new : Sessions) (before after : TableState) : Type 0 where
-  pub taken : List Taken
-  pub lines : AreTakenAs (turn_lines most (waiting_of old)) taken
+  pub taken : List TurnLine
+  pub lines : AreTurnLines (turn_lines most (waiting_of old)) taken
   pub replies : List Reply
   pub batch : AreAnswered before (commands_of at (name_at old) taken) replies after
   pub answered : List Answered
@@ -38,14 +38,14 @@ pub record HasTurned (at most : ℕ) (old new : Sessions) (before after : TableS
 
 -- what holds of the commands of the lines that a turn takes
 pub record AsksFor (at most : ℕ) (old : Sessions) (P : List Command → Type 0) : Type 0 where
-  pub taken : List Taken
-  pub lines : AreTakenAs (turn_lines most (waiting_of old)) taken
+  pub taken : List TurnLine
+  pub lines : AreTurnLines (turn_lines most (waiting_of old)) taken
   pub those : P (commands_of at (name_at old) taken)
 
 -- A store may be asked these commands: its device has not failed, unless there is no command, and they do not wear it out.
 abbrev pub MayBeAsked : Bool → ℕ → ℕ → List Command → Type 0
 MayBeAsked failed seq entries commands =
-    (failed ≡ true → commands ≡ []) × (IsWornOut seq entries (act_count commands) → ⊥)
+    (failed ≡ true → commands ≡ []) × (IsWornOut seq entries (change_count commands) → ⊥)
 
 -- ---- which fault
 
@@ -53,12 +53,13 @@ MayBeAsked failed seq entries commands =
 -- where the device failed its entries may last or not.
 abbrev pub IsBatchFault : StoreFault → ℕ → Bool → TableState → TableState → List Command → Type 0
 IsBatchFault (store.Device pending) seq failed before after commands =
-    (failed ≡ false) × (IsWornOut seq before.entries (act_count commands) → ⊥) × AreEntered before commands pending after
+    (failed ≡ false) × (IsWornOut seq before.entries (change_count commands) → ⊥)
+    × AreEntered before commands pending after
 IsBatchFault store.Failed seq failed before after commands = (failed ≡ true) × (after ≡ before)
 IsBatchFault store.Worn seq failed before after commands =
-    (failed ≡ false) × IsWornOut seq before.entries (act_count commands) × (after ≡ before)
+    (failed ≡ false) × IsWornOut seq before.entries (change_count commands) × (after ≡ before)
 IsBatchFault store.NoMemory seq failed before after commands =
-    (failed ≡ false) × (IsWornOut seq before.entries (act_count commands) → ⊥) × (after ≡ before)
+    (failed ≡ false) × (IsWornOut seq before.entries (change_count commands) → ⊥) × (after ≡ before)
 IsBatchFault fault seq failed before after commands = ⊥
 
 -- the store was called with these commands, and refused them

@@ -3,7 +3,7 @@ ghost use Rattle.std.specs.Prelude.{ℕ, ◌≡◌, ◌≤◌, ◌↔◌, true, 
 ghost use Rattle.session_lines.specs.Heard.{heard_more};
 ghost use Rattle.chess_sessions.specs.Answers.{name_at, commands_of};
 ghost use Rattle.chess_sessions.specs.Delivery.{HaveRoom, asking_count};
-ghost use Rattle.chess_sessions.specs.Turn.{AreTakenAs, turn_lines, waiting_of};
+ghost use Rattle.chess_sessions.specs.Turn.{AreTurnLines, turn_lines, waiting_of};
 ghost use Rattle.chess_sessions.specs.Session.{said, fresh, session_at, session_count, Changes, IsUnchanged, due, first_due, given_one};
 ghost use Rattle.chess_store.specs.Batch.{AreAnswered};
 ghost use Rattle.chess_hub.specs.Faults.{IsConnectFault, IsFeedFault, refusals_after};
@@ -13,7 +13,7 @@ ghost use Rattle.chess_hub.specs.Turning.{HasTurned, AsksFor, IsTurnFault};
 use crate::fault::HubFault;
 use chess_answer::Reply;
 use chess_entry::Command;
-use chess_sessions::{Sessions, Sid, Taken};
+use chess_sessions::{Sessions, Sid, TurnLine};
 use chess_store::Store;
 use sector_dev::Device;
 use std::alloc::{AllocError, Global};
@@ -74,27 +74,27 @@ fn ask<D: Device>(
     }
 }
 
-// What a turn takes of the sessions: lines that wait, with their commands.
+// What a turn asks: the lines that stand next in turn, with their commands.
 #[derive(Drop)]
 struct Gathered {
-    taken: Vec<Taken>,
+    lines: Vec<TurnLine>,
     commands: Vec<Command>,
 }
 
-// Takes lines that wait, at most so many, and makes room for their answers.
+// Reads the lines that stand next in turn, at most so many, and makes room for their answers.
 fn gather(sessions: &mut Sessions, at: u64, most: usize) -> Result<Gathered, AllocError>
-    ensures lines { IfOk result (λ g. AreTakenAs (turn_lines most (waiting_of sessions.old)) g.taken.items) }
+    ensures lines { IfOk result (λ g. AreTurnLines (turn_lines most (waiting_of sessions.old)) g.lines.items) }
     ensures commands { IfOk result (λ g.
-        g.commands.items ≡ commands_of at (name_at sessions.old) g.taken.items) }
-    ensures count { IfOk result (λ g. length g.commands.items ≡ asking_count at g.taken.items) }
+        g.commands.items ≡ commands_of at (name_at sessions.old) g.lines.items) }
+    ensures count { IfOk result (λ g. length g.commands.items ≡ asking_count at g.lines.items) }
     ensures few { IfOk result (λ g. length g.commands.items ≤ most) }
-    ensures room { IfOk result (λ g. HaveRoom (length g.taken.items) sessions.new.slab g.taken.items) }
+    ensures room { IfOk result (λ g. HaveRoom (length g.lines.items) sessions.new.slab g.lines.items) }
     ensures unchanged { IsUnchanged sessions.old sessions.new }
 {
-    let taken = sessions.next_lines(most)?;
-    let commands = sessions.commands(at, &taken)?;
-    sessions.reserve(&taken)?;
-    Ok(Gathered { taken, commands })
+    let lines = sessions.next_lines(most)?;
+    let commands = sessions.commands(at, &lines)?;
+    sessions.reserve(&lines)?;
+    Ok(Gathered { lines, commands })
 }
 
 impl<D: Device> Hub<D> {
@@ -196,9 +196,9 @@ impl<D: Device> Hub<D> {
             self.refusals = self.refusals.saturating_add(1);
             return Err(HubFault::NoMemory);
         };
-        let (taken, commands) = (&gathered.taken, &gathered.commands);
+        let (lines, commands) = (&gathered.lines, &gathered.commands);
         let replies = ask(self.alloc, &mut self.store, commands, &mut self.refusals)?;
-        self.sessions.deliver(at, taken, replies);
+        self.sessions.deliver(at, lines, replies);
         Ok(())
     }
 

@@ -14,7 +14,7 @@ use Rattle.chess_answer.specs.declared.reads.Reply.{Reply}
 use Rattle.rec_codec.specs.declared.header.Header.{Header}
 use Rattle.sector_journal.specs.declared.compactions.Compaction.{Compaction}
 use Rattle.sector_journal.specs.Stands.{content}
-use Rattle.chess_store.specs.Batch.{IsAnswered, IsWornOut, act_count}
+use Rattle.chess_store.specs.Batch.{IsAnswered, IsWornOut, change_count}
 use Rattle.chess_store.proofs.BatchLemmas.{answered_comes}
 use Rattle.chess_store.specs.declared.fault.StoreFault.{StoreFault}
 use Rattle.chess_store.specs.declared.fault.StoreFault.TheVariants.{Exists, TooSmall, NotOurs, Damaged, Device, NoMemory, Worn, Failed}
@@ -141,7 +141,7 @@ around-at {A = A} {B = B} f (y ∷ ys) (suc i) x lt is =
 -- where every image stands for the store's records, each has the number of its header
 pub worn_before : (now : State) (header : Header) (compaction : Compaction) (table : TableState)
     (commands : List Command) → IsKept now header compaction table
-    → IsWornOut header.seq table.entries (act_count commands) → IsWornBefore now table.entries commands
+    → IsWornOut header.seq table.entries (change_count commands) → IsWornBefore now table.entries commands
 worn_before now header compaction table commands kept worn = record {
   number = header.seq;
   each = λ image is. record {

@@ -10,7 +10,7 @@ use Rattle.chess_entry.specs.Games.{table_of}
 use Rattle.chess_entry.specs.Lawful.{IsLawful}
 use Rattle.chess_store.specs.declared.fault.StoreFault.{StoreFault}
 use Rattle.chess_store.specs.declared.fault.StoreFault.TheVariants.{NotOurs, Damaged, TooSmall, Device, NoMemory, Worn}
-use Rattle.chess_store.specs.Batch.{IsWornOut, act_count}
+use Rattle.chess_store.specs.Batch.{IsWornOut, change_count}
 use Rattle.chess_store.specs.Means.{Means}
 use Rattle.chess_lives.specs.declared.plan.Life.{Life}
 use Rattle.chess_lives.specs.declared.plan.LifeReport.{LifeReport}
@@ -38,11 +38,12 @@ pub record IsNumbered (number : ℕ) (image : Sectors) : Type 0 where
   pub shows : Shows image content
   pub is : content.header.seq ≡ number
 
--- Behind so many entries the acts of these commands would need a header's number, or a count of entries, past 64 bits.
+-- Behind so many entries the changes that these commands ask for would need a header's number, or a count of entries,
+-- past 64 bits.
 pub record IsWornBefore (now : State) (entries : ℕ) (commands : List Command) : Type 0 where
   pub number : ℕ
   pub each : (image : Sectors) → now.image image → IsNumbered number image
-  pub worn : IsWornOut number entries (act_count commands)
+  pub worn : IsWornOut number entries (change_count commands)
 
 -- so would those of the first of the batches that are left
 abbrev pub IsFirstWorn : State → ℕ → List (List Command) → Type 0

@@ -19,9 +19,9 @@ use Rattle.chess_line.specs.declared.lines.Request.TheVariants.{Called, Act}
 use Rattle.chess_answer.specs.declared.reads.Reply.{Reply}
 use Rattle.chess_sessions.specs.declared.sessions.Session.{Session}
 use Rattle.chess_sessions.specs.declared.sessions.Sessions.{Sessions}
-use Rattle.chess_sessions.specs.declared.taking.Taken.{Taken}
+use Rattle.chess_sessions.specs.declared.turn.TurnLine.{TurnLine}
 use Rattle.chess_sessions.specs.Session.{Said, said, SessionState, shown, session_at, Changes, first_due, due, given_one}
-use Rattle.chess_sessions.specs.Turn.{Waiting, waiting, waiting_of, SessionLine, session_line, turn_lines, IsReading, IsTakenAs, AreTakenAs}
+use Rattle.chess_sessions.specs.Turn.{Waiting, waiting, waiting_of, SessionLine, session_line, turn_lines, IsReading, IsTurnLine, AreTurnLines}
 use Rattle.chess_sessions.specs.Answers.{given_name, renamed, own_answer, alone, asked, commands_of, AreAnswers, name_of, name_at}
 use Rattle.chess_sessions.specs.Delivery.{Answered, AllAnswered, HasAnswered, DropsLine, own}
 use Rattle.chess_store.specs.Batch.{IsOutcome, IsAnswered, AreAnswered}
@@ -180,13 +180,13 @@ lines-one s sid name part u h =
     (lines-feed part [] u ∙ ap (λ (lines : List (List ℕ)). strip_last 13 part ∷ lines) (lines-rest [] unfinished-nil))
     ∙ turn-one sid (strip_last 13 part)
 
-taken-one : (line : SessionLine) (taken : List Taken) → AreTakenAs (line ∷ []) taken →
-    (t : Taken) × (taken ≡ t ∷ []) × IsTakenAs line t
+taken-one : (line : SessionLine) (taken : List TurnLine) → AreTurnLines (line ∷ []) taken →
+    (t : TurnLine) × (taken ≡ t ∷ []) × IsTurnLine line t
 taken-one line [] h = absurd h
 taken-one line (t ∷ []) h = (t, refl, h.0)
 taken-one line (t ∷ u ∷ taken) h = absurd h.1
 
-answered-one : (t : Taken) (answered : List Answered) → map (λ a. a.taken) answered ≡ t ∷ [] →
+answered-one : (t : TurnLine) (answered : List Answered) → map (λ a. a.taken) answered ≡ t ∷ [] →
     (a : Answered) × (answered ≡ a ∷ []) × (a.taken ≡ t)
 answered-one t [] h = absurd (let bad : [] ≡ t ∷ [] = h in cc)
 answered-one t (a ∷ []) h = (a, refl, (let same : a.taken ∷ [] ≡ t ∷ [] = h in cc))
@@ -197,7 +197,7 @@ head-same : (x y : Said) (xs ys : List Said) → x ∷ xs ≡ y ∷ ys → x ≡
 head-same x y xs ys e = cc
 
 -- the answer to the one line of a batch that asks nothing of the table
-answered-alone : (t : Taken) (at : ℕ) (read : Option Request) (line : List ℕ) (answer : Said) → t.line ≡ read →
+answered-alone : (t : TurnLine) (at : ℕ) (read : Option Request) (line : List ℕ) (answer : Said) → t.line ≡ read →
     own_answer at read ≡ Some line → AreAnswers at (t ∷ []) [] (answer ∷ []) →
     (own_answer at read ≡ Some answer.line) × (answer.body ≡ [])
 answered-alone t at read line answer is own k =
@@ -211,7 +211,7 @@ answered-alone t at read line answer is own k =
     (own ∙ ap (λ (a : Said). Some a.line) (sym same), ap (λ (a : Said). a.body) same)
 
 -- the answer to the one line of a batch
-line-answered : (t : Taken) (at : ℕ) (name : Option (List ℕ)) (read : Option Request) (before after : TableState)
+line-answered : (t : TurnLine) (at : ℕ) (name : Option (List ℕ)) (read : Option Request) (before after : TableState)
     (replies : List Reply) (entries : List Entry) (answer : Said) → t.line ≡ read →
     IsAnswered before (asked at name read ++ []) replies entries after →
     AreAnswers at (t ∷ []) (map said replies) (answer ∷ []) → IsLineAnswered before name at read answer after
@@ -326,12 +326,12 @@ pub record Turned (at : ℕ) (name : Option (List ℕ)) (text : List ℕ) (befor
 
 module _ (at sid : ℕ) (name : Option (List ℕ)) (part : List ℕ) (old : Sessions) (u : IsUnfinished part)
     (h : IsAlone old sid (asks name part)) where
-  one-taken : (taken : List Taken) → AreTakenAs (turn_lines 1 (waiting_of old)) taken →
-      (t : Taken) × (taken ≡ t ∷ []) × IsTakenAs (session_line sid (strip_last 13 part)) t
+  one-taken : (taken : List TurnLine) → AreTurnLines (turn_lines 1 (waiting_of old)) taken →
+      (t : TurnLine) × (taken ≡ t ∷ []) × IsTurnLine (session_line sid (strip_last 13 part)) t
   one-taken taken lines = taken-one (session_line sid (strip_last 13 part)) taken
-      (subst (λ (ls : List SessionLine). AreTakenAs ls taken) (lines-one old sid name part u h) lines)
+      (subst (λ (ls : List SessionLine). AreTurnLines ls taken) (lines-one old sid name part u h) lines)
 
-  named : (t : Taken) → t.sid ≡ sid → name_at old t.sid ≡ name
+  named : (t : TurnLine) → t.sid ≡ sid → name_at old t.sid ≡ name
   named t e = ap (name_at old) e ∙ alone-name old sid (asks name part) h
 
   pub turned-told : (new : Sessions) (before after : TableState) → HasTurned at 1 old new before after →
@@ -339,23 +339,24 @@ module _ (at sid : ℕ) (name : Option (List ℕ)) (part : List ℕ) (old : Sess
   turned-told new before after turn =
       let (t, same, is) = one-taken turn.taken turn.lines in
       let (a, one, whose) = answered-one t turn.answered (turn.whose ∙ same) in
-      let batch = subst (λ (ts : List Taken). AreAnswered before (commands_of at (name_at old) ts) turn.replies after)
+      let batch = subst (λ (ts : List TurnLine).
+      AreAnswered before (commands_of at (name_at old) ts) turn.replies after)
       same turn.batch in
       let answered = subst (λ (who : Option (List ℕ)). IsAnswered before (asked at who t.line ++ []) turn.replies
       batch.entries after) (named t is.sid) batch.answered in
-      let taken_answers = subst (λ (ts : List Taken). AreAnswers at ts (map said turn.replies)
+      let taken_answers = subst (λ (ts : List TurnLine). AreAnswers at ts (map said turn.replies)
       (map (λ a. a.said) turn.answered)) same turn.answers in
       let answers = subst (λ (xs : List Answered). AreAnswers at (t ∷ []) (map said turn.replies)
       (map (λ a. a.said) xs)) one taken_answers in
       let all = subst (λ (xs : List Answered). AllAnswered at xs old new) one turn.all in
-      let line : a.taken.line ≡ t.line = ap (λ (x : Taken). x.line) whose in
+      let line : a.taken.line ≡ t.line = ap (λ (x : TurnLine). x.line) whose in
       record {
         read = t.line;
         reads = is.reads;
         answer = a.said;
         answered = line-answered t at name t.line before after turn.replies batch.entries a.said refl answered answers;
         then = subst (λ (x : Option Request). IsAlone new sid (told (renamed (given_name at x) name) a.said)) line
-            (turned-one at sid name part old new a u h (ap (λ (x : Taken). x.sid) whose ∙ is.sid) all);
+            (turned-one at sid name part old new a u h (ap (λ (x : TurnLine). x.sid) whose ∙ is.sid) all);
       }
 
   pub asks-line : (P : List Command → Type 0) → AsksFor at 1 old P → LineAsksFor at name (strip_last 13 part) P
@@ -366,7 +367,7 @@ module _ (at sid : ℕ) (name : Option (List ℕ)) (part : List ℕ) (old : Sess
         reads = is.reads;
         those = subst (λ (who : Option (List ℕ)). P (asked at who t.line)) (named t is.sid)
             (subst P (append-nil (asked at (name_at old t.sid) t.line))
-            (subst (λ (ts : List Taken). P (commands_of at (name_at old) ts)) same asks.those));
+            (subst (λ (ts : List TurnLine). P (commands_of at (name_at old) ts)) same asks.those));
       }
 
 -- ---- the answer is given

@@ -46,7 +46,7 @@ fn do_work(rt: &HostRuntime, word: Word<'_>) -> Result<(), Fault> {
         }
         Word::Serve(serving) => serve(rt, rt.alloc(), &serving),
         Word::Drill => tell_drill(rt, rt.alloc()),
-        Word::Widen(tables) => widen(rt, rt.alloc(), &tables),
+        Word::Widen(wanted) => widen(rt, rt.alloc(), &wanted),
         Word::Copy(copying) => copy_journal(rt, rt.alloc(), &copying),
         Word::Show(journal) => show_games(rt, rt.alloc(), journal, &mut rt.stdout()),
     }

@@ -11,7 +11,7 @@ use Rattle.slab.specs.Slab.{Slab, get}
 use Rattle.chess_answer.specs.declared.reads.Reply.{Reply}
 use Rattle.chess_sessions.specs.declared.sessions.Session.{Session}
 use Rattle.chess_sessions.specs.declared.sessions.Sessions.{Sessions}
-use Rattle.chess_sessions.specs.declared.taking.Taken.{Taken}
+use Rattle.chess_sessions.specs.declared.turn.TurnLine.{TurnLine}
 use Rattle.chess_sessions.specs.Session.{Said, said, SessionState, shown, session_at}
 use Rattle.chess_sessions.specs.Answers.{given_name, renamed, own_answer, alone, AreAnswers}
 use Rattle.chess_sessions.specs.Delivery.{DropsLines, Answered, own, name_over, HasAnswered, AllAnswered, IsGiven, HasRoom, HaveRoom, asking_count}
@@ -131,48 +131,50 @@ room-after n sid other mid new name reply g others room =
     ]
 
 -- room for one more at each place
-rooms-after : (n : ℕ) (sid : ℕ) (mid new : Slab Session) (name : Option (List ℕ)) (reply : Reply) (taken : List Taken) →
+rooms-after : (n : ℕ) (sid : ℕ) (mid new : Slab Session) (name : Option (List ℕ)) (reply : Reply)
+    (lines : List TurnLine) →
     IfSome (get mid sid) (λ s. IsSomeAnd (get new sid) (IsGiven s name reply)) →
-    ((k : ℕ) → k ≢ sid → get new k ≡ get mid k) → HaveRoom (n + 1) mid taken → HaveRoom n new taken
+    ((k : ℕ) → k ≢ sid → get new k ≡ get mid k) → HaveRoom (n + 1) mid lines → HaveRoom n new lines
 rooms-after n sid mid new name reply [] g others room = All-nil (λ t. IsSomeAnd (get new t.sid) (HasRoom n))
-rooms-after n sid mid new name reply (t ∷ taken) g others room =
-    All-cons (λ t. IsSomeAnd (get new t.sid) (HasRoom n)) t taken
+rooms-after n sid mid new name reply (t ∷ lines) g others room =
+    All-cons (λ t. IsSomeAnd (get new t.sid) (HasRoom n)) t lines
     (room-after n sid t.sid mid new name reply g others
-    (All-head (λ t. IsSomeAnd (get mid t.sid) (HasRoom (n + 1))) t taken room))
-    (rooms-after n sid mid new name reply taken g others
-    (All-tail (λ t. IsSomeAnd (get mid t.sid) (HasRoom (n + 1))) t taken room))
+    (All-head (λ t. IsSomeAnd (get mid t.sid) (HasRoom (n + 1))) t lines room))
+    (rooms-after n sid mid new name reply lines g others
+    (All-tail (λ t. IsSomeAnd (get mid t.sid) (HasRoom (n + 1))) t lines room))
 
 -- ---- the answers to lines
 
 -- How the answers stand in the midst of lines: `left` are the replies that are left.
-pub record Answering (at : ℕ) (taken : List Taken) (place : ℕ) (replies left : List Reply) (old now : Sessions)
+pub record Answering (at : ℕ) (lines : List TurnLine) (place : ℕ) (replies left : List Reply) (old now : Sessions)
     : Type 0 where
   pub answered : List Answered
-  pub are : map (λ a. a.taken) answered ≡ take place taken
-  pub answers : (rest : List Said) → AreAnswers at (drop place taken) (map said left) rest →
-      AreAnswers at taken (map said replies) (map (λ a. a.said) answered ++ rest)
+  pub are : map (λ a. a.taken) answered ≡ take place lines
+  pub answers : (rest : List Said) → AreAnswers at (drop place lines) (map said left) rest →
+      AreAnswers at lines (map said replies) (map (λ a. a.said) answered ++ rest)
   pub all : AllAnswered at answered old now
-  pub room : HaveRoom (length taken - place) now.slab (drop place taken)
-  pub count : length left ≡ asking_count at (drop place taken)
+  pub room : HaveRoom (length lines - place) now.slab (drop place lines)
+  pub count : length left ≡ asking_count at (drop place lines)
 
-pub answering-none : (at : ℕ) (taken : List Taken) (replies : List Reply) (s : Sessions) →
-    HaveRoom (length taken) s.slab taken → length replies ≡ asking_count at taken →
-    Answering at taken 0 replies replies s s
-answering-none at taken replies s room count = record {
+pub answering-none : (at : ℕ) (lines : List TurnLine) (replies : List Reply) (s : Sessions) →
+    HaveRoom (length lines) s.slab lines → length replies ≡ asking_count at lines →
+    Answering at lines 0 replies replies s s
+answering-none at lines replies s room count = record {
   answered = [];
   are = refl;
   answers = λ rest h. h;
   all = all-none at s;
-  room = (let e : length taken ≡ length taken - 0 = omega arith in subst (λ n. HaveRoom n s.slab taken) e room);
+  room = (let e : length lines ≡ length lines - 0 = omega arith in subst (λ n. HaveRoom n s.slab lines) e room);
   count = count;
 }
 
 -- the answer to one line: its own, or the first reply that is left
-abbrev pub OneAnswer : ℕ → Taken → List Reply → Reply → List Reply → Type 0
+abbrev pub OneAnswer : ℕ → TurnLine → List Reply → Reply → List Reply → Type 0
 OneAnswer at t left reply after = MatchOption (own_answer at t.line) (left ≡ reply ∷ after)
     (λ line. (said reply ≡ alone line) × (left ≡ after))
 
-one-answer : (at : ℕ) (own : Option (List ℕ)) (t : Taken) (more : List Taken) (left after : List Reply) (reply : Reply)
+one-answer : (at : ℕ) (own : Option (List ℕ)) (t : TurnLine) (more : List TurnLine) (left after : List Reply)
+    (reply : Reply)
     (rest : List Said) → own_answer at t.line ≡ own →
     MatchOption own (left ≡ reply ∷ after) (λ line. (said reply ≡ alone line) × (left ≡ after)) →
     AreAnswers at more (map said after) rest → AreAnswers at (t ∷ more) (map said left) (said reply ∷ rest)
@@ -181,7 +183,8 @@ one-answer at None t more left after reply rest e one h =
 one-answer at (Some line) t more left after reply rest e one h =
     rw e (rest, ap (λ a. a ∷ rest) one.0, subst (λ l. AreAnswers at more (map said l) rest) (sym one.1) h)
 
-count-after : (at : ℕ) (own : Option (List ℕ)) (t : Taken) (more : List Taken) (left after : List Reply) (reply : Reply) →
+count-after : (at : ℕ) (own : Option (List ℕ)) (t : TurnLine) (more : List TurnLine) (left after : List Reply)
+    (reply : Reply) →
     own_answer at t.line ≡ own →
     MatchOption own (left ≡ reply ∷ after) (λ line. (said reply ≡ alone line) × (left ≡ after)) →
     length left ≡ asking_count at (t ∷ more) → length after ≡ asking_count at more
@@ -196,34 +199,34 @@ count-after at (Some line) t more left after reply e one h =
     let l : length left ≡ length after = ap length one.1 in
     omega arith
 
-pub answering-one : (at : ℕ) (taken : List Taken) (place : ℕ) (t : Taken) (replies left after : List Reply)
-    (old mid new : Sessions) (name : Option (List ℕ)) (reply : Reply) → Answering at taken place replies left old mid →
-    place < length taken → drop place taken ≡ t ∷ drop (place + 1) taken →
-    take (place + 1) taken ≡ take place taken ++ t ∷ [] → OneAnswer at t left reply after →
+pub answering-one : (at : ℕ) (lines : List TurnLine) (place : ℕ) (t : TurnLine) (replies left after : List Reply)
+    (old mid new : Sessions) (name : Option (List ℕ)) (reply : Reply) → Answering at lines place replies left old mid →
+    place < length lines → drop place lines ≡ t ∷ drop (place + 1) lines →
+    take (place + 1) lines ≡ take place lines ++ t ∷ [] → OneAnswer at t left reply after →
     IfSome (get mid.slab t.sid) (λ s. IsSomeAnd (get new.slab t.sid) (IsGiven s name reply)) →
     ((other : ℕ) → other ≢ t.sid → get new.slab other ≡ get mid.slab other) → name ≡ given_name at t.line →
-    Answering at taken (place + 1) replies after old new
-answering-one at taken place t replies left after old mid new name reply h within split more one g others is =
+    Answering at lines (place + 1) replies after old new
+answering-one at lines place t replies left after old mid new name reply h within split more one g others is =
     let a : Answered = record { taken = t; said = said reply } in
-    let n : ℕ = length taken - (place + 1) in
-    let fewer : length taken - place ≡ n + 1 = omega arith in
-    let rooms : HaveRoom (n + 1) mid.slab (t ∷ drop (place + 1) taken) =
+    let n : ℕ = length lines - (place + 1) in
+    let fewer : length lines - place ≡ n + 1 = omega arith in
+    let rooms : HaveRoom (n + 1) mid.slab (t ∷ drop (place + 1) lines) =
     subst (λ ts. HaveRoom (n + 1) mid.slab ts) split
-    (subst (λ k. HaveRoom k mid.slab (drop place taken)) fewer h.room) in
+    (subst (λ k. HaveRoom k mid.slab (drop place lines)) fewer h.room) in
     let here : IsSomeAnd (get mid.slab t.sid) (HasRoom (n + 1)) =
-    All-head (λ t. IsSomeAnd (get mid.slab t.sid) (HasRoom (n + 1))) t (drop (place + 1) taken) rooms in
+    All-head (λ t. IsSomeAnd (get mid.slab t.sid) (HasRoom (n + 1))) t (drop (place + 1) lines) rooms in
     record {
       answered = h.answered ++ a ∷ [];
       are = map-append (λ (x : Answered). x.taken) h.answered (a ∷ []) ∙ ap (λ ts. ts ++ t ∷ []) h.are ∙ sym more;
-      answers = λ rest k. subst (λ ys. AreAnswers at taken (map said replies) ys)
+      answers = λ rest k. subst (λ ys. AreAnswers at lines (map said replies) ys)
           (sym (append_assoc (map (λ (x : Answered). x.said) h.answered) (said reply ∷ []) rest)
           ∙ ap (λ ys. ys ++ rest) (sym (map-append (λ (x : Answered). x.said) h.answered (a ∷ []))))
           (h.answers (said reply ∷ rest) (subst (λ ts. AreAnswers at ts (map said left) (said reply ∷ rest)) (sym split)
-          (one-answer at (own_answer at t.line) t (drop (place + 1) taken) left after reply rest refl one k)));
+          (one-answer at (own_answer at t.line) t (drop (place + 1) lines) left after reply rest refl one k)));
       all = all-push at h.answered a old mid new name reply h.all (room-one n (get mid.slab t.sid) here) g others is refl;
-      room = rooms-after n t.sid mid.slab new.slab name reply (drop (place + 1) taken) g others
-          (All-tail (λ t. IsSomeAnd (get mid.slab t.sid) (HasRoom (n + 1))) t (drop (place + 1) taken) rooms);
-      count = count-after at (own_answer at t.line) t (drop (place + 1) taken) left after reply refl one
+      room = rooms-after n t.sid mid.slab new.slab name reply (drop (place + 1) lines) g others
+          (All-tail (λ t. IsSomeAnd (get mid.slab t.sid) (HasRoom (n + 1))) t (drop (place + 1) lines) rooms);
+      count = count-after at (own_answer at t.line) t (drop (place + 1) lines) left after reply refl one
           (h.count ∙ ap (asking_count at) split);
     }
 
@@ -232,16 +235,16 @@ none-left [] e = refl
 none-left (reply ∷ left) e = absurd (let l : suc (length left) ≡ 0 = e in omega arith)
 
 -- all lines are answered
-pub answering-done : (at : ℕ) (taken : List Taken) (place : ℕ) (replies left : List Reply) (old now : Sessions) →
-    Answering at taken place replies left old now → length taken ≤ place →
-    (answered : List Answered) × (map (λ a. a.taken) answered ≡ taken)
-    × AreAnswers at taken (map said replies) (map (λ a. a.said) answered) × AllAnswered at answered old now
-answering-done at taken place replies left old now h l =
-    let none : drop place taken ≡ [] = drop_all place taken l in
+pub answering-done : (at : ℕ) (lines : List TurnLine) (place : ℕ) (replies left : List Reply) (old now : Sessions) →
+    Answering at lines place replies left old now → length lines ≤ place →
+    (answered : List Answered) × (map (λ a. a.taken) answered ≡ lines)
+    × AreAnswers at lines (map said replies) (map (λ a. a.said) answered) × AllAnswered at answered old now
+answering-done at lines place replies left old now h l =
+    let none : drop place lines ≡ [] = drop_all place lines l in
     let nothing : map said left ≡ [] = none-left left (h.count ∙ ap (asking_count at) none) in (
       h.answered,
-      h.are ∙ take_all place taken l,
-      subst (AreAnswers at taken (map said replies)) (append-nil (map (λ a. a.said) h.answered))
+      h.are ∙ take_all place lines l,
+      subst (AreAnswers at lines (map said replies)) (append-nil (map (λ a. a.said) h.answered))
           (h.answers [] (subst (λ ts. AreAnswers at ts (map said left) []) (sym none) (nothing, refl))),
       h.all,
     )
@@ -256,10 +259,11 @@ some-room n None l room = absurd room
 some-room n (Some s) l room = let r : deque_len s.answers + n ≤ deque_capacity s.answers = room in omega arith
 
 -- there is room for the answer to the next line
-pub room-here : (at : ℕ) (taken : List Taken) (place : ℕ) (replies left : List Reply) (old now : Sessions) (t : Taken) →
-    Answering at taken place replies left old now → place < length taken →
-    drop place taken ≡ t ∷ drop (place + 1) taken → IsSomeAnd (get now.slab t.sid) (HasRoom 1)
-room-here at taken place replies left old now t h l split =
-    some-room (length taken - place) (get now.slab t.sid) (omega arith)
-    (All-head (λ t. IsSomeAnd (get now.slab t.sid) (HasRoom (length taken - place))) t (drop (place + 1) taken)
-    (subst (HaveRoom (length taken - place) now.slab) split h.room))
+pub room-here : (at : ℕ) (lines : List TurnLine) (place : ℕ) (replies left : List Reply) (old now : Sessions)
+    (t : TurnLine) →
+    Answering at lines place replies left old now → place < length lines →
+    drop place lines ≡ t ∷ drop (place + 1) lines → IsSomeAnd (get now.slab t.sid) (HasRoom 1)
+room-here at lines place replies left old now t h l split =
+    some-room (length lines - place) (get now.slab t.sid) (omega arith)
+    (All-head (λ t. IsSomeAnd (get now.slab t.sid) (HasRoom (length lines - place))) t (drop (place + 1) lines)
+    (subst (HaveRoom (length lines - place) now.slab) split h.room))

@@ -1,4 +1,4 @@
-pub mod TakingLemmas
+pub mod TurnLineLemmas
 pub mod RoundLemmas
 pub mod DeliveryLemmas
 pub mod NameLemmas

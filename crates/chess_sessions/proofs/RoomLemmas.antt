@@ -6,7 +6,7 @@ use Rattle.std.proofs.lemmas.List.Elements.{All-head, All-tail, All-cons, All-ni
 use Rattle.slab.specs.Slab.{Slab, get}
 use Rattle.chess_sessions.specs.declared.sessions.Session.{Session}
 use Rattle.chess_sessions.specs.declared.sessions.Sessions.{Sessions}
-use Rattle.chess_sessions.specs.declared.taking.Taken.{Taken}
+use Rattle.chess_sessions.specs.declared.turn.TurnLine.{TurnLine}
 use Rattle.chess_sessions.specs.Session.{shown, session_at, IsUnchanged}
 use Rattle.chess_sessions.specs.Delivery.{HasRoom, HaveRoom}
 
@@ -21,25 +21,25 @@ room-kept n sid k old new kept others room =
       | inr ne ↦ subst (λ o. IsSomeAnd o (HasRoom n)) (sym (others k ne)) room
     ]
 
-rooms-kept : (n sid : ℕ) (old new : Slab Session) (taken : List Taken) →
+rooms-kept : (n sid : ℕ) (old new : Slab Session) (lines : List TurnLine) →
     ((m : ℕ) → IsSomeAnd (get old sid) (HasRoom m) → IsSomeAnd (get new sid) (HasRoom m)) →
-    ((other : ℕ) → other ≢ sid → get new other ≡ get old other) → HaveRoom n old taken → HaveRoom n new taken
+    ((other : ℕ) → other ≢ sid → get new other ≡ get old other) → HaveRoom n old lines → HaveRoom n new lines
 rooms-kept n sid old new [] kept others room = All-nil (λ t. IsSomeAnd (get new t.sid) (HasRoom n))
-rooms-kept n sid old new (t ∷ taken) kept others room =
-    All-cons (λ t. IsSomeAnd (get new t.sid) (HasRoom n)) t taken
-    (room-kept n sid t.sid old new kept others (All-head (λ t. IsSomeAnd (get old t.sid) (HasRoom n)) t taken room))
-    (rooms-kept n sid old new taken kept others (All-tail (λ t. IsSomeAnd (get old t.sid) (HasRoom n)) t taken room))
+rooms-kept n sid old new (t ∷ lines) kept others room =
+    All-cons (λ t. IsSomeAnd (get new t.sid) (HasRoom n)) t lines
+    (room-kept n sid t.sid old new kept others (All-head (λ t. IsSomeAnd (get old t.sid) (HasRoom n)) t lines room))
+    (rooms-kept n sid old new lines kept others (All-tail (λ t. IsSomeAnd (get old t.sid) (HasRoom n)) t lines room))
 
 -- room for one line more
-pub rooms-more : (n i : ℕ) (old new : Slab Session) (taken : List Taken) (t : Taken) →
-    take (i + 1) taken ≡ take i taken ++ t ∷ [] →
+pub rooms-more : (n i : ℕ) (old new : Slab Session) (lines : List TurnLine) (t : TurnLine) →
+    take (i + 1) lines ≡ take i lines ++ t ∷ [] →
     ((m : ℕ) → IsSomeAnd (get old t.sid) (HasRoom m) → IsSomeAnd (get new t.sid) (HasRoom m)) →
     ((other : ℕ) → other ≢ t.sid → get new other ≡ get old other) → IsSomeAnd (get new t.sid) (HasRoom n) →
-    HaveRoom n old (take i taken) → HaveRoom n new (take (i + 1) taken)
-rooms-more n i old new taken t more kept others here room =
+    HaveRoom n old (take i lines) → HaveRoom n new (take (i + 1) lines)
+rooms-more n i old new lines t more kept others here room =
     subst (HaveRoom n new) (sym more)
-    (All-append (λ t. IsSomeAnd (get new t.sid) (HasRoom n)) (take i taken) (t ∷ [])
-    (rooms-kept n t.sid old new (take i taken) kept others room)
+    (All-append (λ t. IsSomeAnd (get new t.sid) (HasRoom n)) (take i lines) (t ∷ [])
+    (rooms-kept n t.sid old new (take i lines) kept others room)
     (All-cons (λ t. IsSomeAnd (get new t.sid) (HasRoom n)) t [] here (All-nil (λ t. IsSomeAnd (get new t.sid) (HasRoom n)))))
 
 -- All sessions are as they were where one keeps what it shows.

@@ -5,8 +5,8 @@ use Rattle.std.specs.List.{cons_option}
 use Rattle.std.proofs.lemmas.List.{take-append-le, nil_from_length}
 use Rattle.std.proofs.lemmas.Bool.{cases_lt}
 use Rattle.std.proofs.lemmas.Slice.Zip.{AllZip-long}
-use Rattle.chess_sessions.specs.declared.taking.Taken.{Taken}
-use Rattle.chess_sessions.specs.Turn.{SessionLine, session_line, Waiting, lines_at, rounds, turn_lines, IsTakenAs, AreTakenAs}
+use Rattle.chess_sessions.specs.declared.turn.TurnLine.{TurnLine}
+use Rattle.chess_sessions.specs.Turn.{SessionLine, session_line, Waiting, lines_at, rounds, turn_lines, IsTurnLine, AreTurnLines}
 
 -- ---- a round in which nobody has a line
 
@@ -71,42 +71,42 @@ rounds-full most n (suc m) sessions l full =
 -- ---- when a turn has all its lines
 
 -- where it has as many as it may take
-pub turn-full : (most n : ℕ) (sessions : List Waiting) (now : List Taken) → n ≤ most →
-    AreTakenAs (take most (rounds n sessions)) now → length now ≡ most → AreTakenAs (turn_lines most sessions) now
-turn-full most n sessions now l taken full =
+pub turn-full : (most n : ℕ) (sessions : List Waiting) (now : List TurnLine) → n ≤ most →
+    AreTurnLines (take most (rounds n sessions)) now → length now ≡ most → AreTurnLines (turn_lines most sessions) now
+turn-full most n sessions now l turn full =
     let long : length now ≡ length (take most (rounds n sessions)) =
-    AllZip-long IsTakenAs (take most (rounds n sessions)) now taken in
+    AllZip-long IsTurnLine (take most (rounds n sessions)) now turn in
     let enough : most ≤ length (rounds n sessions) = omega (arith, length-take most (rounds n sessions)) in
-    subst (λ xs. AreTakenAs xs now) (sym (rounds-full most n most sessions l enough)) taken
+    subst (λ xs. AreTurnLines xs now) (sym (rounds-full most n most sessions l enough)) turn
 
--- a round that adds no line to what is taken has none, unless as many were taken as may be
+-- a round that adds no line to a turn has none, unless the turn has as many as it may
 adds-none : (most : ℕ) (xs more : List SessionLine) → length xs < most →
     length (take most (xs ++ more)) ≡ length (take most xs) → more ≡ []
 adds-none most xs more short same =
     nil_from_length more (omega (arith, length-take most (xs ++ more), length-take most xs, length-append xs more))
 
--- where a round took none
-pub turn-none : (most n : ℕ) (sessions : List Waiting) (old now : List Taken) → n < most →
-    AreTakenAs (take most (rounds n sessions)) old → AreTakenAs (take most (rounds (n + 1) sessions)) now →
-    length now ≡ length old → AreTakenAs (turn_lines most sessions) now
+-- where a round added none
+pub turn-none : (most n : ℕ) (sessions : List Waiting) (old now : List TurnLine) → n < most →
+    AreTurnLines (take most (rounds n sessions)) old → AreTurnLines (take most (rounds (n + 1) sessions)) now →
+    length now ≡ length old → AreTurnLines (turn_lines most sessions) now
 turn-none most n sessions old now l before after same =
     let next : rounds (n + 1) sessions ≡ rounds n sessions ++ lines_at n sessions =
     ap (λ k. rounds k sessions) (add-one n) in
     let was : length old ≡ length (take most (rounds n sessions)) =
-    AllZip-long IsTakenAs (take most (rounds n sessions)) old before in
+    AllZip-long IsTurnLine (take most (rounds n sessions)) old before in
     let is : length now ≡ length (take most (rounds (n + 1) sessions)) =
-    AllZip-long IsTakenAs (take most (rounds (n + 1) sessions)) now after in
+    AllZip-long IsTurnLine (take most (rounds (n + 1) sessions)) now after in
     let equal : length (take most (rounds n sessions ++ lines_at n sessions)) ≡ length (take most (rounds n sessions)) =
     ap (λ xs. length (take most xs)) (sym next) ∙ sym is ∙ same ∙ was in
     elim (cases_lt (length (rounds n sessions)) most) [
       | inl short ↦
           (let nothing : lines_at n sessions ≡ [] =
           adds-none most (rounds n sessions) (lines_at n sessions) short equal in
-          subst (λ xs. AreTakenAs (take most xs) now)
+          subst (λ xs. AreTurnLines (take most xs) now)
           (rounds-none n (n + 1) sessions (omega arith) nothing
           ∙ sym (rounds-none n most sessions (omega arith) nothing)) after)
       | inr full ↦
-          subst (λ xs. AreTakenAs xs now)
+          subst (λ xs. AreTurnLines xs now)
           (rounds-full most n (n + 1) sessions (omega arith) full
           ∙ sym (rounds-full most n most sessions (omega arith) full)) after
     ]

@@ -8,7 +8,7 @@ use Rattle.chess_line.specs.declared.lines.Request.TheVariants.{Called, Act}
 use Rattle.chess_answer.specs.Acts.{named_text}
 use Rattle.chess_answer.specs.Refusals.{refusal_text}
 use Rattle.chess_sessions.specs.declared.sessions.Sessions.{Sessions}
-use Rattle.chess_sessions.specs.declared.taking.Taken.{Taken}
+use Rattle.chess_sessions.specs.declared.turn.TurnLine.{TurnLine}
 use Rattle.chess_sessions.specs.Session.{Said, SessionState, session_at}
 
 -- a moment that no command may have
@@ -28,13 +28,13 @@ renamed None old = old
 renamed (Some name) old = Some name
 
 -- the sessions' names after a line
-abbrev pub names_after : ℕ → (ℕ → Option (List ℕ)) → Taken → ℕ → Option (List ℕ)
+abbrev pub names_after : ℕ → (ℕ → Option (List ℕ)) → TurnLine → ℕ → Option (List ℕ)
 names_after at names t sid = if t.sid == sid then renamed (given_name at t.line) (names sid) else names sid
 
 -- and after several lines
-abbrev pub names_over : ℕ → (ℕ → Option (List ℕ)) → List Taken → ℕ → Option (List ℕ)
+abbrev pub names_over : ℕ → (ℕ → Option (List ℕ)) → List TurnLine → ℕ → Option (List ℕ)
 names_over at names [] = names
-names_over at names (t ∷ taken) = names_over at (names_after at names t) taken
+names_over at names (t ∷ lines) = names_over at (names_after at names t) lines
 
 -- ---- commands
 
@@ -45,9 +45,9 @@ asked at who (Some (Called name)) = []
 asked at who None = []
 
 -- the commands of lines, each by the name that its session has after the lines before
-abbrev pub commands_of : ℕ → (ℕ → Option (List ℕ)) → List Taken → List Command
+abbrev pub commands_of : ℕ → (ℕ → Option (List ℕ)) → List TurnLine → List Command
 commands_of at names [] = []
-commands_of at names (t ∷ taken) = asked at (names t.sid) t.line ++ commands_of at (names_after at names t) taken
+commands_of at names (t ∷ lines) = asked at (names t.sid) t.line ++ commands_of at (names_after at names t) lines
 
 -- ---- answers
 
@@ -61,13 +61,13 @@ own_answer at (Some (Called name)) = Some (if is_late at then refusal_text BadMo
 own_answer at (Some (Act act)) = None
 
 -- The answers to lines, in their order: to those that ask something of the table these, one after the other.
-abbrev pub AreAnswers : ℕ → List Taken → List Said → List Said → Type 0
+abbrev pub AreAnswers : ℕ → List TurnLine → List Said → List Said → Type 0
 AreAnswers at [] replies answers = (replies ≡ []) × (answers ≡ [])
-AreAnswers at (t ∷ taken) replies answers =
+AreAnswers at (t ∷ lines) replies answers =
     MatchOption (own_answer at t.line)
     ((reply : Said) × (others : List Said) × (rest : List Said)
-    × (replies ≡ reply ∷ others) × (answers ≡ reply ∷ rest) × AreAnswers at taken others rest)
-    (λ line. (rest : List Said) × (answers ≡ alone line ∷ rest) × AreAnswers at taken replies rest)
+    × (replies ≡ reply ∷ others) × (answers ≡ reply ∷ rest) × AreAnswers at lines others rest)
+    (λ line. (rest : List Said) × (answers ≡ alone line ∷ rest) × AreAnswers at lines replies rest)
 
 -- the name that a session has, if it is open and has one
 abbrev pub name_of : Option SessionState → Option (List ℕ)

@@ -9,7 +9,7 @@ use Rattle.session_lines.specs.Heard.{Heard, IsFirstLine}
 use Rattle.chess_answer.specs.declared.reads.Reply.{Reply}
 use Rattle.chess_sessions.specs.declared.sessions.Session.{Session}
 use Rattle.chess_sessions.specs.declared.sessions.Sessions.{Sessions}
-use Rattle.chess_sessions.specs.declared.taking.Taken.{Taken}
+use Rattle.chess_sessions.specs.declared.turn.TurnLine.{TurnLine}
 use Rattle.chess_sessions.specs.Session.{Said, SessionState, session_at}
 use Rattle.chess_sessions.specs.Answers.{given_name, renamed, own_answer}
 
@@ -26,7 +26,7 @@ DropsLines (suc n) old new = (between : Heard) × DropsLines n old between × Dr
 
 -- a line that was taken, and its answer
 pub record Answered : Type 0 where
-  pub taken : Taken
+  pub taken : TurnLine
   pub said : Said
 
 abbrev pub own : ℕ → List Answered → List Answered
@@ -66,14 +66,14 @@ pub record IsGiven (old : Session) (given : Option (List ℕ)) (reply : Reply) (
 abbrev pub HasRoom : ℕ → Session → Type 0
 HasRoom count s = deque_len s.answers + count ≤ deque_capacity s.answers
 
-abbrev pub HaveRoom : ℕ → Slab Session → List Taken → Type 0
-HaveRoom count slab taken = All (λ t. IsSomeAnd (get slab t.sid) (HasRoom count)) taken
+abbrev pub HaveRoom : ℕ → Slab Session → List TurnLine → Type 0
+HaveRoom count slab lines = All (λ t. IsSomeAnd (get slab t.sid) (HasRoom count)) lines
 
 -- the lines are of sessions that are open
-abbrev pub AreOpen : Sessions → List Taken → Type 0
-AreOpen s taken = All (λ t. IsSome (get s.slab t.sid)) taken
+abbrev pub AreOpen : Sessions → List TurnLine → Type 0
+AreOpen s lines = All (λ t. IsSome (get s.slab t.sid)) lines
 
 -- how many lines ask something of the table
-abbrev pub asking_count : ℕ → List Taken → ℕ
+abbrev pub asking_count : ℕ → List TurnLine → ℕ
 asking_count at [] = 0
-asking_count at (t ∷ taken) = (if is_none (own_answer at t.line) then 1 else 0) + asking_count at taken
+asking_count at (t ∷ lines) = (if is_none (own_answer at t.line) then 1 else 0) + asking_count at lines

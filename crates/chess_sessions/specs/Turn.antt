@@ -1,4 +1,4 @@
--- How lines are taken in turn.
+-- Which lines stand next in turn.
 use Rattle.std.specs.Prelude.{ℕ, ◌≡◌, zero, suc, List, [], ◌++◌, Option, map, option_map, slice_get, take}
 use Rattle.std.specs.Option.{MatchOption}
 use Rattle.std.specs.List.{filter_map, cons_option, AllZip}
@@ -8,7 +8,7 @@ use Rattle.chess_line.specs.declared.lines.Request.{Request}
 use Rattle.chess_line.specs.Line.{IsLineOf}
 use Rattle.chess_sessions.specs.declared.sessions.Session.{Session}
 use Rattle.chess_sessions.specs.declared.sessions.Sessions.{Sessions}
-use Rattle.chess_sessions.specs.declared.taking.Taken.{Taken}
+use Rattle.chess_sessions.specs.declared.turn.TurnLine.{TurnLine}
 
 -- a session's number and its lines that wait, from the oldest on
 pub record Waiting : Type 0 where
@@ -54,15 +54,15 @@ waiting_of s = waiting_in s.slab
 abbrev pub IsReading : List ℕ → Option Request → Type 0
 IsReading text read = MatchOption read ((line : Request) → ¬ IsLineOf text line) (IsLineOf text)
 
--- a line that was taken is one of a session, read
-pub record IsTakenAs (line : SessionLine) (taken : Taken) : Type 0 where
-  pub sid : taken.sid ≡ line.sid
-  pub reads : IsReading line.text taken.line
+-- a line of a turn is one of a session, read
+pub record IsTurnLine (line : SessionLine) (read : TurnLine) : Type 0 where
+  pub sid : read.sid ≡ line.sid
+  pub reads : IsReading line.text read.line
 
-abbrev pub AreTakenAs : List SessionLine → List Taken → Type 0
-AreTakenAs lines taken = AllZip IsTakenAs lines taken
+abbrev pub AreTurnLines : List SessionLine → List TurnLine → Type 0
+AreTurnLines lines turn = AllZip IsTurnLine lines turn
 
--- Behind some lines more were taken, as long as there was room.
-abbrev pub MoreTaken : ℕ → List Taken → List Taken → List SessionLine → Type 0
-MoreTaken most old new more =
-    (lines : List SessionLine) → AreTakenAs (take most lines) old → AreTakenAs (take most (lines ++ more)) new
+-- Behind some lines of a turn more stand, as long as there was room.
+abbrev pub MoreTurnLines : ℕ → List TurnLine → List TurnLine → List SessionLine → Type 0
+MoreTurnLines most old new more =
+    (lines : List SessionLine) → AreTurnLines (take most lines) old → AreTurnLines (take most (lines ++ more)) new

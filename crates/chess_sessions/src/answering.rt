@@ -10,7 +10,7 @@ ghost use Rattle.chess_sessions.specs.Answers.{is_late, given_name, own_answer, 
 ghost use Rattle.chess_sessions.specs.Delivery.{Answered, AllAnswered, IsGiven, HasRoom, HaveRoom, AreOpen, asking_count};
 
 use crate::sessions::{Session, Sessions, Sid};
-use crate::taking::Taken;
+use crate::turn::TurnLine;
 use chess_answer::{AnswerLine, Reply, named_line, refusal_line};
 use chess_entry::{Command, GREATEST_MOMENT, Refusal};
 use chess_line::Request;
@@ -54,7 +54,7 @@ fn own_answer(at: u64, line: &Option<Request>) -> Option<AnswerLine>
 }
 
 // The name of a session after a line, which may be its own.
-fn name_after(at: u64, line: &Taken, sid: Sid, before: Option<Name>) -> Option<Name>
+fn name_after(at: u64, line: &TurnLine, sid: Sid, before: Option<Name>) -> Option<Name>
     ensures { result ≡ names_after at (λ _. before) line.now sid }
 {
     if line.sid != sid {
@@ -67,18 +67,18 @@ fn name_after(at: u64, line: &Taken, sid: Sid, before: Option<Name>) -> Option<N
 }
 
 // The name of a session after lines, of which some may be its own.
-fn name_over(at: u64, taken: &[Taken], sid: Sid, before: Option<Name>) -> Option<Name>
-    ensures { (names : ℕ → Option (List ℕ)) → names sid ≡ before → result ≡ names_over at names taken.now sid }
+fn name_over(at: u64, lines: &[TurnLine], sid: Sid, before: Option<Name>) -> Option<Name>
+    ensures { (names : ℕ → Option (List ℕ)) → names sid ≡ before → result ≡ names_over at names lines.now sid }
 {
     let mut name = before;
-    for line in taken {
+    for line in lines {
         name = name_after(at, line, sid, name);
     }
     name
 }
 
-// What a line asks of the table, behind other commands. It fails where memory is refused.
-fn ask(
+// Pushes what a line asks of the table behind other commands. It fails where memory is refused.
+fn push_command(
     at: u64,
     who: Option<Name>,
     line: &Option<Request>,
@@ -155,17 +155,17 @@ fn make_room(slab: &mut Slab<Session>, sid: Sid, count: usize) -> Result<(), All
 }
 
 impl Sessions {
-    /// The commands of lines that were taken, at a moment: acts, each by the name that its session has after the lines
+    /// The commands of the lines of a turn, at a moment: acts, each by the name that its session has after the lines
     /// before it. It fails where memory is refused.
-    pub fn commands(&self, at: u64, taken: &[Taken]) -> Result<Vec<Command>, AllocError>
-        ensures commands { IfOk result (λ commands. commands.items ≡ commands_of at (name_at self.now) taken.now) }
-        ensures count { IfOk result (λ commands. vec_len commands ≡ asking_count at taken.now) }
-        ensures few { IfOk result (λ commands. vec_len commands ≤ length taken.now) }
+    pub fn commands(&self, at: u64, lines: &[TurnLine]) -> Result<Vec<Command>, AllocError>
+        ensures commands { IfOk result (λ commands. commands.items ≡ commands_of at (name_at self.now) lines.now) }
+        ensures count { IfOk result (λ commands. vec_len commands ≡ asking_count at lines.now) }
+        ensures few { IfOk result (λ commands. vec_len commands ≤ length lines.now) }
     {
         let mut commands = Vec::new(self.alloc);
-        for (place, line) in taken.iter().enumerate() {
-            let who = name_over(at, &taken[..place], line.sid, self.name(line.sid));
-            ask(at, who, &line.line, &mut commands)?;
+        for (place, line) in lines.iter().enumerate() {
+            let who = name_over(at, &lines[..place], line.sid, self.name(line.sid));
+            push_command(at, who, &line.line, &mut commands)?;
         }
         Ok(commands)
     }
@@ -180,29 +180,30 @@ impl Sessions {
         }
     }
 
-    /// Makes room for the answers to lines that were taken. All sessions are as they were; it fails where memory is refused.
-    pub fn reserve(&mut self, taken: &[Taken]) -> Result<(), AllocError>
-        requires { AreOpen self.old taken.now }
-        ensures room { OnOk result (HaveRoom (length taken.now) self.new.slab taken.now) }
+    /// Makes room for the answers to the lines of a turn. All sessions are as they were; it fails where memory is
+    /// refused.
+    pub fn reserve(&mut self, lines: &[TurnLine]) -> Result<(), AllocError>
+        requires { AreOpen self.old lines.now }
+        ensures room { OnOk result (HaveRoom (length lines.now) self.new.slab lines.now) }
         ensures unchanged { IsUnchanged self.old self.new }
     {
-        for line in taken {
-            make_room(&mut self.slab, line.sid, taken.len())?;
+        for line in lines {
+            make_room(&mut self.slab, line.sid, lines.len())?;
         }
         Ok(())
     }
 
     /// Takes lines of sessions that wait and gives each its answer: to those that ask something of the table these replies,
     /// one after the other. A name holds from its line on. It takes no memory, for which room was made.
-    pub fn deliver(&mut self, at: u64, taken: &[Taken], replies: Vec<Reply>)
-        requires room { HaveRoom (length taken.now) self.old.slab taken.now }
-        requires replies { length replies.items ≡ asking_count at taken.now }
-        ensures { (answered : List Answered) × (map (λ a. a.taken) answered ≡ taken.now)
-            × AreAnswers at taken.now (map said replies.items) (map (λ a. a.said) answered)
+    pub fn deliver(&mut self, at: u64, lines: &[TurnLine], replies: Vec<Reply>)
+        requires room { HaveRoom (length lines.now) self.old.slab lines.now }
+        requires replies { length replies.items ≡ asking_count at lines.now }
+        ensures { (answered : List Answered) × (map (λ a. a.taken) answered ≡ lines.now)
+            × AreAnswers at lines.now (map said replies.items) (map (λ a. a.said) answered)
             × AllAnswered at answered self.old self.new }
     {
         let mut left = replies.into_iter();
-        for line in taken {
+        for line in lines {
             let reply = next_answer(self.alloc, at, &line.line, &mut left);
             give(&mut self.slab, line.sid, given_name(at, &line.line), reply);
         }

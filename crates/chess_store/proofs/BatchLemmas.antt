@@ -21,7 +21,7 @@ use Rattle.chess_entry.specs.Verdict.{IsVerdict, is_read, in_game, player_verdic
 use Rattle.chess_entry.specs.Table.{IsEnteredOn, AreEnteredOn, followed}
 use Rattle.chess_entry.proofs.MeaningMore.{AreEnteredOn-none, AreEnteredOn-cons, AreEnteredOn-append, followed-append}
 use Rattle.chess_answer.specs.declared.reads.Reply.{Reply}
-use Rattle.chess_store.specs.Batch.{IsNothing, Becomes, IsOutcome, IsAnswered, AreRecorded, act_count}
+use Rattle.chess_store.specs.Batch.{IsNothing, Becomes, IsOutcome, IsAnswered, AreRecorded, change_count}
 
 -- entries that may come, and the table with them
 pub record Come (before : TableState) (entries : List Entry) (after : TableState) : Type 0 where
@@ -125,7 +125,7 @@ read_enters_none table command e is =
 -- The entries of a command are one at most, and none of a read.
 becomes_few : (verdict : Verdict) (before : TableState) (command : Command) (reply : Reply) (entries : List Entry)
     (after : TableState) → ((e : Entry) → verdict ≡ Enter e → is_read command.act ≡ false)
-    → Becomes verdict before command reply entries after → length entries ≤ act_count (command ∷ [])
+    → Becomes verdict before command reply entries after → length entries ≤ change_count (command ∷ [])
 becomes_few (Refuse refusal) before command reply entries after act is = omega (arith, ap length is.1.none)
 becomes_few Read before command reply entries after act is = omega (arith, ap length is.1.none)
 becomes_few (Enter e) before command reply entries after act (inl taken) =
@@ -137,7 +137,7 @@ becomes_few (Enter e) before command reply entries after act (inr none) = omega 
 
 pub outcome_few : (before : TableState) (command : Command) (reply : Reply) (entries : List Entry)
     (after : TableState) → IsOutcome before command reply entries after
-    → length entries ≤ act_count (command ∷ [])
+    → length entries ≤ change_count (command ∷ [])
 outcome_few before command reply entries after is =
     becomes_few is.verdict before command reply entries after
     (λ e same. read_enters_none before command e (subst (λ (v : Verdict). IsVerdict before command v) same is.is))
@@ -181,10 +181,10 @@ answered_more (other ∷ commands) before (given ∷ replies) entries between co
   whole = ap (λ (es : List Entry). es ++ more) is.whole ∙ append_assoc is.first is.others more;
 }
 
--- the acts of a batch are those of its first command and of the rest
-pub act_count-cons : (command : Command) (commands : List Command)
-    → act_count (command ∷ commands) ≡ act_count (command ∷ []) + act_count commands
-act_count-cons command commands =
+-- the changes of a batch are those of its first command and of the rest
+pub change_count-cons : (command : Command) (commands : List Command)
+    → change_count (command ∷ commands) ≡ change_count (command ∷ []) + change_count commands
+change_count-cons command commands =
     let f : Command → ℕ = λ c. cond {A = ℕ} (not (is_read c.act)) 1 0 in
     omega (arith, sum_by-cons f command commands)
 
@@ -215,12 +215,12 @@ recorded_more before commands i command replies records new between after reply 
           front.are one.are);
     }
 
--- the acts of the commands from one on
-pub acts_from : (commands : List Command) (i : ℕ) (command : Command) → i < length commands
+-- the changes of the commands from one on
+pub changes_from : (commands : List Command) (i : ℕ) (command : Command) → i < length commands
     → command ≡ get_or commands i command
-    → act_count (drop i commands) ≡ act_count (command ∷ []) + act_count (drop (i + 1) commands)
-acts_from commands i command within is =
+    → change_count (drop i commands) ≡ change_count (command ∷ []) + change_count (drop (i + 1) commands)
+changes_from commands i command within is =
     let all : drop i commands ≡ command ∷ drop (i + 1) commands =
     drop-cons commands i command within ∙ ap (λ (x : Command). x ∷ drop (suc i) commands) (sym is)
     ∙ ap (λ (k : ℕ). command ∷ drop k commands) (sym (add-one i)) in
-    ap (λ (cs : List Command). act_count cs) all ∙ act_count-cons command (drop (i + 1) commands)
+    ap (λ (cs : List Command). change_count cs) all ∙ change_count-cons command (drop (i + 1) commands)

@@ -105,11 +105,11 @@ pub record AreRecorded (old new : List Record) (P : List Entry → Type 0) : Typ
 
 -- ---- what is worn out
 
--- the acts of a batch: its commands that are no reads
-abbrev pub act_count : List Command → ℕ
-act_count commands = count_by (λ command. not (is_read command.act)) commands
+-- how many changes a batch asks for: its commands that are no reads
+abbrev pub change_count : List Command → ℕ
+change_count commands = count_by (λ command. not (is_read command.act)) commands
 
--- The acts of a batch would need a header's number, or a count of entries, over 2^64 - 1.
-pub record IsWornOut (number entries acts : ℕ) : Type 0 where
-  pub some : 1 ≤ acts
-  pub full : (number ≡ 2 ^ 64 - 1) ⊎ (2 ^ 64 - 1 < entries + acts)
+-- The changes that a batch asks for would need a header's number, or a count of entries, over 2^64 - 1.
+pub record IsWornOut (number entries changes : ℕ) : Type 0 where
+  pub some : 1 ≤ changes
+  pub full : (number ≡ 2 ^ 64 - 1) ⊎ (2 ^ 64 - 1 < entries + changes)

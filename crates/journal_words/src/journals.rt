@@ -12,7 +12,7 @@ use file_device::FileDevice;
 use rec_codec::{Limits, need};
 use sector_dev::{Device, Got};
 use server_telling::{Teller, TellingDevice};
-use server_work::{Fault, Formatting, Tables, open_file, open_on, opened, printed, told};
+use server_work::{Fault, Formatting, JournalLimits, open_file, open_on, opened, printed, told};
 use std::alloc::Global;
 use std::fs::{File, FileType};
 use std::io::{ErrorKind, Read};
@@ -64,14 +64,14 @@ fn may_lengthen<R: Files<File = File> + Eprint>(
     rt: &R,
     alloc: Global,
     teller: &Teller<'_, R>,
-    tables: &Tables<'_>,
+    wanted: &JournalLimits<'_>,
 ) -> Result<(), Fault>
     ensures { IfErr result IsFormatFault }
 {
-    match FileDevice::open(rt, tables.journal) {
+    match FileDevice::open(rt, wanted.journal) {
         Ok(device) => {
-            let device = TellingDevice::new(device, teller, tables.journal);
-            may_outgrow(alloc, device, tables.limits)
+            let device = TellingDevice::new(device, teller, wanted.journal);
+            may_outgrow(alloc, device, wanted.limits)
         }
         // A file that can't be opened so is the system's to tell of, at the next call.
         Err(_) => Ok(()),
@@ -199,15 +199,15 @@ fn make_journal<R: Files<File = File> + Print + Eprint>(
 ) -> Result<(), Fault>
     ensures { IfErr result IsFormatFault }
 {
-    let tables = &formatting.tables;
-    let sectors = need(tables.limits);
+    let wanted = &formatting.wanted;
+    let sectors = need(wanted.limits);
     if !formatting.is_forced {
-        may_overwrite(rt, alloc, teller, tables.journal)?;
+        may_overwrite(rt, alloc, teller, wanted.journal)?;
     }
-    may_lengthen(rt, alloc, teller, tables)?;
-    let file = make_file(rt, teller, tables.journal, sectors)?;
-    let device = TellingDevice::new(file, teller, tables.journal);
-    format_on(alloc, device, tables.limits, formatting.is_forced)?;
+    may_lengthen(rt, alloc, teller, wanted)?;
+    let file = make_file(rt, teller, wanted.journal, sectors)?;
+    let device = TellingDevice::new(file, teller, wanted.journal);
+    format_on(alloc, device, wanted.limits, formatting.is_forced)?;
     printed(teller, println!(rt; "ok format {sectors}"))
 }
 
@@ -223,7 +223,7 @@ pub fn format<R: Files<File = File> + Print + Eprint>(
 {
     let teller = Teller::new(rt, false);
     let made = make_journal(rt, alloc, &teller, formatting);
-    told(&teller, formatting.tables.journal, made)
+    told(&teller, formatting.wanted.journal, made)
 }
 
 // Whether no limit is below the present one.
@@ -283,17 +283,17 @@ fn widen_journal<R: Files<File = File> + Print + Eprint>(
     rt: &R,
     alloc: Global,
     teller: &Teller<'_, R>,
-    tables: &Tables<'_>,
+    wanted: &JournalLimits<'_>,
 ) -> Result<(), Fault>
     ensures { IfErr result IsWidenFault }
 {
-    if !may_widen(limits_of(rt, alloc, teller, tables.journal)?, tables.limits) {
+    if !may_widen(limits_of(rt, alloc, teller, wanted.journal)?, wanted.limits) {
         return Err(Fault::Limits);
     }
-    let sectors = need(tables.limits);
-    let file = make_file(rt, teller, tables.journal, sectors)?;
-    let device = TellingDevice::new(file, teller, tables.journal);
-    widen_on(alloc, device, tables.limits)?;
+    let sectors = need(wanted.limits);
+    let file = make_file(rt, teller, wanted.journal, sectors)?;
+    let device = TellingDevice::new(file, teller, wanted.journal);
+    widen_on(alloc, device, wanted.limits)?;
     printed(teller, println!(rt; "ok widen {sectors}"))
 }
 
@@ -302,11 +302,11 @@ fn widen_journal<R: Files<File = File> + Print + Eprint>(
 pub fn widen<R: Files<File = File> + Print + Eprint>(
     rt: &R,
     alloc: Global,
-    tables: &Tables<'_>,
+    wanted: &JournalLimits<'_>,
 ) -> Result<(), Fault>
     ensures { IfErr result IsWidenFault }
 {
     let teller = Teller::new(rt, false);
-    let widened = widen_journal(rt, alloc, &teller, tables);
-    told(&teller, tables.journal, widened)
+    let widened = widen_journal(rt, alloc, &teller, wanted);
+    told(&teller, wanted.journal, widened)
 }

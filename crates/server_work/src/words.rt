@@ -23,7 +23,7 @@ pub enum Word<'a> {
     /// To play the crashes of one batch in memory.
     Drill,
     /// To raise the limits of a journal's table.
-    Widen(Tables<'a>),
+    Widen(JournalLimits<'a>),
     /// To copy a journal.
     Copy(Copying<'a>),
     /// To write the games of a journal's file.
@@ -32,7 +32,7 @@ pub enum Word<'a> {
 
 /// A journal's file, and the limits that its table is to have.
 #[derive(Clone, Copy)]
-pub struct Tables<'a> {
+pub struct JournalLimits<'a> {
     pub journal: &'a str,
     pub limits: Limits,
     ghost in_range: { IsInRange Two limits },
@@ -41,7 +41,7 @@ pub struct Tables<'a> {
 /// The file that is to be a journal, with its limits, and whether one that holds something else may be made one.
 #[derive(Clone, Copy)]
 pub struct Formatting<'a> {
-    pub tables: Tables<'a>,
+    pub wanted: JournalLimits<'a>,
     pub is_forced: bool,
 }
 
@@ -89,21 +89,21 @@ fn word_of<'a>((word, values): (&'a str, &ArgMatches<'a>)) -> Option<Word<'a>> {
         "run" => Some(Word::Run(values.get_str("journal")?)),
         "serve" => Some(Word::Serve(serving_of(values)?)),
         "drill" => Some(Word::Drill),
-        "widen" => Some(Word::Widen(tables_of(values)?)),
+        "widen" => Some(Word::Widen(journal_limits_of(values)?)),
         "copy" => Some(Word::Copy(copying_of(values)?)),
         "show" => Some(Word::Show(values.get_str("journal")?)),
         _ => None,
     }
 }
 
-fn tables_of<'a>(values: &ArgMatches<'a>) -> Option<Tables<'a>> {
+fn journal_limits_of<'a>(values: &ArgMatches<'a>) -> Option<JournalLimits<'a>> {
     let journal = values.get_str("journal")?;
     let limits = Limits {
         games: values.get_one("games")?,
         plies: values.get_one("plies")?,
     };
     if limits.is_in_range(Version::Two) {
-        Some(Tables { journal, limits })
+        Some(JournalLimits { journal, limits })
     } else {
         None
     }
@@ -111,7 +111,7 @@ fn tables_of<'a>(values: &ArgMatches<'a>) -> Option<Tables<'a>> {
 
 fn formatting_of<'a>(values: &ArgMatches<'a>) -> Option<Formatting<'a>> {
     Some(Formatting {
-        tables: tables_of(values)?,
+        wanted: journal_limits_of(values)?,
         is_forced: values.get_flag("force"),
     })
 }

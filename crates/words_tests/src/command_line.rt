@@ -27,10 +27,10 @@ fn said_by(word: &Word<'_>) -> Option<Said> {
         Word::Run(journal) => (*journal, "k", (2, false, 0, None, None)),
         Word::Show(journal) => (*journal, "k", (3, false, 0, None, None)),
         Word::Copy(copying) => (copying.journal, copying.copy, (4, false, 0, None, None)),
-        Word::Format(Formatting { tables, is_forced }) => {
-            let (games, plies) = (tables.limits.games, u64::from(tables.limits.plies));
+        Word::Format(Formatting { wanted, is_forced }) => {
+            let (games, plies) = (wanted.limits.games, u64::from(wanted.limits.plies));
             (
-                tables.journal,
+                wanted.journal,
                 "k",
                 (5, *is_forced, 0, Some(games), Some(plies)),
             )

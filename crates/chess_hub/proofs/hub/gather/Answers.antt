@@ -1,5 +1,5 @@
 use Rattle.std.proofs.Common.{◌∙◌, List, length, ap, subst}
-use Rattle.chess_sessions.specs.declared.taking.Taken.{Taken}
+use Rattle.chess_sessions.specs.declared.turn.TurnLine.{TurnLine}
 use Rattle.chess_sessions.specs.Answers.{name_at, commands_of}
 use Rattle.chess_sessions.specs.Delivery.{HaveRoom}
 use Rattle.chess_hub.proofs.hub.gather.Goals as goal
@@ -7,9 +7,9 @@ use Rattle.chess_hub.proofs.hub.gather.Goals as goal
 pub returns-clause-commands : goal.returns-clause-commands
 returns-clause-commands c =
     c.in_ok-commands.ensures.commands
-    ∙ ap (λ (ts : List Taken). commands_of c.args.at (name_at c.args.sessions.now) ts) c.deref.ensures.value
+    ∙ ap (λ (ts : List TurnLine). commands_of c.args.at (name_at c.args.sessions.now) ts) c.deref.ensures.value
 
 pub returns-clause-room : goal.returns-clause-room
 returns-clause-room c =
-    subst (λ (ts : List Taken). HaveRoom (length ts) c.reserve.new.self.slab ts) c.deref-2.ensures.value
+    subst (λ (ts : List TurnLine). HaveRoom (length ts) c.reserve.new.self.slab ts) c.deref-2.ensures.value
     c.in_ok-reserve.ensures.room

@@ -4,7 +4,7 @@ use Rattle.sector_dev.proofs.Runs.{leaves_now}
 use Rattle.chess_entry.specs.declared.commands.Command.{Command}
 use Rattle.chess_answer.specs.declared.reads.Reply.{Reply}
 use Rattle.chess_store.specs.declared.fault.StoreFault.{StoreFault}
-use Rattle.chess_store.specs.Batch.{IsAnswered, IsWornOut, act_count}
+use Rattle.chess_store.specs.Batch.{IsAnswered, IsWornOut, change_count}
 use Rattle.chess_store.specs.Faults.{UnlessDevice, CountsFault, MayLast}
 use Rattle.chess_store.specs.Kept.{IsStoreKept}
 use Rattle.chess_store.specs.Means.{MeansEither, IsKept}
@@ -108,7 +108,7 @@ returns-in-Err-clause-tallied g c =
     c.batch-item.result.items
     (subst (λ (d : _). IsKept (g.D.Device.state d) store.journal.header store.journal.compaction store.table)
     (sym same.0) (inv.kept was))
-    (subst (λ (commands : List Command). IsWornOut store.journal.header.seq store.table.entries (act_count commands))
+    (subst (λ (commands : List Command). IsWornOut store.journal.header.seq store.table.entries (change_count commands))
     c.deref.ensures.value worn))
     (λ was.
     let kept = inv.kept was in

@@ -5,9 +5,9 @@ use Rattle.chess_sessions.proofs.answering.name_over.Goals as goal
 
 pub loop-line-preserved : goal.loop-line-preserved
 loop-line-preserved c names e =
-    let taken = c.args.taken.now in
+    let lines = c.args.lines.now in
     let i = c.loop-line.line-index in
     let t = c.line-item.result in
-    c.name_after-name.ensures ∙ sym (name-step c.args.at names taken i c.args.sid t c.loop-line.name
-    (take_more taken i t c.loop-line-test.true ∙ ap (λ x. take i taken ++ x ∷ []) (sym c.line-item.is))
+    c.name_after-name.ensures ∙ sym (name-step c.args.at names lines i c.args.sid t c.loop-line.name
+    (take_more lines i t c.loop-line-test.true ∙ ap (λ x. take i lines ++ x ∷ []) (sym c.line-item.is))
     (c.loop-line.invariant names e))

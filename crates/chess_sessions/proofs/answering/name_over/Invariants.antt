@@ -4,4 +4,4 @@ use Rattle.chess_sessions.proofs.answering.name_over.Given as goal
 
 abbrev pub invariant-loop-line : goal.invariant-loop-line
 invariant-loop-line l = (names : ℕ → Option (List ℕ)) → names l.sid ≡ l.fn.before →
-    l.name ≡ names_over l.at names (take l.line-index l.taken) l.sid
+    l.name ≡ names_over l.at names (take l.line-index l.lines) l.sid

@@ -1,7 +1,7 @@
 use Rattle.std.proofs.Common.{◌≡◌, ◌∙◌, List, Err, length, map, refl, sym, subst}
 use Rattle.std.proofs.lemmas.Result.{err_from_is_err_and}
 use Rattle.chess_entry.specs.declared.commands.Command.{Command}
-use Rattle.chess_sessions.specs.declared.taking.Taken.{Taken}
+use Rattle.chess_sessions.specs.declared.turn.TurnLine.{TurnLine}
 use Rattle.chess_sessions.specs.Session.{said}
 use Rattle.chess_sessions.specs.Answers.{name_at, commands_of, AreAnswers}
 use Rattle.chess_sessions.specs.Delivery.{HaveRoom}
@@ -22,7 +22,7 @@ pub returns-in_err-replies-clause-fault : goal.returns-in_err-replies-clause-fau
 returns-in_err-replies-clause-fault g c =
     let s = c.args.self.now in
     let at = c.args.at in
-    let taken = c.in-Ok.gathered.taken.items in
+    let taken = c.in-Ok.gathered.lines.items in
     let r = c.from_residual in
     let e = err_from_is_err_and r.result r.ensures.1 in
     let asked : c.deref.result.now ≡ commands_of at (name_at s.sessions) taken =
@@ -57,14 +57,14 @@ returns-in_err-replies-clause-counts g c =
 
 pub deliver-requires-clause-room : goal.deliver-requires-clause-room
 deliver-requires-clause-room g c =
-    subst (λ (ts : List Taken). HaveRoom (length ts) c.gather.new.sessions.slab ts) (sym c.deref-2.ensures.value)
+    subst (λ (ts : List TurnLine). HaveRoom (length ts) c.gather.new.sessions.slab ts) (sym c.deref-2.ensures.value)
     c.in-Ok.ensures.room
 
 pub returns-clause-turned : goal.returns-clause-turned
 returns-clause-turned g c =
     let s = c.args.self.now in
     let at = c.args.at in
-    let taken = c.in-Ok.gathered.taken.items in
+    let taken = c.in-Ok.gathered.lines.items in
     let replies = c.in_ok-replies.replies.items in
     let asked : c.deref.result.now ≡ commands_of at (name_at s.sessions) taken =
     c.deref.ensures.value ∙ c.in-Ok.ensures.commands in
@@ -77,7 +77,7 @@ returns-clause-turned g c =
           c.in_ok-replies.ensures.replies;
       answered = d.0;
       whose = d.1 ∙ c.deref-2.ensures.value;
-      answers = subst (λ (ts : List Taken). AreAnswers at ts (map said replies) (map (λ a. a.said) d.0))
+      answers = subst (λ (ts : List TurnLine). AreAnswers at ts (map said replies) (map (λ a. a.said) d.0))
           c.deref-2.ensures.value d.2;
       all = answered_since at d.0 s.sessions c.gather.new.sessions c.deliver.new.self c.gather.ensures.unchanged d.3;
     }

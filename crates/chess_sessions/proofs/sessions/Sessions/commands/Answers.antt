@@ -8,24 +8,24 @@ use Rattle.chess_sessions.proofs.NameLemmas.{commands-step, asking-few}
 use Rattle.chess_sessions.proofs.sessions.Sessions.commands.Goals as goal
 
 pub returns-clause-few : goal.returns-clause-few
-returns-clause-few c = omega (arith, asking-few c.args.at c.args.taken.now)
+returns-clause-few c = omega (arith, asking-few c.args.at c.args.lines.now)
 
 pub loop-place-preserved : goal.loop-place-preserved
 loop-place-preserved c =
-    let taken = c.args.taken.now in
+    let lines = c.args.lines.now in
     let i = c.loop-place.place in
-    let t = c.index-taken-place.result in
+    let t = c.index-lines-place.result in
     let names = name_at c.args.self.now in
     let done = c.loop-place.commands.items in
-    let split = left_from taken i t c.loop-place-test.true (sym c.index-taken-place.is) in
-    let rest = commands_of c.args.at (names_over c.args.at names (take (i + 1) taken)) (drop (i + 1) taken) in
-    let e : asking_count c.args.at (drop i taken)
-    ≡ (if is_none (own_answer c.args.at t.line) then 1 else 0) + asking_count c.args.at (drop (i + 1) taken) =
+    let split = left_from lines i t c.loop-place-test.true (sym c.index-lines-place.is) in
+    let rest = commands_of c.args.at (names_over c.args.at names (take (i + 1) lines)) (drop (i + 1) lines) in
+    let e : asking_count c.args.at (drop i lines)
+    ≡ (if is_none (own_answer c.args.at t.line) then 1 else 0) + asking_count c.args.at (drop (i + 1) lines) =
     ap (asking_count c.args.at) split in (
-      commands-step c.args.at names taken i t done split
-          (take_more taken i t c.loop-place-test.true ∙ ap (λ x. take i taken ++ x ∷ []) (sym c.index-taken-place.is))
+      commands-step c.args.at names lines i t done split
+          (take_more lines i t c.loop-place-test.true ∙ ap (λ x. take i lines ++ x ∷ []) (sym c.index-lines-place.is))
           c.loop-place.invariant.0
           ∙ ap (λ xs. xs ++ rest) (ap (λ w. done ++ asked c.args.at w t.line)
-          (sym (c.name_over-who.ensures names (sym c.name.ensures))) ∙ sym c.in_ok-ask.ensures.commands),
-      omega (arith, c.in_ok-ask.ensures.len),
+          (sym (c.name_over-who.ensures names (sym c.name.ensures))) ∙ sym c.in_ok-push_command.ensures.commands),
+      omega (arith, c.in_ok-push_command.ensures.len),
     )

@@ -5,6 +5,6 @@ use Rattle.chess_sessions.proofs.sessions.Sessions.commands.Given as goal
 
 abbrev pub invariant-loop-place : goal.invariant-loop-place
 invariant-loop-place l =
-    (commands_of l.at (name_at l.self) l.taken
-    ≡ l.commands.items ++ commands_of l.at (names_over l.at (name_at l.self) (take l.place l.taken)) (drop l.place l.taken))
-    × (asking_count l.at l.taken ≡ vec_len l.commands + asking_count l.at (drop l.place l.taken))
+    (commands_of l.at (name_at l.self) l.lines
+    ≡ l.commands.items ++ commands_of l.at (names_over l.at (name_at l.self) (take l.place l.lines)) (drop l.place l.lines))
+    × (asking_count l.at l.lines ≡ vec_len l.commands + asking_count l.at (drop l.place l.lines))

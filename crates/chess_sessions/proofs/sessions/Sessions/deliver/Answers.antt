@@ -8,43 +8,43 @@ use Rattle.chess_sessions.proofs.sessions.Sessions.deliver.Goals as goal
 
 pub loop-line-init : goal.loop-line-init
 loop-line-init c =
-    subst (λ l. Answering c.args.at c.args.taken.now 0 c.args.replies.items l c.args.self.now c.args.self.now)
+    subst (λ l. Answering c.args.at c.args.lines.now 0 c.args.replies.items l c.args.self.now c.args.self.now)
     (sym c.into_iter-left.ensures.rest)
-    (answering-none c.args.at c.args.taken.now c.args.replies.items c.args.self.now c.requires.room c.requires.replies)
+    (answering-none c.args.at c.args.lines.now c.args.replies.items c.args.self.now c.requires.room c.requires.replies)
 
 pub next_answer-reply-requires : goal.next_answer-reply-requires
 next_answer-reply-requires c =
-    let taken = c.args.taken.now in
+    let lines = c.args.lines.now in
     let i = c.loop-line.line-index in
     let t = c.line-item.result in
-    let split = left_from taken i t c.loop-line-test.true (sym c.line-item.is) in
+    let split = left_from lines i t c.loop-line-test.true (sym c.line-item.is) in
     one-left (own_answer c.args.at t.line) (length (into_iter_items c.loop-line.left))
-    (asking_count c.args.at (drop (i + 1) taken))
+    (asking_count c.args.at (drop (i + 1) lines))
     (c.loop-line.invariant.count ∙ ap (asking_count c.args.at) split)
 
 pub give-requires : goal.give-requires
 give-requires c =
-    let taken = c.args.taken.now in
+    let lines = c.args.lines.now in
     let i = c.loop-line.line-index in
     let t = c.line-item.result in
-    let split = left_from taken i t c.loop-line-test.true (sym c.line-item.is) in
-    room-here c.args.at taken i c.args.replies.items (into_iter_items c.loop-line.left) c.args.self.now c.loop-line.self t
+    let split = left_from lines i t c.loop-line-test.true (sym c.line-item.is) in
+    room-here c.args.at lines i c.args.replies.items (into_iter_items c.loop-line.left) c.args.self.now c.loop-line.self t
     c.loop-line.invariant c.loop-line-test.true split
 
 pub loop-line-preserved : goal.loop-line-preserved
 loop-line-preserved c =
-    let taken = c.args.taken.now in
+    let lines = c.args.lines.now in
     let i = c.loop-line.line-index in
     let t = c.line-item.result in
-    let split = left_from taken i t c.loop-line-test.true (sym c.line-item.is) in
-    answering-one c.args.at taken i t c.args.replies.items (into_iter_items c.loop-line.left)
+    let split = left_from lines i t c.loop-line-test.true (sym c.line-item.is) in
+    answering-one c.args.at lines i t c.args.replies.items (into_iter_items c.loop-line.left)
     (into_iter_items c.next_answer-reply.new.left) c.args.self.now c.loop-line.self
     (record c.loop-line.self { slab = c.give.new.slab }) c.given_name.result c.next_answer-reply.result c.loop-line.invariant
     c.loop-line-test.true split
-    (take_more taken i t c.loop-line-test.true ∙ ap (λ x. take i taken ++ x ∷ []) (sym c.line-item.is))
+    (take_more lines i t c.loop-line-test.true ∙ ap (λ x. take i lines ++ x ∷ []) (sym c.line-item.is))
     c.next_answer-reply.ensures c.give.ensures.given c.give.ensures.others c.given_name.ensures
 
 pub returns : goal.returns
 returns c =
-    answering-done c.args.at c.args.taken.now c.loop-line.line-index c.args.replies.items
+    answering-done c.args.at c.args.lines.now c.loop-line.line-index c.args.replies.items
     (into_iter_items c.loop-line.left) c.args.self.now c.loop-line.self c.loop-line.invariant c.loop-line-test.false

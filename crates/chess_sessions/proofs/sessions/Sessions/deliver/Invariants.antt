@@ -4,4 +4,4 @@ use Rattle.chess_sessions.proofs.sessions.Sessions.deliver.Given as goal
 
 abbrev pub invariant-loop-line : goal.invariant-loop-line
 invariant-loop-line l =
-    Answering l.at l.taken l.line-index l.fn.replies.items (into_iter_items l.left) l.fn.self l.self
+    Answering l.at l.lines l.line-index l.fn.replies.items (into_iter_items l.left) l.fn.self l.self

@@ -4,4 +4,4 @@ use Rattle.chess_sessions.specs.Delivery.{HaveRoom}
 use Rattle.chess_sessions.proofs.sessions.Sessions.reserve.Given as goal
 
 abbrev pub invariant-loop-line : goal.invariant-loop-line
-invariant-loop-line l = HaveRoom (length l.taken) l.self.slab (take l.line-index l.taken) × IsUnchanged l.fn.self l.self
+invariant-loop-line l = HaveRoom (length l.lines) l.self.slab (take l.line-index l.lines) × IsUnchanged l.fn.self l.self

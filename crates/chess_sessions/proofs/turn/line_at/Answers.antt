@@ -1,7 +1,7 @@
 use Rattle.std.proofs.Common.{◌≡◌, ◌∙◌, sym, ap, arith, drop}
 use Rattle.session_lines.specs.Lines.{lines_of}
-use Rattle.chess_sessions.proofs.TakingLemmas.{drop-step, past-none, found}
-use Rattle.chess_sessions.proofs.taking.line_at.Goals as goal
+use Rattle.chess_sessions.proofs.TurnLineLemmas.{drop-step, past-none, found}
+use Rattle.chess_sessions.proofs.turn.line_at.Goals as goal
 
 pub returns-in_err-next_line : goal.returns-in_err-next_line
 returns-in_err-next_line c =

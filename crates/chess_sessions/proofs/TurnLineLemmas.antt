@@ -1,4 +1,4 @@
--- Lines taken in turn.
+-- The lines of a turn.
 use Rattle.std.proofs.Common.{◌≡◌, ℕ, zero, suc, ◌<◌, ◌≤◌, ◌+◌, List, [], ◌∷◌, ◌++◌, length, take, map, refl, ap, sym, subst, ◌∙◌, arith, append_assoc, append-nil, length-append, length-take, add-one, Option, Some, None}
 use Rattle.std.specs.Prelude.{option_map, slice_get}
 use Rattle.std.specs.List.{All, Contains, cons_option}
@@ -18,45 +18,46 @@ use Rattle.std.specs.Option.{MatchOption}
 use Rattle.chess_line.specs.declared.lines.Request.{Request}
 use Rattle.chess_line.specs.Line.{IsLineOf}
 use Rattle.chess_sessions.specs.declared.sessions.Session.{Session}
-use Rattle.chess_sessions.specs.declared.taking.Taken.{Taken}
-use Rattle.chess_sessions.specs.Turn.{SessionLine, session_line, Waiting, waiting, waiting_in, line_of, lines_at, rounds, turn_lines, IsReading, IsTakenAs, AreTakenAs, MoreTaken}
+use Rattle.chess_sessions.specs.declared.turn.TurnLine.{TurnLine}
+use Rattle.chess_sessions.specs.Turn.{SessionLine, session_line, Waiting, waiting, waiting_in, line_of, lines_at, rounds, turn_lines, IsReading, IsTurnLine, AreTurnLines, MoreTurnLines}
 
--- where no more may be taken, none is
-pub more-full : (most : ℕ) (old : List Taken) (more : List SessionLine) → most ≤ length old → MoreTaken most old old more
-more-full most old more full lines taken =
-    let l : length old ≡ length (take most lines) = AllZip-long IsTakenAs (take most lines) old taken in
+-- where there may be no more, none comes
+pub more-full : (most : ℕ) (old : List TurnLine) (more : List SessionLine) → most ≤ length old →
+    MoreTurnLines most old old more
+more-full most old more full lines turn =
+    let l : length old ≡ length (take most lines) = AllZip-long IsTurnLine (take most lines) old turn in
     let long : most ≤ length lines = omega (arith, length-take most lines) in
-    subst (λ xs. AreTakenAs xs old) (sym (take-append-le most lines more long)) taken
+    subst (λ xs. AreTurnLines xs old) (sym (take-append-le most lines more long)) turn
 
-zip-push : (xs : List SessionLine) (ys : List Taken) (x : SessionLine) (y : Taken) → AreTakenAs xs ys → IsTakenAs x y →
-    AreTakenAs (xs ++ x ∷ []) (ys ++ y ∷ [])
+zip-push : (xs : List SessionLine) (ys : List TurnLine) (x : SessionLine) (y : TurnLine) → AreTurnLines xs ys →
+    IsTurnLine x y → AreTurnLines (xs ++ x ∷ []) (ys ++ y ∷ [])
 zip-push [] [] x y zip one = (one, tt)
 zip-push [] (b ∷ ys) x y zip one = absurd zip
 zip-push (a ∷ xs) [] x y zip one = absurd zip
 zip-push (a ∷ xs) (b ∷ ys) x y zip one = (zip.0, zip-push xs ys x y zip.1 one)
 
 -- one line more
-pub more-push : (most : ℕ) (old : List Taken) (line : SessionLine) (one : Taken) → length old < most → IsTakenAs line one →
-    MoreTaken most old (old ++ one ∷ []) (line ∷ [])
-more-push most old line one room is lines taken =
-    let l : length old ≡ length (take most lines) = AllZip-long IsTakenAs (take most lines) old taken in
+pub more-push : (most : ℕ) (old : List TurnLine) (line : SessionLine) (one : TurnLine) → length old < most →
+    IsTurnLine line one → MoreTurnLines most old (old ++ one ∷ []) (line ∷ [])
+more-push most old line one room is lines turn =
+    let l : length old ≡ length (take most lines) = AllZip-long IsTurnLine (take most lines) old turn in
     let short : length lines < most = omega (arith, length-take most lines) in
     let all : take most lines ≡ lines = take_all most lines (omega arith) in
     let same : take most (lines ++ line ∷ []) ≡ lines ++ line ∷ [] =
     take_all most (lines ++ line ∷ []) (omega (arith, length-append lines (line ∷ []))) in
-    subst (λ xs. AreTakenAs xs (old ++ one ∷ [])) (sym same)
-    (zip-push lines old line one (subst (λ xs. AreTakenAs xs old) all taken) is)
+    subst (λ xs. AreTurnLines xs (old ++ one ∷ [])) (sym same)
+    (zip-push lines old line one (subst (λ xs. AreTurnLines xs old) all turn) is)
 
 -- more, and then more
-pub more-then : (most : ℕ) (old mid new : List Taken) (first second : List SessionLine) → MoreTaken most old mid first →
-    MoreTaken most mid new second → MoreTaken most old new (first ++ second)
-more-then most old mid new first second a b lines taken =
-    subst (λ xs. AreTakenAs (take most xs) new) (append_assoc lines first second) (b (lines ++ first) (a lines taken))
+pub more-then : (most : ℕ) (old mid new : List TurnLine) (first second : List SessionLine) →
+    MoreTurnLines most old mid first → MoreTurnLines most mid new second → MoreTurnLines most old new (first ++ second)
+more-then most old mid new first second a b lines turn =
+    subst (λ xs. AreTurnLines (take most xs) new) (append_assoc lines first second) (b (lines ++ first) (a lines turn))
 
-pub more-none : (most : ℕ) (old : List Taken) → MoreTaken most old old []
-more-none most old lines taken = subst (λ xs. AreTakenAs (take most xs) old) (sym (append-nil lines)) taken
+pub more-none : (most : ℕ) (old : List TurnLine) → MoreTurnLines most old old []
+more-none most old lines turn = subst (λ xs. AreTurnLines (take most xs) old) (sym (append-nil lines)) turn
 
--- ---- whose lines are taken
+-- ---- whose lines they are
 
 -- the session of a number is opens
 abbrev pub IsOpen : Slab Session → ℕ → Type 0
@@ -98,47 +99,47 @@ open-turn slab most =
     (open-rounds slab most (waiting_in slab) (open-waiting slab))
 
 -- so are the sessions of the lines as they are read
-pub open-taken : (slab : Slab Session) (lines : List SessionLine) (taken : List Taken) → AreTakenAs lines taken →
-    All (λ l. IsOpen slab l.sid) lines → All (λ t. IsOpen slab t.sid) taken
-open-taken slab [] [] zip h = All-nil (λ t. IsOpen slab t.sid)
-open-taken slab [] (t ∷ taken) zip h = absurd zip
-open-taken slab (l ∷ lines) [] zip h = absurd zip
-open-taken slab (l ∷ lines) (t ∷ taken) zip h =
-    All-cons (λ t. IsOpen slab t.sid) t taken
+pub open-read : (slab : Slab Session) (lines : List SessionLine) (turn : List TurnLine) → AreTurnLines lines turn →
+    All (λ l. IsOpen slab l.sid) lines → All (λ t. IsOpen slab t.sid) turn
+open-read slab [] [] zip h = All-nil (λ t. IsOpen slab t.sid)
+open-read slab [] (t ∷ turn) zip h = absurd zip
+open-read slab (l ∷ lines) [] zip h = absurd zip
+open-read slab (l ∷ lines) (t ∷ turn) zip h =
+    All-cons (λ t. IsOpen slab t.sid) t turn
     (subst (IsOpen slab) (sym zip.0.sid) (All-head (λ l. IsOpen slab l.sid) l lines h))
-    (open-taken slab lines taken zip.1 (All-tail (λ l. IsOpen slab l.sid) l lines h))
+    (open-read slab lines turn zip.1 (All-tail (λ l. IsOpen slab l.sid) l lines h))
 
 -- a turn takes no more lines than it may
-pub few-taken : (most : ℕ) (lines : List SessionLine) (taken : List Taken) → AreTakenAs (take most lines) taken →
-    length taken ≤ most
-few-taken most lines taken zip =
-    let l : length taken ≡ length (take most lines) = AllZip-long IsTakenAs (take most lines) taken zip in
+pub few-read : (most : ℕ) (lines : List SessionLine) (turn : List TurnLine) → AreTurnLines (take most lines) turn →
+    length turn ≤ most
+few-read most lines turn zip =
+    let l : length turn ≡ length (take most lines) = AllZip-long IsTurnLine (take most lines) turn zip in
     omega (arith, length-take most lines)
 
 -- ---- a round
 
--- What was taken in the midst of a round: of the sessions before those that are left.
-pub record InRound (most place : ℕ) (all left : List Waiting) (old now : List Taken) : Type 0 where
+-- The lines of a turn in the midst of a round: of the sessions before those that are left.
+pub record InRound (most place : ℕ) (all left : List Waiting) (old now : List TurnLine) : Type 0 where
   pub done : List SessionLine
   pub split : lines_at place all ≡ done ++ lines_at place left
-  pub taken : MoreTaken most old now done
+  pub more : MoreTurnLines most old now done
 
-pub round-none : (most place : ℕ) (all : List Waiting) (old : List Taken) → InRound most place all all old old
-round-none most place all old = record { done = []; split = refl; taken = more-none most old }
+pub round-none : (most place : ℕ) (all : List Waiting) (old : List TurnLine) → InRound most place all all old old
+round-none most place all old = record { done = []; split = refl; more = more-none most old }
 
 -- all sessions were asked
-pub round-done : (most place : ℕ) (all left : List Waiting) (old now : List Taken) → InRound most place all left old now →
-    left ≡ [] → MoreTaken most old now (lines_at place all)
+pub round-done : (most place : ℕ) (all left : List Waiting) (old now : List TurnLine) →
+    InRound most place all left old now → left ≡ [] → MoreTurnLines most old now (lines_at place all)
 round-done most place all left old now h none =
-    subst (MoreTaken most old now)
-    (sym (h.split ∙ ap (λ ws. h.done ++ lines_at place ws) none ∙ append-nil h.done)) h.taken
+    subst (MoreTurnLines most old now)
+    (sym (h.split ∙ ap (λ ws. h.done ++ lines_at place ws) none ∙ append-nil h.done)) h.more
 
 -- a round after rounds
-pub rounds-more : (most n : ℕ) (sessions : List Waiting) (old now : List Taken) →
-    AreTakenAs (take most (rounds n sessions)) old → MoreTaken most old now (lines_at n sessions) →
-    AreTakenAs (take most (rounds (n + 1) sessions)) now
-rounds-more most n sessions old now taken more =
-    subst (λ k. AreTakenAs (take most (rounds k sessions)) now) (sym (add-one n)) (more (rounds n sessions) taken)
+pub rounds-more : (most n : ℕ) (sessions : List Waiting) (old now : List TurnLine) →
+    AreTurnLines (take most (rounds n sessions)) old → MoreTurnLines most old now (lines_at n sessions) →
+    AreTurnLines (take most (rounds (n + 1) sessions)) now
+rounds-more most n sessions old now turn more =
+    subst (λ k. AreTurnLines (take most (rounds k sessions)) now) (sym (add-one n)) (more (rounds n sessions) turn)
 
 -- ---- slots
 
@@ -198,14 +199,14 @@ one-more : (o : Option SessionLine) (rest : List SessionLine) → cons_option o 
 one-more None rest = refl
 one-more (Some line) rest = refl
 
-pub round-one : (most place : ℕ) (all left : List Waiting) (w : Waiting) (old mid now : List Taken) →
-    InRound most place all (w ∷ left) old mid → MoreTaken most mid now (line_of w.sid place w.lines) →
+pub round-one : (most place : ℕ) (all left : List Waiting) (w : Waiting) (old mid now : List TurnLine) →
+    InRound most place all (w ∷ left) old mid → MoreTurnLines most mid now (line_of w.sid place w.lines) →
     InRound most place all left old now
 round-one most place all left w old mid now h more = record {
   done = h.done ++ line_of w.sid place w.lines;
   split = h.split ∙ ap (λ xs. h.done ++ xs) (one-more (option_map (session_line w.sid) (slice_get w.lines place))
       (lines_at place left)) ∙ sym (append_assoc h.done (line_of w.sid place w.lines) (lines_at place left));
-  taken = more-then most old mid now h.done (line_of w.sid place w.lines) h.taken more;
+  more = more-then most old mid now h.done (line_of w.sid place w.lines) h.more more;
 }
 
 -- what `line_at` finds
@@ -221,19 +222,19 @@ reading text None some none = none
 reading text (Some line) some none = some
 
 -- one line more, if memory was given
-pub push-result : {R E : Type 0} → (r : Result R E) (most sid place : ℕ) (lines : List (List ℕ)) (old new : List Taken)
-    (text : List ℕ) (one : Taken) → new ≡ (if is_ok r then old ++ one ∷ [] else old) → slice_get lines place ≡ Some text →
-    length old < most → IsTakenAs (session_line sid text) one →
-    OnOk r (MoreTaken most old new (line_of sid place lines))
+pub push-result : {R E : Type 0} → (r : Result R E) (most sid place : ℕ) (lines : List (List ℕ))
+    (old new : List TurnLine) (text : List ℕ) (one : TurnLine) → new ≡ (if is_ok r then old ++ one ∷ [] else old) →
+    slice_get lines place ≡ Some text → length old < most → IsTurnLine (session_line sid text) one →
+    OnOk r (MoreTurnLines most old new (line_of sid place lines))
 push-result (Ok u) most sid place lines old new text one items some room is =
-    subst (λ xs. MoreTaken most old new xs)
+    subst (λ xs. MoreTurnLines most old new xs)
     (sym (ap (λ o. cons_option (option_map (session_line sid) o) []) some))
-    (subst (λ ts. MoreTaken most old ts (session_line sid text ∷ [])) (sym items)
+    (subst (λ ts. MoreTurnLines most old ts (session_line sid text ∷ [])) (sym items)
     (more-push most old (session_line sid text) one room is))
 push-result (Err e) most sid place lines old new text one items some room is = tt
 
-pub line-none : (most sid place : ℕ) (lines : List (List ℕ)) (old : List Taken) → slice_get lines place ≡ None →
-    MoreTaken most old old (line_of sid place lines)
+pub line-none : (most sid place : ℕ) (lines : List (List ℕ)) (old : List TurnLine) → slice_get lines place ≡ None →
+    MoreTurnLines most old old (line_of sid place lines)
 line-none most sid place lines old none =
-    subst (λ xs. MoreTaken most old old xs)
+    subst (λ xs. MoreTurnLines most old old xs)
     (sym (ap (λ o. cons_option (option_map (session_line sid) o) []) none)) (more-none most old)
