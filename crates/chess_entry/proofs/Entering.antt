@@ -3,8 +3,8 @@ use Rattle.std.specs.Prelude.{ℕ, ◌≡◌, ◌⊎◌, ◌+◌, ◌==◌, ◌&
 use Rattle.std.proofs.Common.{ap, sym, subst, ◌∙◌, refl, inl, inr}
 use Rattle.std.proofs.lemmas.Bool.{leb-false, eqb-true, and_parts, not-false, cases_Bool}
 use Rattle.chess_bits.specs.declared.men.Colour.{Colour}
-use Rattle.chess_bits.specs.declared.men.Colour.TheVariants.{White, Black}
-use Rattle.chess_bits.specs.Man.{is_colour, other}
+use Rattle.chess_bits.specs.Man.{other}
+use Rattle.chess_bits.proofs.ManLemmas.{is_colour-true}
 use Rattle.chess_board.specs.declared.moves.Move.{Move}
 use Rattle.chess_board.specs.Position.{Position}
 use Rattle.rec_codec.specs.declared.record.Event.{Event}
@@ -129,12 +129,6 @@ runs table number game at rest e found h follows = elim h.which [
 
 -- ---- the acts
 
-is_colour-same : (side p : Colour) → is_colour side p ≡ true → side ≡ p
-is_colour-same White White h = refl
-is_colour-same White Black h = absurd (cc)
-is_colour-same Black White h = absurd (cc)
-is_colour-same Black Black h = refl
-
 move_entered-follows : (game : GameState) (at : ℕ) (move : Option Move) (e : Entry) → IsInTime game at →
     move_entered game at move ≡ Enter e → Follows game at (move_entered game at move) e
 move_entered-follows game at None e up h = absurd (cc)
@@ -147,7 +141,7 @@ in_turn-passed : (game : GameState) (side : Colour) (ply : ℕ) (checks : List C
 in_turn-passed game side ply checks v e h =
     let told = passed (not (ply == ply_of game)) _ _ e h in
     let on_move = passed (not (is_on_move side game)) _ _ e told.1 in
-    (is_colour-same side (position_of game).side (not-false (is_on_move side game) on_move.0), on_move.1)
+    (is_colour-true side (position_of game).side (not-false (is_on_move side game) on_move.0), on_move.1)
 
 for_move-passed : (table : TableState) (game : GameState) (move : Option Move) (v : Verdict) (e : Entry) →
     first_of (for_move table game move) v ≡ Enter e → v ≡ Enter e

@@ -2,7 +2,7 @@
 use Rattle.std.proofs.Common.{ℕ, ◌≡◌, ◌<◌, ◌≤◌, ◌+◌, suc, true, false, List, [], ◌∷◌, ◌++◌, length, take, drop, get_or, Option, Some, None, refl, sym, ap, ◌∙◌, subst, append_assoc, arith}
 use Rattle.std.specs.Prelude.{◌||◌, is_some, nat_le}
 use Rattle.std.proofs.Math.Seq.{drop-cons}
-use Rattle.std.proofs.lemmas.List.{take-append-drop, take_more, length-take-le}
+use Rattle.std.proofs.lemmas.List.{take-append-drop, length-take-le}
 use Rattle.std.proofs.lemmas.Bool.{false≢true, or_parts}
 use Rattle.std.proofs.lemmas.Bool.Decides.{nat_tests}
 use Rattle.chess_board.specs.declared.moves.Move.{Move}
@@ -62,12 +62,6 @@ IsReplayed-push start moves m line after by_line ends so_far goes_on legal pushe
       ends = is ∙ ap (λ (p : Position). ending_after p after.moves) same_start ∙ ap (ending_after start) same_moves
           ∙ sym (ending_by_last-pushed start moves m);
     }
-
--- the moves up to one and that one
-pub taken : (moves : List Move) (i : ℕ) (m : Move) → i < length moves → m ≡ get_or moves i m
-    → take (i + 1) moves ≡ take i moves ++ m ∷ []
-taken moves i m below here = take_more moves i m below
-    ∙ ap (λ (x : Move). take i moves ++ x ∷ []) (sym here)
 
 -- ---- room
 

@@ -1,7 +1,7 @@
 -- Runs with one more in front, and the records that hold them.
 use Rattle.std.specs.Prelude.{ℕ, ◌≡◌, ◌≤◌, ◌<◌, ◌+◌, ◌-◌, min, List, [], ◌∷◌, ◌++◌, length, map}
 use Rattle.std.specs.List.{flat_map}
-use Rattle.std.proofs.Common.{suc, arith, ap, sym, subst, ◌∙◌, refl, length-append, add-one, append_assoc, drop, get_or, drop-cons}
+use Rattle.std.proofs.Common.{arith, ap, sym, subst, ◌∙◌, refl, length-append, append_assoc, drop, get_or}
 use Rattle.std.proofs.Math.ListN.{drop_of_length-le}
 use Rattle.std.proofs.lemmas.List.{append-nil}
 use Rattle.rec_codec.specs.Limits.{ceiling}
@@ -10,6 +10,7 @@ use Rattle.rec_codec.specs.declared.record.Record.{Record}
 use Rattle.rec_codec.specs.declared.record.Moves.{Moves}
 use Rattle.chess_entry.specs.Snapshot.{AreRuns, moves_record}
 use Rattle.chess_entry.proofs.LawfulLists.{nil-not_around}
+use Rattle.chess_entry.proofs.Places.{drop_at}
 use Rattle.game_records.specs.Part.{HoldsMoves}
 
 pub AreRuns-none : AreRuns [] []
@@ -167,12 +168,6 @@ abbrev pub Back : ℕ → ℕ → ℕ → List Record → List Record → Type 0
 Back number many left records rest =
     (all : List Move) → HoldsMoves number many records all → (more : List Move) × HoldsMoves number left rest more
 
-item_first : (records : List Record) (i : ℕ) (first : Record) → i < length records → first ≡ get_or records i first →
-    drop i records ≡ first ∷ drop (i + 1) records
-item_first records i first below here =
-    rw add-one (drop-cons records i first below
-    ∙ ap (λ (r : Record). r ∷ drop (suc i) records) (sym here))
-
 -- A record that is not the next of the moves: the records hold no moves.
 pub no_moves : (number many left : ℕ) (records : List Record) (i : ℕ) (first : Record) → i < length records →
     first ≡ get_or records i first →
@@ -181,7 +176,7 @@ pub no_moves : (number many left : ℕ) (records : List Record) (i : ℕ) (first
 no_moves number many left records i first below here not_next back all holds =
     let rest = back all holds in
     let next = HoldsMoves-uncons number left first (drop (i + 1) records) rest.0
-    (subst (λ (rs : List Record). HoldsMoves number left rs rest.0) (item_first records i first below here) rest.1) in
+    (subst (λ (rs : List Record). HoldsMoves number left rs rest.0) (drop_at records i first below here) rest.1) in
     not_next next.run next.is next.most
 
 pub forth_more : (number many done done' : ℕ) (records : List Record) (i : ℕ) (first : Record)
@@ -196,7 +191,7 @@ forth_more number many done done' records i first run gathered gathered' below h
     let longer = HoldsMoves-cons number (many - done) run more (drop (i + 1) records) low most
     (subst (λ (n : ℕ). HoldsMoves number n (drop (i + 1) records) more) left holds) in
     let list : moves_record number run ∷ drop (i + 1) records ≡ drop i records =
-    ap (λ (r : Record). r ∷ drop (i + 1) records) (sym is) ∙ sym (item_first records i first below here) in
+    ap (λ (r : Record). r ∷ drop (i + 1) records) (sym is) ∙ sym (drop_at records i first below here) in
     let all = forth (run ++ more)
     (subst (λ (rs : List Record). HoldsMoves number (many - done) rs (run ++ more)) list longer) in
     subst (λ (ms : List Move). HoldsMoves number many records ms)
@@ -210,7 +205,7 @@ pub back_more : (number many done done' : ℕ) (records : List Record) (i : ℕ)
 back_more number many done done' records i first run below here is sum back = λ all holds.
     let rest = back all holds in
     let next = HoldsMoves-uncons number (many - done) first (drop (i + 1) records) rest.0
-    (subst (λ (rs : List Record). HoldsMoves number (many - done) rs rest.0) (item_first records i first below here)
+    (subst (λ (rs : List Record). HoldsMoves number (many - done) rs rest.0) (drop_at records i first below here)
     rest.1) in
     let same : length next.run ≡ length run = ap length (one_run number next.run run (sym next.is ∙ is)) in
     let left : many - done - length next.run ≡ many - done' = omega arith in

@@ -4,6 +4,7 @@ use Rattle.rec_codec.specs.declared.limits.Limits.{Limits}
 use Rattle.rec_codec.specs.declared.record.Entry.{Entry}
 use Rattle.chess_entry.specs.State.{TableState}
 use Rattle.chess_entry.specs.Games.{table_of}
+use Rattle.chess_entry.proofs.Places.{take_with}
 use Rattle.chess_store.specs.declared.fault.StoreFault.{StoreFault}
 use Rattle.chess_store.specs.Means.{Means}
 use Rattle.chess_store.specs.Faults.{IsDevice, CountsFault}
@@ -13,7 +14,7 @@ use Rattle.chess_lives.specs.declared.plan.LifeReport.{LifeReport}
 use Rattle.chess_lives.specs.Lives.{IsBegun, IsLifeThen}
 use Rattle.chess_lives.specs.Stops.{IsStopped, IsLivesFault}
 use Rattle.chess_lives.specs.Serving.{IsShown}
-use Rattle.chess_lives.proofs.LivesLemmas.{AreOver, are_over-none, are_over-more, cut_short, cut_at_start, cut_at_end, is_report, IfOk-both, IfOk-map, IfErr-map, take-more_at, around-one}
+use Rattle.chess_lives.proofs.LivesLemmas.{AreOver, are_over-none, are_over-more, cut_short, cut_at_start, cut_at_end, is_report, IfOk-both, IfOk-map, IfErr-map, around-one}
 use Rattle.chess_lives.proofs.ServingLemmas.{risen-fault}
 use Rattle.chess_lives.proofs.living.lives.Given.{Over}
 use Rattle.chess_lives.proofs.living.lives.Goals.{After-show}
@@ -76,7 +77,7 @@ loop-life-preserved g c =
           subst (λ (rs : List LifeReport). AreOver limits k (failures device) (take (i + 1) lives) rs (state new)
           (failures new)) (sym c.push_reserved.ensures.items)
           (subst (λ (ls : List Life). AreOver limits k (failures device) ls (reports ++ report ∷ []) (state new)
-          (failures new)) (sym (take-more_at lives i life c.loop-life-test.true c.life-item.is)) more);
+          (failures new)) (sym (take_with lives i life c.loop-life-test.true c.life-item.is)) more);
       within = omega (arith, c.loop-life-test.true);
       counted = omega (arith, inv.counted, c.live-device.ensures.counted);
       model = (λ model. inv.model.0 (c.live-device.ensures.model.0 model), λ model. c.live-device.ensures.model.1 (inv.model.1 model));
