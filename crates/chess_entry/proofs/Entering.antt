@@ -23,6 +23,7 @@ use Rattle.chess_entry.specs.State.{GameState, TableState, position_of, ply_of, 
 use Rattle.chess_entry.specs.Parsed.{Parsed}
 use Rattle.chess_entry.specs.Verdict.{Check, refuse, first_of, is_period, are_times, is_start, is_finished, is_full, is_long, is_on_move, has_offer, has_fallen, in_game, by_side, while_running, in_turn, for_move, for_stated, offered, for_accept, opening_for, opened_from, move_entered, open_verdict, join_verdict, move_verdict, offer_verdict, accept_verdict, decline_verdict, resign_verdict, claim_verdict, flag_verdict, drop_verdict, in_seat, side_of, player_verdict, name_or_none, is_read, effective, verdict}
 use Rattle.chess_entry.proofs.Allowed.{IsPlaying, IsInTime, IsAllowed}
+use Rattle.chess_entry.proofs.InPlay.{none-not_some}
 
 -- An entry opens a game with the next number.
 pub record Opens (table : TableState) (e : Entry) : Type 0 where
@@ -62,10 +63,6 @@ pub by_side-entered : (v : Colour → Verdict) (o : Option Colour) (e : Entry) �
 by_side-entered v None e h = absurd (cc)
 by_side-entered v (Some side) e h = (side, refl, h)
 
-over-none : {A : Type 0} (o : Option A) → is_some o ≡ false → o ≡ None
-over-none None h = refl
-over-none (Some a) h = absurd (cc)
-
 -- An entry where the game runs: the flag has fallen, or it is up and the entry passed the other checks.
 pub record RunsFor (game : GameState) (at : ℕ) (rest : Verdict) (e : Entry) : Type 0 where
   pub playing : IsPlaying game
@@ -78,7 +75,7 @@ while_running-entered game at checks v e h =
     let over = passed (is_over game) _ _ e joined.1 in
     let playing : IsPlaying game = record {
       joined = not-false (is_joined game) joined.0;
-      goes_on = over-none game.ending over.0;
+      goes_on = none-not_some game.ending over.0;
     } in
     elim (passed_or (has_fallen game at) (entry game.number at event.Fallen) (first_of checks v) e over.1) [
       | inl fallen ↦ record { playing = playing; which = inl fallen }

@@ -25,7 +25,7 @@ use Rattle.chess_entry.proofs.HeldLemmas.{completed-next, side-after}
 use Rattle.chess_game.specs.ClockFor.{clock_for}
 use Rattle.chess_game.specs.Turn.{IsRunningAt, IsInTime, IsPlayable}
 use Rattle.chess_game.proofs.LineLemmas.{IsLegalLine-push}
-use Rattle.chess_game.proofs.KeptLine.{GoesOnUntilLast-push, ending_by_last-pushed}
+use Rattle.chess_game.proofs.KeptLine.{GoesOnUntilLast-push, ending_by_last-push}
 use Rattle.chess_game.proofs.TimeLemmas.{given_for-claims, held_after_turn-at_most, with_penalty-at_most, completed-other, completed-at_most}
 use Rattle.chess_game.proofs.SidesLemmas.{seat_turned}
 use Rattle.chess_game.proofs.ReplayLemmas.{GoesOnUntilLast-none}
@@ -302,11 +302,11 @@ ended_or_not : (game : GameState) (at : ℕ) (m : Move) (by_line : Option Ending
     → ending_after game.start (game.moves ++ m ∷ []) ≡ by_line → IsOnWay (turn_ended game at m)
     → IsGame 20000 (ended_if (turn_ended game at m) at by_line)
 ended_or_not game at m None by_line way =
-    IsGame-going (turn_ended game at m) way (ending_by_last-pushed game.start game.moves m ∙ by_line)
+    IsGame-going (turn_ended game at m) way (ending_by_last-push game.start game.moves m ∙ by_line)
 ended_or_not game at m (Some e) by_line way =
     IsGame-ended (turn_ended game at m) at e way
     (agrees_some (ending_by_last game.start (game.moves ++ m ∷ [])) e
-    (ending_by_last-pushed game.start game.moves m ∙ by_line))
+    (ending_by_last-push game.start game.moves m ∙ by_line))
 
 -- a move of a game that goes on
 pub IsGame-moved : (game : GameState) (at : ℕ) (m : Move) → IsGame 20000 game → IsInTime game at → IsPlayable game m

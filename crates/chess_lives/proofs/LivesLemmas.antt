@@ -1,5 +1,5 @@
 -- What tables say of the lists that they are of, and lives one after the other.
-use Rattle.std.specs.Prelude.{ℕ, zero, suc, ◌≡◌, ◌⊎◌, ◌+◌, ◌<◌, List, [], ◌∷◌, ◌++◌, length, take, get_or, Option, Some, None, IsSome, Result, Ok, Err, IfOk, IfErr}
+use Rattle.std.specs.Prelude.{ℕ, zero, suc, ◌≡◌, ◌⊎◌, ◌+◌, ◌<◌, List, [], ◌∷◌, ◌++◌, length, take, get_or, Option, Some, None, IsSome, Result, Ok, Err, IfOk}
 use Rattle.std.proofs.Common.{arith, ap, sym, subst, ◌∙◌, refl, inl, inr, append_assoc}
 use Rattle.std.proofs.lemmas.List.{append-nil}
 use Rattle.chess_board.specs.Legal.{EachOf}
@@ -479,14 +479,6 @@ pub IfOk-both : {T E : Type 0} (r : Result T E) (P Q R : T → Type 0) → IfOk 
     → ((x : T) → P x → Q x → R x) → IfOk r R
 IfOk-both (Ok x) P Q R p q both = both x p q
 IfOk-both (Err e) P Q R p q both = tt
-
-pub IfOk-map : {T E : Type 0} (r : Result T E) (P Q : T → Type 0) → IfOk r P → ((x : T) → P x → Q x) → IfOk r Q
-IfOk-map (Ok x) P Q p next = next x p
-IfOk-map (Err e) P Q p next = tt
-
-pub IfErr-map : {T E : Type 0} (r : Result T E) (P Q : E → Type 0) → IfErr r P → ((e : E) → P e → Q e) → IfErr r Q
-IfErr-map (Ok x) P Q p next = tt
-IfErr-map (Err e) P Q p next = next e p
 
 pub around-one : {A : Type 0} (xs : List A) (i : ℕ) (x : A) → i < length xs → x ≡ get_or xs i x
     → (rest : List A) × (xs ≡ take i xs ++ x ∷ rest)
