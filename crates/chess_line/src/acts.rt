@@ -7,7 +7,7 @@ ghost use Rattle.chess_line.specs.Cut.{Unspaced};
 ghost use Rattle.chess_line.specs.Line.{IsLineAfter, IsSayable, SameAct, act_fields};
 
 use crate::fields::{
-    claim_named, colour_named, cut_word, field_text, field_number, optional_rest, take_number,
+    claim_named, colour_named, cut_word, field_number, field_text, optional_rest, take_number,
     times_named,
 };
 use chess_entry::Act;

@@ -18,5 +18,6 @@ pub use answers::{fault_text, push_reply, text_line};
 pub use fault::Fault;
 pub use playing::{LinePlayer, play_lines};
 pub use words::{
-    LIMITS, SMALL, Sent, Size, fates_of, read_calls, read_command, read_limits, read_sent, read_size, split,
+    LIMITS, SMALL, Sent, Size, fates_of, read_calls, read_command, read_limits, read_sent,
+    read_size, split,
 };
