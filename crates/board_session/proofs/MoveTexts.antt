@@ -14,8 +14,8 @@ use Rattle.chess_board.specs.declared.moves.Move.{Move}
 use Rattle.chess_board.specs.Position.{Position}
 use Rattle.chess_board.specs.Legal.{IsLegal}
 use Rattle.chess_board.specs.Computing.{legal_moves_of}
-use Rattle.chess_board.proofs.Deciding.{man_at-on_board}
 use Rattle.chess_board.proofs.LegalMoves.{legal_moves_of-legal, legal_moves_of-each}
+use Rattle.chess_board.proofs.Candidates.{IsOnBoard-from_man}
 use Rattle.chess_notation.specs.Name.{square_name}
 use Rattle.chess_notation.specs.Coordinate.{IsPromotionText, IsCoordinateOf}
 use Rattle.board_session.specs.Answer.{IsMoveText}
@@ -84,7 +84,7 @@ text_of-move p text m legal t =
       legal = legal;
       coordinate = record {
         letter = letter_of m.promotion;
-        from_on_board = man_at-on_board p.placement m.from (p.side, c.kind) c.own;
+        from_on_board = IsOnBoard-from_man p.placement m.from (p.side, c.kind) c.own;
         to_on_board = c.on_board;
         promotion = letter-promotion m.promotion h.0;
         joined = sym h.1;

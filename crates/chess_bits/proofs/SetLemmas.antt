@@ -1,5 +1,5 @@
 -- What a set of squares has.
-use Rattle.std.proofs.Common.{ℕ, zero, suc, ◌≡◌, ◌+◌, ◌-◌, ◌*◌, ◌^◌, ◌<◌, ◌≤◌, Bool, true, false, not, eqb, ◌||◌, ◌&&◌, List, [], ◌∷◌, Some, length, get_or, map, refl, ap, sym, subst, ◌∙◌, inl, inr, arith}
+use Rattle.std.proofs.Common.{ℕ, zero, suc, ◌≡◌, ◌+◌, ◌-◌, ◌*◌, ◌^◌, ◌<◌, ◌≤◌, Bool, true, false, not, eqb, ◌||◌, ◌&&◌, List, [], ◌∷◌, Some, None, length, get_or, map, refl, ap, sym, subst, ◌∙◌, inl, inr, arith}
 use Rattle.std.specs.Prelude.{◌⊎◌}
 use Rattle.std.specs.Int.{bit_at}
 use Rattle.std.specs.Int.Count.{count_leading_zeros}
@@ -205,3 +205,8 @@ has-none set s on none =
     false_from_ne_true (has set s) (λ here.
     let Some' : List Square → Type 0 = SomeOf (λ _. Unit {0}) in
     subst Some' none (SomeOf-members (λ _. Unit {0}) set s on here tt))
+
+-- a list without a first is empty
+pub no_head : (ms : List Square) → None ≡ head_of ms → ms ≡ []
+no_head [] e = refl
+no_head (m ∷ ms) e = absurd (cc)

@@ -1,14 +1,13 @@
 use Rattle.std.proofs.Common.{◌≡◌, ◌⊎◌, Bool, true, false, ◌&&◌, ◌||◌, not, List, Option, None, Some, refl, ap, sym, ◌∙◌, inl, inr}
 use Rattle.std.specs.List.{list_all}
 use Rattle.chess_bits.specs.declared.men.Colour.{Colour}
-use Rattle.chess_bits.specs.declared.men.Colour.TheVariants.{White, Black}
 use Rattle.chess_bits.specs.declared.men.Kind.{Kind}
 use Rattle.chess_bits.specs.declared.men.Kind.TheVariants.{Pawn}
 use Rattle.chess_bits.specs.Square.{Square, squares}
-use Rattle.chess_bits.specs.Man.{Man, is_of, is_man, is_colour, holds}
+use Rattle.chess_bits.specs.Man.{Man, is_of, is_man, holds}
 use Rattle.chess_bits.specs.Table.{has, meet, members}
 use Rattle.chess_bits.proofs.TableLemmas.{at-map}
-use Rattle.chess_bits.proofs.ManLemmas.{holds-is_man, holds-is_man_same}
+use Rattle.chess_bits.proofs.ManLemmas.{holds-is_man, holds-is_man_same, is_colour-same}
 use Rattle.chess_bits.proofs.AlongLemmas.{list_all-filter, list_all-same}
 use Rattle.chess_board.specs.Occupancy.{squares_with, is_a}
 use Rattle.chess_board.specs.Position.{Placement, man_at}
@@ -20,14 +19,10 @@ pub has-squares_with : (is : Man → Bool) (placement : List (Option Man)) (s : 
     has (squares_with is placement) s ≡ holds is (man_at placement s)
 has-squares_with is placement s = at-map (holds is) None false placement s refl
 
-own_colour : (side : Colour) → is_colour side side ≡ true
-own_colour White = refl
-own_colour Black = refl
-
 pub has-own : (placement : List (Option Man)) (side : Colour) (kind : Kind) (s : Square) →
     man_at placement s ≡ Some (side, kind) → has (squares_with (is_of side) placement) s ≡ true
 has-own placement side k s e = has-squares_with (is_of side) placement s ∙ ap (holds (is_of side)) e
-    ∙ own_colour side
+    ∙ is_colour-same side
 
 -- the squares of the men of a side that are of a kind
 pub meet-is_man : (placement : Placement) (side : Colour) (kind : Kind) →

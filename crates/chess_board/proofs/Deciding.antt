@@ -1,9 +1,10 @@
 use Rattle.std.specs.Prelude.{ℕ, ◌≡◌, ◌≢◌, ◌≤◌, Bool, true, false, ◌&&◌, ◌||◌, ◌==◌, not, nat_le, List, [], ◌∷◌, length, Option, Some, None, is_none}
 use Rattle.std.specs.Bool.{Decides}
 use Rattle.std.specs.List.{list_all}
-use Rattle.std.proofs.Common.{rules, ap, sym, subst, inl, inr, refl, ◌∙◌}
+use Rattle.std.proofs.Common.{rules, ap, sym, subst, inl, inr, refl}
 use Rattle.std.proofs.lemmas.Bool.{false≢true, and_parts, and_from, leb-true, le-leb}
 use Rattle.std.proofs.lemmas.Bool.Decides.{Decides-eqb}
+use Rattle.std.proofs.lemmas.Option.{same_Some}
 use Rattle.chess_bits.specs.declared.men.Colour.{Colour}
 use Rattle.chess_bits.specs.declared.men.Colour.TheVariants.{White, Black}
 use Rattle.chess_bits.specs.declared.men.Kind.{Kind}
@@ -13,7 +14,7 @@ use Rattle.chess_bits.specs.Table.{at}
 use Rattle.chess_bits.specs.Man.{Man, other, is_colour, is_kind, is_man, is_of, holds}
 use Rattle.chess_bits.specs.Attack.{along, forward, pawn_attacks, Attacks, attacks}
 use Rattle.chess_bits.proofs.ManLemmas.{Decides-is_colour, Decides-is_kind, same_man, Decides-holds_is_man}
-use Rattle.chess_bits.proofs.TableLemmas.{Decides-is_square, Decides-on_board, on_board-from_at}
+use Rattle.chess_bits.proofs.TableLemmas.{Decides-is_square, Decides-on_board}
 use Rattle.chess_bits.proofs.Deciding.{and_decides, or_decides, not_decides, like_decides, EachDecides, each_decides, Decides-reaches, Decides-attacks, Decides-some_square, Decides-each_square}
 use Rattle.chess_board.specs.declared.castling.Wing.{Wing}
 use Rattle.chess_board.specs.declared.castling.Wing.TheVariants as wing
@@ -23,11 +24,9 @@ use Rattle.chess_board.specs.Initial.{initial}
 use Rattle.chess_board.specs.Next.{next, is_target, castled_king, castled_rook}
 use Rattle.chess_board.specs.Legal.{last_rank, pawn_rank, IsPromotionKind, IsPromotion, HoldsColour, Advances, AdvancesTwo, PawnTakes, TakesEnPassant, IsPawnMove, IsPieceMove, between, EachOf, Castles, IsMoveOf, IsCandidate, IsLegal}
 use Rattle.chess_board.specs.Computing.{holds_colour, is_empty, is_promotion_kind, is_promotion, advances, advances_two, pawn_takes, takes_en_passant, is_pawn_move, is_piece_move, is_unattacked, castles, is_move_of, is_candidate, is_legal, of_both, is_whole, has_kings, has_few_men, is_inside, has_pawns_inside, has_no_check, has_true_right, has_true_rights, is_true_target, has_true_target, has_counters, is_valid}
+use Rattle.chess_board.proofs.Candidates.{IsOnBoard-from_man}
 
 -- The tests of `Position` and `Computing` decide the relations of `Position` and `Legal`.
-
-some_man : (a b : Man) → Some a ≡ Some b → a ≡ b
-some_man a b e = cc
 
 no_man : {P : Type 0} (man : Man) → None ≡ Some man → P
 no_man man e = absurd (cc)
@@ -58,7 +57,7 @@ own_kind-holds : (side : Colour) (found : Man) (test : Kind → Bool) (P : Kind 
     ((kind : Kind) → Some found ≡ Some (side, kind) → Decides (test kind) (P kind)) →
     (kind : Kind) → Some found ≡ Some (side, kind) → P kind → (is_colour side found.0 && test found.1) ≡ true
 own_kind-holds side found test P decides kind own here =
-    let same : found ≡ (side, kind) = some_man found (side, kind) own in
+    let same : found ≡ (side, kind) = same_Some found (side, kind) own in
     and_from (is_colour side found.0) (test found.1)
     ((Decides-is_colour side found.0).1 (sym (ap (λ (m : Man). m.0) same)))
     (subst (λ (k : Kind). test k ≡ true) (sym (ap (λ (m : Man). m.1) same)) ((decides kind own).1 here))
@@ -75,7 +74,7 @@ holds_of : (side : Colour) (here : Option Man) →
 holds_of side None = (λ e. absurd (false≢true e), λ h. no_man (side, h.0) h.1)
 holds_of side (Some found) =
     like_decides (λ e. (found.1, ap Some (same_man found (side, found.1) (sym e) refl)))
-    (λ h. sym (ap (λ (m : Man). m.0) (some_man found (side, h.0) h.1))) (Decides-is_colour side found.0)
+    (λ h. sym (ap (λ (m : Man). m.0) (same_Some found (side, h.0) h.1))) (Decides-is_colour side found.0)
 
 pub Decides-holds_colour : (p : Position) (s : Square) (side : Colour) →
     Decides (holds_colour p s side) (HoldsColour p s side)
@@ -87,12 +86,7 @@ Decides-holds_pawn : (here : Option Man) →
 Decides-holds_pawn None = (λ e. absurd (false≢true e), λ h. no_man (h.0, Pawn) h.1)
 Decides-holds_pawn (Some found) =
     like_decides (λ e. (found.0, ap Some (same_man found (found.0, Pawn) refl (sym e))))
-    (λ h. sym (ap (λ (m : Man). m.1) (some_man found (h.0, Pawn) h.1))) (Decides-is_kind Pawn found.1)
-
--- Men stand on the board alone.
-pub man_at-on_board : (placement : List (Option Man)) (s : Square) (man : Man) →
-    man_at placement s ≡ Some man → IsOnBoard s
-man_at-on_board placement s man e = on_board-from_at None placement s (λ none. no_man man (sym none ∙ e))
+    (λ h. sym (ap (λ (m : Man). m.1) (same_Some found (h.0, Pawn) h.1))) (Decides-is_kind Pawn found.1)
 
 -- Attacks.
 
@@ -115,14 +109,14 @@ Decides-is_attacker placement side b a on_b on_a =
 pub Decides-is_attacked : (placement : List (Option Man)) (side : Colour) (b : Square) → IsOnBoard b →
     Decides (is_attacked placement side b) (IsAttacked placement side b)
 Decides-is_attacked placement side b on_b =
-    like_decides (λ h. (h.0, h.2)) (λ h. (h.0, man_at-on_board placement h.0 (side, h.1.kind) h.1.stands, h.1))
+    like_decides (λ h. (h.0, h.2)) (λ h. (h.0, IsOnBoard-from_man placement h.0 (side, h.1.kind) h.1.stands, h.1))
     (Decides-some_square (λ a. is_attacker placement side b (man_at placement a) a) (IsAttacker placement side b)
     (λ a on_a. Decides-is_attacker placement side b a on_b on_a))
 
 pub Decides-is_in_check : (placement : List (Option Man)) (side : Colour) →
     Decides (is_in_check placement side) (IsInCheck placement side)
 Decides-is_in_check placement side =
-    like_decides (λ h. (h.0, h.2.0, h.2.1)) (λ h. (h.0, man_at-on_board placement h.0 (side, King) h.1, (h.1, h.2)))
+    like_decides (λ h. (h.0, h.2.0, h.2.1)) (λ h. (h.0, IsOnBoard-from_man placement h.0 (side, King) h.1, (h.1, h.2)))
     (Decides-some_square
     (λ k. holds (is_man (side, King)) (man_at placement k) && is_attacked placement (other side) k)
     (λ k. (man_at placement k ≡ Some (side, King)) × IsAttacked placement (other side) k)
@@ -172,13 +166,10 @@ Decides-pawn_takes p m =
     like_decides (λ h. record { attacked = h.0; taken = h.1 }) (λ h. (h.attacked, h.taken))
     (and_decides (Decides-reaches (pawn_attacks p.side) m.from m.to) (Decides-holds_colour p m.to (other p.side)))
 
-some_square : (a b : Square) → Some a ≡ Some b → a ≡ b
-some_square a b e = cc
-
 pub Decides-is_target : (target : Option Square) (s : Square) → Decides (is_target target s) (target ≡ Some s)
 Decides-is_target None s = (λ e. absurd (false≢true e), λ e. absurd (cc))
 Decides-is_target (Some t) s =
-    like_decides (λ e. ap Some e) (λ e. some_square t s e) (Decides-is_square t s)
+    like_decides (λ e. ap Some e) (λ e. same_Some t s e) (Decides-is_square t s)
 
 pub Decides-takes_en_passant : (p : Position) (m : Move) → Decides (takes_en_passant p m) (TakesEnPassant p m)
 Decides-takes_en_passant p m =
@@ -289,7 +280,7 @@ Decides-moves_by_kind : (p : Position) (m : Move) → IsOnBoard m.to →
     Decides (moves_by_kind p m) (Holding p.side (IsMoveOf p m) (man_at p.placement m.from))
 Decides-moves_by_kind p m on_to =
     Decides-holds_own p.side (man_at p.placement m.from) (is_move_of p m) (IsMoveOf p m)
-    (λ kind own. Decides-is_move_of p m kind (man_at-on_board p.placement m.from (p.side, kind) own) on_to)
+    (λ kind own. Decides-is_move_of p m kind (IsOnBoard-from_man p.placement m.from (p.side, kind) own) on_to)
 
 pub Decides-is_candidate : (p : Position) (m : Move) → Decides (is_candidate p m) (IsCandidate p m)
 Decides-is_candidate p m =
@@ -350,7 +341,7 @@ Decides-is_pawn_inside p s =
 
 pub Decides-has_pawns_inside : (p : Position) → Decides (has_pawns_inside p) (HasPawnsInside p)
 Decides-has_pawns_inside p =
-    like_decides (λ each s side stands. each s (man_at-on_board p.placement s (side, Pawn) stands) side stands)
+    like_decides (λ each s side stands. each s (IsOnBoard-from_man p.placement s (side, Pawn) stands) side stands)
     (λ each s _ side stands. each s side stands)
     (Decides-each_square (is_pawn_inside p) (IsPawnInside p) (λ s _. Decides-is_pawn_inside p s))
 
@@ -382,7 +373,7 @@ Decides-is_true_target p None = (λ _ t e. absurd (cc), λ _. refl)
 Decides-is_true_target p (Some t) =
     let pawn = man_at p.placement (along 1 (forward (other p.side)) t) in
     like_decides
-    (λ h s e. subst (IsTarget p) (some_square t s e)
+    (λ h s e. subst (IsTarget p) (same_Some t s e)
     (record { on_board = h.0; rank = h.1.0; crossed = h.1.1.0; pawn = h.1.1.1.0; left = h.1.1.1.1 }))
     (λ each. let h = each t refl in (h.on_board, (h.rank, (h.crossed, (h.pawn, h.left)))))
     (and_decides (Decides-on_board t) (and_decides (Decides-eqb t.rank (target_rank p.side))

@@ -13,7 +13,8 @@ use Rattle.chess_board.specs.declared.moves.Move.{Move}
 use Rattle.chess_board.specs.Position.{Position}
 use Rattle.chess_board.specs.Legal.{IsPromotionKind, IsPromotion, IsMoveOf, IsCandidate, IsLegal}
 use Rattle.chess_board.specs.Computing.{holds_colour, is_legal, moves_between, moves_from, legal_moves_of}
-use Rattle.chess_board.proofs.Deciding.{man_at-on_board, Decides-holds_colour, Decides-is_legal}
+use Rattle.chess_board.proofs.Deciding.{Decides-holds_colour, Decides-is_legal}
+use Rattle.chess_board.proofs.Candidates.{IsOnBoard-from_man}
 
 -- `legal_moves_of` lists the legal moves, and nothing else.
 
@@ -100,7 +101,7 @@ legal_moves_of-legal p m here =
 pub legal_moves_of-each : (p : Position) (m : Move) → IsLegal p m → Contains (legal_moves_of p) m
 legal_moves_of-each p m legal =
     let c : IsCandidate p m = legal.candidate in
-    let on_from = man_at-on_board p.placement m.from (p.side, c.kind) c.own in
+    let on_from = IsOnBoard-from_man p.placement m.from (p.side, c.kind) c.own in
     let own = (Decides-holds_colour p m.from p.side).1 (c.kind, c.own) in
     let from = Contains-filter (λ s. holds_colour p s p.side) squares m.from (Contains-squares m.from on_from) own in
     let on_to = Contains-squares m.to c.on_board in

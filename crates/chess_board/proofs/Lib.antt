@@ -2,6 +2,7 @@ pub mod AttackLemmas
 pub mod Broken
 pub mod Candidates
 pub mod Deciding
+pub mod EachOfLemmas
 pub mod DistinctMoves
 mod Examples
 pub mod LegalMoves

@@ -1,7 +1,7 @@
 -- Just where no set of men tells two boards apart, the same stands on them.
 use Rattle.std.proofs.Common.{◌≡◌, ◌∙◌, Bool, true, false, not, ◌||◌, ◌&&◌, List, length, None, refl, ap, sym, inl, inr}
 use Rattle.std.specs.Prelude.{◌↔◌}
-use Rattle.std.proofs.lemmas.Bool.{cases_Bool, false≢true, or_parts}
+use Rattle.std.proofs.lemmas.Bool.{cases_Bool, false≢true, or_parts, or_from}
 use Rattle.chess_bits.specs.declared.men.Colour.{Colour}
 use Rattle.chess_bits.specs.declared.men.Colour.TheVariants.{White, Black}
 use Rattle.chess_bits.specs.declared.men.Kind.{Kind}
@@ -59,9 +59,6 @@ Lacks-difference a b whole_a whole_b =
       );
     }
 
-both_false : (a b : Bool) → a ≡ false → b ≡ false → (a || b) ≡ false
-both_false a b is_a is_b = rw (is_a, is_b) refl
-
 Lacks-union : {a b : List Bool} {P Q : Square → Type 0} → Lacks a P → Lacks b Q → Lacks (union a b) (λ s. P s × Q s)
 Lacks-union {a} {b} {P} {Q} of_a of_b =
     let same : length a ≡ length b = of_a.whole ∙ sym of_b.whole in
@@ -72,7 +69,7 @@ Lacks-union {a} {b} {P} {Q} of_a of_b =
             let parts = or_parts (has a s) (has b s) (sym (has-union a b s same) ∙ out) in
             ((of_a.exact s).0 parts.0, (of_b.exact s).0 parts.1)),
         (λ both. has-union a b s same
-            ∙ both_false (has a s) (has b s) ((of_a.exact s).1 both.0) ((of_b.exact s).1 both.1)),
+            ∙ or_from (has a s) (has b s) ((of_a.exact s).1 both.0) ((of_b.exact s).1 both.1)),
       );
     }
 

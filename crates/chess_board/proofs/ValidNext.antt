@@ -16,13 +16,14 @@ use Rattle.chess_board.proofs.ValidMen.{kings-after, men-after, pawns-after}
 use Rattle.chess_board.proofs.ValidRights.{HasTrueRights-next}
 use Rattle.chess_board.proofs.ValidTarget.{HasTrueTarget-next}
 
-halfmove_after-le : (p : Position) (m : Move) → halfmove_after p m ≤ p.halfmove + 1
+-- a move adds at most one to each counter
+pub halfmove_after-le : (p : Position) (m : Move) → halfmove_after p m ≤ p.halfmove + 1
 unfolding halfmove_after
 halfmove_after-le p m =
     cond_both (moves_kind p m Pawn || is_some (man_at p.placement m.to)) 0 (p.halfmove + 1) (λ n. n ≤ p.halfmove + 1)
     (λ e. omega arith) (λ e. omega arith)
 
-fullmove_after-within : (side : Colour) (n : ℕ) → (n ≤ fullmove_after side n) × (fullmove_after side n ≤ n + 1)
+pub fullmove_after-within : (side : Colour) (n : ℕ) → (n ≤ fullmove_after side n) × (fullmove_after side n ≤ n + 1)
 fullmove_after-within White n = (omega arith, omega arith)
 fullmove_after-within Black n = (omega arith, omega arith)
 

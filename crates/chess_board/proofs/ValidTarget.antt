@@ -77,7 +77,7 @@ advances_two_rule p m from_on to_on move there =
       | inr (inr (inr takes)) ↦ absurd ((attacks_from p.side m.from m.to from_on to_on takes.attacked).0 files.0)
     ]
 
-no_promotion_before : (side : Colour) (to : Square) (promotion : Option Kind) → IsPromotion side to promotion →
+pub no_promotion_before : (side : Colour) (to : Square) (promotion : Option Kind) → IsPromotion side to promotion →
     to.rank ≢ last_rank side →
     promotion ≡ None
 no_promotion_before side to None is early = λ i. None

@@ -1,21 +1,15 @@
 -- One step of a clock that goes through a list of events.
-use Rattle.std.proofs.Common.{ℕ, suc, ◌≡◌, ◌+◌, ◌-◌, ◌<◌, List, [], ◌∷◌, ◌++◌, length, get_or, take, drop, refl, sym, ap, ◌∙◌, subst, arith, append_assoc}
+use Rattle.std.proofs.Common.{ℕ, suc, ◌≡◌, ◌+◌, ◌-◌, ◌<◌, List, [], ◌∷◌, ◌++◌, length, get_or, take, drop, sym, ap, ◌∙◌, subst, arith, append_assoc}
 use Rattle.std.proofs.lemmas.List.{take_more}
 use Rattle.std.proofs.Math.Seq.{split_at}
 use Rattle.chess_bits.specs.declared.men.Colour.{Colour}
-use Rattle.chess_bits.specs.declared.men.Colour.TheVariants.{White, Black}
-use Rattle.chess_bits.specs.Man.{other}
+use Rattle.chess_bits.specs.declared.men.Colour.TheVariants.{White}
 use Rattle.chess_clock.specs.declared.events.ClockEvent.{ClockEvent}
 use Rattle.chess_clock.specs.declared.events.ClockEvent.TheVariants.{Turn}
 use Rattle.chess_clock.specs.ClockState.{ClockState, clock_after, time_of, turn_ended, TimesFit}
 use Rattle.chess_clock.specs.Replay.{EndsInTime, IsWithinTime, TurnsEndInTime, TimesAlwaysFit}
 use Rattle.chess_clock.proofs.AfterLemmas.{clock_after-append}
 use Rattle.chess_clock.proofs.InTime.{IsWithinTime-push, may_come_at}
-
--- the opponent of the opponent
-pub other-other : (side : Colour) → other (other side) ≡ side
-other-other White = refl
-other-other Black = refl
 
 -- A clock has gone through the events before this place, and neither side has used more than it had.
 pub record HasReplayed (start clock : ClockState) (events : List ClockEvent) (i : ℕ) : Type 0 where

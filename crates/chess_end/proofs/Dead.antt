@@ -17,7 +17,7 @@ use Rattle.chess_bits.proofs.SetLemmas.{has-meet, has-without, length-meet}
 use Rattle.chess_bits.proofs.Deciding.{and_decides}
 use Rattle.chess_board.specs.Occupancy.{squares_with, is_a}
 use Rattle.chess_board.proofs.AttackLemmas.{has-squares_with}
-use Rattle.chess_board.proofs.Deciding.{man_at-on_board}
+use Rattle.chess_board.proofs.Candidates.{IsOnBoard-from_man}
 use Rattle.chess_end.specs.Material.{is_dark, EachMan, AreKingsAndKnight, IsBishopOn, AreBishopsOn, AreKingsAndBishops, IsListedDead}
 use Rattle.chess_end.specs.Computing.{is_other, is_shade}
 use Rattle.chess_end.proofs.EachManLemmas.{each_man-empty, Decides-kind, either, without-squares_with}
@@ -113,7 +113,7 @@ knight_found placement whole one each =
           | inr fails ↦
               let at_q : holds is_other (man_at placement q) ≡ true = ap (holds is_other) there ∙ ap not fails in
               absurd (ne (same_from_count_by (holds is_other) None placement q s whole
-              (man_at-on_board placement q m there) on one at_q at_s))
+              (IsOnBoard-from_man placement q m there) on one at_q at_s))
         ];
       }
     ]
@@ -141,7 +141,7 @@ one_if here = cond (holds is_other here) 1 0
 knight_counted : (placement : Placement) → length placement ≡ 64 → AreKingsAndKnight placement →
     count_by (holds is_other) placement ≡ 1
 knight_counted placement whole h =
-    let on = man_at-on_board placement h.square (h.side, Knight) h.knight in
+    let on = IsOnBoard-from_man placement h.square (h.side, Knight) h.knight in
     let rest = put placement h.square None in
     let none : count_by (holds is_other) (put placement h.square None) ≡ 0 =
     none_counted (count_by (holds is_other) (put placement h.square None)) (λ some.

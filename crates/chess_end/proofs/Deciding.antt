@@ -17,9 +17,10 @@ use Rattle.chess_board.specs.declared.moves.Move.{Move}
 use Rattle.chess_board.specs.Position.{Position}
 use Rattle.chess_board.specs.Legal.{IsLegal}
 use Rattle.chess_board.specs.Computing.{legal_moves_of}
-use Rattle.chess_board.proofs.Deciding.{man_at-on_board, Decides-is_in_check}
+use Rattle.chess_board.proofs.Deciding.{Decides-is_in_check}
 use Rattle.chess_board.proofs.DistinctMoves.{Contains-none}
 use Rattle.chess_board.proofs.LegalMoves.{legal_moves_of-legal, legal_moves_of-each}
+use Rattle.chess_board.proofs.Candidates.{IsOnBoard-from_man}
 use Rattle.chess_moves.specs.Moves.{HasLegal}
 use Rattle.chess_end.specs.Material.{EachMan, AreKingsAlone, AreKingsAndKnight, IsBishopOn, AreBishopsOn, AreKingsAndBishops, IsListedDead, HasKingAlone}
 use Rattle.chess_end.specs.Ending.{IsCheckmate, IsStalemate}
@@ -42,7 +43,7 @@ pub Decides-each_man : (good : Square → Man → Bool) (P : Square → Man → 
     ((s : Square) (man : Man) → Decides (good s man) (P s man)) → (placement : Placement) →
     Decides (each_man good placement) (EachMan P placement)
 Decides-each_man good P decides placement =
-    like_decides (λ each s man here. each s (man_at-on_board placement s man here) man here)
+    like_decides (λ each s man here. each s (IsOnBoard-from_man placement s man here) man here)
     (λ each s _ man here. each s man here)
     (Decides-each_square (λ s. fits (good s) (man_at placement s))
     (λ s. (man : Man) → man_at placement s ≡ Some man → P s man)
@@ -85,7 +86,7 @@ pub Decides-are_kings_and_knight : (placement : Placement) →
 Decides-are_kings_and_knight placement =
     like_decides
     (λ h. record { square = h.0; side = h.2.0.0; knight = h.2.0.1; others = h.2.1 })
-    (λ h. (h.square, man_at-on_board placement h.square (h.side, Knight) h.knight, ((h.side, h.knight), h.others)))
+    (λ h. (h.square, IsOnBoard-from_man placement h.square (h.side, Knight) h.knight, ((h.side, h.knight), h.others)))
     (Decides-some_square
     (λ s. holds (λ man. is_kind Knight man.1) (man_at placement s) && are_others_kings placement s)
     (λ s. KnightOn (man_at placement s) × OthersKings placement s)

@@ -1,36 +1,26 @@
 -- What an empty set of squares tells of every man.
-use Rattle.std.specs.Prelude.{◌≡◌, ◌⊎◌, ◌↔◌, Bool, true, false, not, ◌&&◌, List, [], ◌∷◌, Option, Some, None, is_some}
+use Rattle.std.specs.Prelude.{◌≡◌, ◌⊎◌, ◌↔◌, Bool, true, false, not, ◌&&◌, List, [], Option, Some, None, is_some}
 use Rattle.std.specs.Bool.{Decides}
 use Rattle.std.proofs.Common.{refl, sym, ap, ◌∙◌, inl, inr}
 use Rattle.std.proofs.lemmas.Bool.{false≢true}
+use Rattle.chess_moves.proofs.Paths.{no_members}
 use Rattle.chess_bits.specs.declared.men.Colour.{Colour}
 use Rattle.chess_bits.specs.declared.men.Kind.{Kind}
 use Rattle.chess_bits.specs.declared.men.Kind.TheVariants.{King}
 use Rattle.chess_bits.specs.Square.{Square, IsOnBoard}
 use Rattle.chess_bits.specs.Man.{Man, is_of, is_colour, is_kind, holds}
-use Rattle.chess_bits.specs.Table.{has, without, members, head_of}
+use Rattle.chess_bits.specs.Table.{has, without, members}
 use Rattle.chess_bits.specs.Placement.{Placement, man_at}
 use Rattle.chess_bits.proofs.ManLemmas.{Decides-is_colour, Decides-is_kind}
-use Rattle.chess_bits.proofs.SetLemmas.{has-none, IsLeast-first}
+use Rattle.chess_bits.proofs.SetLemmas.{has-none}
 use Rattle.chess_bits.proofs.Deciding.{like_decides, Decides-is_false}
 use Rattle.chess_board.specs.Occupancy.{squares_with, is_a}
 use Rattle.chess_board.specs.Position.{occupied_of}
 use Rattle.chess_board.proofs.MenLemmas.{each-map, map-same}
 use Rattle.chess_board.proofs.AttackLemmas.{has-squares_with}
-use Rattle.chess_board.proofs.Deciding.{man_at-on_board}
+use Rattle.chess_board.proofs.Candidates.{IsOnBoard-from_man}
 use Rattle.chess_end.specs.Material.{EachMan, HasKingAlone}
 use Rattle.chess_end.specs.Computing.{is_other}
-
-no_first : (set : List Bool) (found : List Square) → members set ≡ found →
-    ((s : Square) → IsOnBoard s → has set s ≡ false) → found ≡ []
-no_first set [] e none = refl
-no_first set (x ∷ xs) e none =
-    let least = IsLeast-first set x (sym (ap head_of e)) in
-    absurd (false≢true (sym (none x least.on_board) ∙ least.member))
-
--- a set that has no square has no members
-pub members-none : (set : List Bool) → ((s : Square) → IsOnBoard s → has set s ≡ false) → members set ≡ []
-members-none set none = no_first set (members set) refl none
 
 no_bad : (bad : Man → Bool) (P : Man → Type 0) → ((man : Man) → Decides (not (bad man)) (P man)) → (here : Option Man) →
     ((man : Man) → here ≡ Some man → P man) → holds bad here ≡ false
@@ -44,12 +34,12 @@ pub each_man-empty : (set : List Bool) (b : Bool) (placement : Placement) (bad :
     ((s : Square) (man : Man) → Decides (not (bad s man)) (P s man)) → (b ≡ true) ↔ EachMan P placement
 each_man-empty set b placement bad P is told decides = (
   λ e s man here.
-      let on = man_at-on_board placement s man here in
+      let on = IsOnBoard-from_man placement s man here in
       let none : has set s ≡ false = has-none set s on (is.0 e) in
       let good : bad s man ≡ false = sym (ap (holds (bad s)) here) ∙ sym (told s on) ∙ none in
       (decides s man).0 (ap not good),
   λ each.
-      is.1 (members-none set (λ s on.
+      is.1 (no_members set (λ s on.
       told s on ∙ no_bad (bad s) (P s) (decides s) (man_at placement s) (λ man here. each s man here))),
 )
 

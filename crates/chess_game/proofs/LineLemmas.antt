@@ -4,8 +4,9 @@ use Rattle.chess_bits.specs.declared.men.Colour.{Colour}
 use Rattle.chess_bits.specs.declared.men.Colour.TheVariants.{White, Black}
 use Rattle.chess_board.specs.declared.moves.Move.{Move}
 use Rattle.chess_board.specs.Position.{Position}
-use Rattle.chess_board.specs.Next.{next, halfmove_after, fullmove_after}
+use Rattle.chess_board.specs.Next.{next}
 use Rattle.chess_board.specs.Line.{positions_of}
+use Rattle.chess_board.proofs.ValidNext.{halfmove_after-le, fullmove_after-within}
 pub use Rattle.chess_board.proofs.LineLemmas.{position_after-push, IsLegalLine-push}
 use Rattle.chess_repeat.specs.QuietRun.{quiet_run}
 use Rattle.chess_entry.specs.State.{position_after}
@@ -25,20 +26,11 @@ quiet_run-positions_of p [] = refl
 quiet_run-positions_of p (n ∷ []) = refl
 quiet_run-positions_of p (n ∷ m ∷ moves) = quiet_run-positions_of (next p n) (m ∷ moves)
 
--- a move adds at most one to each counter
-halfmove_after-at_most : (p : Position) (m : Move) → halfmove_after p m ≤ p.halfmove + 1
-unfolding halfmove_after
-halfmove_after-at_most p m = grind arith
-
-fullmove_after-at_most : (side : Colour) (n : ℕ) → fullmove_after side n ≤ n + 1
-fullmove_after-at_most White n = omega arith
-fullmove_after-at_most Black n = omega arith
-
 pub halfmove-at_most : (p : Position) (moves : List Move)
     → (position_after p moves).halfmove ≤ p.halfmove + length moves
 halfmove-at_most p [] = omega arith
 halfmove-at_most p (m ∷ moves) =
-    let one = halfmove_after-at_most p m in
+    let one = halfmove_after-le p m in
     let rest = halfmove-at_most (next p m) moves in
     omega arith
 
@@ -46,6 +38,6 @@ pub fullmove-at_most : (p : Position) (moves : List Move)
     → (position_after p moves).fullmove ≤ p.fullmove + length moves
 fullmove-at_most p [] = omega arith
 fullmove-at_most p (m ∷ moves) =
-    let one = fullmove_after-at_most p.side p.fullmove in
+    let one = (fullmove_after-within p.side p.fullmove).1 in
     let rest = fullmove-at_most (next p m) moves in
     omega arith

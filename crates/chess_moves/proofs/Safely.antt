@@ -20,7 +20,7 @@ use Rattle.chess_moves.specs.declared.masks.Masks.{Masks}
 use Rattle.chess_moves.specs.Targets.{plain, GoesTo, LeavesKingSafe, GoesSafely, IsPiece}
 use Rattle.chess_moves.specs.Masks.{SlidesIn, IsSlider, IsLeaper, EndsChecks, KeepsLine, IsAttackedWithout, HoldsMasks}
 use Rattle.chess_moves.proofs.Ways.{odd_or_even, straight_way, diagonal_way, way_straight, way_diagonal, attack_leap, attack_seen, seen_attack}
-use Rattle.chess_moves.proofs.SetForms.{both_set}
+use Rattle.chess_moves.proofs.SetForms.{both_set, target_there}
 use Rattle.chess_moves.proofs.Exact.{masks_exact}
 
 -- ---- attacks once the king is taken off
@@ -228,9 +228,6 @@ pawn_set_none p masks from reached allowed holds own of_reached of_allowed none 
   exact = λ q on. pawn_told p masks from q reached allowed holds own of_reached of_allowed on (not_none p.target q none);
 }
 
-one_target : (target : Option Square) (t q : Square) → target ≡ Some t → target ≡ Some q → q ≡ t
-one_target target t q e f = cc
-
 pub pawn_set_away : (p : Position) (masks : Masks) (from t : Square) (reached allowed : List Bool) → HoldsMasks p masks →
     man_at p.placement from ≡ Some (p.side, Pawn) → IsSetOf reached (GoesTo p Pawn from) →
     IsSetOf allowed (λ s. EndsChecks p masks.king s × KeepsLine p masks.king from s) → p.target ≡ Some t →
@@ -239,7 +236,7 @@ pawn_set_away p masks from t reached allowed holds own of_reached of_allowed is 
     let both = both_set reached allowed (GoesTo p Pawn from)
     (λ s. EndsChecks p masks.king s × KeepsLine p masks.king from s) of_reached of_allowed in
     let apart = λ (q : Square) (on : IsOnBoard q) (goes : GoesTo p Pawn from q) (e : p.target ≡ Some q).
-    false≢true (sym away ∙ ap (has reached) (sym (one_target p.target t q is e)) ∙ (of_reached.exact q on).1 goes) in
+    false≢true (sym away ∙ ap (has reached) (sym (target_there p.target t q is e)) ∙ (of_reached.exact q on).1 goes) in
     record {
       whole = both.whole;
       exact = λ q on. (
@@ -275,7 +272,7 @@ pawn_set_target p masks from t reached allowed b holds own of_reached of_allowed
         | inr apart ↦
             let at : has (put set t b) q ≡ has set q = at-put false set t q b both.whole on_t
             ∙ ap (λ (x : Bool). cond x b (has set q)) apart in
-            let other_square : p.target ≢ Some q = λ e. is_square-false q t apart (one_target p.target t q is e) in
+            let other_square : p.target ≢ Some q = λ e. is_square-false q t apart (target_there p.target t q is e) in
             let tell = pawn_told p masks from q reached allowed holds own of_reached of_allowed on other_square in (
               (λ here. tell.0 (sym at ∙ here)),
               (λ safely. at ∙ tell.1 safely),

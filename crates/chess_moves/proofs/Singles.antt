@@ -1,5 +1,5 @@
 -- Sets of one square, and of all squares.
-use Rattle.std.specs.Prelude.{◌≡◌, ◌-◌, ◌^◌, Bool, true, false, cond, List, [], ◌∷◌, length, Some, None}
+use Rattle.std.specs.Prelude.{◌≡◌, ◌-◌, ◌^◌, Bool, true, false, cond, List, [], length, Some, None}
 use Rattle.std.specs.List.{list_all}
 use Rattle.std.proofs.Common.{refl, sym, ap, ◌∙◌, inl, inr}
 use Rattle.std.proofs.lemmas.Bool.{false≢true, cases_Bool}
@@ -8,13 +8,9 @@ use Rattle.chess_bits.specs.Table.{at, has, put, members, head_of, IsSetOf}
 use Rattle.chess_bits.specs.Word.{bools_of}
 use Rattle.chess_bits.proofs.TableLemmas.{at-put, is_square-true, is_square-same}
 use Rattle.chess_bits.proofs.WordLemmas.{length-bools_of}
-use Rattle.chess_bits.proofs.SetLemmas.{IsLeast-first, has-none}
+use Rattle.chess_bits.proofs.SetLemmas.{IsLeast-first, has-none, no_head}
 use Rattle.chess_bits.proofs.Deciding.{Decides-each_square}
 use Rattle.chess_moves.proofs.Paths.{no_members}
-
-pub no_head : (ms : List Square) → None ≡ head_of ms → ms ≡ []
-no_head [] e = refl
-no_head (m ∷ ms) e = absurd (cc)
 
 -- a set of this one square
 abbrev pub IsOne : List Bool → Type 0

@@ -17,10 +17,11 @@ use Rattle.chess_bits.proofs.Deciding.{Decides-reaches, and_decides, Decides-som
 use Rattle.chess_bits.proofs.ManLemmas.{Decides-holds_is_man}
 use Rattle.chess_board.specs.declared.moves.Move.{Move}
 use Rattle.chess_board.specs.Position.{Position, IsValid, man_at, target_rank}
-use Rattle.chess_board.specs.Legal.{IsLegal, IsPromotion, last_rank}
+use Rattle.chess_board.specs.Legal.{IsLegal, last_rank}
 use Rattle.chess_board.specs.Computing.{is_legal}
 use Rattle.chess_board.proofs.Deciding.{Decides-is_legal}
 use Rattle.chess_board.proofs.Candidates.{IsOnBoard-from_man}
+use Rattle.chess_board.proofs.ValidTarget.{no_promotion_before}
 use Rattle.chess_moves.specs.Targets.{plain}
 use Rattle.chess_moves.proofs.Parts.{candidate_kind}
 use Rattle.chess_repeat.specs.SamePosition.{IsLegalEnPassant, HasLegalEnPassant}
@@ -57,11 +58,6 @@ Decides-live p t =
     (λ s on. and_decides (and_decides (Decides-holds_is_man (p.side, Pawn) (man_at p.placement s))
     (Decides-reaches (pawn_attacks p.side) s t)) (Decides-is_legal p (plain s t))))
 
-no_promotion : (side : Colour) (to : Square) (promotion : Option Kind) → to.rank ≢ last_rank side →
-    IsPromotion side to promotion → promotion ≡ None
-no_promotion side to None inside is = refl
-no_promotion side to (Some piece) inside is = absurd (inside is.0)
-
 target_inside : (side : Colour) (rank : ℕ) → rank ≡ target_rank side → rank ≢ last_rank side
 target_inside White rank at_target at_last = absurd (omega arith)
 target_inside Black rank at_target at_last = absurd (omega arith)
@@ -76,7 +72,7 @@ capture_plain : (p : Position) (m : Move) → IsValid p → IsLegalEnPassant p m
 capture_plain p m valid capture =
     let inside = target_inside p.side m.to.rank (valid.target m.to capture.takes.crossed).rank in
     let move = candidate_kind p m Pawn capture.pawn capture.legal.candidate in
-    move_plain m m.to refl (no_promotion p.side m.to m.promotion inside move.promotion)
+    move_plain m m.to refl (no_promotion_before p.side m.to m.promotion move.promotion inside)
 
 pub live_from : (p : Position) (m : Move) → IsValid p → IsLegalEnPassant p m → is_live p m.to ≡ true
 live_from p m valid capture =

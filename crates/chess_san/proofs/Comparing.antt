@@ -1,10 +1,10 @@
 -- What is found by comparing a text with a move's own.
 use Rattle.std.proofs.Common.{ℕ, ◌≡◌, ◌≢◌, ◌+◌, ◌∙◌, Bool, true, false, ◌||◌, eqb, List, [], ◌∷◌, ◌++◌, length, take, drop, get_or, Option, Some, None, ap, sym, subst, refl, inl, inr, arith, length-append}
-use Rattle.std.specs.Prelude.{◌⊎◌, ◌==◌, ◌↔◌, IfSome, IfNone}
+use Rattle.std.specs.Prelude.{◌⊎◌, ◌==◌, ◌↔◌, IfNone}
 use Rattle.std.specs.Cmp.Lexicographic.{pointwise}
 use Rattle.std.proofs.lemmas.Bool.{false≢true, or_left, or_right, eq-eqb}
 use Rattle.std.proofs.lemmas.Bool.Decides.{Decides-eqb}
-use Rattle.std.proofs.lemmas.List.{append-nil}
+use Rattle.std.proofs.lemmas.List.{append-nil, nil_from_length}
 use Rattle.std.proofs.lemmas.Slice.Eq.{starts_is, slice_eq-Decides}
 use Rattle.std.proofs.lemmas.Option.{same_Some}
 use Rattle.chess_bits.specs.declared.men.Kind.{Kind}
@@ -58,16 +58,12 @@ started own bytes text shown e =
     (starts_is Decides-eqb text bytes true e).0 refl
     ∙ ap (λ (b : List ℕ). b ++ drop (length b) text) shown
 
-none_left : (rest : List ℕ) → length rest ≡ 0 → rest ≡ []
-none_left [] e = refl
-none_left (x ∷ xs) e = absurd (omega arith)
-
 pub whole_body : (p : Position) (m : Move) (own text : List ℕ) → IsBody p m own → text ≡ own ++ drop (length own) text →
     length own ≡ length text → IsSanOrBody p m text
 whole_body p m own text body there len =
     let rest : List ℕ = drop (length own) text in
     let short : length rest ≡ 0 = omega (arith, ap length there, length-append own rest) in
-    let same : own ≡ text = sym (there ∙ ap (λ (r : List ℕ). own ++ r) (none_left rest short) ∙ append-nil own) in
+    let same : own ≡ text = sym (there ∙ ap (λ (r : List ℕ). own ++ r) (nil_from_length rest short) ∙ append-nil own) in
     let Body' : List ℕ → Type 0 = IsBody p m in
     inr (subst Body' same body)
 
@@ -229,7 +225,3 @@ IfNone-told (Some x) P e p = absurd (cc)
 pub IfNone-map : {A : Type 0} (o : Option A) (P Q : Type 0) → (P → Q) → IfNone o P → IfNone o Q
 IfNone-map None P Q f p = f p
 IfNone-map (Some x) P Q f p = tt
-
-pub IfSome-map : {A : Type 0} (o : Option A) (P Q : A → Type 0) → ((x : A) → P x → Q x) → IfSome o P → IfSome o Q
-IfSome-map None P Q f p = tt
-IfSome-map (Some x) P Q f p = f x p

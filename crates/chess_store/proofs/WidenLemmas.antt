@@ -2,6 +2,7 @@
 use Rattle.std.proofs.Common.{◌≡◌, ◌+◌, ◌*◌, ◌-◌, ◌^◌, ◌≤◌, false, List, [], length, sym, ap, subst, inl, inr, refl, arith}
 use Rattle.std.specs.Prelude.{◌≢◌, Result, Ok, Err, OnOk}
 use Rattle.std.proofs.Math.Nat.{mul-le-mul_left, mul-le-mul_right}
+use Rattle.std.proofs.lemmas.Result.{on_ok_weaker}
 use Rattle.sector_dev.specs.Image.{Sectors}
 use Rattle.sector_dev.specs.declared.device.Device.{Ghosts}
 use Rattle.sector_dev.specs.Device.{State}
@@ -14,7 +15,6 @@ use Rattle.rec_codec.specs.declared.header.Header.{Header}
 use Rattle.sector_journal.specs.declared.compactions.Compaction.{Compaction}
 use Rattle.sector_journal.specs.declared.fault.JournalFault.{JournalFault}
 use Rattle.sector_journal.specs.declared.journals.Journal.{Journal}
-use Rattle.sector_journal.proofs.CallLemmas.{on_ok}
 use Rattle.sector_journal.specs.Committed.{IsSwitched, Switches}
 use Rattle.sector_journal.specs.Stands.{Content, content}
 use Rattle.sector_journal.specs.Switches.{widened_header}
@@ -152,7 +152,7 @@ pub widened_by : {D : Type 0} {ghosts : Ghosts D} (old new : Journal D ghosts) (
     → old.header.seq ≢ 2 ^ 64 - 1 → IsWidenTried old new result widened.header.limits
 widened_by old new widened result switches works number =
     tried_so old new result _ switches.committed (λ short. short) works number (
-      on_ok result (IsSwitched old new widened) (new.header.limits ≡ widened.header.limits)
+      on_ok_weaker {P = IsSwitched old new widened} {Q = new.header.limits ≡ widened.header.limits} result
           (λ is. ap (λ (h : Header). h.limits) is.header) switches.ok,
       limited_err_so result new.header old.header switches.committed.header_err,
     )

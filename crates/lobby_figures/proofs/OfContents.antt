@@ -167,9 +167,6 @@ module _ (image : Sectors) (c : Content) where
   empty_snapshot Two (base, tail) none =
       subst (λ (n : ℕ). SectorsHold Snapshot image (half_start c.header) n c.base) none base
 
-some_one : (r s : Record) → Some r ≡ Some s → r ≡ s
-some_one r s e = cc
-
 -- a count is 0, or at least 1
 some_or_none : (n : ℕ) → (n ≡ 0) ⊎ (1 ≤ n)
 some_or_none zero = inl refl
@@ -187,7 +184,7 @@ module _ (image : Sectors) (c : Content) (moment : Option ℕ) (shows : Shows im
         let same = journal_last image c c.header.version (kind.Entry entered.entry) shows.records some entered.last in
         record {
           entry = entered.entry;
-          is = some_one last (kind.Entry entered.entry) (sym is ∙ same);
+          is = same_Some last (kind.Entry entered.entry) (sym is ∙ same);
           told = entered.told;
         }
   ]
@@ -204,7 +201,7 @@ module _ (image : Sectors) (c : Content) (moment : Option ℕ) (shows : Shows im
             let same = snapshot_first image c c.header.version (kind.Meta kept.meta) shows.records some kept.first in
             record {
               meta = kept.meta;
-              is = some_one first (kind.Meta kept.meta) (sym is ∙ same);
+              is = same_Some first (kind.Meta kept.meta) (sym is ∙ same);
               told = kept.told;
             }
       ]

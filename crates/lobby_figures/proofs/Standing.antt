@@ -1,6 +1,6 @@
 -- What stands still while figures are read, and what was so where there are none.
 use Rattle.std.proofs.Common.{◌≡◌, ◌<◌, ◌≤◌, ◌∙◌, ℕ, List, refl, sym, subst, arith, inl, inr}
-use Rattle.std.specs.Prelude.{Some, Result, Ok, Err, IfOk, IfErr, IsErrAnd}
+use Rattle.std.specs.Prelude.{Some, Result, Ok, Err, IfOk, IfErr}
 use Rattle.sector_dev.specs.Image.{Sectors}
 use Rattle.rec_codec.specs.declared.header.Header.{Header}
 use Rattle.journal_layout.specs.Parts.{bytes_at}
@@ -85,12 +85,6 @@ cause_of_copy image from to count copy.NotOurs cause = cause
 cause_of_copy image from to count copy.Damaged cause = inl cause
 cause_of_copy image from to count copy.TooSmall cause = cause
 cause_of_copy image from to count copy.Device cause = cause
-
--- what is so of a fault that is handed on
-pub err_of : {T E : Type 0} (r : Result T E) (fault : E) (P : E → Type 0) → IsErrAnd r (λ e. e ≡ fault) → P fault
-    → IfErr r P
-err_of (Ok x) fault P is holds = absurd is
-err_of (Err e) fault P is holds = subst P (sym is) holds
 
 -- what a later part of a call answers, the call does
 pub whole_on : (image one : ℕ → Sectors) (from mid to : ℕ) (r : Result Figures FiguresFault) → one ≡ image → from ≤ mid

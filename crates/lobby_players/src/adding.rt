@@ -125,7 +125,7 @@ pub fn text_with(
 
 /// The text of the file with the player's line: in the place of the line that had the name, so that a player who is there
 /// already has a new token, and this full name and role; and behind all for a new one. It fails, and nothing is added, at
-/// the first of these: the file is none, the name or the full name is none, another player has the token; or where memory
+/// one of these, which is so: the file is none, the name or the full name is none, another player has the token; or where memory
 /// is refused.
 pub fn added(
     alloc: Global,

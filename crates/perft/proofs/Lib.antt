@@ -1,5 +1,4 @@
 mod Asked
-mod Counters
 mod Depths
 mod Recounting
 mod Through

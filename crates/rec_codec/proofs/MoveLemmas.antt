@@ -1,8 +1,9 @@
 -- A move that can be kept is that of its number.
-use Rattle.std.proofs.Common.{◌≡◌, ◌+◌, ◌/◌, ◌%◌, ◌<◌, Option, Some, None, refl, ap, ◌∙◌, arith}
+use Rattle.std.proofs.Common.{◌≡◌, ◌/◌, ◌%◌, ◌<◌, Option, Some, None, refl, ap, ◌∙◌, arith}
 use Rattle.chess_bits.specs.declared.men.Kind.{Kind}
 use Rattle.chess_bits.specs.declared.men.Kind.TheVariants.{Pawn, Knight, Bishop, Rook, Queen, King}
-use Rattle.chess_bits.specs.Square.{Square, square, number_of, square_at, IsOnBoard}
+use Rattle.chess_bits.specs.Square.{Square, number_of, square_at}
+use Rattle.chess_bits.proofs.TableLemmas.{number_of-below, square_at-number_of}
 use Rattle.chess_board.specs.declared.moves.Move.{Move}
 use Rattle.rec_codec.specs.Moves.{CanBecome, IsStorable, promotion_number, move_code, promotion_of, move_of}
 
@@ -23,15 +24,6 @@ promotion_of-promotion_number (Some Bishop) h = refl
 promotion_of-promotion_number (Some Rook) h = refl
 promotion_of-promotion_number (Some Queen) h = refl
 promotion_of-promotion_number (Some King) h = elim h [ ]
-
-pub number_of-below : (s : Square) → IsOnBoard s → number_of s < 64
-number_of-below s h = omega arith
-
-pub square_at-number_of : (s : Square) → IsOnBoard s → square_at (number_of s) ≡ s
-square_at-number_of s h =
-    let file : number_of s % 8 + 1 ≡ s.file = omega arith in
-    let rank : number_of s / 8 + 1 ≡ s.rank = omega arith in
-    ap (λ f. square f (number_of s / 8 + 1)) file ∙ ap (λ r. square s.file r) rank
 
 same_move : (f g t u : Square) (p q : Option Kind) → f ≡ g → t ≡ u → p ≡ q →
     (let a : Move = record { from = f; to = t; promotion = p } in

@@ -7,7 +7,7 @@ use Rattle.std.proofs.lemmas.Bool.Decides.{nat_tests}
 use Rattle.std.proofs.lemmas.List.{take_at, drop_at, take_more, take-append-drop, map-append, length-map, length-take-le, length-replicate, length-append, length-drop, set_at, same_lists}
 use Rattle.byteorder.specs.Endian.{little_bytes, little_number, IsRead}
 use Rattle.byteorder.specs.Numbers.{little_number-reads_back}
-use Rattle.chess_bits.specs.Square.{IsOnBoard, square_at}
+use Rattle.chess_bits.specs.Square.{IsOnBoard}
 use Rattle.chess_board.specs.declared.moves.Move.{Move}
 use Rattle.rec_codec.specs.declared.moves.MoveList.TheInside.{Inside}
 use Rattle.rec_codec.specs.Moves.{CanBecome, IsStorable, IsMoveList, promotion_of, move_code, move_of, move_code-move_of, codes_of, are_codes}
@@ -31,9 +31,6 @@ map-codes (c ∷ cs) h =
     ap (λ x. x ∷ map move_code (map move_of cs)) (move_code-move_of c (below c parts.0))
     ∙ ap (λ xs. c ∷ xs) (map-codes cs parts.1)
 
-on_board : (n : ℕ) → n < 64 → IsOnBoard (square_at n)
-on_board n h = record { file_from = omega arith; file_to = omega arith; rank_from = omega arith; rank_to = omega arith }
-
 can_become : (n : ℕ) → n < 5 → CanBecome (promotion_of n)
 can_become zero h = tt
 can_become (suc zero) h = tt
@@ -44,8 +41,8 @@ can_become (suc (suc (suc (suc (suc n))))) h = absurd (omega arith)
 
 pub IsStorable-move_of : (c : ℕ) → c < 20480 → IsStorable (move_of c)
 IsStorable-move_of c h = record {
-  from = on_board (c % 64) (omega arith);
-  to = on_board (c / 64 % 64) (omega arith);
+  from = IsOnBoard-square_at (c % 64) (omega arith);
+  to = IsOnBoard-square_at (c / 64 % 64) (omega arith);
   promotion = can_become (c / 4096) (omega arith);
 }
 

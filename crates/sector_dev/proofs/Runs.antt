@@ -1,12 +1,12 @@
 -- How a run of device calls goes on.
 use Rattle.std.proofs.Common.{◌≡◌, ◌<◌, ◌++◌, ◌∷◌, [], inl, inr, refl, sym, ◌∙◌, ap, subst, ⊎_elim, ℕ, List, length, arith}
-use Rattle.std.specs.Prelude.{slice_set, Result, Ok}
-use Rattle.std.proofs.lemmas.Bool.{cases_lt}
+use Rattle.std.specs.Prelude.{slice_set, Result, Ok, Err, IsErr}
+use Rattle.std.proofs.lemmas.Bool.{cases_lt, false≢true}
 use Rattle.std.proofs.lemmas.List.{get_or-set_other, get_or_past}
 use Rattle.sector_dev.specs.declared.device.Sector.{Sector}
 use Rattle.sector_dev.specs.declared.device.Sector.TheVariants.{Bytes, Unreadable}
 use Rattle.sector_dev.specs.Image.{Sectors, sector_at, Write, IsWritten}
-use Rattle.sector_dev.specs.Device.{State, IsCoherent, WithOrWithout, IsPending, MayBePending, Elapses, CountsFailure}
+use Rattle.sector_dev.specs.Device.{State, IsCoherent, WithOrWithout, IsPending, MayBePending, Elapses, HasRisen, CountsFailure}
 use Rattle.sector_dev.specs.Runs.{LeavesOnly, IsRun, WithWrites, ArePending, AgreeElsewhere, IsUntouched}
 use Rattle.sector_dev.proofs.Images.{pending_images, stable_images, applied-append}
 use Rattle.sector_dev.proofs.Moments.{elapses_same}
@@ -180,3 +180,17 @@ frame_all writes old c (d, was, i) = (
     | inl lt ↦ elim (i.each k lt) [ inl same ↦ same | inr written ↦ absurd (untouched (sector_at c k) written) ]
   ],
 )
+
+-- ---- failures
+
+-- a call that failed has counted it
+pub failed_counted : {T E : Type 0} (r : Result T E) (old new : ℕ) → IsErr r → HasRisen old new × (old ≤ new)
+    → CountsFailure r old new
+failed_counted (Ok x) old new err risen = absurd (false≢true err)
+failed_counted (Err e) old new err risen = risen
+
+-- also since calls before it that did not fail
+pub failed_later : {T E : Type 0} (r : Result T E) (old mid new : ℕ) → IsErr r → mid ≡ old
+    → HasRisen mid new × (mid ≤ new) → CountsFailure r old new
+failed_later r old mid new err same risen =
+    subst (λ (n : ℕ). CountsFailure r n new) same (failed_counted r mid new err risen)

@@ -1,10 +1,8 @@
 -- Where a record of calls is settled, and what the calls after that place leave.
 use Rattle.std.proofs.Common.{◌≡◌, ◌≤◌, ◌<◌, ◌+◌, ℕ, List, [], ◌∷◌, ◌++◌, length, take, drop, refl, sym, ◌∙◌, ap, subst, arith, length-append, suc, append-nil, get_or, length-take-le, zero}
 use Rattle.std.specs.Prelude.{slice_set, slice_index_or}
-use Rattle.std.proofs.lemmas.List.{take_all, take-append-le, drop-append-le}
+use Rattle.std.proofs.lemmas.List.{take_all, take-append-le, drop-append-le, take_more}
 use Rattle.std.proofs.Math.ListN.{drop_of_length-le}
-use Rattle.std.proofs.Math.Seq.{take-suc}
-use Rattle.std.proofs.Math.Numerals.{add-one}
 use Rattle.sector_dev.specs.declared.memory.Call.{Call}
 use Rattle.sector_dev.specs.declared.memory.Call.TheVariants.{Written, Synced}
 use Rattle.sector_dev.specs.declared.device.Sector.TheVariants.{Bytes, Unreadable}
@@ -105,10 +103,6 @@ pub length-writes_of : (xs : List Call) → IsUnsynced xs → length (writes_of 
 length-writes_of [] u = refl
 length-writes_of (Written at v ∷ xs) u = ap (λ (n : ℕ). suc n) (length-writes_of xs u)
 length-writes_of (Synced ∷ xs) u = absurd u
-
-take_more : (calls : List Call) (i : ℕ) (d : Call) → i < length calls
-    → take (i + 1) calls ≡ take i calls ++ get_or calls i d ∷ []
-take_more calls i d lt = rw add-one (take-suc calls i d lt)
 
 -- one call more is settled or not
 pub more_settled_written : (calls : List Call) (i n at : ℕ) (v : List ℕ) (d : Call) → i < length calls

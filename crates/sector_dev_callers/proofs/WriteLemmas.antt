@@ -1,12 +1,10 @@
 -- Writes of a list of sectors, one after the other.
 use Rattle.std.proofs.Common.{◌≡◌, ◌≤◌, ◌<◌, ◌+◌, ◌++◌, ◌∷◌, [], sym, ◌∙◌, ap, subst, ℕ, List, length, take, drop, get_or, arith, length-take-le}
-use Rattle.std.specs.Prelude.{Result, Ok, Err, IsErr}
-use Rattle.std.proofs.lemmas.Bool.{false≢true}
 use Rattle.std.proofs.lemmas.List.{take_more, take-append-drop}
 use Rattle.sector_dev.specs.declared.memory.Call.TheVariants.{Written}
 use Rattle.sector_dev.specs.Image.{Sectors, Write}
 use Rattle.sector_dev.specs.Memory.{Disk, step}
-use Rattle.sector_dev.specs.Device.{State, IsCoherent, WithOrWithout, IsPending, MayBePending, HasRisen, CountsFailure}
+use Rattle.sector_dev.specs.Device.{State, IsCoherent, WithOrWithout, IsPending, MayBePending}
 use Rattle.sector_dev.specs.Runs.{WithWrites, ArePending}
 use Rattle.sector_dev.proofs.Runs.{with_more, during_more, more_pending, more_failed}
 use Rattle.sector_dev_callers.specs.Changes.{writes_from}
@@ -41,18 +39,6 @@ one_noted d stable values i at lt is_at is =
     ap (λ (e : Disk). step e (Written at (get_or values i []))) is
     ∙ ap (λ (ws : List Write). let e : Disk = record { stable = stable; pending = ws } in e)
     (sym (writes_more 0 values i at lt (omega (arith, is_at))))
-
--- a call that failed has counted it
-pub failed_counted : {T E : Type 0} (r : Result T E) (old new : ℕ) → IsErr r → HasRisen old new × (old ≤ new)
-    → CountsFailure r old new
-failed_counted (Ok x) old new err risen = absurd (false≢true err)
-failed_counted (Err e) old new err risen = risen
-
--- also since calls before it that did not fail
-pub failed_later : {T E : Type 0} (r : Result T E) (old mid new : ℕ) → IsErr r → mid ≡ old
-    → HasRisen mid new × (mid ≤ new) → CountsFailure r old new
-failed_later r old mid new err same risen =
-    subst (λ (n : ℕ). CountsFailure r n new) same (failed_counted r mid new err risen)
 
 -- One write more, at place `i` of the list.
 module _ (old mid : State) (count : ℕ) (laws : IsCoherent count old) (model : old.keeps_model)

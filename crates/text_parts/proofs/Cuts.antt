@@ -1,7 +1,7 @@
 -- A text that was joined at a sign is cut there.
-use Rattle.std.proofs.Common.{ℕ, zero, suc, ◌≡◌, ◌≢◌, ◌<◌, ◌+◌, ◌==◌, Bool, true, false, List, [], ◌∷◌, ◌++◌, length, take, drop, get_or, refl, sym, ap, ◌∙◌, arith, if◌then◌else◌}
+use Rattle.std.proofs.Common.{ℕ, zero, suc, ◌≡◌, ◌≢◌, ◌<◌, ◌+◌, ◌==◌, true, false, List, [], ◌∷◌, ◌++◌, length, take, drop, get_or, refl, sym, ap, ◌∙◌, arith, if◌then◌else◌}
 use Rattle.std.specs.List.{list_any, before_first, after_first, position_or_len}
-use Rattle.std.proofs.lemmas.Bool.{or_from, or_parts}
+use Rattle.std.proofs.lemmas.Bool.{ne_eqb, or_from, or_parts}
 use Rattle.std.proofs.lemmas.Bool.Decides.{Decides-eqb}
 use Rattle.std.proofs.lemmas.List.{take_at, drop_all}
 use Rattle.std.proofs.lemmas.List.Recursion.{is_position_or_len}
@@ -11,12 +11,8 @@ use Rattle.std.proofs.Math.Seq.{take-length}
 abbrev pub Lacks : ℕ → List ℕ → Type 0
 Lacks c text = list_any (λ b. b == c) text ≡ false
 
-not_same_by : (a b : ℕ) (t : Bool) → (a == b) ≡ t → a ≢ b → (a == b) ≡ false
-not_same_by a b true e h = absurd (h ((Decides-eqb a b).0 e))
-not_same_by a b false e h = e
-
 pub lacks_more : (c d : ℕ) (text : List ℕ) → d ≢ c → Lacks c text → Lacks c (d ∷ text)
-lacks_more c d text other h = or_from (d == c) (list_any (λ b. b == c) text) (not_same_by d c (d == c) refl other) h
+lacks_more c d text other h = or_from (d == c) (list_any (λ b. b == c) text) (ne_eqb d c other) h
 
 pub lacks_each : (c : ℕ) (text : List ℕ) → ((i : ℕ) → i < length text → get_or text i 0 ≢ c) → Lacks c text
 lacks_each c [] h = refl

@@ -1,5 +1,5 @@
 -- What is written for a number has digits alone.
-use Rattle.std.proofs.Common.{ℕ, ◌≡◌, ◌<◌, ◌^◌, decimal, refl, arith}
+use Rattle.std.proofs.Common.{ℕ, ◌<◌, ◌^◌, decimal, refl, arith}
 use Rattle.std.specs.Str.Parse.{AllDigits, digits_value}
 use Rattle.std.proofs.lemmas.Fmt.{digits_decimal}
 use Rattle.std.proofs.lemmas.Str.Parse.{IsNumeralModel, digit_at}

@@ -3,9 +3,9 @@ use Rattle.std.proofs.lemmas.List.{take_all}
 use Rattle.sector_dev.specs.declared.device.DeviceFault.{DeviceFault}
 use Rattle.sector_dev.specs.Device.{WithOrWithout}
 use Rattle.sector_dev.specs.Runs.{WithWrites, ArePending}
-use Rattle.sector_dev.proofs.Runs.{run_started, run_goes_on, none_pending}
+use Rattle.sector_dev.proofs.Runs.{run_started, run_goes_on, none_pending, failed_counted}
 use Rattle.sector_dev_callers.specs.Changes.{writes_from}
-use Rattle.sector_dev_callers.proofs.WriteLemmas.{during_one, one_pending, one_failed, failed_counted}
+use Rattle.sector_dev_callers.proofs.WriteLemmas.{during_one, one_pending, one_failed}
 use Rattle.sector_dev_callers.proofs.write_all.Goals as goal
 
 pub returns-in_err-write-clause-run : goal.returns-in_err-write-clause-run

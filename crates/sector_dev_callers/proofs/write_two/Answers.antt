@@ -4,10 +4,10 @@ use Rattle.sector_dev.specs.declared.device.Sector.TheVariants.{Bytes}
 use Rattle.sector_dev.specs.Image.{Sectors}
 use Rattle.sector_dev.specs.Device.{IsStable}
 use Rattle.sector_dev.specs.Runs.{IsAtRest, LeavesOnly}
+use Rattle.sector_dev.proofs.Runs.{failed_counted, failed_later}
 use Rattle.sector_dev_callers.specs.Changes.{OldOrEither}
 use Rattle.sector_dev_callers.proofs.ChangeLemmas.{first_alone, during_first, during_second, during_second_sync}
 use Rattle.sector_dev_callers.proofs.ChangeLemmas.{after_failed_first, after_failed_second, after_second}
-use Rattle.sector_dev_callers.proofs.WriteLemmas.{failed_counted, failed_later}
 use Rattle.sector_dev_callers.proofs.write_two.Given.{Over}
 use Rattle.sector_dev_callers.proofs.write_two.Goals.{After-sync}
 use Rattle.sector_dev_callers.proofs.write_two.Goals as goal

@@ -1,21 +1,17 @@
-use Rattle.std.proofs.Common.{◌≡◌, ◌∙◌, ap, sym, subst, List, Bool, [], ◌∷◌, None}
-use Rattle.chess_bits.specs.Square.{Square}
+use Rattle.std.proofs.Common.{◌∙◌, ap, sym, subst, List, Bool}
 use Rattle.chess_bits.specs.Table.{members, meet, without, head_of, IsSetOf}
 use Rattle.chess_bits.specs.Attack.{SlidesAlong}
+use Rattle.chess_bits.proofs.SetLemmas.{no_head}
 use Rattle.chess_attacks.specs.Ways.{way_step}
 use Rattle.chess_attacks.proofs.WayLemmas.{rising-adds, rising-rises}
 use Rattle.chess_attacks.proofs.Cutting.{whole_slide, rising_slide}
 use Rattle.chess_attacks.proofs.rays.slide_rising.Goals as goal
 
-none_left : (ms : List Square) → None ≡ head_of ms → ms ≡ []
-none_left [] e = λ i. []
-none_left (m ∷ ms) e = absurd (cc)
-
 pub returns-in-None : goal.returns-in-None
 returns-in-None c =
     whole_slide c.ray-whole.result c.args.occupied c.args.square (way_step c.args.way) c.ray-whole.ensures.on_board
     c.ray-whole.ensures.squares
-    (ap members (sym c.meet.ensures) ∙ none_left (members c.meet.result) c.in-None.ensures)
+    (ap members (sym c.meet.ensures) ∙ no_head (members c.meet.result) c.in-None.ensures)
 
 pub returns-in-Some : goal.returns-in-Some
 returns-in-Some c =

@@ -2,10 +2,10 @@ use Rattle.std.proofs.Common.{◌≡◌, ◌∙◌, sym, ap, true}
 use Rattle.std.proofs.lemmas.Bool.{false≢true}
 use Rattle.chess_bits.specs.Square.{Square}
 use Rattle.chess_bits.specs.Table.{has}
-use Rattle.chess_bits.proofs.SetLemmas.{IsLeast-first, has-none, IsSetOf-like}
+use Rattle.chess_bits.proofs.SetLemmas.{IsLeast-first, has-none, IsSetOf-like, no_head}
 use Rattle.chess_moves.specs.Masks.{IsLeaper}
 use Rattle.chess_moves.proofs.Foes.{leaper_on}
-use Rattle.chess_moves.proofs.Singles.{no_head, every_set}
+use Rattle.chess_moves.proofs.Singles.{every_set}
 use Rattle.chess_moves.proofs.masks.ends_of_leaps.Goals as goal
 
 pub is_single-requires : goal.is_single-requires

@@ -3,11 +3,10 @@ use Rattle.chess_bits.specs.declared.men.Colour.{Colour}
 use Rattle.chess_bits.specs.declared.men.Kind.TheVariants.{King}
 use Rattle.chess_bits.specs.Man.{Man, is_of, is_man}
 use Rattle.chess_bits.specs.Table.{has, meet, members}
-use Rattle.chess_bits.proofs.SetLemmas.{IsLeast-first}
+use Rattle.chess_bits.proofs.SetLemmas.{IsLeast-first, no_head}
 use Rattle.chess_board.specs.Occupancy.{squares_with, is_a}
 use Rattle.chess_board.proofs.AttackLemmas.{meet-is_man, man-has}
 use Rattle.chess_moves.proofs.Foes.{king_there}
-use Rattle.chess_moves.proofs.Singles.{no_head}
 use Rattle.chess_moves.proofs.masks.king_of.Goals as goal
 
 kings : (placement : List (Option Man)) (side side' : Colour) (own of_kind kings' : List Bool) (men : List (Option Man)) →

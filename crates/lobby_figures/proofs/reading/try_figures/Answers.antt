@@ -4,11 +4,12 @@ use Rattle.sector_dev.specs.Image.{Sectors}
 use Rattle.rec_codec.specs.declared.header.Header.{Header}
 use Rattle.journal_layout.specs.Parts.{bytes_at}
 use Rattle.journal_layout.proofs.LayoutLemmas.{ends_within}
+use Rattle.journal_layout.proofs.CallLemmas.{passed_on}
 use Rattle.journal_copy.specs.Source.{IsSeen, IsSeenInForce, IsWritten}
 use Rattle.journal_copy.specs.Copying.{Follows}
 use Rattle.lobby_figures.specs.declared.fault.FiguresFault.{FiguresFault}
 use Rattle.lobby_figures.specs.Faults.{IsCause, of_copy}
-use Rattle.lobby_figures.proofs.Standing.{stood, follows_itself, seen_wider, cause_later, cause_of_copy, err_of}
+use Rattle.lobby_figures.proofs.Standing.{stood, follows_itself, seen_wider, cause_later, cause_of_copy}
 use Rattle.lobby_figures.proofs.reading.try_figures.Given.{Over}
 use Rattle.lobby_figures.proofs.reading.try_figures.Goals.{After-last_moment}
 use Rattle.lobby_figures.proofs.reading.try_figures.Goals as goal
@@ -24,7 +25,7 @@ returns-in_err-header-clause-cause g c = λ told.
     let source = c.args.source.now in
     let to = S.moment c.header_in_force.new.source in
     let fault = c.in_err-header.field-0.0 in
-    err_of c.from_residual.result (of_copy fault) (IsCause (S.image source) (S.moment source) to (S.sector_count source))
+    passed_on c.from_residual.result (of_copy fault) (IsCause (S.image source) (S.moment source) to (S.sector_count source))
     c.from_residual.ensures.1
     (cause_of_copy (S.image source) (S.moment source) to (S.sector_count source) fault (c.in_err-header.ensures.cause told))
 
@@ -61,7 +62,7 @@ returns-in_err-later-clause-cause g c = λ told.
     let passed = first.later told in
     let since = c.read.ensures.moment mid in
     let le : S.moment source ≤ from = omega (arith, passed, since) in
-    err_of c.from_residual-in_err-later.result (of_copy fault)
+    passed_on c.from_residual-in_err-later.result (of_copy fault)
     (IsCause (S.image source) (S.moment source) to (S.sector_count source)) c.from_residual-in_err-later.ensures.1
     (cause_later (S.image source) (S.image c.read.new.self) (S.moment source) from to (S.sector_count source)
     (S.sector_count c.read.new.self) (of_copy fault) (c.read.ensures.image mid ∙ first.same told)
@@ -136,7 +137,7 @@ returns-in_err-moment-clause-cause g c = λ told.
     let seen = c.in_ok-header.ensures.in_force told in
     let here = (goal.at.returns-in_err-moment-clause-cause g c).After-last_moment in
     let Is = IsCause (S.image source) (S.moment source) (S.moment c.header_in_force-2.new.source) (S.sector_count source) in
-    err_of c.from_residual-in_err-moment.result c.in_err-moment.field-0.0 Is c.from_residual-in_err-moment.ensures.1
+    passed_on c.from_residual-in_err-moment.result c.in_err-moment.field-0.0 Is c.from_residual-in_err-moment.ensures.1
     (subst (λ (f : FiguresFault). Is f) (sym c.in_err-moment.ensures.fault)
     (inr (λ written. record {
       moment = seen.moment;

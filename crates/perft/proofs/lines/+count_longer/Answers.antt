@@ -4,9 +4,9 @@ use Rattle.std.proofs.lemmas.List.{take_all}
 use Rattle.std.proofs.lemmas.List.{take_more}
 use Rattle.chess_board.specs.declared.moves.Move.{Move}
 use Rattle.chess_board.specs.Next.{next}
+use Rattle.chess_board.proofs.ValidNext.{halfmove_after-le, fullmove_after-within}
 use Rattle.perft.specs.Lines.{IsNumberOfLines}
 use Rattle.perft.proofs.Through.{HasLinesThrough, through_more, through_all, not_yet}
-use Rattle.perft.proofs.Counters.{halfmove_rises, fullmove_rises}
 use Rattle.perft.proofs.lines.+count_longer.Goals as goal
 
 pub returns-then-depth-eq2 : goal.returns-then-depth-eq2
@@ -29,8 +29,8 @@ count_longer-requires t c =
       (
         omega (arith, c.requires.longer, c.if-depth-eq2.false),
         (
-          omega (arith, c.requires.halfmove, halfmove_rises p m, c.requires.longer),
-          omega (arith, c.requires.fullmove, fullmove_rises p m, c.requires.longer),
+          omega (arith, c.requires.halfmove, halfmove_after-le p m, c.requires.longer),
+          omega (arith, c.requires.fullmove, (fullmove_after-within p.side p.fullmove).1, c.requires.longer),
         ),
       ),
     )

@@ -1,8 +1,9 @@
-use Rattle.std.proofs.Common.{◌≡◌, ℕ, ◌∙◌, true, false, Option, Some, None, refl, sym, ap}
+use Rattle.std.proofs.Common.{◌≡◌, ℕ, ◌∙◌, true, false, Option, Some, None, sym, ap}
 use Rattle.std.specs.Prelude.{is_some}
 use Rattle.std.proofs.lemmas.Bool.{false≢true}
 use Rattle.rec_codec.specs.Period.{period_moves, period_second}
 use Rattle.rec_bytes.proofs.used.period_at.Goals as goal
+use Rattle.rec_bytes.proofs.EntryLemmas.{none_there}
 
 there : (period : Option (ℕ × ℕ)) (moves second : ℕ) → true ≡ is_some period → moves ≡ period_moves period →
     second ≡ period_second period → Some (moves, second) ≡ period
@@ -14,9 +15,5 @@ returns-then-flag c = λ period fits fits' e f h.
     there period c.u32_at-moves.result c.u32_at-second.result (sym c.if-flag.true ∙ h)
     (c.u32_at-moves.ensures (period_moves period) fits e) (c.u32_at-second.ensures (period_second period) fits' f)
 
-none : (period : Option (ℕ × ℕ)) → false ≡ is_some period → None ≡ period
-none None h = refl
-none (Some period) h = absurd (false≢true h)
-
 pub returns-else-flag : goal.returns-else-flag
-returns-else-flag c = λ period fits fits' e f h. none period (sym c.if-flag.false ∙ h)
+returns-else-flag c = λ period fits fits' e f h. none_there period (sym c.if-flag.false ∙ h)

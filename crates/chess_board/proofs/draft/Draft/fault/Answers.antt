@@ -1,5 +1,5 @@
 use Rattle.std.proofs.Common.{◌≡◌, sym, Bool, true, false}
-use Rattle.std.proofs.lemmas.Bool.{both_ways}
+use Rattle.std.proofs.lemmas.Bool.Decides.{not_from_Decides}
 use Rattle.std.specs.Bool.{Decides}
 use Rattle.chess_board.specs.Parts.{drafted}
 use Rattle.chess_board.proofs.Deciding.{Decides-has_kings, Decides-has_few_men, Decides-has_pawns_inside, Decides-has_no_check, Decides-has_true_rights, Decides-has_true_target, Decides-has_counters}
@@ -9,7 +9,7 @@ passes : {P : Type 0} (test : Bool) → Decides test P → true ≡ test → P
 passes test decides e = decides.0 (sym e)
 
 fails : {P : Type 0} (test : Bool) → Decides test P → false ≡ test → ¬ P
-fails test decides e p = both_ways test (sym e) (decides.1 p)
+fails test decides e = not_from_Decides test decides (sym e)
 
 pub returns-then-not-has_kings : goal.returns-then-not-has_kings
 returns-then-not-has_kings c =

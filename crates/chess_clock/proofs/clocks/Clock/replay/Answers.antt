@@ -1,8 +1,9 @@
 use Rattle.std.proofs.Common.{[], ◌∷◌, ap, sym, ◌∙◌, subst, arith}
 use Rattle.chess_bits.specs.Man.{other}
+use Rattle.chess_bits.proofs.ManLemmas.{other-other}
 use Rattle.chess_clock.specs.declared.events.ClockEvent.TheVariants.{Turn, WrongClaim}
 use Rattle.chess_clock.specs.ClockState.{clock_after, TimesFit}
-use Rattle.chess_clock.proofs.ReplayLemmas.{IsAt, other-other, fits_after_this, replayed_this, turn_in_time, turn_ended_is}
+use Rattle.chess_clock.proofs.ReplayLemmas.{IsAt, fits_after_this, replayed_this, turn_in_time, turn_ended_is}
 use Rattle.chess_clock.proofs.clocks.Clock.replay.Goals as goal
 use Rattle.chess_clock.proofs.clocks.Clock.replay.Goals.{in-Turn, in-WrongClaim}
 
