@@ -137,7 +137,8 @@ seat-same name a b x y e f = cc
 
 seat-turn : (first mover side : Colour) (control : TimeControl) (events : List ClockEvent) (plies length : ℕ)
     (name : Option (List ℕ)) (offers : Bool) → AreTimed first control events plies → mover ≡ on_move_after first plies →
-    seat_state name (held side control (events ++ clock.Turn mover length ∷ [])) (offers && not (is_colour (other side) mover))
+    seat_state name (held side control (events ++ clock.Turn mover length ∷ []))
+    (offers && not (is_colour (other side) mover))
     ≡ after_turn mover side (held_after_turn control (held side control events) (completed first side (plies + 1)) length)
     (seat_state name (held side control events) offers)
 seat-turn first White White control events plies length name offers timed on_move =
@@ -176,7 +177,8 @@ running-moved number opening p at m mover timed is_mover =
 
 seat-claim : (first by side : Colour) (control : TimeControl) (events : List ClockEvent) (plies : ℕ)
     (name : Option (List ℕ)) (offers : Bool) → AreTimed first control events plies →
-    seat_state name (held side control (events ++ clock.WrongClaim by ∷ [])) (if is_colour side by then true else offers)
+    seat_state name (held side control (events ++ clock.WrongClaim by ∷ []))
+    (if is_colour side by then true else offers)
     ≡ seat_after_claim by side (seat_state name (held side control events) offers)
 seat-claim first White White control events plies name offers timed =
     seat-same name _ _ _ _ (held-own_claim White control events) refl

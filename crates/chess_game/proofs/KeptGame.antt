@@ -198,7 +198,8 @@ mover_within : (game : GameState) (at : ℕ) (side : Colour) (further : ℕ)
 mover_within game at side further on still_on most =
     let n = completed game.start.side side (ply_of game) in
     let k = completed game.start.side (other side) (ply_of game) in
-    let mine : completed game.start.side side (ply_of game + 1) ≡ n + 1 = completed-next game.start.side side (ply_of game) (sym on) in
+    let mine : completed game.start.side side (ply_of game + 1) ≡ n + 1 =
+    completed-next game.start.side side (ply_of game) (sym on) in
     let theirs : completed game.start.side (other side) (ply_of game + 1) ≡ k = completed-other game.start.side (other side) (ply_of game) still_on in
     rw (mine, theirs) (less_held game.control _ _ (n + 1) (k + 0) (k + further)
     (held_after_turn-at_most game.control (seat_of side game).held n (k + 0) (at - game.moment) most) (le_refl _)
@@ -217,7 +218,8 @@ waiting_within game side further on most =
     let one : ℕ = if game.claimed || is_over game then 1 else 0 in
     let few : one ≤ 1 = at_most_one (game.claimed || is_over game) in
     let mine : completed game.start.side side (ply_of game + 1) ≡ n = completed-other game.start.side side (ply_of game) on in
-    let theirs : completed game.start.side (other side) (ply_of game + 1) ≡ k + 1 = completed-next game.start.side (other side) (ply_of game) (sym on) in
+    let theirs : completed game.start.side (other side) (ply_of game + 1) ≡ k + 1 =
+    completed-next game.start.side (other side) (ply_of game) (sym on) in
     rw (mine, theirs) (less_held game.control (seat_of side game).held (seat_of side game).held n (k + one)
     (k + 1 + further) most (le_refl _) (one_among k one further few))
 

@@ -65,7 +65,8 @@ times_ascii : (initial : ℕ) (period : Option (ℕ × ℕ)) → AreTimes initia
 times_ascii initial None h = number_ascii initial h
 times_ascii initial (Some p) h =
     IsAscii-append (decimal p.0) _ (number_ascii p.0 h.0) (IsAscii-cons 47 _ (omega arith)
-    (IsAscii-append (decimal initial) _ (number_ascii initial h.1) (IsAscii-cons 58 _ (omega arith) (number_ascii p.1 h.2))))
+    (IsAscii-append (decimal initial) _ (number_ascii initial h.1)
+    (IsAscii-cons 58 _ (omega arith) (number_ascii p.1 h.2))))
 
 rest_fields : (fen : Option ArrayString) → IfSome fen (λ text. IsRest text.bytes) → AreAscii (optional fen)
 rest_fields None h = tt

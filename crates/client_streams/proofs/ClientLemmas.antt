@@ -54,7 +54,8 @@ due_none name heard [] left first = fare_none (is_done heard) left first
 due_none name heard (x ∷ xs) left first = absurd (let bad : None ≡ Some x = first in cc)
 
 due_empty : (name : Option (List ℕ)) (heard : Heard) (answers : List Said) (left : Bool) →
-    None ≡ first_due (due (session_state name heard answers left)) → due (given_one (session_state name heard answers left)) ≡ []
+    None ≡ first_due (due (session_state name heard answers left)) →
+    due (given_one (session_state name heard answers left)) ≡ []
 due_empty name heard [] left first = fare_empty (is_done heard) left first
 due_empty name heard (x ∷ xs) left first = absurd (let bad : None ≡ Some x = first in cc)
 

@@ -184,7 +184,8 @@ module _ {S F : Type 0} (Asked : S → Type 0) (Answers : S → List ℕ → Lis
   took-whole old new part result asked none none' u takes =
       emptied old new [] (part ++ 10 ∷ []) result (sym none) none'
       (then-takes (record old { held = [] }) (record old { held = part }) (record new { held = [] }) part (10 ∷ []) result
-      (took-part (record old { held = [] }) part part asked unfinished-none u.no_feed (omega (arith, u.short)) refl) takes)
+      (took-part (record old { held = [] }) part part asked unfinished-none u.no_feed (omega (arith, u.short)) refl)
+      takes)
 
   -- bytes that come after its end change nothing
   answered-more : (start : S) (taken bytes more : List ℕ) (end : S) → AreAnswered Answers start (taken ++ bytes) end →

@@ -31,7 +31,8 @@ returns-clause-told c =
       san = c.push_made.ensures.san;
       is_san = subst San' c.board.ensures c.push_made.ensures.is_san;
       told = c.push_made.ensures.told
-          ∙ ap (λ (by : Option Ending). with_fields c.push_number_field.new.text.bytes (c.push_made.ensures.san ∷ end_fields by))
+          ∙ ap (λ (by : Option Ending).
+          with_fields c.push_number_field.new.text.bytes (c.push_made.ensures.san ∷ end_fields by))
           ended
           ∙ ap (λ (text : List ℕ). with_fields text
           (c.push_made.ensures.san ∷ end_fields (ending_with game.start game.moves (Some m)))) numbered;

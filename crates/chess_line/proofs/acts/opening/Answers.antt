@@ -38,10 +38,12 @@ times_cut c act o rest =
     (Some (c.in_ok-times.times, c.in_ok-times.rest)) c.in_ok-times.ensures.cases (omega arith) rest
     (times_without o.initial o.period o.times)
 
-increment_cut : (c : After-cut_word) (act : Act) (o : Opening c.args.rest.now act) → c.in_ok-times.rest.now ≡ after_times o →
+increment_cut : (c : After-cut_word) (act : Act) (o : Opening c.args.rest.now act) →
+    c.in_ok-times.rest.now ≡ after_times o →
     SameCut c.cut_word.result.0.now (decimal o.increment) (rest_of c.cut_word.result.1) (bytes_of o.fen)
 increment_cut c act o rest =
-    same_cut c.cut_word.result.0.now (decimal o.increment) (rest_of c.cut_word.result.1) (bytes_of o.fen) c.cut_word.ensures.unspaced
+    same_cut c.cut_word.result.0.now (decimal o.increment) (rest_of c.cut_word.result.1) (bytes_of o.fen)
+    c.cut_word.ensures.unspaced
     (decimal_without 32 o.increment (omega arith) o.number)
     (sym c.cut_word.ensures.joined ∙ (rest ∙ optional_joined (decimal o.increment) o.fen))
 

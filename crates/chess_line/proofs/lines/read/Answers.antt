@@ -8,7 +8,8 @@ pub returns-else-eq-clause-every : goal.returns-else-eq-clause-every
 returns-else-eq-clause-every c = λ line is.
     let word = c.cut_word.result.0.now in
     let whole : c.args.text.now ≡ word = rw c.in_default.is at c.cut_word.ensures.joined in
-    let list = is_list word line c.cut_word.ensures.unspaced (record { spelled = sym whole ∙ is.spelled; sayable = is.sayable }) in
+    let list = is_list word line c.cut_word.ensures.unspaced
+    (record { spelled = sym whole ∙ is.spelled; sayable = is.sayable }) in
     false≢true (sym c.if-eq.false ∙ (c.eq.ensures ∙ (bytes_eq-Decides word (codes "list")).1 list))
 
 pub returns-in_err-act-clause-every : goal.returns-in_err-act-clause-every

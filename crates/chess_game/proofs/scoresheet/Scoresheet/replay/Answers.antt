@@ -74,7 +74,8 @@ loop-mv-preserved c =
     let Q : List Move → Type 0 = λ ms. IsReplayed c.args.start.now ms c.push_with.new.self c.in_ok-by_line.by_line in
     subst Q (sym (take_with moves i c.mv-item.result c.loop-mv-test.true c.mv-item.is))
     (IsReplayed-push c.args.start.now (take i moves) c.mv-item.result c.loop-mv.line c.push_with.new.self c.loop-mv.by_line
-    c.in_ok-by_line.by_line c.loop-mv.invariant (none-not_some c.loop-mv.by_line (sym c.is_some.ensures ∙ c.if-is_some.false))
+    c.in_ok-by_line.by_line c.loop-mv.invariant
+    (none-not_some c.loop-mv.by_line (sym c.is_some.ensures ∙ c.if-is_some.false))
     (subst P c.board.ensures c.in-Some.ensures.legal) c.in_ok-by_line.ensures.pushed
     c.in_ok-by_line.ensures.ending)
 
