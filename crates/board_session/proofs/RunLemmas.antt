@@ -1,12 +1,11 @@
 -- Texts that inputs call for, and how the loop over lines ends.
 use Rattle.std.proofs.Common.{◌≡◌, ℕ, Bool, true, false, List, [], ◌∷◌, ◌++◌, sym, refl, ap, ◌∙◌, subst, append_assoc, append-nil, arith, length-append, Option, None, Some, IfSome, Result, Err}
-use Rattle.std.specs.Io.KnownBytes.{Appends, Consumes, IsAtEnd}
+use Rattle.std.specs.Io.KnownBytes.{Appends, Consumes}
 use Rattle.session_lines.specs.Lines.{lines_of, has_long_line}
 use Rattle.chess_board.specs.Position.{Position, IsValid}
 use Rattle.chess_board.specs.Initial.{initial}
 use Rattle.line_loop.specs.Texts as loop
 use Rattle.line_loop.specs.declared.answerer.LoopFault.{LoopFault}
-use Rattle.line_loop.proofs.EndLemmas.{whole-of, whole-long}
 use Rattle.board_session.specs.Answer.{IsAnswer}
 use Rattle.board_session.specs.Run.{IsBoardText, AppendsText, AppendsFront, AnswersTaken, AnswersInPart}
 use Rattle.board_session.proofs.AnswerLemmas.{answers, valid_after, one_answer}
@@ -169,13 +168,6 @@ at-fault {F = F} Breaks result fault kind before after old new start end is that
 module _ (before after old new : Option (List ℕ)) (end : Position) where
   -- all lines were answered
 
-  pub taken-all : loop.AnswersAll IsAnswer before after old new initial end → AnswersTaken before after old new
-  taken-all h = (h.taken, h.consumed, (h.text, record { end = end; is = h.is }, h.appended))
-
-  pub whole-all : loop.AnswersAll IsAnswer before after old new initial end → IsAtEnd after →
-      IfSome before (AppendsText old new)
-  whole-all h e = text-of before old new end (whole-of IsAnswer before after old new initial end h e)
-
   all-begins : (h : loop.AnswersAll IsAnswer before after old new initial end) (more : List ℕ) →
       Begins (h.taken ++ more) h.text
   all-begins h more =
@@ -201,10 +193,6 @@ module _ (before after old new : Option (List ℕ)) (end : Position) where
       h.appended,
     ),
   )
-
-  pub whole-too_long : loop.AnswersLong IsAnswer before after old new initial end →
-      IfSome before (AppendsText old new)
-  whole-too_long h = text-of before old new end (whole-long IsAnswer before after old new initial end h)
 
   -- a write failed
 

@@ -1,4 +1,4 @@
-use Rattle.std.proofs.Common.{ℕ, zero, suc, ◌≡◌, ◌+◌, ◌-◌, ◌*◌, ◌<◌, ◌≤◌, Bool, true, cond, not, ◌||◌, ◌&&◌, List, [], ◌∷◌, length, get_or, drop, refl, ap, sym, subst, ◌∙◌, inl, inr, add-one, arith}
+use Rattle.std.proofs.Common.{ℕ, zero, suc, ◌≡◌, ◌+◌, ◌-◌, ◌*◌, ◌<◌, ◌≤◌, Bool, true, cond, not, ◌||◌, ◌&&◌, List, [], ◌∷◌, length, get_or, drop, refl, ap, sym, subst, ◌∙◌, inl, inr, arith}
 use Rattle.std.specs.List.{filter, list_all}
 use Rattle.std.proofs.lemmas.Bool.{cases_lt, cases_order, cases_Bool}
 use Rattle.std.proofs.lemmas.List.FromFn.{get_or-map-range_with_len}
@@ -12,10 +12,6 @@ use Rattle.chess_bits.proofs.TableLemmas.{same_square, number_of-below, square_a
 
 abbrev coordinate : ℕ → ℕ → ℕ → ℕ → ℕ
 coordinate n start more less = start + n * more - n * less
-
-coordinate-next : (n start more less : ℕ) → 1 ≤ coordinate n start more less →
-    coordinate (n + 1) start more less ≡ coordinate 1 (coordinate n start more less) more less
-coordinate-next n start more less h = omega arith
 
 pub product-split : (n k m : ℕ) → k ≤ n → n * m ≡ k * m + (n - k) * m
 product-split n k m le =
@@ -68,13 +64,6 @@ coordinate-still n start more less e = rw e (omega arith)
 pub along-zero : (step : Step) (a : Square) → along 0 step a ≡ a
 along-zero step a = same_square (along 0 step a) a (omega arith) (omega arith)
 
-pub along-next : (n : ℕ) (step : Step) (a : Square) → IsOnBoard (along n step a) →
-    along (n + 1) step a ≡ along 1 step (along n step a)
-along-next n step a on =
-    same_square (along (n + 1) step a) (along 1 step (along n step a))
-    (coordinate-next n a.file step.right step.left on.file_from)
-    (coordinate-next n a.rank step.up step.down on.rank_from)
-
 -- a square between two of the board is on the board
 pub along-between : (k n : ℕ) (step : Step) (a : Square) → IsOnBoard a → k ≤ n → IsOnBoard (along n step a) →
     IsOnBoard (along k step a)
@@ -108,17 +97,6 @@ after P [] i d h not_here some = absurd (omega arith)
 after P (x ∷ xs) zero d h not_here (inl here) = absurd (not_here here)
 after P (x ∷ xs) zero d h not_here (inr later) = later
 after P (x ∷ xs) (suc i) d h not_here some = after P xs i d (omega arith) not_here some
-
--- where the item at a place is not so, a later one is
-pub SomeOf-after : {A : Type 0} (P : A → Type 0) (xs : List A) (i : ℕ) (d : A) → i < length xs →
-    ¬ P (get_or xs i d) → SomeOf P (drop i xs) → SomeOf P (drop (i + 1) xs)
-SomeOf-after P xs i d h not_here some = rw add-one (after P xs i d h not_here some)
-
-pub SomeOf-end : {A : Type 0} (P : A → Type 0) (xs : List A) (i : ℕ) → length xs ≤ i → ¬ SomeOf P (drop i xs)
-SomeOf-end P [] zero h some = some
-SomeOf-end P [] (suc i) h some = some
-SomeOf-end P (x ∷ xs) zero h some = absurd (omega arith)
-SomeOf-end P (x ∷ xs) (suc i) h some = SomeOf-end P xs i (omega arith) some
 
 pub SomeOf-filter : {A : Type 0} (P : A → Type 0) (p : A → Bool) (xs : List A) →
     SomeOf (λ x. (p x ≡ true) × P x) xs → SomeOf P (filter p xs)

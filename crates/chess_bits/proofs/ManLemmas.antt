@@ -71,9 +71,6 @@ is_man-true a b e =
 pub is_man-same : (a : Man) → is_man a a ≡ true
 is_man-same a = and_from (is_colour a.0 a.0) (is_kind a.1 a.1) (is_colour-same a.0) (is_kind-same a.1)
 
-pub Decides-is_man : (a b : Man) → Decides (is_man a b) (a ≡ b)
-Decides-is_man a b = (is_man-true a b, λ e. rw e (is_man-same b))
-
 pub holds-is_man : (man : Man) (o : Option Man) → holds (is_man man) o ≡ true → o ≡ Some man
 holds-is_man man None e = absurd (cc)
 holds-is_man man (Some here) e = ap Some (sym (is_man-true man here e))

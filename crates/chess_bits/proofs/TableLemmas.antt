@@ -200,12 +200,6 @@ pub found_from_count_by : {A : Type 0} (p : A → Bool) (d : A) (xs : List A) �
 found_from_count_by p d [] some = absurd (omega arith)
 found_from_count_by p d (x ∷ xs) some = found_here p d x xs (found_from_count_by p d xs) some
 
--- a square that passes counts
-pub count_by-at : {A : Type 0} (p : A → Bool) (none : A) (t : List A) (s : Square) → length t ≡ 64 → IsOnBoard s →
-    p (at none t s) ≡ true → 1 ≤ count_by p t
-count_by-at p none t s whole on passes =
-    count_by-one p t (number_of s) none (rw whole (number_of-below s on)) (rw (← at-on_board none t s on) passes)
-
 same_from_orders : (m n : ℕ) → (m < n → ⊥) → (n < m → ⊥) → m ≡ n
 same_from_orders m n before after = elim (cases_order m n) [
   | inl e ↦ e

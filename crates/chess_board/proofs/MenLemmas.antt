@@ -1,4 +1,4 @@
-use Rattle.std.proofs.Common.{ℕ, zero, suc, ◌≡◌, Bool, true, false, cond, ◌||◌, List, [], ◌∷◌, length, get_or, map, replicate, refl, ap, sym, ◌∙◌, inl, inr, ◌⊎◌, arith, Option, Some, None, is_some}
+use Rattle.std.proofs.Common.{◌≡◌, Bool, true, false, cond, ◌||◌, List, [], ◌∷◌, length, get_or, map, replicate, refl, ap, sym, ◌∙◌, inl, inr, ◌⊎◌, arith, Option, Some, None, is_some}
 use Rattle.std.specs.List.{range_with_len}
 use Rattle.std.proofs.lemmas.Bool.{cases_Bool}
 use Rattle.std.proofs.lemmas.List.{length-map}
@@ -257,10 +257,6 @@ IsConsistent-sets_put sets s here h on =
       queens = one (is_a Queen) sets s here _ (squares_with-kind Queen sets h) i;
       kings = one (is_a King) sets s here _ (squares_with-kind King sets h) i;
     })
-
-empty_board : (n : ℕ) (is : Man → Bool) → map (holds is) (replicate n None) ≡ replicate n false
-empty_board zero is = refl
-empty_board (suc n) is = ap (λ (bs : List Bool). false ∷ bs) (empty_board n is)
 
 -- the sets of the empty board
 abbrev pub no_sets : Inside

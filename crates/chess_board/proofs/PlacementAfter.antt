@@ -40,9 +40,6 @@ length-placement_after p m =
     length-without_taken p m left ∙
     length-put p.placement m.from None
 
-pub whole-placement_after : (p : Position) (m : Move) → length p.placement ≡ 64 → length (placement_after p m) ≡ 64
-whole-placement_after p m whole = length-placement_after p m ∙ whole
-
 -- a move that is neither castling nor en passant
 pub placement_after-plain : (p : Position) (m : Move) →
     is_en_passant p m ≡ false → castles_to p m wing.King ≡ false → castles_to p m wing.Queen ≡ false →
@@ -103,13 +100,6 @@ placement_after-castling p m wing.Queen castles =
     let no_king : castles_to p m wing.King ≡ false = false_from_ne_true (castles_to p m wing.King) (λ e.
     other_wing p.side (sym (castles_to-true p m wing.King e).1 ∙ (castles_to-true p m wing.Queen castles).1)) in
     rw (castles, no_king, no_en_passant-castling p m wing.Queen castles)
-
--- the rook's squares are on the board
-pub IsOnBoard-rook_home : (side : Colour) (w : Wing) → IsOnBoard (rook_home side w)
-IsOnBoard-rook_home White wing.King = IsOnBoard-from_test (rook_home White wing.King) (λ i. true)
-IsOnBoard-rook_home White wing.Queen = IsOnBoard-from_test (rook_home White wing.Queen) (λ i. true)
-IsOnBoard-rook_home Black wing.King = IsOnBoard-from_test (rook_home Black wing.King) (λ i. true)
-IsOnBoard-rook_home Black wing.Queen = IsOnBoard-from_test (rook_home Black wing.Queen) (λ i. true)
 
 pub IsOnBoard-castled_rook : (side : Colour) (w : Wing) → IsOnBoard (castled_rook side w)
 IsOnBoard-castled_rook White wing.King = IsOnBoard-from_test (castled_rook White wing.King) (λ i. true)

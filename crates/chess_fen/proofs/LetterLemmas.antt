@@ -1,14 +1,13 @@
 -- The letters of the men by the numbers of their squares.
-use Rattle.std.proofs.Common.{ℕ, ◌≡◌, ◌≢◌, ◌<◌, Bool, true, false, cond, ◌||◌, List, ◌∷◌, length, get_or, set, Option, Some, None, refl, ap, ◌∙◌, inl, inr, arith, min}
+use Rattle.std.proofs.Common.{ℕ, ◌≡◌, ◌≢◌, ◌<◌, Bool, true, cond, List, get_or, set, Option, Some, None, refl, ap, ◌∙◌, arith, min}
 use Rattle.std.specs.List.{list_any}
-use Rattle.std.proofs.lemmas.Bool.{cases_Bool}
-use Rattle.std.proofs.lemmas.List.{get_or-set_same, get_or-set_other}
+use Rattle.std.proofs.lemmas.List.{get_or-set_other}
 use Rattle.chess_bits.specs.declared.men.Colour.TheVariants.{White, Black}
 use Rattle.chess_bits.specs.declared.men.Kind.TheVariants.{Pawn, Knight, Bishop, Rook, Queen, King}
 use Rattle.chess_bits.specs.Square.{Square, IsOnBoard, is_square, number_of}
 use Rattle.chess_bits.specs.Man.{Man, is_man, holds}
 use Rattle.chess_bits.specs.Table.{has, members}
-use Rattle.chess_bits.proofs.TableLemmas.{Decides-is_square, is_square-true, is_square-false, number_of-injective, number_of-below}
+use Rattle.chess_bits.proofs.TableLemmas.{Decides-is_square, number_of-injective}
 use Rattle.chess_bits.proofs.Deciding.{Decides-some_of, each_decides}
 use Rattle.chess_bits.proofs.AlongLemmas.{SomeOf-members}
 use Rattle.chess_board.specs.Occupancy.{squares_with}
@@ -31,21 +30,6 @@ pub other_place : (letters : List ℕ) (q s : Square) (letter : ℕ) → IsOnBoa
 other_place letters q s letter on_q on_s apart =
     get_or-set_other letters (number_of q) (number_of s) letter 0
     (λ e. apart (number_of-injective s q on_s on_q e))
-
--- a square that is left neither before nor now has the letter, or is the one marked
-pub marked_place : (letters : List ℕ) (q s : Square) (rest : List Square) (letter : ℕ) → length letters ≡ 64 →
-    IsOnBoard q → IsOnBoard s → list_any (is_square s) rest ≡ false →
-    (list_any (is_square s) (q ∷ rest) ≡ false → get_or letters (number_of s) 0 ≡ letter) →
-    get_or (set letters (number_of q) letter) (number_of s) 0 ≡ letter
-marked_place letters q s rest letter whole on_q on_s gone before = elim (cases_Bool (is_square s q)) [
-  | inl same ↦
-      let below : number_of q < length letters = omega (arith, number_of-below q on_q) in
-      ap (λ (x : Square). get_or (set letters (number_of q) letter) (number_of x) 0) (is_square-true s q same)
-      ∙ get_or-set_same letters (number_of q) letter 0 below
-  | inr apart ↦
-      other_place letters q s letter on_q on_s (is_square-false s q apart)
-      ∙ before (ap (λ (b : Bool). b || list_any (is_square s) rest) apart ∙ gone)
-]
 
 -- one letter after the other, a man has the letter of its colour and kind
 pub step : (placement : Placement) (s : Square) (man : Man) (squares : List Bool) (letter old new before : ℕ) →

@@ -42,12 +42,6 @@ game_named-only game head moves is same =
     is.number is.start is.control (seat_named-only game.white head.white is.white)
     (seat_named-only game.black head.black is.black) (sym same) is.moment is.claimed is.ending
 
-pub NamesNoGame-uncounted : (head : Head) (moves : List Move) → ¬ IsHeadOf (game_named head moves) head
-    → NamesNoGame head moves
-NamesNoGame-uncounted head moves uncounted game is same is_game =
-    let P : GameState → Type 0 = λ g. IsHeadOf g head in
-    uncounted (subst P (sym (game_named-only game head moves is same)) is)
-
 pub NamesNoGame-unsound : (head : Head) (moves : List Move) → ¬ IsGame 20000 (game_named head moves)
     → NamesNoGame head moves
 NamesNoGame-unsound head moves unsound game is same is_game =
@@ -55,9 +49,6 @@ NamesNoGame-unsound head moves unsound game is same is_game =
     unsound (subst P (sym (game_named-only game head moves is same)) is_game)
 
 -- ---- what holds of every game, in the order in which it is asked
-
-pub MayBeOpened-game : (game : GameState) → IsGame 20000 game → MayBeOpened game
-MayBeOpened-game game is = record { opened = is.opened; short = is.short }
 
 pub MayStand-game : (game : GameState) → IsGame 20000 game → MayStand game
 MayStand-game game is = record {

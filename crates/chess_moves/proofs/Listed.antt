@@ -144,10 +144,6 @@ five_piece test from to true false each =
 five_piece test from to false safe each =
     rw (each None, each (Some Queen), each (Some Rook), each (Some Bishop), each (Some Knight)) refl
 
-abbrev last_test : Bool → Option Kind → Bool
-last_test last None = not last
-last_test last (Some kind) = last && true
-
 five_pawn : (test : Move → Bool) (from to : Square) (goes last safe : Bool) →
     (test (with from to None) ≡ (goes && (not last && safe))) →
     (test (promoted from to Queen) ≡ (goes && ((last && true) && safe))) →

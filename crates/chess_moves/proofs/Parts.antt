@@ -96,13 +96,6 @@ becomes_of_move p m King (inl piece) = piece.no_promotion
 becomes_of_move p m King (inr (inl castles)) = castles.no_promotion
 becomes_of_move p m King (inr (inr castles)) = castles.no_promotion
 
-pub move_parts : (p : Position) (m : Move) (kind : Kind) →
-    (GoesTo p kind m.from m.to × Becomes p.side kind m.to m.promotion) ↔ IsMoveOf p m kind
-move_parts p m kind = (
-  λ parts. move_of_parts p m kind parts.0 parts.1,
-  λ move. (goes_of_move p m kind move, becomes_of_move p m kind move),
-)
-
 -- the move where the square reached is among the targets
 pub told_move : (p : Position) (m : Move) (kind : Kind) (set : List Bool) (b : Bool) →
     IsSetOf set (GoesTo p kind m.from) → IsOnBoard m.to → has set m.to ≡ true →

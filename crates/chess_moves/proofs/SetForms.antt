@@ -1,5 +1,5 @@
 -- The sets of squares that the targets of a man are made of.
-use Rattle.std.specs.Prelude.{◌≡◌, ◌⊎◌, ◌↔◌, Bool, true, false, cond, not, ◌&&◌, List, length, Option, Some, None}
+use Rattle.std.specs.Prelude.{◌≡◌, ◌⊎◌, ◌↔◌, Bool, true, false, cond, not, List, length, Option, Some, None}
 use Rattle.std.proofs.Common.{refl, sym, ap, ◌∙◌, inl, inr}
 use Rattle.std.proofs.lemmas.Bool.{false≢true, both_ways, and_parts, and_from, not-true, not_from_false, false_from_ne_true}
 use Rattle.std.proofs.lemmas.List.{length-map}
@@ -9,16 +9,13 @@ use Rattle.chess_bits.specs.declared.men.Kind.TheVariants.{Pawn}
 use Rattle.chess_bits.specs.Square.{Square, IsOnBoard, is_square}
 use Rattle.chess_bits.specs.Man.{other, is_of, holds}
 use Rattle.chess_bits.specs.Table.{has, put, empty, union, meet, without, IsSetOf}
-use Rattle.chess_bits.specs.Attack.{along, forward, pawn_attacks, Reaches, Attacks}
+use Rattle.chess_bits.specs.Attack.{pawn_attacks, Reaches, Attacks}
 use Rattle.chess_bits.proofs.TableLemmas.{length-put, at-put, is_square-true, is_square-same}
 use Rattle.chess_bits.proofs.SetLemmas.{has-meet, has-without, length-without, length-meet, IsSetOf-union, IsSetOf-like}
-use Rattle.chess_bits.proofs.AlongLemmas.{along-next}
 use Rattle.chess_attacks.proofs.Listed.{length-empty, has-empty}
-use Rattle.chess_board.specs.declared.castling.Wing.{Wing}
 use Rattle.chess_board.specs.Occupancy.{squares_with}
-use Rattle.chess_board.specs.Position.{Position, man_at, occupied_of}
-use Rattle.chess_board.specs.Next.{castled_king}
-use Rattle.chess_board.specs.Legal.{pawn_rank, HoldsColour, Advances, AdvancesTwo, PawnTakes, TakesEnPassant, IsPieceMove, Castles}
+use Rattle.chess_board.specs.Position.{Position, occupied_of}
+use Rattle.chess_board.specs.Legal.{HoldsColour, Advances, AdvancesTwo, PawnTakes, TakesEnPassant, IsPieceMove}
 use Rattle.chess_board.proofs.AttackLemmas.{has-own}
 use Rattle.chess_moves.specs.Targets.{plain, GoesTo}
 use Rattle.chess_moves.proofs.SquareLemmas.{colour-from_test}
@@ -66,43 +63,6 @@ one_set set to b P of there is = IsSetOf-like set (λ s. (s ≡ to) × (b ≡ tr
     (λ s on holds. (there s holds, is.1 (let P' : Square → Type 0 = P in rw (there s holds) at holds)))
 
 -- ---- pawns
-
-pub one_step_set : (p : Position) (from to : Square) (b : Bool) (set : List Bool) →
-    IsSetOf set (λ s. (s ≡ to) × (b ≡ true)) → to ≡ along 1 (forward p.side) from →
-    (b ≡ true) ↔ (man_at p.placement to ≡ None) → IsSetOf set (λ s. Advances p (plain from s))
-one_step_set p from to b set of there is =
-    one_set set to b (λ s. Advances p (plain from s)) of (λ s advances. advances.there ∙ sym there) (
-      λ yes. record { there = there; empty = is.0 yes },
-      λ advances. is.1 advances.empty,
-    )
-
-pub two_steps_set : (p : Position) (from crossed to : Square) (b c : Bool) (set : List Bool) →
-    IsSetOf set (λ s. (s ≡ to) × ((b && c) ≡ true)) → from.rank ≡ pawn_rank p.side → IsOnBoard crossed →
-    crossed ≡ along 1 (forward p.side) from → to ≡ along 1 (forward p.side) crossed →
-    (b ≡ true) ↔ (man_at p.placement crossed ≡ None) → (c ≡ true) ↔ (man_at p.placement to ≡ None) →
-    IsSetOf set (λ s. AdvancesTwo p (plain from s))
-two_steps_set p from crossed to b c set of first on at_crossed at_to is_crossed is_to =
-    let on' : IsOnBoard (along 1 (forward p.side) from) = rw at_crossed at on in
-    let two : to ≡ along 2 (forward p.side) from =
-    at_to ∙ ap (λ (s : Square). along 1 (forward p.side) s) at_crossed
-    ∙ sym (along-next 1 (forward p.side) from on') in
-    one_set set to (b && c) (λ s. AdvancesTwo p (plain from s)) of (λ s advances. advances.there ∙ sym two) (
-      λ yes.
-          let both = and_parts b c yes in
-          record {
-            first = first;
-            there = two;
-            crossed_empty = ap (λ (s : Square). man_at p.placement s) (sym at_crossed) ∙ is_crossed.0 both.0;
-            empty = is_to.0 both.1;
-          },
-      λ advances. and_from b c
-          (is_crossed.1 (ap (λ (s : Square). man_at p.placement s) at_crossed ∙ advances.crossed_empty))
-          (is_to.1 advances.empty),
-    )
-
-pub not_two_steps : (p : Position) (from s : Square) → (IsOnBoard (along 2 (forward p.side) from) → ⊥) →
-    IsOnBoard s → ¬ AdvancesTwo p (plain from s)
-not_two_steps p from s off on advances = off (rw advances.there at on)
 
 -- the four ways of a pawn
 pub pawn_set : (p : Position) (from : Square) (one two takes : List Bool) →
@@ -221,9 +181,3 @@ piece_set p from kind seen own of_seen of_own =
             move.free ((of_own.exact s on).0 here))))),
       );
     }
-
-pub castling_set : (p : Position) (from to : Square) (wing : Wing) (b : Bool) (set : List Bool) →
-    IsSetOf set (λ s. (s ≡ to) × (b ≡ true)) → to ≡ castled_king p.side wing →
-    (b ≡ true) ↔ Castles p (plain from to) wing → IsSetOf set (λ s. Castles p (plain from s) wing)
-castling_set p from to wing b set of at is =
-    one_set set to b (λ s. Castles p (plain from s) wing) of (λ s castles. castles.to ∙ sym at) is

@@ -1,5 +1,5 @@
 -- The quiet run of a list is read from the list of halfmove clocks.
-use Rattle.std.proofs.Common.{ℕ, ◌≡◌, suc, ◌-◌, List, [], ◌∷◌, ◌++◌, length, map, get_or, refl, ap, ◌∙◌, arith}
+use Rattle.std.proofs.Common.{ℕ, ◌≡◌, suc, ◌-◌, List, [], ◌∷◌, length, map, get_or, refl, ap, ◌∙◌, arith}
 use Rattle.chess_board.specs.Position.{Position}
 use Rattle.chess_repeat.specs.QuietRun.{quiet_run}
 
@@ -16,9 +16,3 @@ quiet_run-clocks [] = refl
 quiet_run-clocks (p ∷ []) = refl
 quiet_run-clocks (p ∷ q ∷ rest) =
     last_below q.halfmove (map (λ x. x.halfmove) rest) p.halfmove ∙ quiet_run-clocks (q ∷ rest)
-
--- the position pushed last has it
-pub quiet_run-push : (list : List Position) (p : Position) → quiet_run (list ++ p ∷ []) ≡ p.halfmove
-quiet_run-push [] p = refl
-quiet_run-push (q ∷ []) p = refl
-quiet_run-push (q ∷ r ∷ rest) p = quiet_run-push (r ∷ rest) p

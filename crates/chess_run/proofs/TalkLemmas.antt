@@ -54,9 +54,6 @@ alone-changes old new sid s t h c = record {
   alone = λ other ne. c.others other ne ∙ h.alone other ne;
 }
 
-pub alone-is : (s : Sessions) (sid : ℕ) (a b : SessionState) → a ≡ b → IsAlone s sid a → IsAlone s sid b
-alone-is s sid a b e h = subst (IsAlone s sid) e h
-
 -- a session that began where there was none
 pub alone-first : (old new : Sessions) (sid : ℕ) (t : SessionState) → ((other : ℕ) → session_at old other ≡ None) →
     Changes old new sid (Some t) → IsAlone new sid t
@@ -370,12 +367,6 @@ module _ (at sid : ℕ) (name : Option (List ℕ)) (part : List ℕ) (old : Sess
       }
 
 -- ---- the answer is given
-
-pub told-first : (name : Option (List ℕ)) (answer : Said) → first_due (due (told name answer)) ≡ Some answer
-told-first name answer = refl
-
-pub told-given : (name : Option (List ℕ)) (answer : Said) → given_one (told name answer) ≡ waits name
-told-given name answer = refl
 
 pub fault-map : (fault : HubFault) (Same : Type 0) (P Q : StoreFault → Type 0) → ((refused : StoreFault) → P refused
     → Q refused) → IsTurnFault fault Same P → IsTurnFault fault Same Q

@@ -76,11 +76,6 @@ move_of p m King h f (inl move) = inl (piece_move p m King h f move)
 move_of p m King h f (inr (inl castles)) = inr (inl (castling p m wing.King h f castles))
 move_of p m King h f (inr (inr castles)) = inr (inr (castling p m wing.Queen h f castles))
 
-pub placement_after-recounted : (p : Position) (m : Move) (h f : ℕ) →
-    placement_after (recounted p h f) m ≡ placement_after p m
-unfolding placement_after
-placement_after-recounted p m h f = refl
-
 pub IsLegal-recounted : (p : Position) (m : Move) (h f : ℕ) → IsLegal p m → IsLegal (recounted p h f) m
 unfolding placement_after
 IsLegal-recounted p m h f legal = record {

@@ -109,13 +109,6 @@ open-read slab (l ∷ lines) (t ∷ turn) zip h =
     (subst (IsOpen slab) (sym zip.0.sid) (All-head (λ l. IsOpen slab l.sid) l lines h))
     (open-read slab lines turn zip.1 (All-tail (λ l. IsOpen slab l.sid) l lines h))
 
--- a turn takes no more lines than it may
-pub few-read : (most : ℕ) (lines : List SessionLine) (turn : List TurnLine) → AreTurnLines (take most lines) turn →
-    length turn ≤ most
-few-read most lines turn zip =
-    let l : length turn ≡ length (take most lines) = AllZip-long IsTurnLine (take most lines) turn zip in
-    omega (arith, length-take most lines)
-
 -- ---- a round
 
 -- The lines of a turn in the midst of a round: of the sessions before those that are left.
@@ -123,9 +116,6 @@ pub record InRound (most place : ℕ) (all left : List Waiting) (old now : List 
   pub done : List SessionLine
   pub split : lines_at place all ≡ done ++ lines_at place left
   pub more : MoreTurnLines most old now done
-
-pub round-none : (most place : ℕ) (all : List Waiting) (old : List TurnLine) → InRound most place all all old old
-round-none most place all old = record { done = []; split = refl; more = more-none most old }
 
 -- all sessions were asked
 pub round-done : (most place : ℕ) (all left : List Waiting) (old now : List TurnLine) →

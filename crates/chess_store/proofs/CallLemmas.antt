@@ -8,7 +8,7 @@ use Rattle.sector_journal.specs.declared.fault.JournalFault.{JournalFault}
 use Rattle.sector_journal.proofs.CommittedLemmas.{counts_ok, counts_err}
 use Rattle.chess_store.specs.Committing.{IsTried}
 use Rattle.chess_store.specs.declared.fault.StoreFault.{StoreFault}
-use Rattle.chess_store.specs.declared.fault.StoreFault.TheVariants.{Device, NoMemory, Worn}
+use Rattle.chess_store.specs.declared.fault.StoreFault.TheVariants.{Device}
 use Rattle.chess_store.specs.Faults.{IsDevice, UnlessDevice, CountsFault}
 use Rattle.chess_store.specs.declared.store.Store.{Store}
 use Rattle.chess_store.specs.Calling.{CallTried, StaysUnlessDevice}
@@ -22,10 +22,6 @@ ok_was {T} {E} r x P was holds = let made : OnOk {T = T} {E = E} (Ok x) P = subs
 pub err_of : {T E : Type 0} (r : Result T E) (P : Type 0) → is_err r ≡ true → OnErr r P → P
 err_of (Ok x) P err holds = absurd (false≢true err)
 err_of (Err e) P err holds = holds
-
--- want of memory is not worn out
-pub not_worn : {T : Type 0} (r : Result T StoreFault) (e : StoreFault) → r ≡ Err e → e ≡ NoMemory → r ≡ Err Worn → ⊥
-not_worn r e is memory worn = cc
 
 -- where the device alone can be at fault, nothing is said of other faults
 pub unless_device : {T : Type 0} (r : Result T StoreFault) (P : Type 0) → IfErr r IsDevice

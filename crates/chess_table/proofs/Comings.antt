@@ -54,9 +54,6 @@ record Player (game : GameState) (side : Colour) : Type 0 where
 
 module _ (game : GameState) (white_named : IfSome game.white.name IsName) (black_named : IfSome game.black.name IsName)
     (apart : AreDifferent game.white.name game.black.name) where
-  picked : List ℕ → Bool → Bool → Option Colour
-  picked name white black = if white then Some White else if black then Some Black else None
-
   white-player : (name : List ℕ) → game.white.name ≡ Some name → side_of name game ≡ Some White
   white-player name is =
       ap (λ (b : Bool). if b then Some White else if is_named name game.black.name then Some Black else None)

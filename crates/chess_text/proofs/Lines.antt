@@ -1,10 +1,7 @@
 -- Tokens stand in lines in one way, and one more token keeps them so.
-use Rattle.std.proofs.Common.{◌≡◌, ◌≢◌, ℕ, true, Bor, map, get_or, ◌+◌, ◌<◌, ◌≤◌, List, [], ◌∷◌, ◌++◌, length, refl, ap, ◌∙◌, sym, subst, arith, append_assoc, append-nil, length-append}
-use Rattle.std.specs.Prelude.{All}
+use Rattle.std.proofs.Common.{◌≡◌, ◌≢◌, ℕ, true, ◌+◌, ◌<◌, ◌≤◌, List, [], ◌∷◌, ◌++◌, length, refl, ap, ◌∙◌, sym, subst, arith, append_assoc, append-nil, length-append}
 use Rattle.std.proofs.lemmas.Bool.Decides.{nat_tests}
-use Rattle.std.proofs.lemmas.List.{length-map, get_or-map}
-use Rattle.std.proofs.lemmas.List.Sums.{AllPass-from_list_all}
-use Rattle.chess_text.specs.Movetext.{IsToken, is_token, are_tokens, line_text, IsFull, AreLines, tokens_of, lines_text, IsMovetext, joined_lines, last_width, IsUnderWay}
+use Rattle.chess_text.specs.Movetext.{IsToken, is_token, line_text, IsFull, AreLines, tokens_of, lines_text, IsMovetext, joined_lines, last_width, IsUnderWay}
 
 -- a line with one more token
 line_text-more : (line : List (List ℕ)) (token : List ℕ) → line ≢ [] →
@@ -286,12 +283,3 @@ pushed_filled (first ∷ tokens) token = λ e. cc
 -- tokens that pass the test
 pub IsToken-from_test : (token : List ℕ) → is_token token ≡ true → IsToken token
 IsToken-from_test token e = record { filled = grind (arith, nat_tests); short = grind (arith, nat_tests) }
-
-pub tokens_from_test : (tokens : List (Bor (List ℕ))) → are_tokens (map (λ token. token.now) tokens) ≡ true →
-    All (λ (token : Bor (List ℕ)). IsToken token.now) tokens
-tokens_from_test tokens e = λ k d within.
-    let texts : List (List ℕ) = map (λ token. token.now) tokens in
-    let inside : k < length texts = omega (arith, length-map tokens (λ (token : Bor (List ℕ)). token.now)) in
-    let passes = AllPass-from_list_all is_token texts e k d.now inside in
-    IsToken-from_test (get_or tokens k d).now
-    (ap is_token (sym (get_or-map (λ (token : Bor (List ℕ)). token.now) tokens k d d.now within)) ∙ passes)

@@ -22,10 +22,6 @@ ended-more (first ∷ parts) part = ap (λ l. first ++ 10 ∷ l) (ended-more par
 pub no_lines : AreLines 0 []
 no_lines = record { parts = []; cut = refl; lines = All-nil HasNoFeed; cheap = All-nil IsCheap; number = refl }
 
--- a line, as it is found
-abbrev IsLineTo : List ℕ → ℕ → Type 0
-IsLineTo bytes at = (at < length bytes) × (get_or bytes at 0 ≡ 10) × HasNoFeed (take at bytes)
-
 line-taken : (bytes : List ℕ) (at : ℕ) → at < length bytes → get_or bytes at 0 ≡ 10 →
     take (at + 1) bytes ≡ take at bytes ++ 10 ∷ []
 line-taken bytes at lt feed = take_more bytes at 0 lt ∙ ap (λ x. take at bytes ++ x ∷ []) feed
@@ -93,10 +89,6 @@ pub dear-longer : (line more : List ℕ) → is_dear line ≡ true → is_dear (
 dear-longer line more = either-longer (starts_with eqb line (codes "list")) (starts_with eqb line (codes "pgn "))
     (starts_with eqb (line ++ more) (codes "list")) (starts_with eqb (line ++ more) (codes "pgn "))
     (starts-longer (codes "list") line more) (starts-longer (codes "pgn ") line more)
-
--- a line that asks for much is told by its bytes
-pub told-dear : (bytes : List ℕ) → IsDearLine bytes → is_dear bytes ≡ true
-told-dear bytes d = subst (λ l. is_dear l ≡ true) (sym d.cut) (dear-longer d.line (10 ∷ []) d.dear)
 
 no-end : {P : Type 0} (line : List ℕ) → [] ≡ line ++ 10 ∷ [] → P
 no-end [] e = cc

@@ -1,13 +1,9 @@
 -- What is written, game by game.
-use Rattle.std.proofs.Common.{◌≡◌, ◌+◌, ◌++◌, ℕ, suc, List, [], Some, refl, subst, arith}
+use Rattle.std.proofs.Common.{◌≡◌, ◌+◌, ◌++◌, ℕ, suc, List, Some, refl, subst, arith}
 use Rattle.std.specs.Prelude.{Option, slice_get}
-use Rattle.std.proofs.KnownBytes.{Appends-nil, Appends-trans}
+use Rattle.std.proofs.KnownBytes.{Appends-trans}
 use Rattle.chess_entry.specs.State.{GameState}
 use Rattle.journal_words.specs.Games.{WritesGame, WritesGames}
-
--- before the first
-pub games_begun : (known : Option (List ℕ)) (games : List GameState) → WritesGames known known games 0
-games_begun known games = record { text = []; are_games = refl; written = Appends-nil known }
 
 -- and one more
 pub games_on : (old mid new : Option (List ℕ)) (games : List GameState) (n : ℕ) (game : GameState)

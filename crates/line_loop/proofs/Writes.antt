@@ -16,22 +16,6 @@ split_on all done rest left n e l =
 pub said-nothing : (now : Option (List ℕ)) → IsSaid now now [] []
 said-nothing now = record { front = []; appended = Appends-nil now; split = refl }
 
--- a text is ready
-pub says-ready : (now : Option (List ℕ)) (ready text left : List ℕ) → left ≡ ready ++ text → Says now ready text now left
-says-ready now ready text left e = λ old said h. record {
-  front = h.front;
-  appended = h.appended;
-  split = ap (λ x. x ++ text) h.split ∙ append_assoc h.front ready text ∙ ap (λ x. h.front ++ x) (sym e);
-}
-
--- what was ready is written
-pub says-written : (now new : Option (List ℕ)) (ready : List ℕ) → Appends now new ready → Says now ready [] new []
-says-written now new ready a = λ old said h. record {
-  front = h.front ++ ready;
-  appended = Appends-trans old now new h.front ready h.appended a;
-  split = append-nil said ∙ h.split ∙ sym (append-nil (h.front ++ ready));
-}
-
 -- and a text behind it, where nothing is ready
 pub says-sent : (now new : Option (List ℕ)) (text : List ℕ) → Appends now new text → Says now [] text new []
 says-sent now new text a = λ old said h. record {
@@ -64,10 +48,6 @@ lost-more old new said more h = record {
 pub loses-more : (a c : Option (List ℕ)) (r text more : List ℕ) → Loses a r text c → Loses a r (text ++ more) c
 loses-more a c r text more first = λ old said h.
     subst (IsLost old c) (append_assoc said text more) (lost-more old c (said ++ text) more (first old said h))
-
--- what is said with nothing behind it
-pub says-nil : (a b : Option (List ℕ)) (r s text : List ℕ) → Says a r (text ++ []) b s → Says a r text b s
-says-nil a b r s text h = subst (λ x. Says a r x b s) (append-nil text) h
 
 -- a front of a text was written, and nothing is ready
 pub loses-sent : (now new : Option (List ℕ)) (ready text front rest : List ℕ) → ready ++ text ≡ front ++ rest →

@@ -10,7 +10,7 @@ use Rattle.std.proofs.lemmas.List.Folds.{list_all-append}
 use Rattle.std.proofs.lemmas.Str.Parse.{digit_at}
 use Rattle.rec_codec.specs.Name.{IsName, is_name_byte}
 use Rattle.lobby_words.specs.declared.words.Sort.TheVariants as sorts
-use Rattle.lobby_words.specs.Words.{is_message, is_message_byte, sort_of, rest_of, is_read_word}
+use Rattle.lobby_words.specs.Words.{is_message, is_message_byte, sort_of, is_read_word}
 use Rattle.lobby_desk.specs.Lines.{name_line, game_line}
 use Rattle.lobby_words.proofs.Numbers.{own}
 
@@ -93,6 +93,3 @@ list_reads = refl
 pub name_names : (name : List ℕ) → sort_of (name_line name) ≡ sorts.Name
 unfolding sort_of
 name_names name = refl
-
-pub name_rest : (name : List ℕ) → rest_of (name_line name) ≡ name
-name_rest name = refl

@@ -731,28 +731,6 @@ module _ {S : Type 0} where
   told_number [] old new same = ap (λ (g : Guest S). g.number) same
   told_number (one ∷ made) old new (between, told, are) = told_number made between new are ∙ told.number
 
-  none_filtered : (test : Guest S → Bool) (c : ℕ) (guests : List (Guest S)) → HasNone c (numbers guests) →
-      HasNone c (numbers (filter test guests))
-  none_filtered test c [] none = tt
-  none_filtered test c (x ∷ xs) (other, others) = elim (cases_Bool (test x)) [
-    | inl stays ↦ subst (λ (b : Bool). HasNone c (numbers (cond b (x ∷ filter test xs) (filter test xs)))) (sym stays)
-        (other, none_filtered test c xs others)
-    | inr goes ↦ subst (λ (b : Bool). HasNone c (numbers (cond b (x ∷ filter test xs) (filter test xs)))) (sym goes)
-        (none_filtered test c xs others)
-  ]
-
-  own_filtered : (test : Guest S → Bool) (next : ℕ) (guests : List (Guest S)) → AreOwn next (numbers guests) →
-      AreOwn next (numbers (filter test guests))
-  own_filtered test next [] own = tt
-  own_filtered test next (x ∷ xs) (one, all) = elim (cases_Bool (test x)) [
-    | inl stays ↦ subst (λ (b : Bool). AreOwn next (numbers (cond b (x ∷ filter test xs) (filter test xs)))) (sym stays) (
-      own_with next x.number (numbers xs) (numbers (filter test xs)) (λ c none. none_filtered test c xs none) one,
-      own_filtered test next xs all,
-    )
-    | inr goes ↦ subst (λ (b : Bool). AreOwn next (numbers (cond b (x ∷ filter test xs) (filter test xs)))) (sym goes)
-        (own_filtered test next xs all)
-  ]
-
   none_more : (c : ℕ) (guests : List (Guest S)) (guest : Guest S) → guest.number ≡ None → HasNone c (numbers guests) →
       HasNone c (numbers (guests ++ guest ∷ []))
   none_more c [] guest new none = (subst (λ (n : Option ℕ). IsOther c n) (sym new) tt, tt)

@@ -16,7 +16,7 @@ use Rattle.websocket.specs.Content.{Content, text, binary, ping, pong, close, cl
 use Rattle.websocket.specs.Connection.{Connection, Effect, Outgoing, Sends, whole_header, read_step, write_step, write_active, close_step, close_to, check_close, check_can_write, check_control_size, closing_state, can_write, failed_connection}
 use Rattle.websocket.specs.View.{Leaves, ReadLeaves}
 use Rattle.lobby_web.specs.Frames.{frame_bytes, reply_bytes}
-use Rattle.lobby_web.specs.Talking.{ClosesBy, said_state}
+use Rattle.lobby_web.specs.Talking.{ClosesBy}
 use Rattle.lobby_web.proofs.FrameLemmas.{next-role}
 
 no-mask : (mask : Option (List ℕ)) → is_some mask ≡ false → mask ≡ None
@@ -130,23 +130,4 @@ pub writes : (conn after : Connection) (content : Content) (old new : List ℕ) 
     → Leaves (write_step conn content) after old new → new ≡ old ++ frame_bytes (content_opcode content) (content_payload content)
 writes conn after content old new server active leaves =
     active-writes conn after content old new (write-role conn after content old new leaves ∙ server) active
-    (open-write (check_can_write conn.state) (write_active conn content) after old new leaves)
-
-active-leaves : (conn after : Connection) (content : Content) (old new : List ℕ) → can_write conn.state ≡ true
-    → Leaves (write_active conn content) after old new → after ≡ said_state content conn
-active-leaves conn after (text bytes) old new active leaves = leaves.0
-active-leaves conn after (binary bytes) old new active leaves = leaves.0
-active-leaves conn after (ping bytes) old new active leaves =
-    (checked (check_control_size bytes) (record { message = None; reply = Some (record { opcode = Op.Control Control.Ping; payload = bytes }); next = conn }) after old new leaves).0
-active-leaves conn after (pong bytes) old new active leaves =
-    (checked (check_control_size bytes) (record { message = None; reply = Some (record { opcode = Op.Control Control.Pong; payload = bytes }); next = conn }) after old new leaves).0
-active-leaves conn after (close frame) old new active leaves =
-    let leaves2 : Leaves (close_to conn frame (Some State.ClosedByUs)) after old new = rw (active-state conn.state active) at leaves in
-    (checked (check_close frame) (record { message = None; reply = Some (record { opcode = Op.Control Control.Close; payload = close_payload frame }); next = record conn { state = State.ClosedByUs } }) after old new leaves2).0
-
--- and leaves this state
-pub write-state : (conn after : Connection) (content : Content) (old new : List ℕ) → can_write conn.state ≡ true
-    → Leaves (write_step conn content) after old new → after ≡ said_state content conn
-write-state conn after content old new active leaves =
-    active-leaves conn after content old new active
     (open-write (check_can_write conn.state) (write_active conn content) after old new leaves)

@@ -1,5 +1,5 @@
 -- The number that a text spells.
-use Rattle.std.proofs.Common.{ℕ, ◌≡◌, ◌<◌, ◌≤◌, ◌^◌, List, Option, None, Some, IfSome, decimal, arith}
+use Rattle.std.proofs.Common.{ℕ, ◌≡◌, ◌<◌, ◌^◌, List, Option, None, Some, IfSome, decimal, arith}
 use Rattle.text_parts.specs.Numbers.{number_below}
 use Rattle.text_parts.proofs.Spelled as decimals
 use Rattle.lobby_words.specs.Words.{u32_in}

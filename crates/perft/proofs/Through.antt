@@ -74,15 +74,6 @@ pub record HasLinesThrough (p : Position) (done : List Move) (depth count : ℕ)
   pub apart : IsApart lines
   pub number : count ≡ min (length lines) (2 ^ 64 - 1)
 
-pub through_none : (p : Position) (depth : ℕ) → HasLinesThrough p [] depth 0
-through_none p depth = record {
-  lines = [];
-  begins = λ line here. absurd (Contains-none line here);
-  all = λ m rest here. absurd (Contains-none m here);
-  apart = tt;
-  number = refl;
-}
-
 pub through_more : (p : Position) (done : List Move) (m : Move) (depth count more n : ℕ) →
     HasLinesThrough p done depth count → IsNumberOfLines (next p m) depth n → more ≡ min n (2 ^ 64 - 1) →
     ¬ Contains done m → HasLinesThrough p (done ++ m ∷ []) depth (min (count + more) (2 ^ 64 - 1))

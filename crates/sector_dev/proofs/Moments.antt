@@ -8,7 +8,7 @@ use Rattle.sector_dev.specs.declared.memory.Call.{Call}
 use Rattle.sector_dev.specs.declared.memory.Call.TheVariants.{Written, Synced}
 use Rattle.sector_dev.specs.declared.device.Sector.TheVariants.{Bytes}
 use Rattle.sector_dev.specs.Image.{Sectors}
-use Rattle.sector_dev.specs.Device.{State, Elapses, WithOrWithout, IsUnchanged, IsPending, IsStable}
+use Rattle.sector_dev.specs.Device.{State, Elapses, WithOrWithout, IsPending, IsStable}
 use Rattle.sector_dev.specs.Memory.{Disk, shown, step, disk_after, at_rest}
 use Rattle.sector_dev.specs.Replay.{MayLeave, MightLeaveSince, length-disk_after, length-applied, shown_is_image, recorded_state}
 use Rattle.sector_dev.proofs.Images.{pending_images, applied-append, stable_images}
@@ -26,9 +26,6 @@ recorded stable calls next x is = ap (λ (cs : List Call). disk_after (at_rest s
 -- a call that changes nothing
 pub elapses_same : (now : State) (during : Sectors → Type 0) → Elapses now now during
 elapses_same now during = record { later = omega arith; nothing_else = λ t c le s. inl s; keeps = λ t c le s. s }
-
-pub same_is_unchanged : (now : State) → IsUnchanged now now
-same_is_unchanged now = record { reads = refl; images = λ c. (λ i. i, λ i. i) }
 
 module _ (stable : Sectors) (calls : List Call) (x : Call) where
   abbrev disk : Disk

@@ -316,10 +316,6 @@ quiet_follows servers calls later s old quiet took h = record {
       (holds_same (states calls s.asks) (states later s.asks) (taken calls) old old h.holds (same_states calls later s.asks quiet.replies) refl refl);
 }
 
-quiet_last : (calls later : List Call) (s : Story) → Quiet calls later → IsLastKept calls s → IsLastKept later s
-quiet_last calls later s quiet h =
-    ap (λ (all : List Wait). refusal_in (last_or None all)) (same_states calls later s.asks quiet.replies) ∙ h
-
 -- the client says a line
 quiet_said : (line : List ℕ) (way : Option Way) (past : List Call) → Quiet past (Said line way ∷ past)
 quiet_said line way past = record {
@@ -503,11 +499,6 @@ take_states : (calls : List Call) (n : ℕ) (asks : List Ask) → states calls (
 take_states calls zero asks = refl
 take_states calls (suc n) [] = refl
 take_states calls (suc n) (ask ∷ asks) = ap (λ (all : List Wait). state calls ask ∷ all) (take_states calls n asks)
-
-without_by : (done ws : List Wait) (at : ℕ) → list_any (waits_for at) ws ≡ true →
-    take (length (done ++ ws) - 1) (done ++ ws) ≡ done ++ take (length ws - 1) ws
-without_by done [] at some = absurd (true≢false (sym some))
-without_by done (w ∷ ws) at some = take_done done w ws
 
 last_by : (done ws : List Wait) (at : ℕ) → list_any (waits_for at) ws ≡ true → last_or None (done ++ ws) ≡ last_or None ws
 last_by done [] at some = absurd (true≢false (sym some))

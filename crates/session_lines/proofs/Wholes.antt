@@ -60,15 +60,6 @@ pub record HasTaken (whole came piece now rest more : List ℕ) : Type 0 where
   pub unfinished : IsUnfinished rest
   pub same : came ++ piece ≡ added ++ (rest ++ more)
 
-pub taken-none : (whole came piece : List ℕ) → IsUnfinished came → HasTaken whole came piece whole came piece
-taken-none whole came piece u = record {
-  added = [];
-  items = sym (append-nil whole);
-  lines = whole-none;
-  unfinished = u;
-  same = refl;
-}
-
 pub unfinished-none : IsUnfinished []
 unfinished-none = record { no_feed = All-nil (λ b. is_feed b ≡ false); short = omega arith }
 
