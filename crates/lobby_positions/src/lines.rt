@@ -3,13 +3,13 @@ ghost use Rattle.std.specs.Prelude.{◌≡◌, ◌++◌, ◌∷◌, [], map, fil
 ghost use Rattle.std.specs.Option.{option_map};
 ghost use Rattle.chess_board.specs.Position.{Position};
 ghost use Rattle.pgn_tags.specs.Pgn.{is_move};
-ghost use Rattle.lobby_positions.specs.Pgn.{is_fen_tag, value_of, fen_in, StartsAt, words_of_line, words_of};
+ghost use Rattle.lobby_positions.specs.Pgn.{is_fen_tag, fen_in, StartsAt, words_of_line, words_of};
 
 use chess_board::Board;
 use chess_fen::fen_read;
 use pgn_tags::{is_move, is_tag};
 use std::alloc::{AllocError, Global};
-use text_parts::{before, behind, parts};
+use text_parts::{before, between_quotes, parts};
 
 // Whether a line is that of a tag FEN.
 fn is_fen_tag(line: &str) -> bool
@@ -18,20 +18,13 @@ fn is_fen_tag(line: &str) -> bool
     before(line, ' ') == "[FEN"
 }
 
-// The value of a tag.
-fn value_of(line: &str) -> &str
-    ensures { result.now ≡ value_of line.entry.now }
-{
-    before(behind(line, '"'), '"')
-}
-
 // The value of the first tag FEN.
 fn fen_tag<'a>(lines: &[&'a str]) -> Option<&'a str>
     ensures { option_map (λ fen. fen.now) result ≡ fen_in (map (λ line. line.now) lines.entry.now) }
 {
     for line in lines {
         if is_fen_tag(line) {
-            return Some(value_of(line));
+            return Some(between_quotes(line));
         }
     }
     None

@@ -1,5 +1,5 @@
 //! The parts of a text.
-ghost use Rattle.std.specs.Prelude.{◌≡◌, ◌<◌, ◌==◌, map, IfOk};
+ghost use Rattle.std.specs.Prelude.{◌≡◌, ◌<◌, ◌==◌, map, drop, IfOk};
 ghost use Rattle.std.specs.List.{before_first, after_first};
 ghost use Rattle.text_parts.specs.Parts.{parts_of};
 
@@ -33,6 +33,23 @@ pub fn behind(text: &str, sign: char) -> &str
 {
     let (_, rest) = cut(text, sign);
     rest
+}
+
+/// What stands between the first quote and the next, or all behind the first where none follows; nothing where there is none.
+pub fn between_quotes(text: &str) -> &str
+    ensures { result.now ≡ before_first (λ b. b == 34) (after_first (λ b. b == 34) text.entry.now) }
+{
+    before(behind(text, '"'), '"')
+}
+
+/// All but so many bytes at the front; nothing where there are no more.
+pub fn skip(text: &[u8], count: usize) -> &[u8]
+    ensures { result.now ≡ drop count text.entry.now }
+{
+    match text.get(count..) {
+        Some(rest) => rest,
+        None => &[],
+    }
 }
 
 /// The parts of a text, each of which ends at a sign, an ASCII character: its lines, where that is a line feed. It fails where

@@ -14,7 +14,7 @@ returns-then-is_fen_tag c =
     let i = c.loop-line.line-index in
     let d : Bor (List ℕ) = record { ref_ptr = (0, 0); now = [] } in
     let line = (get_or items i d).now in
-    ap Some c.value_of.ensures
+    ap Some c.between_quotes.ensures
     ∙ sym (ap (option_map value_of) (ap (find is_fen_tag) (items_around items i d c.loop-line-test.true)
     ∙ found_at is_fen_tag (take i (map now items)) line (drop (i + 1) (map now items)) c.loop-line.invariant
     (sym c.is_fen_tag.ensures ∙ c.if-is_fen_tag.true)))
