@@ -9,7 +9,7 @@ use Rattle.text_parts.proofs.Cuts.{before_at, after_at}
 use Rattle.text_parts.proofs.Digits.{lacks_below}
 use Rattle.text_parts.specs.Strings.{escaped, unescaped_from}
 use Rattle.text_parts.proofs.Texts.{back}
-use Rattle.lobby_words.specs.Words.{number_in}
+use Rattle.lobby_words.specs.Words.{u32_in}
 use Rattle.lobby_words.proofs.Numbers.{number_spelled}
 use Rattle.archive_file.specs.Line.{front, line_of, is_text, number_at, pgn_in, is_line_of, if_spelled, game_in}
 
@@ -19,7 +19,7 @@ tail_of pgn = 34 ∷ 112 ∷ 103 ∷ 110 ∷ 34 ∷ 58 ∷ 34 ∷ (escaped pgn +
 
 number_read : (game : ℕ) (pgn : List ℕ) → game < 2 ^ 32 → number_at (line_of game pgn) ≡ Some game
 number_read game pgn small =
-    ap number_in (before_at 44 (decimal game) (tail_of pgn) (lacks_below 44 game (omega arith) (omega arith))) ∙ number_spelled game small
+    ap u32_in (before_at 44 (decimal game) (tail_of pgn) (lacks_below 44 game (omega arith) (omega arith))) ∙ number_spelled game small
 
 pub pgn_read : (game : ℕ) (pgn : List ℕ) → game < 2 ^ 32 → pgn_in (line_of game pgn) ≡ pgn
 pgn_read game pgn small =

@@ -4,7 +4,7 @@ use Rattle.std.specs.List.{list_all, before_first, after_first}
 use Rattle.std.specs.Str.{bytes_eq}
 use Rattle.text_parts.specs.Signs.{line_feed, comma, colon}
 use Rattle.text_parts.specs.Strings.{escaped, unescaped_from}
-use Rattle.lobby_words.specs.Words.{number_in}
+use Rattle.lobby_words.specs.Words.{u32_in}
 
 abbrev pub front : List ℕ
 front = codes "{\"game\""
@@ -30,7 +30,7 @@ before_comma text = before_first (λ b. b == comma) text
 abbrev pub number_at : List ℕ → Option ℕ
 number_at line =
     if bytes_eq (before_first (λ b. b == colon) line) front
-    then number_in (before_comma (after_first (λ b. b == colon) line))
+    then u32_in (before_comma (after_first (λ b. b == colon) line))
     else None
 
 abbrev pub behind_comma : List ℕ → List ℕ

@@ -17,7 +17,7 @@ use Rattle.lobby_roster.specs.declared.players.Player.{Player}
 use Rattle.lobby_words.specs.declared.listing.Waiting.{Waiting}
 use Rattle.lobby_desk.specs.declared.refusals.Refused.{Refused}
 use Rattle.lobby_desk.specs.declared.watching.Watch.{Watch}
-use Rattle.lobby_words.specs.Words.{word_of, rest_of, as_name, as_line, line_said, is_message, sort_of, is_act_sort, is_as_sort, is_drop_sort, is_name_sort, is_login_sort, number_in, or_0}
+use Rattle.lobby_words.specs.Words.{word_of, rest_of, as_name, as_line, line_said, is_message, sort_of, is_act_sort, is_as_sort, is_drop_sort, is_name_sort, is_login_sort, u32_in, or_0}
 use Rattle.lobby_words.specs.Plans.{asked, entered_plan, act_plan, named_plan, as_plan, arbiter_plan, order_plan, drop_plan, login_plan, numbered_plan, plan_of}
 use Rattle.lobby_desk.specs.Lines.{lines_of, act_lines, said_after, name_line, game_line, is_said, notice_lines, IsNamed}
 use Rattle.lobby_words.specs.Answers.{is_accepted, first_line, act_game, is_whole, answer}
@@ -398,15 +398,15 @@ plan_good players text s said game true sorts.Nothing other message is small nam
 -- a message
 said_good : (players : List Player) (old : View) (c : ℕ) (text : List ℕ) (lines : List (List ℕ)) (tells : List MessageValue) (new : View) →
     IsSaid players old c text lines tells new →
-    Good (sort_asks (sort_of text) (or_0 (number_in (rest_of text))) text) (name_for players (old.who c) text) old.said lines new.said
+    Good (sort_asks (sort_of text) (or_0 (u32_in (rest_of text))) text) (name_for players (old.who c) text) old.said lines new.said
 said_good players old c text lines tells new h =
-    let game = number_in (rest_of text) in
-    let named : IsNamed (plan_of (is_message text) (sort_of text) h.standing (number_in (rest_of text))) = subst IsNamed h.planned h.named in
+    let game = u32_in (rest_of text) in
+    let named : IsNamed (plan_of (is_message text) (sort_of text) h.standing (u32_in (rest_of text))) = subst IsNamed h.planned h.named in
     let planned = plan_good players text h.standing old.said game (is_message text) (sort_of text) h.other refl refl (number_small (rest_of text)) named in
-    let done = subst (λ (plan : Plan). Good (sort_asks (sort_of text) (or_0 (number_in (rest_of text))) text) (name_for players h.standing.who text) old.said (lines_of plan old.said text) (said_after plan old.said)) (sym h.planned) planned in
-    let by = subst (λ (who : Option Identity). Good (sort_asks (sort_of text) (or_0 (number_in (rest_of text))) text) (name_for players who text) old.said (lines_of h.plan old.said text) (said_after h.plan old.said)) h.who done in
-    let lined = subst (λ (ls : List (List ℕ)). Good (sort_asks (sort_of text) (or_0 (number_in (rest_of text))) text) (name_for players (old.who c) text) old.said ls (said_after h.plan old.said)) (sym h.lines_are) by in
-    subst (λ (n : Option (List ℕ)). Good (sort_asks (sort_of text) (or_0 (number_in (rest_of text))) text) (name_for players (old.who c) text) old.said lines n) (sym h.said_is) lined
+    let done = subst (λ (plan : Plan). Good (sort_asks (sort_of text) (or_0 (u32_in (rest_of text))) text) (name_for players h.standing.who text) old.said (lines_of plan old.said text) (said_after plan old.said)) (sym h.planned) planned in
+    let by = subst (λ (who : Option Identity). Good (sort_asks (sort_of text) (or_0 (u32_in (rest_of text))) text) (name_for players who text) old.said (lines_of h.plan old.said text) (said_after h.plan old.said)) h.who done in
+    let lined = subst (λ (ls : List (List ℕ)). Good (sort_asks (sort_of text) (or_0 (u32_in (rest_of text))) text) (name_for players (old.who c) text) old.said ls (said_after h.plan old.said)) (sym h.lines_are) by in
+    subst (λ (n : Option (List ℕ)). Good (sort_asks (sort_of text) (or_0 (u32_in (rest_of text))) text) (name_for players (old.who c) text) old.said lines n) (sym h.said_is) lined
 
 -- what is known is the same if each part of it is
 abbrev known_of : List Owed → ℕ → List ℕ → List ℕ → List Watch → List ℕ → List Waiting → List Refused → Option Following → Known
@@ -664,7 +664,7 @@ asks_at true sorts.Nothing s game said text = tt
 said_asks : (players : List Player) (old : View) (c : ℕ) (text : List ℕ) (lines : List (List ℕ)) (tells : List MessageValue) (new : View) →
     IsSaid players old c text lines tells new → AsksDrop (is_drop text) lines (old.who c) (is_message text)
 said_asks players old c text lines tells new h =
-    let planned = asks_at (is_message text) (sort_of text) h.standing (number_in (rest_of text)) old.said text in
+    let planned = asks_at (is_message text) (sort_of text) h.standing (u32_in (rest_of text)) old.said text in
     let by_plan = subst (λ (plan : Plan). AsksDrop (is_drop text) (lines_of plan old.said text) h.standing.who (is_message text)) (sym h.planned) planned in
     let lined = subst (λ (ls : List (List ℕ)). AsksDrop (is_drop text) ls h.standing.who (is_message text)) (sym h.lines_are) by_plan in
     subst (λ (who : Option Identity). AsksDrop (is_drop text) lines who (is_message text)) h.who lined
@@ -704,7 +704,7 @@ asker_asked : (players : List Player) (past : List Step) (c : ℕ) (by text : Li
 asker_asked players past c by text all [] tells asks = tt
 asker_asked players past c by text all (line ∷ lines) tells asks =
     wait_lines players (record { event = Said c text; lines = all; tells = tells } ∷ past) (asker c by text)
-    (asked_if_drop players (record { event = Said c text; lines = all; tells = tells } ∷ past) c by text (sort_of text) (number_in (rest_of text))
+    (asked_if_drop players (record { event = Said c text; lines = all; tells = tells } ∷ past) c by text (sort_of text) (u32_in (rest_of text))
     (asked_by players past c text all line lines tells asks)) (line ∷ lines)
 
 -- what is seen of the desk is what the past says
@@ -727,12 +727,12 @@ said_who : (players : List Player) (old : View) (c : ℕ) (text : List ℕ) (lin
 said_who players old c text lines tells new h d =
     let plan : who_noted h.plan (old.who d) ≡ player_said players text (old.who d) =
     ap (λ (plan : Plan). who_noted plan (old.who d)) h.planned
-    ∙ (planned_who (is_message text) (sort_of text) h.standing (number_in (rest_of text)) (old.who d)
+    ∙ (planned_who (is_message text) (sort_of text) h.standing (u32_in (rest_of text)) (old.who d)
     ∙ ap (λ (holder : Option Identity). if is_message text && is_login_sort (sort_of text) then shown_by holder (old.who d) else old.who d) h.holder) in
     h.who_is d ∙ ap (λ (one : Option Identity). if c == d then one else old.who d) plan
 
 -- the game that an answer names is small
-game_small : (a b : Bool) (x y : List ℕ) → IfSome (if a then number_in x else (if b then number_in y else None)) (λ g. g < 2 ^ 32)
+game_small : (a b : Bool) (x y : List ℕ) → IfSome (if a then u32_in x else (if b then u32_in y else None)) (λ g. g < 2 ^ 32)
 game_small true b x y = number_small x
 game_small false true x y = number_small y
 game_small false false x y = tt
@@ -919,7 +919,7 @@ linked_orders : (players : List Player) (old : View) (c : ℕ) (text : List ℕ)
     (step : IsLinked players old c text later token lines new) → Orders (is_message text) (sort_of text) step.standing step.order
 linked_orders players old c text later token lines new step =
     subst (OfOrder (Orders (is_message text) (sort_of text) step.standing)) step.planned
-    (planned_orders (is_message text) (sort_of text) step.standing (number_in (rest_of text)))
+    (planned_orders (is_message text) (sort_of text) step.standing (u32_in (rest_of text)))
 
 done_good : (players : List Player) (past : List Step) (old : View) (event : DeskInput) (lines : List (List ℕ)) (tells : List MessageValue) (now : View) →
     Agrees players past old → IsDone (players_in players past) old event lines tells now → DoneGood players past event lines now

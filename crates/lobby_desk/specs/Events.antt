@@ -11,7 +11,7 @@ use Rattle.lobby_words.specs.declared.planning.Plan.{Plan}
 use Rattle.lobby_words.specs.declared.planning.Plan.TheVariants as plans
 use Rattle.lobby_words.specs.declared.words.Sort.{Sort}
 use Rattle.lobby_words.specs.declared.words.Sort.TheVariants as sorts
-use Rattle.lobby_words.specs.Words.{rest_of, sort_of, number_in, or_0}
+use Rattle.lobby_words.specs.Words.{rest_of, sort_of, u32_in, or_0}
 use Rattle.lobby_desk.specs.declared.server_line.Notice.{Notice}
 use Rattle.lobby_desk.specs.Refusals.{game_named}
 use Rattle.lobby_words.specs.Answers.{act_game, is_table_act}
@@ -125,7 +125,7 @@ sort_asker sorts.Watch game c by text = Asker c (ForGame (or_0 game))
 sort_asker _ game c by text = Asker c ForItself
 
 abbrev pub asker : ℕ → List ℕ → List ℕ → Owed
-asker c by text = sort_asker (sort_of text) (number_in (rest_of text)) c by text
+asker c by text = sort_asker (sort_of text) (u32_in (rest_of text)) c by text
 
 -- the same, by the plan for the message
 abbrev pub plan_asker : Plan → ℕ → List ℕ → Owed

@@ -6,7 +6,7 @@ use Rattle.lobby_desk.specs.declared.watching.Watch.{Watch}
 use Rattle.lobby_desk.specs.declared.refusals.Refused.{Refused}
 use Rattle.lobby_desk.specs.declared.telling.Kind.{Kind}
 use Rattle.lobby_desk.specs.declared.telling.Kind.TheVariants as kinds
-use Rattle.lobby_words.specs.Words.{rest_of, is_message, sort_of, is_close_sort, is_leave_sort, is_leave_lobby_sort, number_in}
+use Rattle.lobby_words.specs.Words.{rest_of, is_message, sort_of, is_close_sort, is_leave_sort, is_leave_lobby_sort, u32_in}
 use Rattle.lobby_words.specs.declared.refusals.Refusal.TheVariants as refusals
 use Rattle.lobby_words.specs.Plans.{refusal_text}
 use Rattle.lobby_words.specs.Answers.{left_after, is_whole, answer, is_accepted, is_over, act_game}
@@ -67,7 +67,7 @@ watch_next is_open before (o ∷ owed) watches = watch_heard is_open before o wa
 abbrev pub watches_now : DeskInput → (ℕ → Bool) → Known → List Watch
 watches_now (Closed c) is_open k = none_watched c k.watches
 watches_now (Said c text) is_open k =
-    if is_message text && is_leave_sort (sort_of text) then left_game c (number_in (rest_of text)) k.watches else k.watches
+    if is_message text && is_leave_sort (sort_of text) then left_game c (u32_in (rest_of text)) k.watches else k.watches
 watches_now (Heard line) is_open k = if is_whole k.left line then watch_next is_open k.last k.owed k.watches else k.watches
 watches_now _ is_open k = k.watches
 

@@ -14,7 +14,7 @@ use Rattle.lobby_roster.specs.declared.players.Player.{Player}
 use Rattle.lobby_desk.specs.declared.visitors.Visitor.{Visitor}
 use Rattle.lobby_desk.specs.declared.watching.Watch.{Watch}
 use Rattle.lobby_desk.specs.declared.desk.Desk.{Desk}
-use Rattle.lobby_words.specs.Words.{rest_of, as_name, actor, is_message, sort_of, number_in}
+use Rattle.lobby_words.specs.Words.{rest_of, as_name, actor, is_message, sort_of, u32_in}
 use Rattle.lobby_words.specs.Waiting.{is_open as opens_game}
 use Rattle.lobby_roster.specs.Players.{holder_of, known_name, renewed, is_token_of, login_text, players_text, present_names, who_text}
 use Rattle.lobby_words.specs.Plans.{refusal_text, plan_of, order_of}
@@ -214,7 +214,7 @@ standing_of desk c text = record {
   named = known_name desk.players.items (as_name text);
   linked = known_name desk.players.items (rest_of text);
   is_here = desk.line.is_here;
-  is_full = is_full desk.watches.items c (number_in (rest_of text));
+  is_full = is_full desk.watches.items c (u32_in (rest_of text));
   is_crowded = crowds (known desk) (who_of desk c) text;
   is_paused = opens_game text && desk.is_paused;
 }
@@ -223,7 +223,7 @@ standing_of desk c text = record {
 abbrev pub order_asked : Desk → ℕ → List ℕ → ℕ → Option Order
 order_asked desk c text at =
     if is_too_fast (until_of desk c) at then None
-    else order_of (plan_of (is_message text) (sort_of text) (standing_of desk c text) (number_in (rest_of text)))
+    else order_of (plan_of (is_message text) (sort_of text) (standing_of desk c text) (u32_in (rest_of text)))
 
 -- The plan for a message is carried out: these lines go out, and of the players for whom connections act no more changes
 -- than a login says.
@@ -234,11 +234,11 @@ pub record IsSaid (players : List Player) (old : View) (c : ℕ) (text : List �
   pub other : standing.named ≡ known_name players (as_name text)
   pub link : standing.linked ≡ known_name players (rest_of text)
   pub here : standing.is_here ≡ old.here
-  pub full : standing.is_full ≡ is_full old.known.watches c (number_in (rest_of text))
+  pub full : standing.is_full ≡ is_full old.known.watches c (u32_in (rest_of text))
   pub crowded : standing.is_crowded ≡ crowds old.known (old.who c) text
   pub paused : standing.is_paused ≡ (opens_game text && old.paused)
   pub plan : Plan
-  pub planned : plan ≡ plan_of (is_message text) (sort_of text) standing (number_in (rest_of text))
+  pub planned : plan ≡ plan_of (is_message text) (sort_of text) standing (u32_in (rest_of text))
   pub named : IsNamed plan
   pub lines_are : lines ≡ lines_of plan old.said text
   pub answers : IsAnswered old.paused players old.is_open old.who plan c tells
@@ -341,7 +341,7 @@ pub record IsLinked (players : List Player) (old : View) (c : ℕ) (text : List 
   pub who : standing.who ≡ old.who c
   pub link : standing.linked ≡ known_name players (rest_of text)
   pub order : Order
-  pub planned : plan_of (is_message text) (sort_of text) standing (number_in (rest_of text)) ≡ plans.Order order
+  pub planned : plan_of (is_message text) (sort_of text) standing (u32_in (rest_of text)) ≡ plans.Order order
   pub holds : is_token_of later token (rest_of text) ≡ true
   pub renews : IsRenewed players old later lines new
 

@@ -19,8 +19,8 @@ pub struct Play {
     tags: Tags,
 }
 
-// The number of a browser, and what stands behind it.
-fn number_in(text: &str) -> Result<(u64, &str)> {
+// The number that a text begins with, up to the first space, and what stands behind that.
+fn leading_number(text: &str) -> Result<(u64, &str)> {
     let (number, rest) = text.split_once(' ').unwrap_or((text, ""));
     Ok((number.parse().ok().context("a number is none")?, rest))
 }
@@ -85,7 +85,7 @@ impl Play {
 
     // A browser says a text that asks for a link, which is made with this token.
     fn link(&mut self, given: &str, told: &mut Vec<Message>) -> Result<()> {
-        let (from, rest) = number_in(given)?;
+        let (from, rest) = leading_number(given)?;
         let (token, text) = rest.split_once(' ').context("nothing is said")?;
         if !self.desk.is_ready(from) {
             bail!("browser {from} waits for an answer, or is not there");
@@ -108,7 +108,7 @@ impl Play {
 
     // A browser says a text, where nothing of it is waited for.
     fn say(&mut self, given: &str, wire: &mut Vec<u8>, told: &mut Vec<Message>) -> Result<()> {
-        let (from, text) = number_in(given)?;
+        let (from, text) = leading_number(given)?;
         let text = with_feeds(self.alloc, text)?;
         if !self.desk.is_ready(from) {
             bail!("browser {from} waits for an answer, or is not there");
@@ -124,11 +124,11 @@ impl Play {
             "browser" => {
                 self.desk.opened(told)?;
             }
-            "leave" => self.desk.closed(number_in(given)?.0),
+            "leave" => self.desk.closed(leading_number(given)?.0),
             "say" => self.say(given, wire, told)?,
             "link" => self.link(given, told)?,
             "renew" => self.renew(given)?,
-            "wait" => self.now = self.now.saturating_add(number_in(given)?.0),
+            "wait" => self.now = self.now.saturating_add(leading_number(given)?.0),
             "here" => self.desk.here(told)?,
             "gone" => self.desk.gone(told)?,
             "server" => self.desk.heard(given, wire, told)?,

@@ -6,7 +6,7 @@ use Rattle.std.specs.String.{string_bytes}
 use Rattle.std.specs.declared.string.String.{String}
 use Rattle.rec_codec.specs.Name.{IsName}
 use Rattle.lobby_words.specs.declared.coming.Coming.{Coming}
-use Rattle.lobby_words.specs.Words.{word_of, rest_of, line_said, number_in, number_or_0}
+use Rattle.lobby_words.specs.Words.{word_of, rest_of, line_said, u32_in, number_or_0}
 
 -- how many lines stand behind the first line of an answer: as many as `ok list K` and `ok pgn G K` say, and else none
 abbrev pub lines_behind : List ℕ → ℕ
@@ -75,8 +75,8 @@ first_line answer = before_first (λ b. b == 10) answer
 -- the game in which an act was done, as its answer says: `ok WORD G ..`, or `fallen G ..`
 abbrev pub game_in : List ℕ → Option ℕ
 game_in line =
-    if bytes_eq (word_of line) (codes "ok") then number_in (word_of (rest_of (rest_of line)))
-    else (if bytes_eq (word_of line) (codes "fallen") then number_in (word_of (rest_of line)) else None)
+    if bytes_eq (word_of line) (codes "ok") then u32_in (word_of (rest_of (rest_of line)))
+    else (if bytes_eq (word_of line) (codes "fallen") then u32_in (word_of (rest_of line)) else None)
 
 abbrev pub act_game : List ℕ → Option ℕ
 act_game answer = game_in (first_line answer)

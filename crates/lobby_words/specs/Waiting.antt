@@ -5,7 +5,7 @@ use Rattle.std.specs.Str.{bytes_eq}
 use Rattle.text_parts.specs.Parts.{parts_of}
 use Rattle.rec_codec.specs.Name.{is_name_byte}
 use Rattle.lobby_words.specs.declared.listing.Waiting.{Waiting}
-use Rattle.lobby_words.specs.Words.{word_of, rest_of, line_said, number_in}
+use Rattle.lobby_words.specs.Words.{word_of, rest_of, line_said, u32_in}
 
 -- whether a message opens a game, and whether it is one by which a game waits no more
 abbrev pub is_open : List ℕ → Bool
@@ -26,8 +26,8 @@ waiting_of (Some game) by = if is_name by then Some (record { game = game; by = 
 -- The game of a row `G WHITE BLACK ..` that has one empty seat, which is told as `-`.
 abbrev pub waiting_row : List ℕ → Option Waiting
 waiting_row row =
-    if bytes_eq (word_of (rest_of row)) (codes "-") then waiting_of (number_in (word_of row)) (word_of (rest_of (rest_of row)))
-    else (if bytes_eq (word_of (rest_of (rest_of row))) (codes "-") then waiting_of (number_in (word_of row)) (word_of (rest_of row))
+    if bytes_eq (word_of (rest_of row)) (codes "-") then waiting_of (u32_in (word_of row)) (word_of (rest_of (rest_of row)))
+    else (if bytes_eq (word_of (rest_of (rest_of row))) (codes "-") then waiting_of (u32_in (word_of row)) (word_of (rest_of row))
     else None)
 
 -- whether an answer is one to `list` that is accepted, and the games that wait by its rows

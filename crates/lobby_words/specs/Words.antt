@@ -128,12 +128,12 @@ is_leave_lobby_sort sorts.LeaveLobby = true
 is_leave_lobby_sort _ = false
 
 -- the number below 2 ^ 32 that a text spells without a leading zero, and nothing else
-unfoldable pub number_in : List ℕ → Option ℕ
-number_in text = number_below (2 ^ 32) text
+unfoldable pub u32_in : List ℕ → Option ℕ
+u32_in text = number_below (2 ^ 32) text
 
 abbrev pub or_0 : Option ℕ → ℕ
 or_0 None = 0
 or_0 (Some n) = n
 
 abbrev pub number_or_0 : List ℕ → ℕ
-number_or_0 text = or_0 (number_in text)
+number_or_0 text = or_0 (u32_in text)

@@ -244,7 +244,7 @@ fn sort_plan(sort: Sort, standing: &Standing, game: Option<u32>) -> Plan
 
 /// What is done about a message.
 pub fn plan_of(standing: &Standing, text: &str) -> Plan
-    ensures { result ≡ plans.plan_of (words.is_message text.now) (words.sort_of text.now) standing.now (words.number_in (words.rest_of text.now)) }
+    ensures { result ≡ plans.plan_of (words.is_message text.now) (words.sort_of text.now) standing.now (words.u32_in (words.rest_of text.now)) }
 {
     let (_, rest) = cut(text);
     let game = number_named(rest);

@@ -216,7 +216,7 @@ pub fn sort_of(text: &str) -> Sort
 
 /// The number that a text spells, in the one spelling that a line of the server has.
 pub fn number_named(text: &str) -> Option<u32>
-    ensures { result ≡ words.number_in text.now }
+    ensures { result ≡ words.u32_in text.now }
 {
     text_parts::number_of_32_bits(text)
 }

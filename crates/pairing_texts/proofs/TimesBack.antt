@@ -7,7 +7,7 @@ use Rattle.std.proofs.lemmas.Bool.Decides.{nat_tests}
 use Rattle.std.proofs.lemmas.Slice.Eq.{bytes_eq-Decides}
 use Rattle.text_parts.proofs.Cuts.{Lacks, lacks_more, lacks_both, before_at, after_at, before_whole, after_none}
 use Rattle.text_parts.specs.Numbers.{number_below}
-use Rattle.lobby_words.specs.Words.{number_in, or_0, number_or_0}
+use Rattle.lobby_words.specs.Words.{u32_in, or_0, number_or_0}
 use Rattle.pairing_texts.specs.declared.times.Times.{Times}
 use Rattle.pairing_texts.specs.declared.times.Period.{Period}
 use Rattle.pairing_texts.specs.Times.{front_of, rest_of, span_text, times_text, times_in, likely_times, plain_times, long_times, are_taken, is_empty}
@@ -18,7 +18,7 @@ no_number true = refl
 no_number false = refl
 
 number_none : number_or_0 [] ≡ 0
-unfolding number_in number_below
+unfolding u32_in number_below
 number_none = no_number (bytes_eq (decimal 0) [])
 
 -- seconds and the increment, behind and before the `+`

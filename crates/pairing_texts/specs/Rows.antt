@@ -2,7 +2,7 @@
 use Rattle.std.specs.Prelude.{ℕ, ℤ, pos, ◌==◌, Bool, ◌&&◌, List, [], length, get_or, codes, Option, None, Some, Result, Ok, Err, option_map, int_div, if◌then◌else◌}
 use Rattle.std.specs.Str.{bytes_eq}
 use Rattle.jiff.specs.Words.{parse_timestamp}
-use Rattle.lobby_words.specs.Words.{number_in}
+use Rattle.lobby_words.specs.Words.{u32_in}
 use Rattle.lobby_words.specs.Waiting.{is_name}
 use Rattle.pairing_texts.specs.declared.rows.Game.{Game}
 use Rattle.pairing_texts.specs.declared.rows.Pairing.{Pairing}
@@ -72,7 +72,7 @@ with_board white black times start (Some board) = with_white board black times s
 unfoldable pub row_in : List (List ℕ) → Result Pairing RowFault
 row_in fields =
     if length fields == 5
-    then with_board (cell fields 1) (cell fields 2) (cell fields 3) (cell fields 4) (board_of (number_in (cell fields 0)))
+    then with_board (cell fields 1) (cell fields 2) (cell fields 3) (cell fields 4) (board_of (u32_in (cell fields 0)))
     else Err faults.BadShape
 
 -- the row above the pairings

@@ -50,7 +50,7 @@ pub fn name_of(text: &str) -> Option<Name>
 
 // The board of a text.
 fn board_of(text: &str) -> Option<u32>
-    ensures { result ≡ spec.board_of (words.number_in text.now) }
+    ensures { result ≡ spec.board_of (words.u32_in text.now) }
 {
     match number_named(text) {
         Some(board) if board > 0 => Some(board),

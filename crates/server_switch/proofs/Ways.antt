@@ -15,7 +15,7 @@ use Rattle.std.proofs.lemmas.List.Folds.{list_all-append}
 use Rattle.std.proofs.lemmas.List.Sums.{AllPass-from_list_all, prefix_len-le-length}
 use Rattle.std.proofs.lemmas.Str.Pattern.{IsSplitOnceResult, split_after, split_parts}
 use Rattle.std.proofs.lemmas.Option.{none-some, same_Some}
-use Rattle.lobby_words.specs.Words.{word_of, is_play_word, number_in}
+use Rattle.lobby_words.specs.Words.{word_of, is_play_word, u32_in}
 use Rattle.lobby_words.proofs.Numbers.{Spells, found, number_spelled}
 use Rattle.rec_codec.specs.Name.{IsName}
 use Rattle.server_switch.specs.Fields.{tail_text, tail_of}
@@ -139,19 +139,19 @@ number_word n small = digits_word (decimal n) (decimal_is_IsNumeral n (omega ari
 begun : (rest : List ℕ) (number : ℕ) (o : Option ℕ) → IfSome o (Spells (word_of rest)) → o ≡ Some number → Spells (word_of rest) number
 begun rest number o h is = subst (λ (p : Option ℕ). IfSome p (Spells (word_of rest))) is h
 
-numbered_text : (rest : List ℕ) (number : ℕ) → number_in (word_of rest) ≡ Some number → rest ≡ decimal number ++ tail_of 32 rest
+numbered_text : (rest : List ℕ) (number : ℕ) → u32_in (word_of rest) ≡ Some number → rest ≡ decimal number ++ tail_of 32 rest
 numbered_text rest number is =
     let k = position_or_len (λ (x : ℕ). x == 32) rest in
     sym (take-append-drop k rest)
-    ∙ (ap (λ (front : List ℕ). front ++ drop k rest) (begun rest number (number_in (word_of rest)) (found (word_of rest)) is).spelled
+    ∙ (ap (λ (front : List ℕ). front ++ drop k rest) (begun rest number (u32_in (word_of rest)) (found (word_of rest)) is).spelled
     ∙ ap (λ (n : ℕ). decimal number ++ drop n rest) (sym (length-take-le k rest (prefix_len-le-length (λ (x : ℕ). not (x == 32)) rest))))
 
-number_small : (rest : List ℕ) (number : ℕ) → number_in (word_of rest) ≡ Some number → number < 2 ^ 32
-number_small rest number is = (begun rest number (number_in (word_of rest)) (found (word_of rest)) is).small
+number_small : (rest : List ℕ) (number : ℕ) → u32_in (word_of rest) ≡ Some number → number < 2 ^ 32
+number_small rest number is = (begun rest number (u32_in (word_of rest)) (found (word_of rest)) is).small
 
-number_found : (rest tail : List ℕ) (n : ℕ) → rest ≡ decimal n ++ tail → n < 2 ^ 32 → IsTail tail → number_in (word_of rest) ≡ Some n
+number_found : (rest tail : List ℕ) (n : ℕ) → rest ≡ decimal n ++ tail → n < 2 ^ 32 → IsTail tail → u32_in (word_of rest) ≡ Some n
 number_found rest tail n e small h =
-    ap (λ (t : List ℕ). number_in (word_of t)) e ∙ (ap number_in (word_is (decimal n) tail (number_word n small) h) ∙ number_spelled n small)
+    ap (λ (t : List ℕ). u32_in (word_of t)) e ∙ (ap u32_in (word_is (decimal n) tail (number_word n small) h) ∙ number_spelled n small)
 
 -- a line that says a name
 name_text : (line : List ℕ) (x : Bor (List ℕ) × Bor (List ℕ)) → IsSplitOnceResult 32 line (Some x) → x.0.now ≡ codes "name" → ¬ IsName x.1.now →
@@ -178,7 +178,7 @@ opens line x cut at = (x.1.now, parts line x cut ∙ ap (λ (w : List ℕ). w ++
 
 -- a line of a game
 game_text : (line : List ℕ) (x : Bor (List ℕ) × Bor (List ℕ)) → IsSplitOnceResult 32 line (Some x) → names_game x.0.now ≡ true →
-    number_in (word_of x.1.now) ≡ None → (way : Way) → ¬ IsLine way line
+    u32_in (word_of x.1.now) ≡ None → (way : Way) → ¬ IsLine way line
 game_text line x cut at none (Says name) = λ h.
     false≢true (sym no_name ∙ (ap names_game (sym (cut_at line x cut (codes "name") name refl h.0).0) ∙ at))
 game_text line x cut at none Lists = λ h. uncut line x.0.now x.1.now (subst (λ (l : List ℕ). is_word l ≡ true) (sym h) refl) (parts line x cut)

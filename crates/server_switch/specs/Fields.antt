@@ -2,7 +2,7 @@
 use Rattle.std.specs.Prelude.{ℕ, ◌==◌, List, [], ◌∷◌, ◌++◌, drop, length, decimal, Option, None, Some}
 use Rattle.std.specs.Borrow.{Bor}
 use Rattle.std.specs.List.{before_first}
-use Rattle.lobby_words.specs.Words.{word_of, number_in}
+use Rattle.lobby_words.specs.Words.{word_of, u32_in}
 use Rattle.server_switch.specs.Numbers.{told_number}
 
 -- what stands behind the first of a sign, with the sign, or nothing
@@ -25,4 +25,4 @@ told_of place None = None
 told_of place (Some game) = told_number place game
 
 abbrev pub renumbered : ℕ → List ℕ → Option (List ℕ)
-renumbered place text = numbered (told_of place (number_in (word_of text))) text
+renumbered place text = numbered (told_of place (u32_in (word_of text))) text

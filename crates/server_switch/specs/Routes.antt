@@ -2,7 +2,7 @@
 use Rattle.std.specs.Prelude.{ℕ, ◌≡◌, ◌<◌, ◌^◌, Bool, true, ◌||◌, List, [], ◌∷◌, ◌++◌, codes, decimal, Option, Some, None}
 use Rattle.std.specs.List.{list_all}
 use Rattle.std.specs.Str.{bytes_eq}
-use Rattle.lobby_words.specs.Words.{word_of, is_message_byte, is_play_word, number_in}
+use Rattle.lobby_words.specs.Words.{word_of, is_message_byte, is_play_word, u32_in}
 use Rattle.rec_codec.specs.Name.{IsName}
 use Rattle.server_switch.specs.Fields.{tail_text, tail_of}
 use Rattle.server_switch.specs.declared.routes.Route.{Route}
@@ -59,8 +59,8 @@ way_of routes.Nothing = None
 -- a word, and a text behind it that begins with a game's number
 abbrev pub IsGameRoute : List ℕ → List ℕ → Route → Type 0
 IsGameRoute word rest (routes.Game w number tail) =
-    (w.now ≡ word) × (number_in (word_of rest) ≡ Some number) × (tail_text 32 tail ≡ tail_of 32 rest)
-IsGameRoute word rest routes.Nothing = number_in (word_of rest) ≡ None
+    (w.now ≡ word) × (u32_in (word_of rest) ≡ Some number) × (tail_text 32 tail ≡ tail_of 32 rest)
+IsGameRoute word rest routes.Nothing = u32_in (word_of rest) ≡ None
 IsGameRoute word rest _ = ⊥
 
 abbrev pub IsNameRoute : List ℕ → Route → Type 0

@@ -2,7 +2,7 @@
 ghost use Rattle.std.specs.Prelude.{◌≡◌, ◌==◌, ◌<◌, ◌++◌, Some, None, IfSome, IfNone, OnOk, decimal};
 ghost use Rattle.std.specs.List.{before_first};
 ghost use Rattle.std.specs.String.{string_bytes};
-ghost use Rattle.lobby_words.specs.Words.{number_in, word_of};
+ghost use Rattle.lobby_words.specs.Words.{u32_in, word_of};
 ghost use Rattle.server_switch.specs.Fields as fields;
 ghost use Rattle.server_switch.specs.Fields.{tail_text, tail_of};
 
@@ -24,9 +24,9 @@ pub fn cut_at(text: &str, sign: char) -> (&str, Option<&str>)
 
 /// The number that is a text's first field, and what stands behind the space after it.
 pub fn number_ahead(text: &str) -> Option<(u32, Option<&str>)>
-    ensures some { IfSome result (λ p. number_in (word_of text.entry.now) ≡ Some p.0) }
+    ensures some { IfSome result (λ p. u32_in (word_of text.entry.now) ≡ Some p.0) }
     ensures tail { IfSome result (λ p. tail_text 32 p.1 ≡ tail_of 32 text.entry.now) }
-    ensures none { IfNone result (number_in (word_of text.entry.now) ≡ None) }
+    ensures none { IfNone result (u32_in (word_of text.entry.now) ≡ None) }
 {
     let (field, tail) = cut_at(text, ' ');
     match number_named(field) {

@@ -11,5 +11,5 @@ number_below bound text =
     else None
 
 -- the same of the numbers of 64 bits
-abbrev pub number_in : List ℕ → Option ℕ
-number_in text = number_below (2 ^ 64) text
+abbrev pub u64_in : List ℕ → Option ℕ
+u64_in text = number_below (2 ^ 64) text

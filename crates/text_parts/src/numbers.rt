@@ -1,14 +1,14 @@
 //! The number that a text spells, and a text with a number put behind it.
 ghost use Rattle.std.specs.Prelude.{ℕ, ◌≡◌, ◌<◌, ◌^◌, ◌++◌, Some, IfSome, SomeIff, OnOk, OnErr, decimal};
 ghost use Rattle.std.specs.String.{string_bytes};
-ghost use Rattle.text_parts.specs.Numbers.{number_below, number_in};
+ghost use Rattle.text_parts.specs.Numbers.{number_below, u64_in};
 
 use itoa::Buffer;
 use std::alloc::AllocError;
 
 /// The number below 2 ^ 64 that a text spells, in its one spelling.
 pub fn number_named(text: &str) -> Option<u64>
-    ensures { result ≡ number_in text.now }
+    ensures { result ≡ u64_in text.now }
 {
     number_read(text)
 }
