@@ -11,7 +11,7 @@ use Rattle.chess_sessions.specs.Session.{Said, Changes, IsUnchanged}
 use Rattle.chess_hub.specs.Calls.{Call, Closed, Fed, Given}
 use Rattle.chess_hub.specs.Law.{HubState, Steps, Stays}
 use Rattle.client_streams.specs.declared.client.Client.{Client}
-use Rattle.server_calls.specs.declared.door.Door.{Door}
+use Rattle.server_calls.specs.declared.listener.LocalListener.{LocalListener}
 use Rattle.client_streams.specs.Rounds as rounds
 use Rattle.client_streams.specs.Rounds.{AreEach, IsSent, AreGivenTo, IsGivenOut, IsRead, IsWritten, intake, Holds}
 use Rattle.chess_sockets.specs.Serving.{state_of, LeadsOn, IsLedBy, IsOfReading, IsOfWriting, AreRead, AreWritten, Welcomes, AreCounted, IsWelcomed, IsAskedFor}
@@ -177,34 +177,34 @@ module _ {C S : Type 0} (IsMade : C → S → Type 0) (at : ℕ) where
     }
 
   -- said of a hub, a listener and a count that are those from before
-  pub welcomed_there : {H : Type 0} (h k : H) (to : H → HubState) (door last : Door) (gives n m counted : ℕ)
-      (kept clients asked : List (Client S)) (begun : HubState) → h ≡ k → kept ≡ clients → n ≡ m → door ≡ last →
-      IsWelcomed IsMade at door.given gives n counted kept asked (to h) begun →
+  pub welcomed_there : {H : Type 0} (h k : H) (to : H → HubState) (listener last : LocalListener) (gives n m counted : ℕ)
+      (kept clients asked : List (Client S)) (begun : HubState) → h ≡ k → kept ≡ clients → n ≡ m → listener ≡ last →
+      IsWelcomed IsMade at listener.given gives n counted kept asked (to h) begun →
       IsWelcomed IsMade at last.given gives m counted clients asked (to k) begun
-  welcomed_there {H = H} h k to door last gives n m counted kept clients asked begun same are count still w =
-      subst (λ (d : Door). IsWelcomed IsMade at d.given gives m counted clients asked (to k) begun) still
-      (subst (λ (x : H). IsWelcomed IsMade at door.given gives m counted clients asked (to x) begun) same
-      (subst (λ (l : List (Client S)). IsWelcomed IsMade at door.given gives m counted l asked (to h) begun) are
-      (subst (λ (x : ℕ). IsWelcomed IsMade at door.given gives x counted kept asked (to h) begun) count w)))
+  welcomed_there {H = H} h k to listener last gives n m counted kept clients asked begun same are count still w =
+      subst (λ (d : LocalListener). IsWelcomed IsMade at d.given gives m counted clients asked (to k) begun) still
+      (subst (λ (x : H). IsWelcomed IsMade at listener.given gives m counted clients asked (to x) begun) same
+      (subst (λ (l : List (Client S)). IsWelcomed IsMade at listener.given gives m counted l asked (to h) begun) are
+      (subst (λ (x : ℕ). IsWelcomed IsMade at listener.given gives x counted kept asked (to h) begun) count w)))
 
   -- the same listener and the same count
-  pub welcomed_on : (given : ℕ) (door next : Door) (n counted after : ℕ) (clients asked : List (Client S))
-      (s t : HubState) → next ≡ door → after ≡ counted →
-      IsWelcomed IsMade at given door.given n counted clients asked s t →
+  pub welcomed_on : (given : ℕ) (listener next : LocalListener) (n counted after : ℕ) (clients asked : List (Client S))
+      (s t : HubState) → next ≡ listener → after ≡ counted →
+      IsWelcomed IsMade at given listener.given n counted clients asked s t →
       IsWelcomed IsMade at given next.given n after clients asked s t
-  welcomed_on given door next n counted after clients asked s t same is w =
-      subst (λ (d : Door). IsWelcomed IsMade at given d.given n after clients asked s t) (sym same)
-      (subst (λ (x : ℕ). IsWelcomed IsMade at given door.given n x clients asked s t) (sym is) w)
+  welcomed_on given listener next n counted after clients asked s t same is w =
+      subst (λ (d : LocalListener). IsWelcomed IsMade at given d.given n after clients asked s t) (sym same)
+      (subst (λ (x : ℕ). IsWelcomed IsMade at given listener.given n x clients asked s t) (sym is) w)
 
 -- ---- who is asked for
 
 -- said of the rest and the listener from before, and of the listener as it is left
-pub asked_there : (rested was : Rested) (old first new last : Door) → rested ≡ was → old ≡ first → last ≡ new →
+pub asked_there : (rested was : Rested) (old first new last : LocalListener) → rested ≡ was → old ≡ first → last ≡ new →
     IsAskedFor rested old new → IsAskedFor was first last
 asked_there rested was old first new last same is left asks =
     subst (λ (r : Rested). IsAskedFor r first last) same
-    (subst (λ (d : Door). IsAskedFor rested d last) is
-    (subst (λ (d : Door). IsAskedFor rested old d) (sym left) asks))
+    (subst (λ (d : LocalListener). IsAskedFor rested d last) is
+    (subst (λ (d : LocalListener). IsAskedFor rested old d) (sym left) asks))
 
 -- ---- what was work
 

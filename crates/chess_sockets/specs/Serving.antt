@@ -12,9 +12,9 @@ use Rattle.chess_hub.specs.Turning.{AsksFor}
 use Rattle.chess_sockets.specs.declared.server.Rested.{Rested}
 use Rattle.chess_sockets.specs.declared.server.Rested.TheVariants.{Calm}
 use Rattle.client_streams.specs.declared.client.Client.{Client}
-use Rattle.server_calls.specs.declared.door.Door.{Door}
-use Rattle.server_calls.specs.declared.door.Found.TheVariants.{Nobody}
-use Rattle.server_calls.specs.Doors.{IsAsked}
+use Rattle.server_calls.specs.declared.listener.LocalListener.{LocalListener}
+use Rattle.server_calls.specs.declared.listener.AcceptOutcome.TheVariants.{Nobody}
+use Rattle.server_calls.specs.Listeners.{IsAsked}
 use Rattle.client_streams.specs.Closings.{IsSound}
 use Rattle.client_streams.specs.Incoming.{held}
 use Rattle.client_streams.specs.Rounds as rounds
@@ -116,9 +116,9 @@ pub record IsWelcomed {C S : Type 0} (IsMade : C → S → Type 0) (at given giv
 
 -- After rests of this kind, or none, the listener is asked for a connection; but not where they were calm and its last try
 -- had found that nobody waits, for then it is left alone.
-pub record IsAskedFor (rested : Rested) (old new : Door) : Type 0 where
-  pub asked : ((rested ≡ Calm) × (old.found ≡ Nobody) → ⊥) → IsAsked old.tries new.tries
-  pub alone : (rested ≡ Calm) × (old.found ≡ Nobody) → new ≡ old
+pub record IsAskedFor (rested : Rested) (old new : LocalListener) : Type 0 where
+  pub asked : ((rested ≡ Calm) × (old.outcome ≡ Nobody) → ⊥) → IsAsked old.tries new.tries
+  pub alone : (rested ≡ Calm) × (old.outcome ≡ Nobody) → new ≡ old
 
 -- Each client is read for, and then the hub answers at most 64 lines of what the sessions had sent by then, as one batch
 -- at this moment, which the store may be asked for.

@@ -10,7 +10,7 @@ ghost use Rattle.chess_sockets.specs.Turns.{EndsServing, IsRefusal, IsTurnRefusa
 use chess_hub::{Hub, HubFault};
 use client_streams::{Client, Reading, hand_out_all, take_in_all};
 use sector_dev::Device;
-use server_calls::{Door, Found, Listens, Watch, may_wait, next_connection};
+use server_calls::{AcceptOutcome, Listens, LocalListener, Watch, may_wait, next_connection};
 use std::alloc::Global;
 use std::io;
 use std::io::{Read, Write};
@@ -39,7 +39,7 @@ enum Rested {
 #[derive(Drop)]
 pub struct Server<D: Device, S = TcpStream> {
     alloc: Global,
-    door: Door,
+    listener: LocalListener,
     port: u16,
     hub: Hub<D>,
     clients: Vec<Client<S>>,
@@ -56,10 +56,10 @@ const LINES: usize = 64;
 
 // Whether a turn asks for a connection: always, but after calm rests only where the last try has not found that none waits.
 // So a failure leaves no connection waiting.
-fn asks_for_one(rested: Rested, found: Found) -> bool
-    ensures { result ≡ false ↔ ((rested ≡ Rested.Calm) × (found ≡ Found.Nobody)) }
+fn asks_for_one(rested: Rested, outcome: AcceptOutcome) -> bool
+    ensures { result ≡ false ↔ ((rested ≡ Rested.Calm) × (outcome ≡ AcceptOutcome.Nobody)) }
 {
-    rested != Rested::Calm || may_wait(found)
+    rested != Rested::Calm || may_wait(outcome)
 }
 
 // What a turn is told as that found something to do, or did not.
@@ -162,13 +162,13 @@ impl<D: Device, S: Read + Write + From<TcpStream> + Drop> Server<D, S> {
         ensures silence { IfOk result (λ server. server.silence ≡ silence) }
         ensures away { IfOk result (λ server. server.turned_away ≡ 0) }
     {
-        let door = Door::listen(net, port)?;
+        let listener = LocalListener::bind(net, port)?;
         let mut watch = Watch::new(net, alloc)?;
-        let port = door.port()?;
-        watch.add(door.socket())?;
+        let port = listener.port()?;
+        watch.add(listener.socket())?;
         Ok(Server {
             alloc,
-            door,
+            listener,
             port,
             hub,
             clients: Vec::new(alloc),
@@ -203,11 +203,11 @@ impl<D: Device, S: Read + Write + From<TcpStream> + Drop> Server<D, S> {
     // Accepts at most one connection, and tells whether one came; after calm rests none, unless one may wait. One that came
     // and is no client is counted. What fails at it ends nothing, and is no turn's work, so that a rest comes before the next.
     fn welcome(&mut self, at: u64) -> bool
-        ensures asked { IsAskedFor self.old.rested self.old.door self.new.door }
-        ensures came { OnTrue result (self.new.door.given ≡ self.old.door.given + 1) }
-        ensures nobody { OnFalse result (self.new.door.given ≡ self.old.door.given) }
+        ensures asked { IsAskedFor self.old.rested self.old.listener self.new.listener }
+        ensures came { OnTrue result (self.new.listener.given ≡ self.old.listener.given + 1) }
+        ensures nobody { OnFalse result (self.new.listener.given ≡ self.old.listener.given) }
         ensures stay { OnFalse result (self.new.clients.items ≡ self.old.clients.items) }
-        ensures welcomes { IsWelcomed S.from_gives at self.old.door.given self.new.door.given self.old.turned_away
+        ensures welcomes { IsWelcomed S.from_gives at self.old.listener.given self.new.listener.given self.old.turned_away
             self.new.turned_away self.old.clients.items self.new.clients.items
             (state_of self.old.hub.sessions self.old.hub.store.table)
             (state_of self.new.hub.sessions self.new.hub.store.table) }
@@ -218,10 +218,10 @@ impl<D: Device, S: Read + Write + From<TcpStream> + Drop> Server<D, S> {
         ensures waits { self.new.watch.calm_waits ≡ self.old.watch.calm_waits }
         ensures blind { self.old.watch.is_blind ≡ true → self.new.watch.is_blind ≡ true }
     {
-        if !asks_for_one(self.rested, self.door.found()) {
+        if !asks_for_one(self.rested, self.listener.outcome()) {
             return false;
         }
-        match next_connection(&mut self.door) {
+        match next_connection(&mut self.listener) {
             Some(stream) => {
                 if admit(
                     self.alloc,
@@ -245,7 +245,7 @@ impl<D: Device, S: Read + Write + From<TcpStream> + Drop> Server<D, S> {
         ensures stay { self.new.clients.items ≡ open_in self.old.hub.sessions self.old.clients.items }
         ensures hub { self.new.hub ≡ self.old.hub }
         ensures rested { self.new.rested ≡ self.old.rested }
-        ensures door { self.new.door ≡ self.old.door }
+        ensures listener { self.new.listener ≡ self.old.listener }
         ensures turned_away { self.new.turned_away ≡ self.old.turned_away }
         ensures port { self.new.port ≡ self.old.port }
         ensures silence { self.new.silence ≡ self.old.silence }
@@ -272,7 +272,7 @@ impl<D: Device, S: Read + Write + From<TcpStream> + Drop> Server<D, S> {
         ensures counts { self.new.hub.refusals ≡ refusals_after result self.old.hub.refusals }
         // The store's own fault tells why it refused what lines ask for.
         ensures refused { IfErr result (λ fault. IsTurnRefusal S.from_gives S.remaining self.old.silence
-            self.old.door.given self.new.door.given self.old.turned_away self.new.turned_away fault at self.old.hub.store.journal.header.seq self.old.hub.store.failed
+            self.old.listener.given self.new.listener.given self.old.turned_away self.new.turned_away fault at self.old.hub.store.journal.header.seq self.old.hub.store.failed
             self.old.clients.items self.new.clients.items
             (state_of self.old.hub.sessions self.old.hub.store.table)
             (state_of self.new.hub.sessions self.new.hub.store.table)) }
@@ -282,18 +282,18 @@ impl<D: Device, S: Read + Write + From<TcpStream> + Drop> Server<D, S> {
         ensures cause_err { IfErr result (λ fault. CountsFault fault
             (D.failures self.old.hub.store.journal.device) (D.failures self.new.hub.store.journal.device)) }
         // Whoever may wait is asked for, in each turn, and what comes is work.
-        ensures asked { IsAskedFor self.old.rested self.old.door self.new.door }
-        ensures came { IfOk result (λ turned. turned ≡ Turned.Idle → self.new.door.given ≡ self.old.door.given) }
+        ensures asked { IsAskedFor self.old.rested self.old.listener self.new.listener }
+        ensures came { IfOk result (λ turned. turned ≡ Turned.Idle → self.new.listener.given ≡ self.old.listener.given) }
         // Work is one that came or clients that were there, so where an accept fails and no client is there it is none.
         ensures worked { IfOk result (λ turned. turned ≡ Turned.Worked
-            → (self.new.door.given ≡ self.old.door.given + 1)
+            → (self.new.listener.given ≡ self.old.listener.given + 1)
             ⊎ (0 < length (open_in self.old.hub.sessions self.old.clients.items))) }
         // The next turn reads for every client, unless a rest comes first.
         ensures again { OnOk result (self.new.rested ≡ Rested.Not) }
         // Each session hears what its client's stream gave, and what it is given goes to that stream, whatever the streams
         // are. At most one comes, who is a client or is counted as turned away.
         ensures served { OnOk result (HasGoneRound S.from_gives S.remaining S.contents self.old.silence
-            self.old.door.given self.new.door.given self.old.turned_away self.new.turned_away (MayBeAsked self.old.hub.store.failed
+            self.old.listener.given self.new.listener.given self.old.turned_away self.new.turned_away (MayBeAsked self.old.hub.store.failed
             self.old.hub.store.journal.header.seq self.old.hub.store.table.entries) at self.old.clients.items
             self.new.clients.items (state_of self.old.hub.sessions self.old.hub.store.table)
             (state_of self.new.hub.sessions self.new.hub.store.table)) }

@@ -6,7 +6,7 @@ mod clients;
 #[cfg(test)]
 mod crowds;
 #[cfg(test)]
-mod doors;
+mod listeners;
 #[cfg(test)]
 mod memory;
 #[cfg(test)]

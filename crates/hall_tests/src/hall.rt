@@ -2,13 +2,12 @@
 use crate::browser::{file_of, site_of};
 use crate::frames::UPGRADE;
 use lobby_desk::Order;
-use lobby_loop::{
-    ActLog, Fault, Found, Hall, KeepsLinks, Listens, NoActLog, NoLinks, Welcomed, welcome,
-};
+use lobby_loop::{Acceptor, ActLog, Fault, Hall, KeepsLinks, NoActLog, NoLinks, Welcomed, welcome};
 use lobby_players::relinked;
 use lobby_roster::{Linked, Player};
 use lobby_web::Kind;
 use rec_codec::Name;
+use server_calls::AcceptFault;
 use std::alloc::Global;
 use std::hash::RandomState;
 use std::io::{Error, ErrorKind, Read, Write};
@@ -501,21 +500,21 @@ fn who_left_is_there_no_more(rt: &impl Abort, lab: &mut Lab) {
     assert!(rt; lab.hall.len() == 1 && lab.is_told(b"\x81\x12ok who open 1\neve\n"));
 }
 
-/// An entrance at which one is lost, then one is refused, and then there is nobody.
+/// An acceptor at which one is lost, then one is refused, and then there is nobody.
 #[derive(Clone, Copy)]
-struct Door {
+struct FaultyAcceptor {
     tries: usize,
 }
 
-impl Listens for Door {
+impl Acceptor for FaultyAcceptor {
     type Stream = Peer;
 
-    fn accept_one(&mut self) -> Found<Peer> {
+    fn accept_one(&mut self) -> Result<Peer, AcceptFault> {
         self.tries = self.tries.saturating_add(1);
         match self.tries {
-            1 => Found::Lost,
-            2 => Found::Refused,
-            _ => Found::Nobody,
+            1 => Err(AcceptFault::Lost),
+            2 => Err(AcceptFault::Refused),
+            _ => Err(AcceptFault::Nobody),
         }
     }
 
@@ -524,10 +523,12 @@ impl Listens for Door {
     }
 }
 
-fn a_failed_accept_ends_the_turn_at_the_door(rt: &impl Abort, lab: &mut Lab) {
-    let mut door = Door { tries: 0 };
-    assert!(rt; welcome(&mut door, &mut lab.hall, 0) == Welcomed::Refused && door.tries == 2);
-    assert!(rt; welcome(&mut door, &mut lab.hall, 0) == Welcomed::All);
+fn a_failed_accept_ends_the_turn_of_accepting(rt: &impl Abort, lab: &mut Lab) {
+    let mut acceptor = FaultyAcceptor { tries: 0 };
+    assert!(rt;
+        welcome(&mut acceptor, &mut lab.hall, 0) == Welcomed::Refused && acceptor.tries == 2
+    );
+    assert!(rt; welcome(&mut acceptor, &mut lab.hall, 0) == Welcomed::All);
 }
 
 // Ann, who has come by her link, acts after her token was given this sum: the server is sent this, and she is told so.
@@ -586,7 +587,7 @@ fn halls(rt: HostRuntime) {
     a_file_changes_between_turns(&rt, &mut lab);
     what_was_said_is_counted(&rt, &mut lab);
     who_left_is_there_no_more(&rt, &mut lab);
-    a_failed_accept_ends_the_turn_at_the_door(&rt, &mut lab);
+    a_failed_accept_ends_the_turn_of_accepting(&rt, &mut lab);
     who_has_another_link_acts_no_more(&rt, &mut lab);
     that_entries_are_paused_is_kept_before_the_log_is_told(&rt, &mut lab);
     drop(lab);

@@ -7,8 +7,8 @@ ghost use Rattle.lobby_loop.specs.Living.{IsWoken, Files, KeepsFiles, Renews};
 ghost use Rattle.lobby_loop.specs.Logging.{Logs};
 
 use crate::act_log::{ActLog, Fault};
-use crate::door::{Entrance, Gate, Welcomed, welcome};
 use crate::hall::Hall;
+use crate::listener::{LobbyAcceptor, LobbyListener, Welcomed, welcome};
 use lobby_guests::{Counts, KeepsLinks};
 use lobby_roster::Player;
 use lobby_web::{File, Site};
@@ -31,7 +31,7 @@ pub enum Turned {
 }
 
 // The names of sockets that are no browser's.
-const ENTRANCE: usize = 0;
+const LISTENER: usize = 0;
 
 const SERVER: usize = 1;
 
@@ -43,13 +43,13 @@ const RETRY: u64 = 500;
 
 const PATIENCE: u64 = 5_000;
 
-// So many milliseconds the entrance is left alone where the system has nothing for another connection.
+// So many milliseconds the listener is left alone where the system has nothing for another connection.
 const REST: u64 = 1_000;
 
-/// A lobby: its entrance, its browsers, and its connection to the server.
+/// A lobby: its listener, its browsers, and its connection to the server.
 #[derive(Drop)]
 pub struct Lobby {
-    entrance: Entrance,
+    listener: LobbyListener,
     // Whether a connection may wait there, and from when on it is asked.
     has_more: bool,
     ask_at: u64,
@@ -70,22 +70,26 @@ struct Watched {
     events: Events,
 }
 
-// Watches the entrance, and nothing else yet.
-fn watch_entrance(net: &impl Net, alloc: Global, entrance: &mut Entrance) -> io::Result<Watched> {
+// Watches the listener, and nothing else yet.
+fn watch_listener(
+    net: &impl Net,
+    alloc: Global,
+    listener: &mut LobbyListener,
+) -> io::Result<Watched> {
     let poll = Poll::new(net)?;
-    poll.registry().register(&mut entrance.listener, Token(ENTRANCE), Interest::READABLE)?;
+    poll.registry().register(&mut listener.listener, Token(LISTENER), Interest::READABLE)?;
     Ok(Watched {
         poll,
         events: Events::with_capacity(alloc, EVENTS)?,
     })
 }
 
-// The socket of this name may be ready. It tells whether that is the entrance.
+// The socket of this name may be ready. It tells whether that is the listener's.
 fn wake_socket(hall: &mut Hall<TcpStream>, key: usize) -> bool
     ensures { IsWoken hall.old hall.new }
 {
     match key {
-        ENTRANCE => true,
+        LISTENER => true,
         SERVER => {
             hall.wake_server();
             false
@@ -97,16 +101,16 @@ fn wake_socket(hall: &mut Hall<TcpStream>, key: usize) -> bool
     }
 }
 
-// The sockets of these events may be ready. It tells whether the entrance is among them.
+// The sockets of these events may be ready. It tells whether the listener's is among them.
 fn wake_each(events: &Events, hall: &mut Hall<TcpStream>) -> bool
     ensures { IsWoken hall.old hall.new }
 {
-    let mut has_entrance = false;
+    let mut has_listener = false;
     for event in events.iter() {
-        let is_entrance = wake_socket(hall, usize::from(event.token()));
-        has_entrance |= is_entrance;
+        let is_listener = wake_socket(hall, usize::from(event.token()));
+        has_listener |= is_listener;
     }
-    has_entrance
+    has_listener
 }
 
 // The earlier of two moments, where there are any.
@@ -125,7 +129,7 @@ impl Lobby {
         net: &impl Net,
         alloc: Global,
         keys: RandomState,
-        mut entrance: Entrance,
+        mut listener: LobbyListener,
         server: SocketAddr,
         site: Site,
         players: Vec<Player>,
@@ -133,9 +137,9 @@ impl Lobby {
     ) -> io::Result<Lobby>
         ensures { IfOk result (λ lobby. BeginsHall site players.items is_paused lobby.hall) }
     {
-        let Watched { poll, events } = watch_entrance(net, alloc, &mut entrance)?;
+        let Watched { poll, events } = watch_listener(net, alloc, &mut listener)?;
         Ok(Lobby {
-            entrance,
+            listener,
             has_more: true,
             ask_at: 0,
             server,
@@ -199,18 +203,18 @@ impl Lobby {
         self.hall.renew(players);
     }
 
-    // Accepts who waits at the entrance, and tells whether more may.
+    // Accepts who waits at the listener, and tells whether more may.
     fn welcome(&mut self, at: u64) -> bool
         ensures { (streams : List TcpStream) × AreAdmitted streams self.old.hall self.new.hall }
     {
         if !self.has_more || at < self.ask_at {
             return false;
         }
-        let mut gate = Gate {
-            listener: &self.entrance.listener,
+        let mut acceptor = LobbyAcceptor {
+            listener: &self.listener.listener,
             registry: self.poll.registry(),
         };
-        match welcome(&mut gate, &mut self.hall, at) {
+        match welcome(&mut acceptor, &mut self.hall, at) {
             Welcomed::All => {
                 self.has_more = false;
                 false

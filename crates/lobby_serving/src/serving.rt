@@ -8,7 +8,7 @@ use crate::players::Players;
 use crate::table::Table;
 use anyhow::{Context, Result};
 use lobby_commands::Serving;
-use lobby_loop::{ActLog, Entrance, Lobby, NoActLog, Turned};
+use lobby_loop::{ActLog, Lobby, LobbyListener, NoActLog, Turned};
 use lobby_players::PauseFile;
 use lobby_roster::Player;
 use server_calls::Moments;
@@ -143,8 +143,8 @@ fn tell_address<R: Print + Eprint>(rt: &R, address: SocketAddr) -> Result<()> {
 }
 
 // Listens on an address.
-fn entrance_on<R: Net>(rt: &R, address: SocketAddr) -> Result<Entrance> {
-    Entrance::open(rt, address).context(format_args!("listening on {address}"))
+fn listener_on<R: Net>(rt: &R, address: SocketAddr) -> Result<LobbyListener> {
+    LobbyListener::bind(rt, address).context(format_args!("listening on {address}"))
 }
 
 // The lobby's server, as the command line asks for it.
@@ -158,10 +158,10 @@ impl<R> Server<'_, R>
 where
     R: Files + AllocGlobal + Clone + Drop + Net + RandomSource,
 {
-    // The lobby of those who come in there.
+    // The lobby of those who connect there.
     fn lobby(
         &self,
-        entrance: Entrance,
+        listener: LobbyListener,
         address: SocketAddr,
         known: Vec<Player>,
         is_paused: bool,
@@ -173,7 +173,7 @@ where
             rt,
             rt.alloc(),
             keys,
-            entrance,
+            listener,
             serving.server,
             site,
             known,
@@ -219,10 +219,10 @@ where
         log: &mut L,
     ) -> Result<()> {
         let (rt, serving) = (self.rt, self.serving);
-        let entrance = entrance_on(rt, serving.address)?;
-        let address = entrance.address()?;
+        let listener = listener_on(rt, serving.address)?;
+        let address = listener.address()?;
         let entries = PauseFile::new(rt, serving.players)?;
-        let mut lobby = self.lobby(entrance, address, known, entries.is_paused())?;
+        let mut lobby = self.lobby(listener, address, known, entries.is_paused())?;
         let served = self.serve_lobby(players, entries, address, &mut lobby, log);
         drop(lobby);
         served

@@ -4,12 +4,12 @@
 
 mod accepting;
 mod calls;
-mod door;
+mod listener;
 mod moments;
 mod watch;
 
 pub use accepting::{AcceptFault, accept_fault};
 pub use calls::{call, is_made};
-pub use door::{Door, Found, Listens, found_of, may_wait, next_connection};
+pub use listener::{AcceptOutcome, Listens, LocalListener, may_wait, next_connection, outcome_of};
 pub use moments::Moments;
 pub use watch::Watch;

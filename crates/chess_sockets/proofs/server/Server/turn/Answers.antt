@@ -42,12 +42,12 @@ returns-clause-served g c =
     record {
       asked = w.clients.items;
       begun = state_of w.hub.sessions w.hub.store.table;
-      welcomes = welcomed_on g.S.From.from_gives c.args.at old.door.given w.door left.door old.turned_away w.turned_away
-          left.turned_away _ _ _ _ c.part-2.ensures.door c.part-2.ensures.turned_away
+      welcomes = welcomed_on g.S.From.from_gives c.args.at old.listener.given w.listener left.listener old.turned_away w.turned_away
+          left.turned_away _ _ _ _ c.part-2.ensures.listener c.part-2.ensures.turned_away
           (welcomed_there g.S.From.from_gives c.args.at c.part.new.self.hub old.hub
-          (λ hub. state_of hub.sessions hub.store.table) c.part.new.self.door old.door w.door.given
+          (λ hub. state_of hub.sessions hub.store.table) c.part.new.self.listener old.listener w.listener.given
           c.part.new.self.turned_away old.turned_away w.turned_away _ _ _ _ c.part.ensures.hub c.part.ensures.stay
-          c.part.ensures.turned_away c.part.ensures.door c.welcome-came.ensures.welcomes);
+          c.part.ensures.turned_away c.part.ensures.listener c.welcome-came.ensures.welcomes);
       written = n.clients.items;
       serves = rw (
         c.part-2.ensures.hub,
@@ -65,10 +65,10 @@ returns-clause-worked g c =
     let old = c.args.self.now in
     let p = c.part.new.self in
     let w = c.welcome-came.new.self in
-    λ is. has_worked c.welcome-came.result c.in_ok-has_served.has_served old.door.given p.door.given w.door.given
-    c.part-2.new.self.door.given _ p.clients.items w.clients.items (c.told_as.ensures.worked is) c.welcome-came.ensures.came
-    c.welcome-came.ensures.stay c.in_ok-has_served.ensures.more (ap (λ d. d.given) c.part.ensures.door)
-    (ap (λ d. d.given) c.part-2.ensures.door) c.part.ensures.stay
+    λ is. has_worked c.welcome-came.result c.in_ok-has_served.has_served old.listener.given p.listener.given w.listener.given
+    c.part-2.new.self.listener.given _ p.clients.items w.clients.items (c.told_as.ensures.worked is) c.welcome-came.ensures.came
+    c.welcome-came.ensures.stay c.in_ok-has_served.ensures.more (ap (λ d. d.given) c.part.ensures.listener)
+    (ap (λ d. d.given) c.part-2.ensures.listener) c.part.ensures.stay
 
 -- ---- why it ends
 
@@ -87,16 +87,16 @@ returns-in_err-has_served-clause-refused g c =
     let w = c.welcome-came.new.self in
     let n = c.serve_clients.new in
     of_fault r.result e.0 c.in_err-has_served.field-0.0
-    (λ fault. IsTurnRefusal g.S.From.from_gives g.S.Read.remaining old.silence old.door.given w.door.given
+    (λ fault. IsTurnRefusal g.S.From.from_gives g.S.Read.remaining old.silence old.listener.given w.listener.given
     old.turned_away w.turned_away fault c.args.at old.hub.store.journal.header.seq old.hub.store.failed old.clients.items n.clients.items
     (state_of old.hub.sessions old.hub.store.table) (state_of n.hub.sessions n.hub.store.table)) e.1 e.2
     (record {
       asked = w.clients.items;
       begun = state_of w.hub.sessions w.hub.store.table;
       welcomes = welcomed_there g.S.From.from_gives c.args.at c.part.new.self.hub old.hub
-          (λ hub. state_of hub.sessions hub.store.table) c.part.new.self.door old.door w.door.given
+          (λ hub. state_of hub.sessions hub.store.table) c.part.new.self.listener old.listener w.listener.given
           c.part.new.self.turned_away old.turned_away w.turned_away _ _ _ _ c.part.ensures.hub c.part.ensures.stay
-          c.part.ensures.turned_away c.part.ensures.door c.welcome-came.ensures.welcomes;
+          c.part.ensures.turned_away c.part.ensures.listener c.welcome-came.ensures.welcomes;
       refusal = rw (sym same, sym (c.welcome-came.ensures.silence ∙ c.part.ensures.silence))
           c.in_err-has_served.ensures.refused;
     })
@@ -137,13 +137,13 @@ returns-clause-asked g c =
     let old = c.args.self.now in
     let p = c.part.new.self in
     let w = c.welcome-came.new.self in
-    asked_there p.rested old.rested p.door old.door w.door c.part-2.new.self.door c.part.ensures.rested c.part.ensures.door
-    c.part-2.ensures.door c.welcome-came.ensures.asked
+    asked_there p.rested old.rested p.listener old.listener w.listener c.part-2.new.self.listener c.part.ensures.rested c.part.ensures.listener
+    c.part-2.ensures.listener c.welcome-came.ensures.asked
 
 pub returns-in_err-has_served-clause-asked : goal.returns-in_err-has_served-clause-asked
 returns-in_err-has_served-clause-asked g c =
     let old = c.args.self.now in
     let p = c.part.new.self in
     let w = c.welcome-came.new.self in
-    asked_there p.rested old.rested p.door old.door w.door w.door c.part.ensures.rested c.part.ensures.door refl
+    asked_there p.rested old.rested p.listener old.listener w.listener w.listener c.part.ensures.rested c.part.ensures.listener refl
     c.welcome-came.ensures.asked

@@ -1,6 +1,6 @@
 -- A browser comes to a hall that is as before.
 use Rattle.lobby_loop.proofs.Waking.{admits_behind}
-use Rattle.lobby_loop.proofs.door.take_in.Goals as goal
+use Rattle.lobby_loop.proofs.listener.take_in.Goals as goal
 
 pub returns-then-watch : goal.returns-then-watch
 returns-then-watch g c = (

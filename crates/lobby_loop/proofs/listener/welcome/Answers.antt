@@ -1,12 +1,12 @@
 -- One more is admitted or turned away, or none.
 use Rattle.std.proofs.Common.{◌∷◌}
-use Rattle.lobby_loop.proofs.door.welcome.Goals as goal
-use Rattle.lobby_loop.proofs.door.welcome.Goals.{in-Connection, in-Lost}
+use Rattle.lobby_loop.proofs.listener.welcome.Goals as goal
+use Rattle.lobby_loop.proofs.listener.welcome.Goals.{in-Ok, in-Err-Lost}
 
 pub loop-preserved : goal.loop-preserved
 loop-preserved g c =
     elim c.match-accept_one.branch [
-      | in-Connection w ↦ rw w.hall-is
+      | in-Ok w ↦ rw w.hall-is
           (w.take_in.ensures.0 ∷ c.loop.invariant.0, (c.loop.hall, c.loop.invariant.1, w.take_in.ensures.1))
-      | in-Lost w ↦ rw w.hall-is c.loop.invariant
+      | in-Err-Lost w ↦ rw w.hall-is c.loop.invariant
     ]

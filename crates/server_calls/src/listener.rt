@@ -1,7 +1,7 @@
-//! Where connections come from.
+//! A listener, and the connections that it accepts.
 ghost use Rattle.std.specs.Prelude.{◌≡◌, ◌<◌, ◌+◌, ◌-◌, ◌^◌, ◌↔◌, false, Some, None, IsSome, IfSome, IfNone, IfOk, OnErr};
 ghost use Rattle.server_calls.specs.Accepting.{IsLost};
-ghost use Rattle.server_calls.specs.Doors.{IsAsked};
+ghost use Rattle.server_calls.specs.Listeners.{IsAsked};
 
 use crate::accepting::{AcceptFault, accept_fault};
 use std::io;
@@ -9,9 +9,9 @@ use std::io::ErrorKind;
 use std::net::{Ipv4Addr, Net, TcpListener, TcpStream};
 use std::os::fd::{AsRawFd, RawFd};
 
-/// What a try to accept a connection found.
+/// What came of a try to accept a connection.
 #[derive(Clone, Copy, PartialEq, Eq)]
-pub enum Found {
+pub enum AcceptOutcome {
     /// A connection.
     Connection,
     /// None waits. A socket that wakes the server tells of the next.
@@ -22,36 +22,36 @@ pub enum Found {
     Refused,
 }
 
-/// What a fault of `accept` says.
-pub fn found_of(fault: ErrorKind) -> Found
-    ensures nobody { result ≡ Found.Nobody ↔ (fault ≡ ErrorKind.WouldBlock) }
-    ensures lost { result ≡ Found.Lost ↔ IsLost fault }
-    ensures refused { result ≡ Found.Connection → ⊥ }
+/// What came of a try at which `accept` failed so.
+pub fn outcome_of(fault: ErrorKind) -> AcceptOutcome
+    ensures nobody { result ≡ AcceptOutcome.Nobody ↔ (fault ≡ ErrorKind.WouldBlock) }
+    ensures lost { result ≡ AcceptOutcome.Lost ↔ IsLost fault }
+    ensures refused { result ≡ AcceptOutcome.Connection → ⊥ }
 {
     match accept_fault(fault) {
-        AcceptFault::Nobody => Found::Nobody,
-        AcceptFault::Lost => Found::Lost,
-        AcceptFault::Refused => Found::Refused,
+        AcceptFault::Nobody => AcceptOutcome::Nobody,
+        AcceptFault::Lost => AcceptOutcome::Lost,
+        AcceptFault::Refused => AcceptOutcome::Refused,
     }
 }
 
-/// Whether a connection may wait behind what the last try found.
-pub fn may_wait(found: Found) -> bool
-    ensures { result ≡ false ↔ (found ≡ Found.Nobody) }
+/// Whether a connection may wait after a try of which this came.
+pub fn may_wait(outcome: AcceptOutcome) -> bool
+    ensures { result ≡ false ↔ (outcome ≡ AcceptOutcome.Nobody) }
 {
-    found != Found::Nobody
+    outcome != AcceptOutcome::Nobody
 }
 
-/// Where connections are accepted.
+/// A listener: what accepts connections.
 pub trait Listens {
     ghost use Rattle.std.specs.Prelude.{ℕ, ◌≡◌, ◌+◌, ◌↔◌, IsSome, IfSome, IfNone};
-    ghost use Rattle.server_calls.specs.declared.door.Found.{Found};
-    ghost use Rattle.server_calls.specs.Doors.{IsAsked};
+    ghost use Rattle.server_calls.specs.declared.listener.AcceptOutcome.{AcceptOutcome};
+    ghost use Rattle.server_calls.specs.Listeners.{IsAsked};
 
     type Stream: Drop;
 
-    /// What the last try found.
-    ghost last_found: { Self → Found };
+    /// What came of the last try.
+    ghost last_outcome: { Self → AcceptOutcome };
 
     /// How many connections it has given.
     ghost given_so_far: { Self → ℕ };
@@ -61,14 +61,14 @@ pub trait Listens {
 
     /// Accepts a connection, if one is there, without waiting.
     fn accept_one(&mut self) -> Option<Self::Stream>
-        ensures found { IsSome result ↔ (last_found self.new ≡ Found.Connection) }
+        ensures found { IsSome result ↔ (last_outcome self.new ≡ AcceptOutcome.Connection) }
         ensures one { IfSome result (λ stream. given_so_far self.new ≡ given_so_far self.old + 1) }
         ensures none { IfNone result (given_so_far self.new ≡ given_so_far self.old) }
         ensures asked { IsAsked (tried_so_far self.old) (tried_so_far self.new) };
 
-    /// What the last try found.
-    fn found(&self) -> Found
-        ensures { result ≡ last_found self.now };
+    /// What came of the last try.
+    fn outcome(&self) -> AcceptOutcome
+        ensures { result ≡ last_outcome self.now };
 }
 
 /// So many connections that were lost are passed over in a turn.
@@ -76,46 +76,46 @@ const TRIES: usize = 64;
 
 /// Accepts the next connection, if one waits. Those that were lost are passed over, up to 64 tries; where the system has
 /// nothing for it, it is tried no further for now.
-pub fn next_connection<L: Listens>(door: &mut L) -> Option<L::Stream>
-    ensures found { IsSome result ↔ (L.last_found door.new ≡ Found.Connection) }
+pub fn next_connection<L: Listens>(listener: &mut L) -> Option<L::Stream>
+    ensures found { IsSome result ↔ (L.last_outcome listener.new ≡ AcceptOutcome.Connection) }
     // It is the only one that the listener has given.
-    ensures one { IfSome result (λ stream. L.given_so_far door.new ≡ L.given_so_far door.old + 1) }
-    ensures none { IfNone result (L.given_so_far door.new ≡ L.given_so_far door.old) }
-    ensures asked { IsAsked (L.tried_so_far door.old) (L.tried_so_far door.new) }
+    ensures one { IfSome result (λ stream. L.given_so_far listener.new ≡ L.given_so_far listener.old + 1) }
+    ensures none { IfNone result (L.given_so_far listener.new ≡ L.given_so_far listener.old) }
+    ensures asked { IsAsked (L.tried_so_far listener.old) (L.tried_so_far listener.new) }
 {
     for _ in 1..TRIES {
-        if let Some(stream) = door.accept_one() {
+        if let Some(stream) = listener.accept_one() {
             return Some(stream);
         }
-        if door.found() != Found::Lost {
+        if listener.outcome() != AcceptOutcome::Lost {
             return None;
         }
     }
-    door.accept_one()
+    listener.accept_one()
 }
 
 /// A listener on a port of this machine.
 #[derive(Drop)]
-pub struct Door {
+pub struct LocalListener {
     listener: TcpListener,
-    found: Found,
+    outcome: AcceptOutcome,
     /// So many connections it has given.
     given: u64,
     /// So many tries it has made, up to 2^64 - 1.
     tries: u64,
 }
 
-impl Door {
+impl LocalListener {
     /// Listens on a port of 127.0.0.1, where 0 leaves the choice to the system. A connection may wait.
-    pub fn listen<R: Net<Listener = TcpListener, Stream = TcpStream>>(
+    pub fn bind<R: Net<Listener = TcpListener, Stream = TcpStream>>(
         net: &R,
         port: u16,
-    ) -> io::Result<Door> {
+    ) -> io::Result<LocalListener> {
         let listener = TcpListener::bind(net, (Ipv4Addr::LOCALHOST, port))?;
         listener.set_nonblocking(true)?;
-        Ok(Door {
+        Ok(LocalListener {
             listener,
-            found: Found::Lost,
+            outcome: AcceptOutcome::Lost,
             given: 0,
             tries: 0,
         })
@@ -136,20 +136,20 @@ impl Door {
     // so that the next is tried.
     fn settle(&mut self, prepared: io::Result<TcpStream>) -> Option<TcpStream>
         requires { self.old.given < 2 ^ 64 - 1 }
-        ensures given { IfOk prepared (λ stream. (result ≡ Some stream) × (self.new.found ≡ Found.Connection)
+        ensures given { IfOk prepared (λ stream. (result ≡ Some stream) × (self.new.outcome ≡ AcceptOutcome.Connection)
             × (self.new.given ≡ self.old.given + 1)) }
-        ensures lost { OnErr prepared ((result ≡ None) × (self.new.found ≡ Found.Lost)
+        ensures lost { OnErr prepared ((result ≡ None) × (self.new.outcome ≡ AcceptOutcome.Lost)
             × (self.new.given ≡ self.old.given)) }
         ensures tries { self.new.tries ≡ self.old.tries }
     {
         match prepared {
             Ok(stream) => {
-                self.found = Found::Connection;
+                self.outcome = AcceptOutcome::Connection;
                 self.given += 1;
                 Some(stream)
             }
             Err(_) => {
-                self.found = Found::Lost;
+                self.outcome = AcceptOutcome::Lost;
                 None
             }
         }
@@ -163,32 +163,32 @@ fn prepared(stream: TcpStream) -> io::Result<TcpStream> {
     Ok(stream)
 }
 
-impl Listens for Door {
+impl Listens for LocalListener {
     type Stream = TcpStream;
 
-    ghost last_found = { λ door. door.found };
+    ghost last_outcome = { λ listener. listener.outcome };
 
-    ghost given_so_far = { λ door. door.given };
+    ghost given_so_far = { λ listener. listener.given };
 
-    ghost tried_so_far = { λ door. door.tries };
+    ghost tried_so_far = { λ listener. listener.tries };
 
     fn accept_one(&mut self) -> Option<TcpStream> {
         self.tries = self.tries.saturating_add(1);
         // So many never come.
         if self.given == u64::MAX {
-            self.found = Found::Refused;
+            self.outcome = AcceptOutcome::Refused;
             return None;
         }
         match self.listener.accept() {
             Ok((stream, _)) => self.settle(prepared(stream)),
             Err(fault) => {
-                self.found = found_of(fault.kind());
+                self.outcome = outcome_of(fault.kind());
                 None
             }
         }
     }
 
-    fn found(&self) -> Found {
-        self.found
+    fn outcome(&self) -> AcceptOutcome {
+        self.outcome
     }
 }

@@ -1,4 +1,4 @@
-//! Where browsers come in.
+//! The listener at which browsers come in.
 ghost use Rattle.std.specs.Prelude.{List};
 ghost use Rattle.lobby_loop.specs.Turning.{Admits, AreAdmitted};
 
@@ -9,39 +9,27 @@ use server_calls::{AcceptFault, accept_fault};
 use std::io;
 use std::net::{Net, SocketAddr};
 
-/// What a try to accept a connection found.
-#[derive(Drop)]
-pub enum Found<S> {
-    Connection(S),
-    /// None waits.
-    Nobody,
-    /// One that was lost before it was there, or a signal: another may wait behind it.
-    Lost,
-    /// One may wait, and the system has no descriptor or no memory for it.
-    Refused,
-}
-
-/// Where connections are accepted.
-pub trait Listens {
+/// What accepts connections, and watches them.
+pub trait Acceptor {
     type Stream: Drop;
 
     /// Accepts a connection, if one is there, without waiting.
-    fn accept_one(&mut self) -> Found<Self::Stream>;
+    fn accept_one(&mut self) -> Result<Self::Stream, AcceptFault>;
 
     /// Watches a connection under this name; false where the system refuses that.
     fn watch(&mut self, stream: &mut Self::Stream, key: usize) -> bool;
 }
 
-/// An address that is listened on.
+/// A lobby's listener on an address.
 #[derive(Drop)]
-pub struct Entrance {
+pub struct LobbyListener {
     pub(crate) listener: TcpListener,
 }
 
-impl Entrance {
+impl LobbyListener {
     /// Listens on an address, where port 0 leaves the choice to the system.
-    pub fn open(net: &impl Net, address: SocketAddr) -> io::Result<Entrance> {
-        Ok(Entrance {
+    pub fn bind(net: &impl Net, address: SocketAddr) -> io::Result<LobbyListener> {
+        Ok(LobbyListener {
             listener: TcpListener::bind(net, address)?,
         })
     }
@@ -52,30 +40,24 @@ impl Entrance {
     }
 }
 
-/// The entrance, with what watches who comes in.
+/// A listener, with what watches the connections that it accepts.
 #[derive(Drop)]
-pub struct Gate<'a> {
+pub struct LobbyAcceptor<'a> {
     pub listener: &'a TcpListener,
     pub registry: &'a Registry,
 }
 
-impl Listens for Gate<'_> {
+impl Acceptor for LobbyAcceptor<'_> {
     type Stream = TcpStream;
 
-    fn accept_one(&mut self) -> Found<TcpStream> {
+    fn accept_one(&mut self) -> Result<TcpStream, AcceptFault> {
         let stream = match self.listener.accept() {
             Ok((stream, _)) => stream,
-            Err(error) => {
-                return match accept_fault(error.kind()) {
-                    AcceptFault::Nobody => Found::Nobody,
-                    AcceptFault::Lost => Found::Lost,
-                    AcceptFault::Refused => Found::Refused,
-                };
-            }
+            Err(error) => return Err(accept_fault(error.kind())),
         };
         match stream.set_nodelay(true) {
-            Ok(()) => Found::Connection(stream),
-            Err(_) => Found::Lost,
+            Ok(()) => Ok(stream),
+            Err(_) => Err(AcceptFault::Lost),
         }
     }
 
@@ -85,7 +67,7 @@ impl Listens for Gate<'_> {
     }
 }
 
-/// What is left to do at the entrance.
+/// What is left to do at the listener.
 #[derive(Clone, Copy, PartialEq, Eq)]
 pub enum Welcomed {
     /// Nobody waits there until it is ready.
@@ -97,11 +79,16 @@ pub enum Welcomed {
 }
 
 // A browser comes in, or is turned away where there is no room.
-fn take_in<D: Listens>(door: &mut D, hall: &mut Hall<D::Stream>, mut stream: D::Stream, at: u64)
-    ensures { (came : D.Stream) × Admits came hall.old hall.new }
+fn take_in<A: Acceptor>(
+    acceptor: &mut A,
+    hall: &mut Hall<A::Stream>,
+    mut stream: A::Stream,
+    at: u64,
+)
+    ensures { (came : A.Stream) × Admits came hall.old hall.new }
 {
     if let Some(key) = hall.next_key() {
-        if door.watch(&mut stream, key) {
+        if acceptor.watch(&mut stream, key) {
             hall.admit(stream, key, at);
             return;
         }
@@ -113,15 +100,15 @@ fn take_in<D: Listens>(door: &mut D, hall: &mut Hall<D::Stream>, mut stream: D::
 const TRIES: usize = 64;
 
 /// Accepts those who wait, up to 64.
-pub fn welcome<D: Listens>(door: &mut D, hall: &mut Hall<D::Stream>, at: u64) -> Welcomed
-    ensures { (streams : List D.Stream) × AreAdmitted streams hall.old hall.new }
+pub fn welcome<A: Acceptor>(acceptor: &mut A, hall: &mut Hall<A::Stream>, at: u64) -> Welcomed
+    ensures { (streams : List A.Stream) × AreAdmitted streams hall.old hall.new }
 {
     for _ in 0..TRIES {
-        match door.accept_one() {
-            Found::Connection(stream) => take_in(door, hall, stream, at),
-            Found::Nobody => return Welcomed::All,
-            Found::Lost => {}
-            Found::Refused => return Welcomed::Refused,
+        match acceptor.accept_one() {
+            Ok(stream) => take_in(acceptor, hall, stream, at),
+            Err(AcceptFault::Nobody) => return Welcomed::All,
+            Err(AcceptFault::Lost) => {}
+            Err(AcceptFault::Refused) => return Welcomed::Refused,
         }
     }
     Welcomed::Some
