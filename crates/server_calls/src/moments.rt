@@ -6,8 +6,8 @@ use std::io;
 use std::rt::Clock;
 use std::time::{Duration, Instant};
 
-// So many milliseconds, as far as 64 bits count them.
-fn milliseconds(time: Duration) -> u64
+/// So many milliseconds, as far as 64 bits count them.
+pub fn milliseconds(time: Duration) -> u64
     ensures { result ≡ min (as_nanos time / 1_000_000) (2 ^ 64 - 1) }
 {
     u64::try_from(time.as_millis()).unwrap_or(u64::MAX)

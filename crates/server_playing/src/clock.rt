@@ -1,17 +1,10 @@
 //! The moments of what is played.
-ghost use Rattle.std.specs.Prelude.{◌≡◌, ◌+◌, ◌-◌, ◌/◌, ◌^◌, min};
-ghost use Rattle.std.specs.Duration.{as_nanos};
+ghost use Rattle.std.specs.Prelude.{◌≡◌, ◌+◌, ◌-◌, ◌^◌, min};
 
 use chess_run::Moments;
+use server_calls::milliseconds;
 use std::rt::Clock;
-use std::time::{Duration, Instant};
-
-// So many milliseconds, as far as 64 bits count them.
-fn milliseconds(time: Duration) -> u64
-    ensures { result ≡ min (as_nanos time / 1_000_000) (2 ^ 64 - 1) }
-{
-    u64::try_from(time.as_millis()).unwrap_or(u64::MAX)
-}
+use std::time::Instant;
 
 // The moment so long after another, as far as 64 bits count it.
 fn moment_after(start: u64, passed: u64) -> u64
