@@ -1,5 +1,5 @@
 -- What may stand behind the lines of an archive's file.
-use Rattle.std.specs.Prelude.{ℕ, ◌==◌, ◌&&◌, ◌||◌, ◌-◌, Bool, true, false, not, nat_le, List, [], ◌∷◌, codes, length, drop, take}
+use Rattle.std.specs.Prelude.{ℕ, ◌==◌, ◌&&◌, ◌||◌, ◌-◌, Bool, false, not, nat_le, List, [], ◌∷◌, codes, length, drop, take}
 use Rattle.std.specs.List.{list_any, starts_with}
 use Rattle.night_files.specs.Torn.{begins}
 use Rattle.text_parts.specs.Signs.{line_feed}

@@ -1,14 +1,11 @@
 -- Lines and words, one after another.
-use Rattle.std.proofs.Common.{ℕ, zero, suc, ◌≡◌, ◌<◌, ◌≤◌, ◌+◌, Bool, true, false, cond, ◌||◌, List, [], ◌∷◌, ◌++◌, length, get_or, map, take, drop, refl, sym, ap, ◌∙◌, append_assoc, append-nil, arith, Option, Some, None}
+use Rattle.std.proofs.Common.{ℕ, ◌≡◌, Bool, true, false, cond, List, [], ◌∷◌, ◌++◌, refl, sym, ap, ◌∙◌, append_assoc, append-nil, Option, Some, None}
 use Rattle.std.specs.Prelude.{find, is_some}
-use Rattle.std.specs.Borrow.{Bor}
-use Rattle.std.specs.List.{list_any, filter, flat_map}
-use Rattle.std.specs.Option.{option_map}
+use Rattle.std.specs.List.{filter}
 use Rattle.std.proofs.lemmas.Bool.{false≢true}
-use Rattle.std.proofs.lemmas.List.{take_more, drop_more, take-append-drop, get_or-map, length-map}
 use Rattle.std.proofs.lemmas.List.Elements.{filter-append}
 use Rattle.pgn_tags.specs.Pgn.{is_move}
-use Rattle.lobby_positions.specs.Pgn.{words_of_line, words_of, is_fen_tag, fen_in, value_of}
+use Rattle.lobby_positions.specs.Pgn.{words_of_line, words_of}
 
 cond_none : (b : Bool) (l : List ℕ) (o : Option (List ℕ)) → cond b (Some l) o ≡ None → (b ≡ false) × (o ≡ None)
 cond_none true l o h = absurd (false≢true (sym (ap is_some h)))

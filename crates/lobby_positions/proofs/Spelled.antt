@@ -1,5 +1,5 @@
 -- The rows of moves, one after another.
-use Rattle.std.proofs.Common.{ℕ, zero, suc, ◌≡◌, ◌+◌, List, [], ◌∷◌, ◌++◌, length, refl, sym, ap, ◌∙◌, append_assoc, append-nil, arith, codes, decimal}
+use Rattle.std.proofs.Common.{ℕ, suc, ◌≡◌, ◌+◌, List, [], ◌∷◌, ◌++◌, length, refl, sym, ap, ◌∙◌, append_assoc, append-nil, arith, codes, decimal}
 use Rattle.chess_board.specs.declared.moves.Move.{Move}
 use Rattle.chess_board.specs.Position.{Position}
 use Rattle.chess_board.specs.Next.{next}
@@ -7,7 +7,7 @@ use Rattle.chess_board.specs.Line.{position_after}
 use Rattle.chess_notation.specs.San.{IsSan}
 use Rattle.chess_notation.specs.Fen.{fen_of}
 use Rattle.lobby_positions.specs.Telling.{coordinate_of}
-use Rattle.lobby_positions.specs.Answer.{row, rows, AreSans, AreRows, PutsRow, PutsRows, IsLineAnswer}
+use Rattle.lobby_positions.specs.Answer.{row, rows, AreSans, PutsRow, PutsRows, IsLineAnswer}
 
 sans_more : (p : Position) (moves : List Move) (sans : List (List ℕ)) (m : Move) (san : List ℕ) → AreSans p moves sans →
     IsSan (position_after p moves) m san → AreSans p (moves ++ m ∷ []) (sans ++ san ∷ [])

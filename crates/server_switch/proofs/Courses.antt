@@ -1,6 +1,6 @@
 -- How an exchange stands after each thing that comes in, and so after all.
 use Rattle.std.proofs.Common.{ℕ, zero, suc, ◌≡◌, ◌+◌, ◌-◌, ◌<◌, ◌≤◌, ◌==◌, Bool, true, false, ◌||◌, List, [], ◌∷◌, ◌++◌, length, map, take, drop, Option, Some, None, inl, inr, refl, sym, ap, subst, ◌∙◌, arith, append-nil}
-use Rattle.std.specs.Prelude.{slice_get, option_map, flat_map, codes, decimal, nat_le, not, replicate, if◌then◌else◌}
+use Rattle.std.specs.Prelude.{slice_get, option_map, flat_map, codes, decimal, nat_le, replicate, if◌then◌else◌}
 use Rattle.std.specs.List.{list_any, last_or}
 use Rattle.std.proofs.lemmas.Bool.{ne_eqb, eqb-true, eqb-false, true≢false, not-true, false_from_ne_true}
 use Rattle.std.proofs.lemmas.Bool.Decides.{nat_tests}

@@ -1,5 +1,4 @@
-use Rattle.std.proofs.Common.{List, ℕ, sym, subst, ◌∙◌, map}
-use Rattle.chess_board.specs.declared.moves.Move.{Move}
+use Rattle.std.proofs.Common.{List, ℕ, sym, subst, map}
 use Rattle.std.specs.Borrow.{Bor}
 use Rattle.lobby_positions.specs.Pgn.{IsPlayable}
 use Rattle.lobby_positions.proofs.Played.{playable}

@@ -1,7 +1,7 @@
 use Rattle.std.proofs.Common.{arith, map, take, ◌++◌}
 use Rattle.std.proofs.lemmas.List.Elements.{All-push, All-same}
 use Rattle.std.proofs.lemmas.List.{take_more}
-use Rattle.std.proofs.Common.{ap, sym, ◌∙◌, ◌∷◌, [], ◌≡◌, ◌<◌, length, List, ℕ}
+use Rattle.std.proofs.Common.{ap, sym, ◌∙◌, ◌∷◌, [], ◌<◌, length, List, ℕ}
 use Rattle.std.specs.String.{string_bytes}
 use Rattle.chess_board.specs.declared.moves.Move.{Move}
 use Rattle.lobby_positions.specs.Telling.{spaced, coordinate_of, IsBetweenSquares}
