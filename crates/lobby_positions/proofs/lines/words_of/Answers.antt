@@ -1,4 +1,4 @@
-use Rattle.std.proofs.Common.{ℕ, ◌+◌, List, [], ◌++◌, get_or, map, take, sym, ap, ◌∙◌}
+use Rattle.std.proofs.Common.{ℕ, List, [], ◌++◌, get_or, map, take, sym, ap, ◌∙◌}
 use Rattle.std.specs.Borrow.{Bor}
 use Rattle.lobby_positions.specs.Pgn.{words_of, words_of_line}
 use Rattle.text_parts.proofs.Items.{items_more}
