@@ -4,7 +4,6 @@ use Rattle.std.proofs.Common.{arith, inr}
 use Rattle.chess_bits.specs.declared.men.Colour.TheVariants.{White, Black}
 use Rattle.chess_bits.specs.Square.{squares}
 use Rattle.chess_bits.specs.Table.{at, put}
-use Rattle.chess_board.specs.declared.moves.Move.{Move}
 use Rattle.chess_board.specs.Initial.{initial}
 use Rattle.chess_board.specs.Next.{placement_after, rights_after, target_after, halfmove_after}
 use Rattle.chess_board.proofs.Deciding.{Decides-is_legal}
