@@ -7,9 +7,9 @@ use Rattle.std.proofs.lemmas.List.Elements.{All-append, All-cons, All-nil}
 use Rattle.session_lines.specs.Lines.{is_feed, HasNoFeed, IsUnfinished, lines_of, has_long_line}
 use Rattle.session_lines.specs.Heard.{IsWhole}
 use Rattle.session_lines.proofs.LineLemmas.{lines-rest, long-rest}
-use Rattle.session_lines.proofs.Wholes.{whole-none, whole-line, whole-append}
+use Rattle.session_lines.proofs.Wholes.{whole-none, whole-line, whole-append, unfinished-none}
 use Rattle.line_loop.specs.Turns.{IsTooLong}
-use Rattle.line_loop.proofs.Runs.{unfinished-nil, unfinished-more, too-long, too-long-more}
+use Rattle.line_loop.proofs.Runs.{unfinished-more, too-long, too-long-more}
 
 -- what comes after the whole lines: the front of a line, or a line that is too long
 data After (rest : List ℕ) : Type 0 where
@@ -61,7 +61,7 @@ cut-on held [] u = record {
   cut = append-nil held;
 }
 cut-on held (b ∷ bytes) u = elim (cases_Bool (is_feed b)) [
-  | inl t ↦ cut-line held bytes b u ((Decides-eqb b 10).0 t) (cut-on [] bytes unfinished-nil)
+  | inl t ↦ cut-line held bytes b u ((Decides-eqb b 10).0 t) (cut-on [] bytes unfinished-none)
   | inr f ↦ elim (byte-more held b u f) [
     | inl more ↦ subst Cut (append_assoc held (b ∷ []) bytes) (cut-on (held ++ b ∷ []) bytes more)
     | inr long ↦ record {
@@ -112,5 +112,5 @@ brings-after input more whole rest w (After_long l) cut =
 
 pub brings : (input more : List ℕ) → BringsLines input more
 unfolding cut-on
-brings input more = let h = cut-on [] input unfinished-nil in
+brings input more = let h = cut-on [] input unfinished-none in
     brings-after input more h.whole h.rest h.is h.after h.cut

@@ -14,8 +14,9 @@ use Rattle.chess_entry.specs.State.{GameState, TableState, position_of, ply_of, 
 use Rattle.chess_entry.specs.Story.{stated}
 use Rattle.chess_entry.specs.Table.{IsTable, IsEnteredOn}
 use Rattle.chess_entry.specs.Outcome.{is_granted, claimed_draw, agreed, resigned, flag_fallen, ending_with}
+use Rattle.chess_entry.specs.Words.{colour_word}
 use Rattle.chess_game.specs.Turn.{IsPlayable}
-use Rattle.chess_answer.specs.Fields.{with_fields, ok_text, end_fields, colour_text}
+use Rattle.chess_answer.specs.Fields.{with_fields, ok_text, end_fields}
 
 -- `ok name NAME`, whatever the table
 abbrev pub named_text : List ℕ → List ℕ
@@ -52,7 +53,7 @@ IsClaimLine false game fifty mv text = IsWrongClaimLine game mv text
 abbrev pub IsGameLine : GameState → Event → List ℕ → Type 0
 IsGameLine game (event.Open opening) text = ⊥
 IsGameLine game (event.Join name) text =
-    text ≡ ok_text (codes "join") game.number (colour_text (free_side game) ∷ [])
+    text ≡ ok_text (codes "join") game.number (colour_word (free_side game) ∷ [])
 IsGameLine game (event.Move made) text = TellsMove game made.mv (ok_text (codes "move") game.number []) text
 IsGameLine game (event.Offer by) text = text ≡ ok_text (codes "offer") game.number []
 IsGameLine game (event.Accept by) text = text ≡ ok_text (codes "accept") game.number (end_fields (Some agreed))

@@ -1,7 +1,5 @@
 -- What the answers are made of: fields with one space between.
 use Rattle.std.specs.Prelude.{ℕ, List, [], ◌∷◌, ◌++◌, Option, Some, None, codes, decimal}
-use Rattle.chess_bits.specs.declared.men.Colour.{Colour}
-use Rattle.chess_bits.specs.declared.men.Colour.TheVariants.{White, Black}
 use Rattle.chess_end.specs.declared.ending.Ending.{Ending}
 use Rattle.chess_text.specs.Pgn.{score_text, article_text}
 
@@ -18,11 +16,6 @@ ok_text word number fields = with_fields (codes "ok") (word ∷ decimal number �
 abbrev pub end_fields : Option Ending → List (List ℕ)
 end_fields None = []
 end_fields (Some ending) = score_text ending.result ∷ article_text ending.article ∷ []
-
--- `white` or `black`
-abbrev pub colour_text : Colour → List ℕ
-colour_text White = codes "white"
-colour_text Black = codes "black"
 
 -- a player's name, or `-` for an empty seat
 abbrev pub seat_text : Option (List ℕ) → List ℕ

@@ -7,11 +7,12 @@ ghost use Rattle.chess_board.specs.declared.moves.Move.{Move};
 ghost use Rattle.chess_board.specs.Next.{next};
 ghost use Rattle.chess_board.specs.Legal.{IsLegal};
 ghost use Rattle.chess_entry.specs.Follow.{moved};
+ghost use Rattle.chess_entry.specs.Words.{colour_word};
 ghost use Rattle.chess_game.specs.Turn.{IsInTime, IsPlayable};
-ghost use Rattle.chess_answer.specs.Fields.{with_fields, ok_text, end_fields, colour_text};
+ghost use Rattle.chess_answer.specs.Fields.{with_fields, ok_text, end_fields};
 ghost use Rattle.chess_answer.specs.Acts.{named_text, free_side, TellsMove, TellsMade, IsClaimLine, IsGameLine, MayCome};
 
-use crate::fields::{AnswerLine, accepted, begun, push_ending, push_field, push_number};
+use crate::fields::{AnswerLine, accepted, begun, push_ending, push_field, push_number_field};
 use chess_bits::Colour;
 use chess_board::{Board, Move};
 use chess_end::{Ending, flag_result};
@@ -48,7 +49,7 @@ pub fn opened_line(number: GameNumber) -> AnswerLine
 
 // The answer to a join, with the colour of the seat that is empty before it.
 fn join_line(game: &Game) -> AnswerLine
-    ensures { result.bytes ≡ ok_text (codes "join") game.now.number (colour_text (free_side game.now) ∷ []) }
+    ensures { result.bytes ≡ ok_text (codes "join") game.now.number (colour_word (free_side game.now) ∷ []) }
 {
     let mut text = told("join", game);
     if game.player(Colour::White).is_none() {
@@ -65,7 +66,7 @@ fn push_move(text: &mut AnswerLine, game: &Game, mv: &Move)
     requires playable { IsPlayable game.now mv.now }
     ensures { TellsMove game.now mv.now text.old.bytes text.new.bytes }
 {
-    push_number(text, u64::from(game.ply()) + 1);
+    push_number_field(text, u64::from(game.ply()) + 1);
     push_field(text, write(game.board(), *mv).as_str());
     push_ending(text, game.ending_with(mv));
 }
@@ -102,7 +103,7 @@ pub fn play_answered(game: &mut Game, at: u64, mv: Move) -> Result<AnswerLine, A
     ensures refused { OnErr result (game.new ≡ game.old) }
 {
     let mut text = told("move", game);
-    push_number(&mut text, u64::from(game.ply()) + 1);
+    push_number_field(&mut text, u64::from(game.ply()) + 1);
     let before = *game.board();
     game.play(at, mv)?;
     push_made(&mut text, &before, &mv, game);
@@ -143,7 +144,7 @@ fn fallen_line(game: &Game) -> AnswerLine
         (decimal game.now.number ∷ end_fields (Some (flag_fallen (position_of game.now)))) }
 {
     let mut text = begun("fallen");
-    push_number(&mut text, u64::from(game.number().get()));
+    push_number_field(&mut text, u64::from(game.number().get()));
     let board = game.board();
     let ending = flag_result(board, board.side());
     push_ending(&mut text, Some(ending));

@@ -34,7 +34,7 @@ pub fn push_field(text: &mut AnswerLine, field: &str)
 }
 
 /// Appends a space and a number, of at most 20 digits.
-pub fn push_number(text: &mut AnswerLine, number: u64)
+pub fn push_number_field(text: &mut AnswerLine, number: u64)
     requires room { array_string_len text.old + 21 ≤ 160 }
     ensures bytes { text.new.bytes ≡ text.old.bytes ++ 32 ∷ decimal number }
     ensures len { array_string_len text.new ≤ array_string_len text.old + 21 }
@@ -75,6 +75,6 @@ pub fn accepted(word: &str, number: u64) -> AnswerLine
 {
     let mut text = begun("ok");
     push_field(&mut text, word);
-    push_number(&mut text, number);
+    push_number_field(&mut text, number);
     text
 }

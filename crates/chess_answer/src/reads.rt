@@ -8,7 +8,7 @@ ghost use Rattle.chess_text.specs.Pgn.{heading, result_text};
 ghost use Rattle.chess_entry.specs.State.{position_of};
 ghost use Rattle.chess_answer.specs.Reads.{time_shown, offer_text, article_or_dash, show_text, IsFenLine, line_count, IsPgnOfGame, IsPgnReply, list_line_text, list_row};
 
-use crate::fields::{AnswerLine, accepted, begun, push_field, push_number, push_seat};
+use crate::fields::{AnswerLine, accepted, begun, push_field, push_number_field, push_seat};
 use chess_bits::Colour;
 use chess_end::Ending;
 use chess_fen::fen_write;
@@ -102,10 +102,10 @@ pub fn show_line(game: &Game, at: u64) -> AnswerLine
     let mut text = accepted("show", u64::from(game.number().get()));
     push_seat(&mut text, game.player(Colour::White));
     push_seat(&mut text, game.player(Colour::Black));
-    push_number(&mut text, u64::from(game.ply()));
+    push_number_field(&mut text, u64::from(game.ply()));
     push_field(&mut text, side_code(game.board().side()));
-    push_number(&mut text, time_shown(game, Colour::White, at));
-    push_number(&mut text, time_shown(game, Colour::Black, at));
+    push_number_field(&mut text, time_shown(game, Colour::White, at));
+    push_number_field(&mut text, time_shown(game, Colour::Black, at));
     push_field(&mut text, offer_code(game));
     push_result(&mut text, game.ending());
     push_article(&mut text, game.ending());
@@ -183,7 +183,7 @@ pub fn pgn_reply(alloc: Global, game: &Game) -> Result<Reply, AllocError>
 {
     let body = pgn_of(alloc, game)?;
     let mut line = accepted("pgn", u64::from(game.number().get()));
-    push_number(&mut line, line_count(body.as_str()) as u64);
+    push_number_field(&mut line, line_count(body.as_str()) as u64);
     Ok(Reply { line, body })
 }
 
@@ -197,7 +197,7 @@ pub fn write_row(text: &mut String, game: &Game) -> Result<(), AllocError>
     let mut row = begun(buffer.format(game.number().get()));
     push_seat(&mut row, game.player(Colour::White));
     push_seat(&mut row, game.player(Colour::Black));
-    push_number(&mut row, u64::from(game.ply()));
+    push_number_field(&mut row, u64::from(game.ply()));
     push_result(&mut row, game.ending());
     row.push('\n');
     text.push_str(row.as_str())?;

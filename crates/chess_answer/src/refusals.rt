@@ -1,7 +1,7 @@
 ghost use Rattle.std.specs.Prelude.{◌≡◌, ◌≤◌, length};
 ghost use Rattle.chess_answer.specs.Refusals.{row_of, refusal_text};
 
-use crate::fields::{AnswerLine, begun, push_field, push_number};
+use crate::fields::{AnswerLine, begun, push_field, push_number_field};
 use chess_entry::Refusal;
 
 // The number of a refusal.
@@ -75,10 +75,10 @@ pub fn refusal_line(refusal: Refusal) -> AnswerLine
     ensures { result.bytes ≡ refusal_text refusal }
 {
     let mut text = begun("no");
-    push_number(&mut text, number_of(refusal));
+    push_number_field(&mut text, number_of(refusal));
     push_field(&mut text, name_of(refusal));
     if let Refusal::WrongPly(ply) = refusal {
-        push_number(&mut text, u64::from(ply));
+        push_number_field(&mut text, u64::from(ply));
     }
     text
 }

@@ -3,8 +3,8 @@ use Rattle.std.specs.Prelude.{ℕ, ◌≡◌, ◌⊎◌, ◌+◌, ◌==◌, ◌&
 use Rattle.std.proofs.Common.{ap, sym, subst, ◌∙◌, refl, inl, inr}
 use Rattle.std.proofs.lemmas.Bool.{leb-false, eqb-true, and_parts, not-false, cases_Bool}
 use Rattle.chess_bits.specs.declared.men.Colour.{Colour}
-use Rattle.chess_bits.specs.declared.men.Colour.TheVariants.{White, Black}
-use Rattle.chess_bits.specs.Man.{is_colour, other}
+use Rattle.chess_bits.specs.Man.{other}
+use Rattle.chess_bits.proofs.ManLemmas.{is_colour-true}
 use Rattle.chess_board.specs.declared.moves.Move.{Move}
 use Rattle.chess_board.specs.Position.{Position}
 use Rattle.rec_codec.specs.declared.record.Event.{Event}
@@ -23,6 +23,7 @@ use Rattle.chess_entry.specs.State.{GameState, TableState, position_of, ply_of, 
 use Rattle.chess_entry.specs.Parsed.{Parsed}
 use Rattle.chess_entry.specs.Verdict.{Check, refuse, first_of, is_period, are_times, is_start, is_finished, is_full, is_long, is_on_move, has_offer, has_fallen, in_game, by_side, while_running, in_turn, for_move, for_stated, offered, for_accept, opening_for, opened_from, move_entered, open_verdict, join_verdict, move_verdict, offer_verdict, accept_verdict, decline_verdict, resign_verdict, claim_verdict, flag_verdict, drop_verdict, in_seat, side_of, player_verdict, name_or_none, is_read, effective, verdict}
 use Rattle.chess_entry.proofs.Allowed.{IsPlaying, IsInTime, IsAllowed}
+use Rattle.chess_entry.proofs.InPlay.{none-not_some}
 
 -- An entry opens a game with the next number.
 pub record Opens (table : TableState) (e : Entry) : Type 0 where
@@ -62,10 +63,6 @@ pub by_side-entered : (v : Colour → Verdict) (o : Option Colour) (e : Entry) �
 by_side-entered v None e h = absurd (cc)
 by_side-entered v (Some side) e h = (side, refl, h)
 
-over-none : {A : Type 0} (o : Option A) → is_some o ≡ false → o ≡ None
-over-none None h = refl
-over-none (Some a) h = absurd (cc)
-
 -- An entry where the game runs: the flag has fallen, or it is up and the entry passed the other checks.
 pub record RunsFor (game : GameState) (at : ℕ) (rest : Verdict) (e : Entry) : Type 0 where
   pub playing : IsPlaying game
@@ -78,7 +75,7 @@ while_running-entered game at checks v e h =
     let over = passed (is_over game) _ _ e joined.1 in
     let playing : IsPlaying game = record {
       joined = not-false (is_joined game) joined.0;
-      goes_on = over-none game.ending over.0;
+      goes_on = none-not_some game.ending over.0;
     } in
     elim (passed_or (has_fallen game at) (entry game.number at event.Fallen) (first_of checks v) e over.1) [
       | inl fallen ↦ record { playing = playing; which = inl fallen }
@@ -129,12 +126,6 @@ runs table number game at rest e found h follows = elim h.which [
 
 -- ---- the acts
 
-is_colour-same : (side p : Colour) → is_colour side p ≡ true → side ≡ p
-is_colour-same White White h = refl
-is_colour-same White Black h = absurd (cc)
-is_colour-same Black White h = absurd (cc)
-is_colour-same Black Black h = refl
-
 move_entered-follows : (game : GameState) (at : ℕ) (move : Option Move) (e : Entry) → IsInTime game at →
     move_entered game at move ≡ Enter e → Follows game at (move_entered game at move) e
 move_entered-follows game at None e up h = absurd (cc)
@@ -147,7 +138,7 @@ in_turn-passed : (game : GameState) (side : Colour) (ply : ℕ) (checks : List C
 in_turn-passed game side ply checks v e h =
     let told = passed (not (ply == ply_of game)) _ _ e h in
     let on_move = passed (not (is_on_move side game)) _ _ e told.1 in
-    (is_colour-same side (position_of game).side (not-false (is_on_move side game) on_move.0), on_move.1)
+    (is_colour-true side (position_of game).side (not-false (is_on_move side game) on_move.0), on_move.1)
 
 for_move-passed : (table : TableState) (game : GameState) (move : Option Move) (v : Verdict) (e : Entry) →
     first_of (for_move table game move) v ≡ Enter e → v ≡ Enter e

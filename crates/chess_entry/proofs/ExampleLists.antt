@@ -13,7 +13,6 @@ use Rattle.arrayvec.specs.ArrayString.{ArrayString}
 use Rattle.rec_codec.specs.declared.limits.Limits.{Limits}
 use Rattle.rec_codec.specs.declared.record.Event.TheVariants as event
 use Rattle.rec_codec.specs.declared.record.Entry.{Entry}
-use Rattle.rec_codec.specs.declared.record.Opening.{Opening}
 use Rattle.rec_codec.specs.Name.{IsName}
 use Rattle.rec_codec.specs.Records.{entry}
 use Rattle.chess_entry.specs.declared.commands.Act.{Act}
@@ -21,23 +20,11 @@ use Rattle.chess_entry.specs.declared.commands.Act.TheVariants as act
 use Rattle.chess_entry.specs.declared.commands.Command.{Command}
 use Rattle.chess_entry.specs.Parsed.{parsed}
 use Rattle.chess_entry.specs.Lawful.{IsWithin, IsEntered, IsLawful}
+use Rattle.chess_entry.proofs.Examples.{opening, e2e4}
 use Rattle.chess_entry.proofs.LawfulLists.{IsLawful-none, IsLawful-more}
 
 limits : Limits
 limits = record { games = 10; plies = 100 }
-
-opening : Opening
-opening = record {
-  colour = White;
-  initial = 60;
-  increment = 2;
-  period = None;
-  name = 65 ∷ [];
-  start = initial;
-}
-
-e2e4 : Move
-e2e4 = record { from = record { file = 5; rank = 2 }; to = record { file = 5; rank = 4 }; promotion = None }
 
 -- an act by "A", or by "B"
 by_a : ℕ → Act → Command
@@ -63,7 +50,7 @@ within = record {
 -- ---- opened, joined, an offer, a wrong claim, and Black resigns
 
 opened : List Entry
-opened = entry 1 0 (event.Open opening) ∷ []
+opened = entry 1 0 (event.Open (opening None)) ∷ []
 
 joined : List Entry
 joined = opened ++ entry 1 1000 (event.Join (66 ∷ [])) ∷ []
@@ -87,7 +74,7 @@ board_opens : Bool
 unfolding opens at put squares placement_after rights_after target_after halfmove_after
 board_opens = true
 
-open-entered : IsEntered limits [] (entry 1 0 (event.Open opening))
+open-entered : IsEntered limits [] (entry 1 0 (event.Open (opening None)))
 unfolding board_opens
 open-entered = record {
   earlier = limits;
@@ -140,7 +127,7 @@ resign-entered = record {
 
 opened-lawful : IsLawful limits opened
 unfolding opened
-opened-lawful = IsLawful-more limits [] (entry 1 0 (event.Open opening)) (IsLawful-none limits) open-entered
+opened-lawful = IsLawful-more limits [] (entry 1 0 (event.Open (opening None))) (IsLawful-none limits) open-entered
 
 joined-lawful : IsLawful limits joined
 unfolding joined

@@ -16,7 +16,7 @@ use Rattle.chess_entry.specs.Standing.{offers_in, claimed_in}
 use Rattle.chess_entry.specs.Games.{control_of, seat_in, last_number, games_shown}
 
 -- White is "A" with 60 seconds and 2 a move; a second period, where there is one, is given with the opening.
-opening : Option (ℕ × ℕ) → Opening
+pub opening : Option (ℕ × ℕ) → Opening
 opening period = record {
   colour = White;
   initial = 60;
@@ -26,7 +26,7 @@ opening period = record {
   start = initial;
 }
 
-e2e4 : Move
+pub e2e4 : Move
 e2e4 = record { from = record { file = 5; rank = 2 }; to = record { file = 5; rank = 4 }; promotion = None }
 
 e7e5 : Move

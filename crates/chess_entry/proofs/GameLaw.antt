@@ -3,6 +3,7 @@ use Rattle.std.specs.Prelude.{ℕ, ◌≡◌, ◌-◌, Bool, true, false, ◌&&�
 use Rattle.std.proofs.Common.{ap, sym, ◌∙◌, refl, append_assoc}
 use Rattle.std.proofs.lemmas.Bool.{or_right}
 use Rattle.std.proofs.lemmas.List.{append-nil}
+use Rattle.std.proofs.Math.Bool.{and-true, or-false}
 use Rattle.chess_bits.specs.declared.men.Colour.{Colour}
 use Rattle.chess_bits.specs.declared.men.Colour.TheVariants.{White, Black}
 use Rattle.chess_bits.specs.Man.{is_colour, other}
@@ -20,10 +21,10 @@ use Rattle.chess_entry.specs.Outcome.{is_granted, claimed_draw, ending_after, en
 use Rattle.chess_entry.specs.GameTimes.{claimant_turn}
 use Rattle.chess_entry.specs.Games.{control_of, game_in}
 use Rattle.chess_entry.specs.Follow.{follow_game, joined, with_offer, ended, ended_if, turn_ended, moved_if, claimed_wrongly}
-use Rattle.chess_entry.proofs.OneMore.{given_or-none, or_false}
+use Rattle.chess_entry.proofs.OneMore.{given_or-none}
 use Rattle.chess_entry.proofs.Fields.{joiner_in}
 use Rattle.chess_entry.proofs.HeldLemmas.{AreTimed, AreTimed-claim}
-use Rattle.chess_entry.proofs.Shown.{Parts, parts, running, and_true, running-joined, running-offered, running-declined, running-moved, after_claim, running-claimed}
+use Rattle.chess_entry.proofs.Shown.{Parts, parts, running, running-joined, running-offered, running-declined, running-moved, after_claim, running-claimed}
 use Rattle.chess_entry.proofs.GameMore.{parts-same, parts_of, parts_more, game_in-running, game_in-more}
 use Rattle.chess_entry.proofs.Allowed.{IsAllowed}
 use Rattle.chess_entry.proofs.InPlay.{IsSound, is_joined-in, none-not_some, on_move-in, mover-in}
@@ -36,16 +37,16 @@ quiet-parts : (p : Parts) →
     (p.moves ++ [])
     ≡ p
 quiet-parts p =
-    parts-same (given_or-none p.joiner) (append-nil p.events) (and_true p.white) (and_true p.black) refl
-    (or_false p.claimed) (append-nil p.moves)
+    parts-same (given_or-none p.joiner) (append-nil p.events) (and-true p.white) (and-true p.black) refl
+    (or-false p.claimed) (append-nil p.moves)
 
 join-parts : (p : Parts) (at : ℕ) (name : List ℕ) → p.joiner ≡ None →
     parts (given_or p.joiner (Some name)) (p.events ++ []) (p.white && true) (p.black && true) at (p.claimed || false)
     (p.moves ++ [])
     ≡ parts (Some name) p.events p.white p.black at p.claimed p.moves
 join-parts p at name none =
-    parts-same (ap (λ (o : Option (List ℕ)). given_or o (Some name)) none) (append-nil p.events) (and_true p.white)
-    (and_true p.black) refl (or_false p.claimed) (append-nil p.moves)
+    parts-same (ap (λ (o : Option (List ℕ)). given_or o (Some name)) none) (append-nil p.events) (and-true p.white)
+    (and-true p.black) refl (or-false p.claimed) (append-nil p.moves)
 
 without_joiner : (p : Parts) → p.joiner ≡ None → parts None p.events p.white p.black p.turn p.claimed p.moves ≡ p
 without_joiner p none =
@@ -61,7 +62,7 @@ law-join number opening p at name none =
     ∙ ap (λ (q : Parts). joined (running number opening q) at name) (without_joiner p none)
 
 if-and_true : (b c : Bool) → (if b then true else (c && true)) ≡ (if b then true else c)
-if-and_true b c = ap (λ (x : Bool). if b then true else x) (and_true c)
+if-and_true b c = ap (λ (x : Bool). if b then true else x) (and-true c)
 
 law-offer : (number : ℕ) (opening : Opening) (p : Parts) (by : Colour) →
     running number opening (parts (given_or p.joiner None) (p.events ++ [])
@@ -70,7 +71,7 @@ law-offer : (number : ℕ) (opening : Opening) (p : Parts) (by : Colour) →
     ≡ with_offer (running number opening p) by true
 law-offer number opening p by =
     ap (running number opening) (parts-same {t = p.turn} {u = p.turn} (given_or-none p.joiner) (append-nil p.events)
-    (if-and_true (is_colour White by) p.white) (if-and_true (is_colour Black by) p.black) refl (or_false p.claimed)
+    (if-and_true (is_colour White by) p.white) (if-and_true (is_colour Black by) p.black) refl (or-false p.claimed)
     (append-nil p.moves))
     ∙ running-offered number opening p by
 
@@ -84,7 +85,7 @@ law-decline number opening p by =
     {x = p.white && not (is_colour Black by)} {b = p.black && not (is_colour White by)}
     {y = p.black && not (is_colour White by)} {t = p.turn} {u = p.turn}
     (given_or-none p.joiner) (append-nil p.events) refl refl refl
-    (or_false p.claimed) (append-nil p.moves))
+    (or-false p.claimed) (append-nil p.moves))
     ∙ running-declined number opening p by
 
 law-move : (number : ℕ) (opening : Opening) (p : Parts) (at : ℕ) (m : Move) (mover : Colour) →

@@ -18,7 +18,8 @@ use Rattle.chess_entry.specs.Standing.{offers_in}
 use Rattle.chess_entry.specs.Games.{control_of, game_in}
 use Rattle.chess_entry.specs.Follow.{ended_if}
 use Rattle.chess_entry.proofs.Fields.{joiner_in, joiner_in-more, stands, stands-more, claims, claims-more, moves_made-more, moves_made-told, ending_in-more, end_in-more, end_in-none, clock_events-more, turn_start-more}
-use Rattle.chess_entry.proofs.Shown.{Parts, parts, player, seat, shown, running, shown-ended, time_shown}
+use Rattle.chess_entry.proofs.Shown.{Parts, parts, player, shown, running, shown-ended, time_shown}
+use Rattle.chess_entry.proofs.OneMeaning.{seat_state}
 
 pub parts-same : {j k : Option (List ℕ)} {es fs : List ClockEvent} {w x b y : Bool} {t u : ℕ} {c d : Bool}
     {ms ns : List Move} → j ≡ k → es ≡ fs → w ≡ x → b ≡ y → t ≡ u → c ≡ d → ms ≡ ns →
@@ -47,12 +48,12 @@ game_in-parts : (number : ℕ) (opening : Opening) (xs : List Entry) →
     (ending_in opening.start xs) (end_in opening.start xs)
 game_in-parts number opening xs =
     ap (λ (time : ℕ). record (game_in number opening xs) {
-      white = seat (player opening (joiner_in xs) White) time (offers_in opening.start xs White);
+      white = seat_state (player opening (joiner_in xs) White) time (offers_in opening.start xs White);
     }) (time_shown-is opening.start xs White (held White (control_of opening) (clock_events opening.start xs))
     (end_in opening.start xs))
     ∙ ap (λ (time : ℕ). record (shown number opening (parts_with opening xs (moves_made opening.start xs))
     (ending_in opening.start xs) (end_in opening.start xs)) {
-      black = seat (player opening (joiner_in xs) Black) time (offers_in opening.start xs Black);
+      black = seat_state (player opening (joiner_in xs) Black) time (offers_in opening.start xs Black);
     }) (time_shown-is opening.start xs Black (held Black (control_of opening) (clock_events opening.start xs))
     (end_in opening.start xs))
 

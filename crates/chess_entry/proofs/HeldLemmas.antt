@@ -46,7 +46,7 @@ completed-waiter Black plies = grind (arith, nat_tests)
 
 -- ---- what is given
 
-second_period-next : (period : Option (ℕ × ℕ)) (moves : ℕ) →
+pub second_period-next : (period : Option (ℕ × ℕ)) (moves : ℕ) →
     second_period period (moves + 1) ≡ second_period period moves + second_begun period (moves + 1)
 second_period-next None moves = refl
 second_period-next (Some period) moves = grind (arith, nat_tests)
@@ -181,14 +181,14 @@ same_held : (given given_after used used_after : ℕ) → given_after ≡ given 
     given_after - used_after ≡ given - used
 same_held given given_after used used_after g u = cc
 
-completed-next : (first mover : Colour) (plies : ℕ) → mover ≡ on_move_after first plies →
+pub completed-next : (first mover : Colour) (plies : ℕ) → mover ≡ on_move_after first plies →
     completed first mover (plies + 1) ≡ completed first mover plies + 1
 completed-next first mover plies on_move =
     ap (λ (side : Colour). completed first side (plies + 1)) on_move
     ∙ completed-mover first plies
     ∙ ap (λ (side : Colour). completed first side plies + 1) (sym on_move)
 
-completed-waits : (first mover : Colour) (plies : ℕ) → mover ≡ on_move_after first plies →
+pub completed-waits : (first mover : Colour) (plies : ℕ) → mover ≡ on_move_after first plies →
     completed first (other mover) (plies + 1) ≡ completed first (other mover) plies
 completed-waits first mover plies on_move =
     ap (λ (side : Colour). completed first (other side) (plies + 1)) on_move

@@ -1,6 +1,7 @@
 -- What a game that stands on the table shows of its entries.
 use Rattle.std.specs.Prelude.{ℕ, ◌≡◌, ◌-◌, ◌<◌, false, ◌&&◌, if◌then◌else◌, List, length, Option, Some, None, is_some}
 use Rattle.std.proofs.Common.{ap, sym, subst, ◌∙◌, refl}
+use Rattle.std.proofs.Math.Bool.{and-true}
 use Rattle.chess_bits.specs.declared.men.Colour.{Colour}
 use Rattle.chess_bits.specs.declared.men.Colour.TheVariants.{White, Black}
 use Rattle.chess_bits.specs.Man.{is_colour}
@@ -15,7 +16,7 @@ use Rattle.chess_entry.specs.GameTimes.{clock_events, turn_start}
 use Rattle.chess_entry.specs.Games.{control_of, game_in}
 use Rattle.chess_entry.proofs.Fields.{joiner_in}
 use Rattle.chess_entry.proofs.HeldLemmas.{AreTimed, side-after}
-use Rattle.chess_entry.proofs.Shown.{Parts, running, and_true}
+use Rattle.chess_entry.proofs.Shown.{Parts, running}
 use Rattle.chess_entry.proofs.GameMore.{parts_of, game_in-running}
 use Rattle.chess_entry.proofs.Allowed.{IsInTime}
 
@@ -33,7 +34,7 @@ joined_by : (here : Colour) (opener : List ℕ) (joiner : Option (List ℕ)) →
     && is_some (if is_colour Black here then Some opener else joiner))
     ≡ is_some joiner
 joined_by White opener joiner = refl
-joined_by Black opener joiner = and_true (is_some joiner)
+joined_by Black opener joiner = and-true (is_some joiner)
 
 pub is_joined-in : (number : ℕ) (opening : Opening) (xs : List Entry) →
     is_joined (game_in number opening xs) ≡ is_some (joiner_in xs)

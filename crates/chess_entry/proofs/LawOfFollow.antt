@@ -9,7 +9,7 @@ use Rattle.rec_codec.specs.declared.record.Event.TheVariants as event
 use Rattle.rec_codec.specs.declared.record.Entry.{Entry}
 use Rattle.rec_codec.specs.declared.record.Opening.{Opening}
 use Rattle.rec_codec.specs.Records.{entry}
-use Rattle.chess_entry.specs.State.{GameState, TableState}
+use Rattle.chess_entry.specs.State.{GameState}
 use Rattle.chess_entry.specs.Story.{entries_of, is_open, is_drop}
 use Rattle.chess_entry.specs.Games.{game_in, last_number, games_shown, greatest, table_of}
 use Rattle.chess_entry.specs.Follow.{follow_game, follow_games}
@@ -21,6 +21,7 @@ use Rattle.chess_entry.proofs.InPlay.{IsSound}
 use Rattle.chess_entry.proofs.Sound.{IsSound-more, IsSound-opened}
 use Rattle.chess_entry.proofs.GameLaw.{law-of_game}
 use Rattle.chess_entry.proofs.Numbers.{opened_in, opened_in-same, entries_of-own, entries_of-other, last_number-more, last_number-same, FollowsIn, games-changed, games-dropped, games-opened, found-stands}
+use Rattle.chess_entry.proofs.OneMeaning.{same_parts_of_table}
 
 -- What is true of the entries of a table: none is of a game with a number beyond the last, and those of each game are
 -- sound.
@@ -207,24 +208,10 @@ games-law limits es x sound (inl opens) =
 games-law limits es x sound (inr acts) =
     games-acts es x.game x.moment x.event sound (on_table limits es x acts)
 
-abbrev table : Limits → List GameState → ℕ → ℕ → ℕ → TableState
-table limits games moment last entries = record {
-  limits = limits;
-  games = games;
-  moment = moment;
-  last = last;
-  entries = entries;
-}
-
-table-same : (limits : Limits) (games after : List GameState) (moment later last number entries more : ℕ) →
-    games ≡ after → moment ≡ later → last ≡ number → entries ≡ more →
-    table limits games moment last entries ≡ table limits after later number more
-table-same limits games after moment later last number entries more e f g h = cc
-
 pub law : LawOfFollow
 law limits es x lawful =
     let sound = AreSound-lawful limits es (IsLawful-before limits es x lawful) in
     let entered = entered-by limits es x (lawful es x [] refl) in
-    table-same limits _ _ _ _ _ _ _ _ (games-law limits es x sound entered)
+    same_parts_of_table {l = limits} {l' = limits} refl (games-law limits es x sound entered)
     (ap greatest (map-append (λ (e : Entry). e.moment) es (x ∷ [])) ∙ greatest-more (map (λ (e : Entry). e.moment) es) x.moment)
     (last_number-more es x) (length-append es (x ∷ []))

@@ -1,7 +1,7 @@
 -- Lists that a table can go through: their fronts, one entry more, raised limits, and the table as a fold.
 use Rattle.std.specs.Prelude.{◌≡◌, ◌⊎◌, ◌≤◌, List, [], ◌∷◌, ◌++◌, fold}
 use Rattle.std.proofs.Common.{arith, ap, sym, subst, ◌∙◌, refl, inl, inr, append_assoc}
-use Rattle.std.proofs.lemmas.List.{append-nil}
+use Rattle.std.proofs.lemmas.List.{append-nil, same_from_push}
 use Rattle.rec_codec.specs.declared.limits.Limits.{Limits}
 use Rattle.rec_codec.specs.declared.record.Entry.{Entry}
 use Rattle.chess_entry.specs.State.{TableState}
@@ -12,27 +12,9 @@ use Rattle.chess_entry.proofs.LawOfFollow.{law}
 
 -- ---- the ends of lists
 
-nil-not_more : {A : Type 0} (ys : List A) (y : A) → [] ≡ ys ++ y ∷ [] → ⊥
-nil-not_more [] y h = cc
-nil-not_more (x ∷ ys) y h = cc
-
 pub nil-not_around : {A : Type 0} (before : List A) (x : A) (rest : List A) → [] ≡ before ++ x ∷ rest → ⊥
 nil-not_around [] x rest h = cc
 nil-not_around (y ∷ before) x rest h = cc
-
-last-same : {A : Type 0} (xs ys : List A) (x y : A) → xs ++ x ∷ [] ≡ ys ++ y ∷ [] → (xs ≡ ys) × (x ≡ y)
-last-same [] [] x y h = (refl, cc)
-last-same {A = A} [] (b ∷ ys) x y h =
-    let rest : [] ≡ ys ++ y ∷ [] = cc in
-    absurd (nil-not_more ys y rest)
-last-same {A = A} (a ∷ xs) [] x y h =
-    let rest : [] ≡ xs ++ x ∷ [] = cc in
-    absurd (nil-not_more xs x rest)
-last-same {A = A} (a ∷ xs) (b ∷ ys) x y h =
-    let first : a ≡ b = cc in
-    let rest : xs ++ x ∷ [] ≡ ys ++ y ∷ [] = cc in
-    let both = last-same xs ys x y rest in
-    (ap (λ (z : A). z ∷ xs) first ∙ ap (λ (zs : List A). b ∷ zs) both.0, both.1)
 
 -- a list without an element, or one with a last
 pub record HasLast (A : Type 0) (xs : List A) : Type 0 where
@@ -67,10 +49,10 @@ pub IsLawful-more : (limits : Limits) (es : List Entry) (x : Entry) → IsLawful
     IsLawful limits (es ++ x ∷ [])
 IsLawful-more limits es x lawful entered = λ before e rest is. elim (ends rest) [
   | inl none ↦
-      let same = last-same es before x e (is ∙ ap (λ (r : List Entry). before ++ e ∷ r) none) in
+      let same = same_from_push es before x e (is ∙ ap (λ (r : List Entry). before ++ e ∷ r) none) in
       subst (λ (b : List Entry). IsEntered limits b e) same.0 (subst (λ (y : Entry). IsEntered limits es y) same.1 entered)
   | inr some ↦
-      let front = last-same es (before ++ e ∷ some.front) x some.last
+      let front = same_from_push es (before ++ e ∷ some.front) x some.last
       (is ∙ ap (λ (r : List Entry). before ++ e ∷ r) some.is
       ∙ sym (append_assoc before (e ∷ some.front) (some.last ∷ []))) in
       lawful before e some.front front.0

@@ -17,3 +17,4 @@ pub mod ExampleLists
 pub mod OneMeaning
 pub mod MeaningMore
 pub mod SnapshotSize
+pub mod Places

@@ -4,6 +4,7 @@ use Rattle.std.specs.List.{flat_map, last_or, list_any, range_with_len}
 use Rattle.std.proofs.Common.{arith, ap, sym, subst, ◌∙◌, refl, inl, inr, zero, suc}
 use Rattle.std.proofs.lemmas.Bool.{cases_Bool, cases_eq, eq-eqb, ne_eqb, eqb-true, and_parts, or_right, leb-true, lt-leb}
 use Rattle.std.proofs.lemmas.List.{append-nil, map-append}
+use Rattle.std.proofs.Math.Bool.{or-false}
 use Rattle.chess_bits.specs.declared.men.Colour.TheVariants.{White, Black}
 use Rattle.chess_clock.specs.TimeControl.{time_control}
 use Rattle.chess_clock.specs.Held.{given_for}
@@ -18,7 +19,7 @@ use Rattle.chess_entry.specs.Story.{entries_of, first_given, given_or, opening_o
 use Rattle.chess_entry.specs.Games.{game_in, game_if, game_shown, number_of, last_number, games_shown}
 use Rattle.chess_entry.specs.Verdict.{is_period}
 use Rattle.chess_entry.specs.Follow.{follow_game, follow_if, last_after, new_game, fresh_seat}
-use Rattle.chess_entry.proofs.OneMore.{filter-more, first_given-more, given_or-none, or_false, list_any-more, last_passing-more, flat_map-more, range-more}
+use Rattle.chess_entry.proofs.OneMore.{filter-more, first_given-more, given_or-none, list_any-more, last_passing-more, flat_map-more, range-more}
 
 -- ---- lists
 
@@ -133,7 +134,7 @@ own-changed : (xs : List Entry) (g at : ℕ) (ev : Event) → is_open ev ≡ fal
     game_shown g (xs ++ entry g at ev ∷ []) ≡ map (follow_if (entry g at ev)) (game_shown g xs)
 own-changed xs g at ev closed kept each =
     ap (λ (b : Bool). shown_if b (opened_in (xs ++ entry g at ev ∷ [])) g (xs ++ entry g at ev ∷ []))
-    (dropped_in-more xs (entry g at ev) ∙ ap (λ (b : Bool). dropped_in xs || b) kept ∙ or_false (dropped_in xs))
+    (dropped_in-more xs (entry g at ev) ∙ ap (λ (b : Bool). dropped_in xs || b) kept ∙ or-false (dropped_in xs))
     ∙ ap (λ (o : Option Opening). shown_if (dropped_in xs) o g (xs ++ entry g at ev ∷ []))
     (opened_in-same xs (entry g at ev) closed)
     ∙ own-shown g at ev (dropped_in xs) (opened_in xs) xs each

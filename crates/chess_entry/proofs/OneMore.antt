@@ -8,6 +8,7 @@ use Rattle.std.proofs.lemmas.List.Elements.{filter-append}
 use Rattle.std.proofs.lemmas.List.Sums.{suffix_len-le-length}
 use Rattle.std.proofs.lemmas.List.Folds.{list_any-append}
 use Rattle.std.proofs.lemmas.Grind.{flat_map-append}
+use Rattle.std.proofs.Math.Bool.{or-false}
 use Rattle.rec_codec.specs.declared.record.Entry.{Entry}
 use Rattle.chess_entry.specs.Story.{Placed, placed, placed_after, each_placed, given_or, first_given}
 use Rattle.chess_entry.specs.Games.{greatest}
@@ -61,14 +62,10 @@ last_passing-more {A = A} p xs x =
     by_test true = last_or-more None (filter p xs) x
     by_test false = ap (last_or None) (append-nil (filter p xs))
 
-pub or_false : (b : Bool) → (b || false) ≡ b
-or_false true = refl
-or_false false = refl
-
 pub list_any-more : {A : Type 0} (p : A → Bool) (xs : List A) (x : A) →
     list_any p (xs ++ x ∷ []) ≡ (list_any p xs || p x)
 list_any-more p xs x =
-    list_any-append p xs (x ∷ []) ∙ ap (λ (b : Bool). list_any p xs || b) (or_false (p x))
+    list_any-append p xs (x ∷ []) ∙ ap (λ (b : Bool). list_any p xs || b) (or-false (p x))
 
 suffix_len-more : {A : Type 0} (p : A → Bool) (xs : List A) (x : A) →
     suffix_len p (xs ++ x ∷ []) ≡ (if p x then 1 + suffix_len p xs else 0)

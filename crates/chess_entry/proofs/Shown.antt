@@ -2,6 +2,7 @@
 use Rattle.std.specs.Prelude.{ℕ, ◌≡◌, ◌+◌, ◌-◌, Bool, true, false, ◌&&◌, not, if◌then◌else◌, List, [], ◌∷◌, ◌++◌, length, Option, Some, None, is_some, is_none}
 use Rattle.std.proofs.Common.{ap, ◌∙◌, refl}
 use Rattle.std.proofs.lemmas.Bool.{and_right}
+use Rattle.std.proofs.Math.Bool.{and-true}
 use Rattle.chess_bits.specs.declared.men.Colour.{Colour}
 use Rattle.chess_bits.specs.declared.men.Colour.TheVariants.{White, Black}
 use Rattle.chess_bits.specs.Man.{is_colour, other}
@@ -19,13 +20,11 @@ use Rattle.chess_entry.specs.GameTimes.{left_at, moment_shown}
 use Rattle.chess_entry.specs.Games.{control_of}
 use Rattle.chess_entry.specs.Follow.{seated, joined, with_offer, ended_if, turn_ended, claimed_wrongly, seat_after_claim, completed, held_after_turn}
 use Rattle.chess_entry.proofs.HeldLemmas.{AreTimed, side-after, held-own_turn, held-others_turn, held-own_claim, held-others_claim}
+use Rattle.chess_entry.proofs.OneMeaning.{seat_state}
 
 -- who plays a side: who opened the game, or who joined it
 abbrev pub player : Opening → Option (List ℕ) → Colour → Option (List ℕ)
 player opening joiner side = if is_colour side opening.colour then Some opening.name else joiner
-
-abbrev pub seat : Option (List ℕ) → ℕ → Bool → SeatState
-seat name held offers = record { name = name; held = held; offers = offers }
 
 -- what a side shows that holds so much
 abbrev pub time_shown : Position → Colour → ℕ → ℕ → Option ℕ → ℕ
@@ -59,10 +58,10 @@ shown number opening p ending end = record {
   number = number;
   start = opening.start;
   control = control_of opening;
-  white = seat (player opening p.joiner White)
+  white = seat_state (player opening p.joiner White)
       (time_shown (position_after opening.start p.moves) White (held White (control_of opening) p.events) p.turn end)
       (is_none ending && p.white);
-  black = seat (player opening p.joiner Black)
+  black = seat_state (player opening p.joiner Black)
       (time_shown (position_after opening.start p.moves) Black (held Black (control_of opening) p.events) p.turn end)
       (is_none ending && p.black);
   moves = p.moves;
@@ -81,12 +80,6 @@ pub shown-ended : (number : ℕ) (opening : Opening) (p : Parts) (at : ℕ) (end
 shown-ended number opening p at None = refl
 shown-ended number opening p at (Some ending) = refl
 
--- ---- tests
-
-pub and_true : (b : Bool) → (b && true) ≡ b
-and_true true = refl
-and_true false = refl
-
 -- ---- the join
 
 seated-name : (here : Bool) (opener name : List ℕ) →
@@ -100,11 +93,11 @@ pub running-joined : (number : ℕ) (opening : Opening) (events : List ClockEven
     ≡ joined (running number opening (parts None events white black turn claimed moves)) at name
 running-joined number opening events white black turn claimed moves at name =
     ap (λ (player : Option (List ℕ)). record (running number opening (parts (Some name) events white black at claimed moves)) {
-      white = seat player (held White (control_of opening) events) white;
+      white = seat_state player (held White (control_of opening) events) white;
     }) (seated-name (is_colour White opening.colour) opening.name name)
     ∙ ap (λ (player : Option (List ℕ)). record (joined (running number opening
     (parts None events white black turn claimed moves)) at name) {
-      black = seat player (held Black (control_of opening) events) black;
+      black = seat_state player (held Black (control_of opening) events) black;
     }) (seated-name (is_colour Black opening.colour) opening.name name)
 
 -- ---- offers
@@ -125,12 +118,12 @@ pub running-declined : (number : ℕ) (opening : Opening) (p : Parts) (by : Colo
     })
     ≡ with_offer (running number opening p) (other by) false
 running-declined number opening p White =
-    ap (λ (b : Bool). running number opening (record p { white = b; black = p.black && false })) (and_true p.white)
+    ap (λ (b : Bool). running number opening (record p { white = b; black = p.black && false })) (and-true p.white)
     ∙ ap (λ (b : Bool). running number opening (record p { black = b })) (and_right p.black false refl)
 running-declined number opening p Black =
     ap (λ (b : Bool). running number opening (record p { white = b; black = p.black && true }))
     (and_right p.white false refl)
-    ∙ ap (λ (b : Bool). running number opening (record p { white = false; black = b })) (and_true p.black)
+    ∙ ap (λ (b : Bool). running number opening (record p { white = false; black = b })) (and-true p.black)
 
 -- ---- a completed move
 
@@ -139,22 +132,23 @@ abbrev after_turn : Colour → Colour → ℕ → SeatState → SeatState
 after_turn mover side time old =
     if is_colour side mover then record old { held = time } else record old { offers = false }
 
-seat-same : (name : Option (List ℕ)) (a b : ℕ) (x y : Bool) → a ≡ b → x ≡ y → seat name a x ≡ seat name b y
+seat-same : (name : Option (List ℕ)) (a b : ℕ) (x y : Bool) → a ≡ b → x ≡ y → seat_state name a x ≡ seat_state name b y
 seat-same name a b x y e f = cc
 
 seat-turn : (first mover side : Colour) (control : TimeControl) (events : List ClockEvent) (plies length : ℕ)
     (name : Option (List ℕ)) (offers : Bool) → AreTimed first control events plies → mover ≡ on_move_after first plies →
-    seat name (held side control (events ++ clock.Turn mover length ∷ [])) (offers && not (is_colour (other side) mover))
+    seat_state name (held side control (events ++ clock.Turn mover length ∷ []))
+    (offers && not (is_colour (other side) mover))
     ≡ after_turn mover side (held_after_turn control (held side control events) (completed first side (plies + 1)) length)
-    (seat name (held side control events) offers)
+    (seat_state name (held side control events) offers)
 seat-turn first White White control events plies length name offers timed on_move =
-    seat-same name _ _ _ _ (held-own_turn first White control events plies length (timed White) on_move) (and_true offers)
+    seat-same name _ _ _ _ (held-own_turn first White control events plies length (timed White) on_move) (and-true offers)
 seat-turn first White Black control events plies length name offers timed on_move =
     seat-same name _ _ _ _ (held-others_turn White control events length) (and_right offers false refl)
 seat-turn first Black White control events plies length name offers timed on_move =
     seat-same name _ _ _ _ (held-others_turn Black control events length) (and_right offers false refl)
 seat-turn first Black Black control events plies length name offers timed on_move =
-    seat-same name _ _ _ _ (held-own_turn first Black control events plies length (timed Black) on_move) (and_true offers)
+    seat-same name _ _ _ _ (held-own_turn first Black control events plies length (timed Black) on_move) (and-true offers)
 
 pub running-moved : (number : ℕ) (opening : Opening) (p : Parts) (at : ℕ) (m : Move) (mover : Colour) →
     AreTimed opening.start.side (control_of opening) p.events (length p.moves) →
@@ -183,8 +177,9 @@ running-moved number opening p at m mover timed is_mover =
 
 seat-claim : (first by side : Colour) (control : TimeControl) (events : List ClockEvent) (plies : ℕ)
     (name : Option (List ℕ)) (offers : Bool) → AreTimed first control events plies →
-    seat name (held side control (events ++ clock.WrongClaim by ∷ [])) (if is_colour side by then true else offers)
-    ≡ seat_after_claim by side (seat name (held side control events) offers)
+    seat_state name (held side control (events ++ clock.WrongClaim by ∷ []))
+    (if is_colour side by then true else offers)
+    ≡ seat_after_claim by side (seat_state name (held side control events) offers)
 seat-claim first White White control events plies name offers timed =
     seat-same name _ _ _ _ (held-own_claim White control events) refl
 seat-claim first White Black control events plies name offers timed =

@@ -11,3 +11,4 @@ pub mod Lawful
 pub mod Bounds
 pub mod Table
 pub mod Snapshot
+pub mod Words

@@ -21,11 +21,12 @@ use Rattle.chess_entry.specs.Games.{control_of}
 use Rattle.chess_entry.specs.Verdict.{has_fallen}
 use Rattle.chess_entry.specs.Follow.{new_game, joined, ended, ended_if, completed, held_after_turn, turn_ended, moved, claimed_wrongly}
 use Rattle.chess_entry.specs.Bounds.{IsStart, IsScoresheet, ending_by_last, Agrees, IsByAct, claims_most, IsHeldWithin, IsQuiet, AreDifferent, IsOpenedWith, IsGame}
+use Rattle.chess_entry.proofs.HeldLemmas.{completed-next, side-after}
 use Rattle.chess_game.specs.ClockFor.{clock_for}
 use Rattle.chess_game.specs.Turn.{IsRunningAt, IsInTime, IsPlayable}
-use Rattle.chess_game.proofs.LineLemmas.{IsLegalLine-push, side-position_after}
-use Rattle.chess_game.proofs.KeptLine.{GoesOnUntilLast-push, ending_by_last-pushed}
-use Rattle.chess_game.proofs.TimeLemmas.{given_for-claims, held_after_turn-at_most, with_penalty-at_most, completed-mover, completed-other, completed-at_most}
+use Rattle.chess_game.proofs.LineLemmas.{IsLegalLine-push}
+use Rattle.chess_game.proofs.KeptLine.{GoesOnUntilLast-push, ending_by_last-push}
+use Rattle.chess_game.proofs.TimeLemmas.{given_for-claims, held_after_turn-at_most, with_penalty-at_most, completed-other, completed-at_most}
 use Rattle.chess_game.proofs.SidesLemmas.{seat_turned}
 use Rattle.chess_game.proofs.ReplayLemmas.{GoesOnUntilLast-none}
 
@@ -197,7 +198,8 @@ mover_within : (game : GameState) (at : ℕ) (side : Colour) (further : ℕ)
 mover_within game at side further on still_on most =
     let n = completed game.start.side side (ply_of game) in
     let k = completed game.start.side (other side) (ply_of game) in
-    let mine : completed game.start.side side (ply_of game + 1) ≡ n + 1 = completed-mover game.start.side side (ply_of game) on in
+    let mine : completed game.start.side side (ply_of game + 1) ≡ n + 1 =
+    completed-next game.start.side side (ply_of game) (sym on) in
     let theirs : completed game.start.side (other side) (ply_of game + 1) ≡ k = completed-other game.start.side (other side) (ply_of game) still_on in
     rw (mine, theirs) (less_held game.control _ _ (n + 1) (k + 0) (k + further)
     (held_after_turn-at_most game.control (seat_of side game).held n (k + 0) (at - game.moment) most) (le_refl _)
@@ -216,7 +218,8 @@ waiting_within game side further on most =
     let one : ℕ = if game.claimed || is_over game then 1 else 0 in
     let few : one ≤ 1 = at_most_one (game.claimed || is_over game) in
     let mine : completed game.start.side side (ply_of game + 1) ≡ n = completed-other game.start.side side (ply_of game) on in
-    let theirs : completed game.start.side (other side) (ply_of game + 1) ≡ k + 1 = completed-mover game.start.side (other side) (ply_of game) on in
+    let theirs : completed game.start.side (other side) (ply_of game + 1) ≡ k + 1 =
+    completed-next game.start.side (other side) (ply_of game) (sym on) in
     rw (mine, theirs) (less_held game.control (seat_of side game).held (seat_of side game).held n (k + one)
     (k + 1 + further) most (le_refl _) (one_among k one further few))
 
@@ -236,7 +239,7 @@ held_turned : (game : GameState) (at : ℕ) (m : Move) (side : Colour) → IsHel
     → WithinAfter game at (position_of game).side side (length (game.moves ++ m ∷ [])) (further_after game at m (other side))
 held_turned game at m side most =
     let mover = (position_of game).side in
-    let on = sym (side-position_after game.start game.moves) in
+    let on = sym (side-after game.start game.moves) in
     let longer : ply_of game + 1 ≡ length (game.moves ++ m ∷ []) = sym (length-append game.moves (m ∷ [])) in
     let P : ℕ → Type 0 = λ n. WithinAfter game at mover side n (further_after game at m (other side)) in
     subst P longer (within_turn game at mover side (further_after game at m (other side)) on most)
@@ -301,11 +304,11 @@ ended_or_not : (game : GameState) (at : ℕ) (m : Move) (by_line : Option Ending
     → ending_after game.start (game.moves ++ m ∷ []) ≡ by_line → IsOnWay (turn_ended game at m)
     → IsGame 20000 (ended_if (turn_ended game at m) at by_line)
 ended_or_not game at m None by_line way =
-    IsGame-going (turn_ended game at m) way (ending_by_last-pushed game.start game.moves m ∙ by_line)
+    IsGame-going (turn_ended game at m) way (ending_by_last-push game.start game.moves m ∙ by_line)
 ended_or_not game at m (Some e) by_line way =
     IsGame-ended (turn_ended game at m) at e way
     (agrees_some (ending_by_last game.start (game.moves ++ m ∷ [])) e
-    (ending_by_last-pushed game.start game.moves m ∙ by_line))
+    (ending_by_last-push game.start game.moves m ∙ by_line))
 
 -- a move of a game that goes on
 pub IsGame-moved : (game : GameState) (at : ℕ) (m : Move) → IsGame 20000 game → IsInTime game at → IsPlayable game m

@@ -14,7 +14,7 @@ last_split x (y ∷ xs) =
     (x ∷ rest.0, rest.1, ap (λ (ms : List Move). x ∷ ms) rest.2)
 
 -- the ending that the last of some moves gives
-ending_by_last-push : (start : Position) (before : List Move) (m : Move)
+pub ending_by_last-push : (start : Position) (before : List Move) (m : Move)
     → ending_by_last start (before ++ m ∷ []) ≡ ending_after start (before ++ m ∷ [])
 ending_by_last-push start [] m = refl
 ending_by_last-push start (n ∷ before) m = refl
@@ -33,7 +33,3 @@ GoesOnUntilLast-push start moves m goes_on none before n last (r ∷ rest) same 
     let same_moves : moves ++ m ∷ [] ≡ (before ++ tail) ++ split.1 ∷ [] =
     same ∙ whole ∙ sym (append_assoc before tail (split.1 ∷ [])) in
     goes_on before n last split.0 (same_from_push moves (before ++ tail) m split.1 same_moves).0
-
-pub ending_by_last-pushed : (start : Position) (moves : List Move) (m : Move)
-    → ending_by_last start (moves ++ m ∷ []) ≡ ending_after start (moves ++ m ∷ [])
-ending_by_last-pushed start moves m = ending_by_last-push start moves m

@@ -1,16 +1,11 @@
 -- One move more of a line.
-use Rattle.std.proofs.Common.{ℕ, ◌≡◌, suc, ◌+◌, ◌≤◌, List, [], ◌∷◌, ◌++◌, length, refl, ap, ◌∙◌, arith}
-use Rattle.std.proofs.lemmas.Bool.Decides.{nat_tests}
-use Rattle.chess_bits.specs.declared.men.Colour.{Colour}
-use Rattle.chess_bits.specs.declared.men.Colour.TheVariants.{White, Black}
-use Rattle.chess_bits.specs.Man.{other}
+use Rattle.std.proofs.Common.{◌≡◌, ◌+◌, ◌≤◌, List, [], ◌∷◌, ◌++◌, length, refl, ap, arith}
 use Rattle.chess_board.specs.declared.moves.Move.{Move}
 use Rattle.chess_board.specs.Position.{Position}
 use Rattle.chess_board.specs.Next.{next}
 use Rattle.chess_board.specs.Line.{positions_of}
 use Rattle.chess_board.proofs.ValidNext.{halfmove_after-le, fullmove_after-within}
 pub use Rattle.chess_board.proofs.LineLemmas.{position_after-push, IsLegalLine-push}
-use Rattle.chess_clock.specs.ClockState.{on_move_after}
 use Rattle.chess_repeat.specs.QuietRun.{quiet_run}
 use Rattle.chess_entry.specs.State.{position_after}
 
@@ -44,13 +39,3 @@ fullmove-at_most p (m ∷ moves) =
     let one = (fullmove_after-within p.side p.fullmove).1 in
     let rest = fullmove-at_most (next p m) moves in
     omega arith
-
-on_move_after-suc : (side : Colour) (n : ℕ) → on_move_after (other side) n ≡ on_move_after side (suc n)
-on_move_after-suc White n = grind (arith, nat_tests)
-on_move_after-suc Black n = grind (arith, nat_tests)
-
--- the players alternate
-pub side-position_after : (p : Position) (moves : List Move)
-    → (position_after p moves).side ≡ on_move_after p.side (length moves)
-side-position_after p [] = refl
-side-position_after p (m ∷ moves) = side-position_after (next p m) moves ∙ on_move_after-suc p.side (length moves)

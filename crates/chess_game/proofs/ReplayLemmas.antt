@@ -1,8 +1,8 @@
 -- The line of moves that were handed in.
-use Rattle.std.proofs.Common.{ℕ, ◌≡◌, ◌<◌, ◌≤◌, ◌+◌, suc, true, false, List, [], ◌∷◌, ◌++◌, length, take, drop, get_or, Option, Some, None, refl, sym, ap, ◌∙◌, subst, append_assoc, arith}
+use Rattle.std.proofs.Common.{ℕ, ◌≡◌, ◌<◌, ◌≤◌, ◌+◌, suc, true, false, List, [], ◌∷◌, ◌++◌, length, take, drop, get_or, Option, None, refl, sym, ap, ◌∙◌, subst, append_assoc, arith}
 use Rattle.std.specs.Prelude.{◌||◌, is_some, nat_le}
 use Rattle.std.proofs.Math.Seq.{drop-cons}
-use Rattle.std.proofs.lemmas.List.{take-append-drop, take_more, length-take-le}
+use Rattle.std.proofs.lemmas.List.{take-append-drop, length-take-le}
 use Rattle.std.proofs.lemmas.Bool.{false≢true, or_parts}
 use Rattle.std.proofs.lemmas.Bool.Decides.{nat_tests}
 use Rattle.chess_board.specs.declared.moves.Move.{Move}
@@ -19,7 +19,7 @@ use Rattle.chess_entry.specs.Bounds.{IsStart, GoesOnUntilLast, IsScoresheet, end
 use Rattle.chess_game.specs.Scoresheet.{ScoresheetState, last_of, with_move, HasRoom}
 use Rattle.chess_game.specs.Restored.{IsReplayed}
 use Rattle.chess_game.proofs.LineLemmas.{IsLegalLine-push, halfmove-at_most, fullmove-at_most}
-use Rattle.chess_game.proofs.KeptLine.{last_split, GoesOnUntilLast-push, ending_by_last-pushed}
+use Rattle.chess_game.proofs.KeptLine.{last_split, GoesOnUntilLast-push, ending_by_last-push}
 
 -- ---- a move more
 
@@ -60,14 +60,8 @@ IsReplayed-push start moves m line after by_line ends so_far goes_on legal pushe
       start = same_start;
       moves = same_moves;
       ends = is ∙ ap (λ (p : Position). ending_after p after.moves) same_start ∙ ap (ending_after start) same_moves
-          ∙ sym (ending_by_last-pushed start moves m);
+          ∙ sym (ending_by_last-push start moves m);
     }
-
--- the moves up to one and that one
-pub taken : (moves : List Move) (i : ℕ) (m : Move) → i < length moves → m ≡ get_or moves i m
-    → take (i + 1) moves ≡ take i moves ++ m ∷ []
-taken moves i m below here = take_more moves i m below
-    ∙ ap (λ (x : Move). take i moves ++ x ∷ []) (sym here)
 
 -- ---- room
 
@@ -158,7 +152,3 @@ IsScoresheet-ended start moves i m line by_line so_far below here ended is =
     so_far.ends ∙ goes_on_before start (take i moves) (drop (suc i) moves) m
     (subst P (split_at moves i m below here) is.goes_on) in
     false≢true (sym (ap (λ (o : Option Ending). is_some o) none) ∙ ended)
-
-pub none_from : (o : Option Ending) → is_some o ≡ false → o ≡ None
-none_from None none = refl
-none_from (Some e) none = absurd cc

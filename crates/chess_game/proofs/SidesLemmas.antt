@@ -16,11 +16,12 @@ use Rattle.chess_clock.specs.ClockState.{ClockState, time_of, time_after, on_mov
 use Rattle.chess_end.specs.declared.ending.Ending.{Ending}
 use Rattle.chess_entry.specs.State.{SeatState, GameState, position_after, position_of, ply_of, seat_of, is_over}
 use Rattle.chess_entry.specs.Follow.{completed, held_after_turn, turn_ended, ended, ended_if, claimed_wrongly}
+use Rattle.chess_entry.proofs.HeldLemmas.{completed-next, side-after}
 use Rattle.chess_game.specs.declared.sides.Sides.{Sides}
 use Rattle.chess_game.specs.Sides.{turn_over, stopped, stopped_if, with_wrong_claim}
 use Rattle.chess_game.specs.ClockFor.{clock_for, seat_for, sides_for}
-use Rattle.chess_game.proofs.LineLemmas.{position_after-push, side-position_after}
-use Rattle.chess_game.proofs.TimeLemmas.{given_further-turn, moves_to_go-next, completed-mover, completed-other}
+use Rattle.chess_game.proofs.LineLemmas.{position_after-push}
+use Rattle.chess_game.proofs.TimeLemmas.{given_further-turn, moves_to_go-next, completed-other}
 
 -- ---- a turn
 
@@ -106,22 +107,22 @@ mover_held_turned game at White on =
     mover_held White (clock_in_turn game White) (at - game.moment)
     ∙ given_further-turn game.control game.white.held (completed game.start.side White (ply_of game)) (at - game.moment)
     ∙ ap (λ (k : ℕ). held_after_turn game.control game.white.held k (at - game.moment))
-    (sym (completed-mover game.start.side White (ply_of game) on))
+    (sym (completed-next game.start.side White (ply_of game) (sym on)))
 mover_held_turned game at Black on =
     mover_held Black (clock_in_turn game Black) (at - game.moment)
     ∙ given_further-turn game.control game.black.held (completed game.start.side Black (ply_of game)) (at - game.moment)
     ∙ ap (λ (k : ℕ). held_after_turn game.control game.black.held k (at - game.moment))
-    (sym (completed-mover game.start.side Black (ply_of game) on))
+    (sym (completed-next game.start.side Black (ply_of game) (sym on)))
 
 mover_to_go_turned : (game : GameState) (at : ℕ) (side : Colour) → on_move_after game.start.side (ply_of game) ≡ side
     → (time_after side (clock_in_turn game side) (turn_at game at side)).to_go ≡ to_go_turned game side
 unfolding to_go_turned
 mover_to_go_turned game at White on =
     moves_to_go-next game.control.period (completed game.start.side White (ply_of game))
-    ∙ ap (moves_to_go game.control.period) (sym (completed-mover game.start.side White (ply_of game) on))
+    ∙ ap (moves_to_go game.control.period) (sym (completed-next game.start.side White (ply_of game) (sym on)))
 mover_to_go_turned game at Black on =
     moves_to_go-next game.control.period (completed game.start.side Black (ply_of game))
-    ∙ ap (moves_to_go game.control.period) (sym (completed-mover game.start.side Black (ply_of game) on))
+    ∙ ap (moves_to_go game.control.period) (sym (completed-next game.start.side Black (ply_of game) (sym on)))
 
 other_held_turned : (game : GameState) (at : ℕ) (side : Colour)
     → (time_after (other side) (clock_in_turn game side) (turn_at game at side)).held
@@ -201,7 +202,7 @@ pub turn_over-shown : (game : GameState) (at : ℕ) (m : Move) → game.moment �
     → turn_over (sides_for game) (position_of game).side at ≡ sides_for (turn_ended game at m)
 turn_over-shown game at m from =
     let mover = (position_of game).side in
-    let on = sym (side-position_after game.start game.moves) in
+    let on = sym (side-after game.start game.moves) in
     let next : other mover ≡ (position_after game.start (game.moves ++ m ∷ [])).side =
     sym (ap (λ (p : Position). p.side) (position_after-push game.start game.moves m)) in
     let longer : ply_of game + 1 ≡ length (game.moves ++ m ∷ []) = sym (length-append game.moves (m ∷ [])) in

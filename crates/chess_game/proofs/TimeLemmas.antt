@@ -1,24 +1,18 @@
 -- The times that sides hold, and the moves that they have completed, from turn to turn.
-use Rattle.std.proofs.Common.{ℕ, ◌≡◌, ◌≢◌, ◌+◌, ◌-◌, ◌*◌, ◌%◌, ◌≤◌, Bool, true, false, Option, Some, None, refl, sym, ◌∙◌, arith}
-use Rattle.std.specs.Prelude.{◌==◌, if◌then◌else◌}
-use Rattle.std.proofs.lemmas.Bool.{false≢true}
-use Rattle.std.proofs.lemmas.Bool.Decides.{nat_tests, Decides-eqb}
+use Rattle.std.proofs.Common.{ℕ, ◌≡◌, ◌+◌, ◌-◌, ◌*◌, ◌≤◌, Option, Some, None, refl, sym, arith}
+use Rattle.std.proofs.lemmas.Bool.Decides.{nat_tests}
 use Rattle.chess_bits.specs.declared.men.Colour.{Colour}
 use Rattle.chess_bits.specs.declared.men.Colour.TheVariants.{White, Black}
 use Rattle.chess_bits.specs.Man.{other}
-use Rattle.chess_clock.specs.TimeControl.{TimeControl, second_period, moves_to_go}
+use Rattle.chess_clock.specs.TimeControl.{TimeControl, moves_to_go}
 use Rattle.chess_clock.specs.Held.{given_for}
 use Rattle.chess_clock.specs.SideTimes.{second_within, given_further}
 use Rattle.chess_clock.specs.ClockState.{on_move_after}
 use Rattle.chess_entry.specs.Follow.{completed, second_begun, held_after_turn}
+use Rattle.chess_entry.proofs.HeldLemmas.{second_period-next, completed-waits}
 
 pub given_for-claims : (control : TimeControl) (n a b : ℕ) → a ≤ b → given_for control n a ≤ given_for control n b
 given_for-claims control n a b h = omega arith
-
-second_period-next : (period : Option (ℕ × ℕ)) (n : ℕ)
-    → second_period period (n + 1) ≡ second_period period n + second_begun period (n + 1)
-second_period-next None n = refl
-second_period-next (Some period) n = grind (arith, nat_tests)
 
 -- a side that holds no more than it was given holds no more after its turn, with a move more
 pub held_after_turn-at_most : (control : TimeControl) (held n a length : ℕ) → held ≤ given_for control n a
@@ -56,48 +50,11 @@ moves_to_go-next (Some period) n = omega arith
 
 -- ---- the moves completed
 
--- who is on move after an even number of turns, or an odd one
-abbrev mover_by : Colour → Bool → Colour
-mover_by first even = if even then first else other first
-
-even_is : (n : ℕ) → (n % 2 == 0) ≡ true → n % 2 ≡ 0
-even_is n e = (Decides-eqb (n % 2) 0).0 e
-
-odd_is : (n : ℕ) → (n % 2 == 0) ≡ false → n % 2 ≡ 1
-odd_is n e =
-    let odd : n % 2 ≢ 0 = λ zero. false≢true (sym e ∙ (Decides-eqb (n % 2) 0).1 zero) in
-    omega arith
-
-mover_completes : (first side : Colour) (n : ℕ) (even : Bool) → (n % 2 == 0) ≡ even
-    → mover_by first even ≡ side → completed first side (n + 1) ≡ completed first side n + 1
-mover_completes White White n true e on = let two = even_is n e in omega arith
-mover_completes White White n false e on = absurd cc
-mover_completes White Black n true e on = absurd cc
-mover_completes White Black n false e on = let two = odd_is n e in omega arith
-mover_completes Black White n true e on = absurd cc
-mover_completes Black White n false e on = let two = odd_is n e in omega arith
-mover_completes Black Black n true e on = let two = even_is n e in omega arith
-mover_completes Black Black n false e on = absurd cc
-
-other_keeps : (first side : Colour) (n : ℕ) (even : Bool) → (n % 2 == 0) ≡ even
-    → mover_by first even ≡ other side → completed first side (n + 1) ≡ completed first side n
-other_keeps White White n true e on = absurd cc
-other_keeps White White n false e on = let two = odd_is n e in omega arith
-other_keeps White Black n true e on = let two = even_is n e in omega arith
-other_keeps White Black n false e on = absurd cc
-other_keeps Black White n true e on = let two = even_is n e in omega arith
-other_keeps Black White n false e on = absurd cc
-other_keeps Black Black n true e on = absurd cc
-other_keeps Black Black n false e on = let two = odd_is n e in omega arith
-
--- The side on move completes a move, and the other does not.
-pub completed-mover : (first side : Colour) (n : ℕ) → on_move_after first n ≡ side
-    → completed first side (n + 1) ≡ completed first side n + 1
-completed-mover first side n on = mover_completes first side n (n % 2 == 0) refl on
-
+-- The side that is not on move completes none.
 pub completed-other : (first side : Colour) (n : ℕ) → on_move_after first n ≡ other side
     → completed first side (n + 1) ≡ completed first side n
-completed-other first side n on = other_keeps first side n (n % 2 == 0) refl on
+completed-other first White n on = completed-waits first Black n (sym on)
+completed-other first Black n on = completed-waits first White n (sym on)
 
 pub completed-at_most : (first side : Colour) (n : ℕ) → n ≤ 20000 → completed first side n ≤ 10000
 completed-at_most White White n h = omega arith

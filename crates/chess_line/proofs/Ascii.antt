@@ -1,39 +1,35 @@
 -- A line is of ASCII.
-use Rattle.std.proofs.Common.{◌≡◌, ℕ, zero, suc, ◌<◌, ◌≤◌, ◌&&◌, List, [], ◌∷◌, decimal, Option, Some, None, refl, arith}
+use Rattle.std.proofs.Common.{◌≡◌, ℕ, ◌<◌, ◌≤◌, ◌&&◌, List, [], ◌∷◌, decimal, Option, Some, None, refl, arith}
 use Rattle.std.specs.Prelude.{codes, Bool, true, false, nat_lt, IfSome}
-use Rattle.std.specs.List.{join_with_byte, list_all}
+use Rattle.std.specs.List.{join_with_byte}
 use Rattle.std.specs.Str.{IsAscii}
 use Rattle.std.proofs.lemmas.Bool.{and_parts, ltb-true}
-use Rattle.std.proofs.lemmas.Bool.Decides.{nat_tests}
 use Rattle.std.proofs.lemmas.Fmt.{IsAscii-decimal}
 use Rattle.std.proofs.lemmas.List.Elements.{All-weaker}
 use Rattle.std.proofs.lemmas.Str.{IsAscii-append}
-use Rattle.std.proofs.lemmas.Str.Ascii.{IsAscii-from_all, IsAscii-nil}
-use Rattle.rec_codec.specs.Name.{is_name_byte}
+use Rattle.std.proofs.lemmas.Str.Ascii.{IsAscii-from_all, IsAscii-nil, IsAscii-cons}
+use Rattle.rec_codec.proofs.NameLemmas.{IsAscii-name_bytes}
 use Rattle.chess_bits.specs.declared.men.Colour.{Colour}
 use Rattle.chess_bits.specs.declared.men.Colour.TheVariants.{White, Black}
 use Rattle.arrayvec.specs.ArrayString.{ArrayString}
 use Rattle.chess_entry.specs.declared.commands.Act.{Act}
 use Rattle.chess_entry.specs.declared.commands.Act.TheVariants as acts
+use Rattle.chess_entry.specs.Words.{colour_word}
 use Rattle.chess_line.specs.declared.lines.Request.{Request}
 use Rattle.chess_line.specs.declared.lines.Request.TheVariants as lines
-use Rattle.chess_line.specs.Fields.{IsNumber, IsField, IsRest, colour_word, claim_word, times_text, AreTimes, optional}
+use Rattle.chess_line.specs.Fields.{IsNumber, IsField, IsRest, claim_word, times_text, AreTimes, optional}
 use Rattle.chess_line.specs.Line.{act_fields, line_fields, IsSayable, IsSayableLine, HasForm}
 
 abbrev AreAscii : List (List ℕ) → Type 0
 AreAscii [] = Unit {0}
 AreAscii (field ∷ fields) = IsAscii field × AreAscii fields
 
-ascii_cons : (c : ℕ) (text : List ℕ) → c < 128 → IsAscii text → IsAscii (c ∷ text)
-ascii_cons c text low h zero = low
-ascii_cons c text low h (suc i) = h i
-
 joined_ascii : (fields : List (List ℕ)) → AreAscii fields → IsAscii (join_with_byte 32 fields)
 joined_ascii [] h = IsAscii-nil
 joined_ascii (field ∷ []) h = h.0
 joined_ascii (field ∷ next ∷ fields) h =
     IsAscii-append field (32 ∷ join_with_byte 32 (next ∷ fields)) h.0
-    (ascii_cons 32 _ (omega arith) (joined_ascii (next ∷ fields) h.1))
+    (IsAscii-cons 32 _ (omega arith) (joined_ascii (next ∷ fields) h.1))
 
 -- a test for the words
 abbrev is_plain : List ℕ → Bool
@@ -44,7 +40,7 @@ plain : (text : List ℕ) → is_plain text ≡ true → IsAscii text
 plain [] e = IsAscii-nil
 plain (c ∷ text) e =
     let here = and_parts (nat_lt c 128) (is_plain text) e in
-    ascii_cons c text (ltb-true c 128 here.0) (plain text here.1)
+    IsAscii-cons c text (ltb-true c 128 here.0) (plain text here.1)
 
 number_ascii : (n : ℕ) → IsNumber n → IsAscii (decimal n)
 number_ascii n small = IsAscii-decimal n (omega arith)
@@ -68,8 +64,9 @@ claim_ascii false = plain (codes "three") refl
 times_ascii : (initial : ℕ) (period : Option (ℕ × ℕ)) → AreTimes initial period → IsAscii (times_text initial period)
 times_ascii initial None h = number_ascii initial h
 times_ascii initial (Some p) h =
-    IsAscii-append (decimal p.0) _ (number_ascii p.0 h.0) (ascii_cons 47 _ (omega arith)
-    (IsAscii-append (decimal initial) _ (number_ascii initial h.1) (ascii_cons 58 _ (omega arith) (number_ascii p.1 h.2))))
+    IsAscii-append (decimal p.0) _ (number_ascii p.0 h.0) (IsAscii-cons 47 _ (omega arith)
+    (IsAscii-append (decimal initial) _ (number_ascii initial h.1)
+    (IsAscii-cons 58 _ (omega arith) (number_ascii p.1 h.2))))
 
 rest_fields : (fen : Option ArrayString) → IfSome fen (λ text. IsRest text.bytes) → AreAscii (optional fen)
 rest_fields None h = tt
@@ -78,15 +75,6 @@ rest_fields (Some text) h = (rest_ascii text.bytes h, tt)
 text_fields : (text : Option ArrayString) → IfSome text (λ text. IsField text.bytes) → AreAscii (optional text)
 text_fields None h = tt
 text_fields (Some text) h = (field_ascii text.bytes h, tt)
-
-is_name_byte-ascii : (c : ℕ) → is_name_byte c ≡ true → c < 128
-is_name_byte-ascii c e = grind (arith, nat_tests)
-
-name_ascii_by : (name : List ℕ) → list_all is_name_byte name ≡ true → IsAscii name
-name_ascii_by [] e = IsAscii-nil
-name_ascii_by (c ∷ name) e =
-    let here = and_parts (is_name_byte c) (list_all is_name_byte name) e in
-    ascii_cons c name (is_name_byte-ascii c here.0) (name_ascii_by name here.1)
 
 act_ascii : (act : Act) → IsSayable act → AreAscii (act_fields act)
 act_ascii (acts.Open colour initial increment fen period) h =
@@ -108,7 +96,7 @@ act_ascii (acts.Fen game) h = (plain (codes "fen") refl, (number_ascii game h, t
 act_ascii (acts.Pgn game) h = (plain (codes "pgn") refl, (number_ascii game h, tt))
 
 fields_ascii : (line : Request) → IsSayableLine line → AreAscii (line_fields line)
-fields_ascii (lines.Called name) h = (plain (codes "name") refl, (name_ascii_by name h.bytes, tt))
+fields_ascii (lines.Called name) h = (plain (codes "name") refl, (IsAscii-name_bytes name h.bytes, tt))
 fields_ascii (lines.Act act) h = act_ascii act h
 
 pub line_ascii : (text : List ℕ) (line : Request) → HasForm text line → IsAscii text

@@ -10,9 +10,10 @@ use Rattle.arrayvec.specs.ArrayString.{ArrayString}
 use Rattle.chess_entry.specs.Parsed.{bytes_of}
 use Rattle.chess_entry.specs.declared.commands.Act.{Act}
 use Rattle.chess_entry.specs.declared.commands.Act.TheVariants as acts
+use Rattle.chess_entry.specs.Words.{colour_word}
 use Rattle.chess_line.specs.declared.lines.Request.{Request}
 use Rattle.chess_line.specs.declared.lines.Request.TheVariants as lines
-use Rattle.chess_line.specs.Fields.{IsNumber, IsField, IsRest, colour_word, claim_word, times_text, AreTimes, optional}
+use Rattle.chess_line.specs.Fields.{IsNumber, IsField, IsRest, claim_word, times_text, AreTimes, optional}
 use Rattle.chess_line.specs.Cut.{Unspaced, joined}
 use Rattle.chess_line.specs.Line.{act_fields, IsSayable, IsLineAfter, HasForm}
 use Rattle.chess_line.proofs.Cuts.{same_parts, no_parts, clear, clear_without, same_number, Without, without_append, without_cons, decimal_without}

@@ -1,10 +1,10 @@
 -- A text that is cut at a byte is cut in one way, and a number's text has digits alone.
 use Rattle.std.proofs.Common.{◌≡◌, ◌≢◌, ℕ, zero, suc, ◌<◌, ◌==◌, Bool, true, not, ◌&&◌, List, [], ◌∷◌, ◌++◌, length, get_or, decimal, Option, Some, None, refl, ap, ◌∙◌, sym, arith}
-use Rattle.std.specs.Str.Parse.{AllDigits, digits_value}
 use Rattle.std.proofs.lemmas.Bool.{and_parts}
 use Rattle.std.proofs.lemmas.Bool.Decides.{nat_tests}
 use Rattle.std.proofs.lemmas.Fmt.{digits_decimal, decimal_injective}
-use Rattle.std.proofs.lemmas.Str.Parse.{IsNumeralModel, digit_at}
+use Rattle.std.proofs.lemmas.Str.Parse.{digit_at}
+use Rattle.text_parts.proofs.Digits.{own}
 use Rattle.chess_line.specs.Fields.{IsNumber}
 use Rattle.chess_line.specs.Cut.{Unspaced, joined}
 
@@ -72,10 +72,6 @@ clear_without c [] e = λ i below. absurd (omega arith)
 clear_without c (d ∷ text) e =
     let here = and_parts (not (d == c)) (clear c text) e in
     without_cons c d text (other_byte c d here.0) (clear_without c text here.1)
-
--- the digits of a number
-own : IsNumeralModel (AllDigits 10) (digits_value 10)
-own = record { to = λ _ h. h; from = λ _ h. h; same = λ _ _. refl }
 
 pub decimal_without : (c n : ℕ) → c < 48 → IsNumber n → Without c (decimal n)
 decimal_without c n low small i below e =

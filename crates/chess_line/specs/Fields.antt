@@ -1,8 +1,6 @@
 -- What the fields of a line say.
 use Rattle.std.specs.Prelude.{ℕ, ◌<◌, ◌≤◌, Bool, true, false, List, [], ◌∷◌, ◌++◌, length, codes, decimal, Option, Some, None}
 use Rattle.std.specs.List.{All}
-use Rattle.chess_bits.specs.declared.men.Colour.{Colour}
-use Rattle.chess_bits.specs.declared.men.Colour.TheVariants.{White, Black}
 use Rattle.arrayvec.specs.ArrayString.{ArrayString}
 
 -- a number has 32 bits; it is written without leading zeros
@@ -20,10 +18,6 @@ pub record IsRest (text : List ℕ) : Type 0 where
   pub some : 0 < length text
   pub short : length text ≤ 255
   pub printable : All (λ b. (32 ≤ b) × (b ≤ 126)) text
-
-abbrev pub colour_word : Colour → List ℕ
-colour_word White = codes "white"
-colour_word Black = codes "black"
 
 -- what a claim is for: fifty moves without a capture or a pawn's move, or the third occurrence
 abbrev pub claim_word : Bool → List ℕ

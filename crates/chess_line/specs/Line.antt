@@ -4,10 +4,11 @@ use Rattle.std.specs.List.{join_with_byte}
 use Rattle.rec_codec.specs.Name.{IsName}
 use Rattle.chess_entry.specs.declared.commands.Act.{Act}
 use Rattle.chess_entry.specs.declared.commands.Act.TheVariants as acts
+use Rattle.chess_entry.specs.Words.{colour_word}
 use Rattle.chess_line.specs.declared.lines.Request.{Request}
 use Rattle.chess_line.specs.declared.lines.Request.TheVariants as lines
 use Rattle.chess_line.specs.Text.{shown}
-use Rattle.chess_line.specs.Fields.{IsNumber, IsField, IsRest, colour_word, claim_word, times_text, AreTimes, optional}
+use Rattle.chess_line.specs.Fields.{IsNumber, IsField, IsRest, claim_word, times_text, AreTimes, optional}
 
 -- the fields of an act's line; only a FEN, which stands last, may have spaces
 abbrev pub act_fields : Act → List (List ℕ)

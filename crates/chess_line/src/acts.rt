@@ -7,7 +7,7 @@ ghost use Rattle.chess_line.specs.Cut.{Unspaced};
 ghost use Rattle.chess_line.specs.Line.{IsLineAfter, IsSayable, SameAct, act_fields};
 
 use crate::fields::{
-    claim_named, colour_named, cut, field_text, number_named, optional_rest, take_number,
+    claim_named, colour_named, cut_word, field_number, field_text, optional_rest, take_number,
     times_named,
 };
 use chess_entry::Act;
@@ -42,8 +42,8 @@ fn opening(rest: &str) -> Option<Act>
     let colour = colour_named(colour)?;
     let (times, rest) = rest.split_once(' ')?;
     let (initial, period) = times_named(times)?;
-    let (increment, fen) = cut(rest);
-    let increment = number_named(increment)?;
+    let (increment, fen) = cut_word(rest);
+    let increment = field_number(increment)?;
     let fen = optional_rest(fen)?;
     Some(Act::Open {
         colour,
@@ -72,7 +72,7 @@ fn claim(rest: &str) -> Option<Act>
 {
     let (game, rest) = take_number(rest)?;
     let (ply, rest) = take_number(rest)?;
-    let (claim, text) = cut(rest);
+    let (claim, text) = cut_word(rest);
     let fifty = claim_named(claim)?;
     let text = match text {
         Some(text) => Some(field_text(text)?),
@@ -97,7 +97,7 @@ pub fn read_act(word: &str, rest: &str) -> Option<Act>
         "move" => play(rest),
         "claim" => claim(rest),
         _ => {
-            let game = number_named(rest)?;
+            let game = field_number(rest)?;
             game_act(word, game)
         }
     }

@@ -2,9 +2,10 @@
 ghost use Rattle.std.specs.Prelude.{◌≡◌, ◌≢◌, ◌↔◌, ℕ, List, ◌∷◌, ◌++◌, Bool, Option, Some, None, EachIndex, IsTrue, IfSome, IsSome, IsSomeAnd, option_map, slice_index, length, decimal};
 ghost use Rattle.std.specs.Option.{MatchOption};
 ghost use Rattle.chess_bits.specs.declared.men.Colour.{Colour};
-ghost use Rattle.chess_line.specs.Fields.{IsNumber, IsField, IsRest, colour_word, claim_word, times_text, AreTimes};
+ghost use Rattle.chess_line.specs.Fields.{IsNumber, IsField, IsRest, claim_word, times_text, AreTimes};
 ghost use Rattle.arrayvec.specs.ArrayString.{ArrayString};
 ghost use Rattle.chess_entry.specs.Parsed.{bytes_of};
+ghost use Rattle.chess_entry.specs.Words.{colour_word};
 ghost use Rattle.chess_line.specs.Text.{shown};
 ghost use Rattle.chess_line.specs.Cut.{Unspaced, joined, rest_of};
 
@@ -12,7 +13,7 @@ use chess_bits::Colour;
 use chess_entry::Text;
 
 /// The text up to its first space and what follows that space; the whole text where it has none.
-pub fn cut(text: &str) -> (&str, Option<&str>)
+pub fn cut_word(text: &str) -> (&str, Option<&str>)
     ensures unspaced { Unspaced result.0.now }
     ensures joined { text.entry.now ≡ joined result.0.now (rest_of result.1) }
 {
@@ -23,7 +24,7 @@ pub fn cut(text: &str) -> (&str, Option<&str>)
 }
 
 /// The number that a field tells, in its one spelling.
-pub fn number_named(text: &str) -> Option<u32>
+pub fn field_number(text: &str) -> Option<u32>
     ensures some { IfSome result (λ n. IsNumber n × (text.now ≡ decimal n)) }
     ensures every { (n : ℕ) → IsNumber n → text.now ≡ decimal n → result ≡ Some n }
 {
@@ -37,7 +38,7 @@ pub fn take_number(text: &str) -> Option<(u32, &str)>
         → IsSomeAnd result (λ p. (p.0 ≡ n) × (p.1.now ≡ rest)) }
 {
     let (field, rest) = text.split_once(' ')?;
-    let number = number_named(field)?;
+    let number = field_number(field)?;
     Some((number, rest))
 }
 
@@ -48,13 +49,13 @@ pub fn times_named(text: &str) -> Option<(u32, Option<(u32, u32)>)>
         → result ≡ Some (initial, period) }
 {
     let Some((moves, rest)) = text.split_once('/') else {
-        let initial = number_named(text)?;
+        let initial = field_number(text)?;
         return Some((initial, None));
     };
     let (initial, second) = rest.split_once(':')?;
-    let moves = number_named(moves)?;
-    let initial = number_named(initial)?;
-    let second = number_named(second)?;
+    let moves = field_number(moves)?;
+    let initial = field_number(initial)?;
+    let second = field_number(second)?;
     Some((initial, Some((moves, second))))
 }
 

@@ -4,7 +4,7 @@ ghost use Rattle.chess_line.specs.declared.lines.Request.{Request};
 ghost use Rattle.chess_line.specs.Line.{HasForm, IsLineOf, SameLine};
 
 use crate::acts::read_act;
-use crate::fields::cut;
+use crate::fields::cut_word;
 use chess_entry::{Act, Name};
 use std::str;
 
@@ -22,7 +22,7 @@ fn read(text: &str) -> Option<Request>
     ensures some { IfSome result (HasForm text.now) }
     ensures every { (line : Request) → HasForm text.now line → IsSomeAnd result (SameLine line) }
 {
-    let (word, rest) = cut(text);
+    let (word, rest) = cut_word(text);
     let Some(rest) = rest else {
         return if word == "list" {
             Some(Request::Act(Act::List))

@@ -2,6 +2,7 @@
 use Rattle.std.specs.Prelude.{ℕ, ◌≡◌, ◌⊎◌, ◌<◌, ◌≤◌, ◌+◌, ◌*◌, List, [], take, replicate, get_or, codes, Some, Err, IfOk, IfErr}
 use Rattle.std.proofs.Common.{arith, ap, sym, subst, inl, inr}
 use Rattle.std.proofs.lemmas.List.{get_or-replicate}
+use Rattle.std.proofs.lemmas.Result.{IfErr-weaker}
 use Rattle.rec_codec.specs.declared.limits.Limits.{Limits}
 use Rattle.rec_codec.specs.declared.record.Entry.{Entry}
 use Rattle.rec_codec.specs.Limits.{half_sectors, need}
@@ -26,7 +27,6 @@ use Rattle.chess_lives.specs.Courses.{Course}
 use Rattle.chess_lives.specs.Lives.{IsBegun, IsReport}
 use Rattle.chess_lives.specs.Stops.{IsCutShort, IsReturned}
 use Rattle.chess_lives.specs.Drill.{IsLivedInMemory, IsUnbegun, IsFaultInMemory}
-use Rattle.chess_lives.proofs.LivesLemmas.{IfErr-map}
 
 -- ---- a new device
 
@@ -113,15 +113,15 @@ pub lived_out : (limits : Limits) (lives : List Life) (lived : Lived MemoryDevic
 lived_out limits lives lived failures none reported images returned sectors =
     let now = state_of lived.device in
     let after = lived.device.failures in
-    let ended = IfErr-map lived.report (λ fault. IsCutShort limits [] failures lives fault now after)
-    (λ fault. IsUnbegun fault after ⊎ IsCutShort limits [] 0 lives fault now after) returned
-    (λ fault is. inr (subst (λ (n : ℕ). IsCutShort limits [] n lives fault now after) none is)) in
+    let ended = IfErr-weaker lived.report (λ fault. IsCutShort limits [] failures lives fault now after)
+    (λ fault. IsUnbegun fault after ⊎ IsCutShort limits [] 0 lives fault now after)
+    (λ fault is. inr (subst (λ (n : ℕ). IsCutShort limits [] n lives fault now after) none is)) returned in
     record {
       reported = subst (λ (n : ℕ). IfOk lived.report (λ report. IsReport limits [] n lives report after)) none reported;
       images = images;
       returned = ended;
-      fault = IfErr-map lived.report (λ fault. IsUnbegun fault after ⊎ IsCutShort limits [] 0 lives fault now after)
-          IsFaultInMemory ended (λ fault is. ended_fault limits lives fault now after is);
+      fault = IfErr-weaker lived.report (λ fault. IsUnbegun fault after ⊎ IsCutShort limits [] 0 lives fault now after)
+          IsFaultInMemory (λ fault is. ended_fault limits lives fault now after is) ended;
       sectors = sectors;
     }
 

@@ -1,7 +1,7 @@
 -- What tables say of the lists that they are of, and lives one after the other.
-use Rattle.std.specs.Prelude.{ℕ, zero, suc, ◌≡◌, ◌⊎◌, ◌+◌, ◌<◌, List, [], ◌∷◌, ◌++◌, length, take, get_or, Option, Some, None, IsSome, Result, Ok, Err, IfOk, IfErr}
+use Rattle.std.specs.Prelude.{ℕ, zero, suc, ◌≡◌, ◌⊎◌, ◌+◌, ◌<◌, List, [], ◌∷◌, ◌++◌, length, take, get_or, Option, Some, None, IsSome, Result, Ok, Err, IfOk}
 use Rattle.std.proofs.Common.{arith, ap, sym, subst, ◌∙◌, refl, inl, inr, append_assoc}
-use Rattle.std.proofs.lemmas.List.{append-nil, take_more}
+use Rattle.std.proofs.lemmas.List.{append-nil}
 use Rattle.chess_board.specs.Legal.{EachOf}
 use Rattle.rec_codec.specs.declared.limits.Limits.{Limits}
 use Rattle.rec_codec.specs.declared.limits.Version.TheVariants.{Two}
@@ -12,9 +12,9 @@ use Rattle.sector_dev.specs.Device.{State, HasRisen}
 use Rattle.chess_entry.specs.declared.commands.Command.{Command}
 use Rattle.chess_entry.specs.State.{GameState, TableState}
 use Rattle.chess_entry.specs.Games.{table_of}
-use Rattle.chess_entry.specs.Follow.{follow}
 use Rattle.chess_entry.specs.Lawful.{IsLawful}
-use Rattle.chess_entry.specs.Table.{IsOnTable, followed}
+use Rattle.chess_entry.specs.Table.{IsOnTable}
+use Rattle.chess_table.proofs.StoredLemmas.{limits_same}
 use Rattle.chess_store.specs.declared.fault.StoreFault.{StoreFault}
 use Rattle.chess_store.specs.declared.fault.StoreFault.TheVariants.{Exists, TooSmall, NotOurs, Damaged, Device, NoMemory, Worn, Failed}
 use Rattle.chess_store.specs.Batch.{IsAnswered}
@@ -32,14 +32,10 @@ use Rattle.chess_lives.proofs.LawfulEntries.{Gives, Gives-more}
 
 -- ---- the limits that an image names are in range
 
-followed-limits : (table : TableState) (es : List Entry) → (followed table es).limits ≡ table.limits
-followed-limits table [] = refl
-followed-limits table (e ∷ es) = followed-limits (follow table e) es
-
 pub Means-in_range : (image : Sectors) (table : TableState) → Means image table → IsInRange Two table.limits
 Means-in_range image table m =
     subst (λ (limits : Limits). IsInRange Two limits)
-    (sym (ap (λ (t : TableState). t.limits) m.means.is ∙ followed-limits m.means.snapshot m.means.list))
+    (sym (ap (λ (t : TableState). t.limits) m.means.is ∙ limits_same m.means.snapshot m.means.list))
     m.means.bounds.limits
 
 -- ---- batches that are judged on the table of a list
@@ -483,19 +479,6 @@ pub IfOk-both : {T E : Type 0} (r : Result T E) (P Q R : T → Type 0) → IfOk 
     → ((x : T) → P x → Q x → R x) → IfOk r R
 IfOk-both (Ok x) P Q R p q both = both x p q
 IfOk-both (Err e) P Q R p q both = tt
-
-pub IfOk-map : {T E : Type 0} (r : Result T E) (P Q : T → Type 0) → IfOk r P → ((x : T) → P x → Q x) → IfOk r Q
-IfOk-map (Ok x) P Q p next = next x p
-IfOk-map (Err e) P Q p next = tt
-
-pub IfErr-map : {T E : Type 0} (r : Result T E) (P Q : E → Type 0) → IfErr r P → ((e : E) → P e → Q e) → IfErr r Q
-IfErr-map (Ok x) P Q p next = tt
-IfErr-map (Err e) P Q p next = next e p
-
-pub take-more_at : {A : Type 0} (xs : List A) (i : ℕ) (x : A) → i < length xs → x ≡ get_or xs i x
-    → take (i + 1) xs ≡ take i xs ++ x ∷ []
-take-more_at {A = A} xs i x lt is =
-    take_more xs i x lt ∙ ap (λ (z : A). take i xs ++ z ∷ []) (sym is)
 
 pub around-one : {A : Type 0} (xs : List A) (i : ℕ) (x : A) → i < length xs → x ≡ get_or xs i x
     → (rest : List A) × (xs ≡ take i xs ++ x ∷ rest)

@@ -400,10 +400,6 @@ risen-fault Damaged first old new le counts is = absurd is
 
 -- ---- what holds of each
 
-pub EachOf-push : {A : Type 0} (P : A → Type 0) (xs : List A) (x : A) → EachOf P xs → P x → EachOf P (xs ++ x ∷ [])
-EachOf-push P [] x each one = (one, tt)
-EachOf-push P (y ∷ xs) x each one = (each.0, EachOf-push P xs x each.1 one)
-
 pub EachOf-one : {A : Type 0} (P : A → Type 0) (xs : List A) (i : ℕ) (x : A) → EachOf P xs → i < length xs
     → x ≡ get_or xs i x → P x
 EachOf-one P [] i x each lt is = absurd (omega arith)

@@ -9,8 +9,7 @@ use Rattle.slab.specs.Slab.{get, entries_from, entries}
 use Rattle.session_lines.specs.Lines.{is_feed, HasNoFeed, IsUnfinished, lines_of, has_long_line}
 use Rattle.session_lines.specs.Heard.{Heard, heard, heard_more}
 use Rattle.session_lines.proofs.LineLemmas.{lines-feed, lines-rest, long-feed, long-rest}
-use Rattle.session_lines.proofs.Wholes.{kept-feed, kept-rest}
-use Rattle.line_loop.proofs.Runs.{unfinished-nil}
+use Rattle.session_lines.proofs.Wholes.{kept-feed, kept-rest, unfinished-none}
 use Rattle.rec_codec.specs.declared.record.Entry.{Entry}
 use Rattle.chess_entry.specs.State.{TableState}
 use Rattle.chess_entry.specs.declared.commands.Command.{Command}
@@ -78,8 +77,8 @@ pub hears-feed : (part : List ℕ) → IsUnfinished part →
     heard_more (heard part false) (10 ∷ []) ≡ heard (part ++ 10 ∷ []) false
 hears-feed part u =
     ap (λ (x : List ℕ). heard x (has_long_line (part ++ 10 ∷ [])))
-    (kept-feed part [] u ∙ ap (λ (x : List ℕ). part ++ 10 ∷ x) (kept-rest [] unfinished-nil))
-    ∙ ap (λ (b : Bool). heard (part ++ 10 ∷ []) b) (long-feed part [] u ∙ long-rest [] unfinished-nil)
+    (kept-feed part [] u ∙ ap (λ (x : List ℕ). part ++ 10 ∷ x) (kept-rest [] unfinished-none))
+    ∙ ap (λ (b : Bool). heard (part ++ 10 ∷ []) b) (long-feed part [] u ∙ long-rest [] unfinished-none)
 
 -- it has sent a line, without its line feed
 abbrev pub began : Option (List ℕ) → List ℕ → SessionState
@@ -177,7 +176,7 @@ pub lines-one : (s : Sessions) (sid : ℕ) (name : Option (List ℕ)) (part : Li
 lines-one s sid name part u h =
     ap (turn_lines 1) (waiting-one s sid (asks name part) h)
     ∙ ap (λ (lines : List (List ℕ)). turn_lines 1 (one_waiting sid lines))
-    (lines-feed part [] u ∙ ap (λ (lines : List (List ℕ)). strip_last 13 part ∷ lines) (lines-rest [] unfinished-nil))
+    (lines-feed part [] u ∙ ap (λ (lines : List (List ℕ)). strip_last 13 part ∷ lines) (lines-rest [] unfinished-none))
     ∙ turn-one sid (strip_last 13 part)
 
 taken-one : (line : SessionLine) (taken : List TurnLine) → AreTurnLines (line ∷ []) taken →
@@ -266,7 +265,7 @@ drops-one : (part : List ℕ) (new : Heard) → IsUnfinished part → DropsLine 
     new ≡ heard [] false
 drops-one part new u h =
     let lines : lines_of (part ++ 10 ∷ []) ≡ strip_last 13 part ∷ [] =
-    lines-feed part [] u ∙ ap (λ (x : List (List ℕ)). strip_last 13 part ∷ x) (lines-rest [] unfinished-nil) in
+    lines-feed part [] u ∙ ap (λ (x : List (List ℕ)). strip_last 13 part ∷ x) (lines-rest [] unfinished-none) in
     let some : 0 < length (lines_of (part ++ 10 ∷ [])) = subst (λ (x : List (List ℕ)). 0 < length x) (sym lines)
     (omega arith) in
     let (line, first) = h.taken some in

@@ -6,7 +6,8 @@ use command_words::words_given;
 use journal_words::{copy_journal, format, show_games, widen};
 use server_playing::{run_journal, serve, tell_drill};
 use server_work::{
-    End, Fault, Word, command, end_of_words, end_of_work, name, play_board, read_words, status,
+    End, Fault, Word, command, end_of_words, end_of_work, fault_name, play_board, read_words,
+    status,
 };
 use std::process::ExitCode;
 
@@ -16,7 +17,7 @@ fn main(rt: HostRuntime) -> ExitCode {
         Err(error) => end_with(&rt, &error),
     };
     if let End::Fault(fault) = end {
-        let name = name(fault);
+        let name = fault_name(fault);
         let _ = eprintln!(rt; "fault {name}");
     }
     ExitCode::from(status(end))

@@ -1,11 +1,11 @@
 -- Answers come to their sessions.
-use Rattle.std.proofs.Common.{◌≡◌, ◌≢◌, ℕ, suc, ◌+◌, ◌-◌, ◌<◌, ◌≤◌, true, false, List, [], ◌∷◌, ◌++◌, length, get_or, take, drop, map, refl, ap, sym, subst, ◌∙◌, arith, append_assoc, append-nil, length-append, add-one, Option, Some, None, inl, inr}
+use Rattle.std.proofs.Common.{◌≡◌, ◌≢◌, ℕ, suc, ◌+◌, ◌-◌, ◌<◌, ◌≤◌, true, false, List, [], ◌∷◌, ◌++◌, length, take, drop, map, refl, ap, sym, subst, ◌∙◌, arith, append_assoc, append-nil, length-append, add-one, Option, Some, None, inl, inr}
 use Rattle.std.specs.Prelude.{IsSomeAnd, IfSome, IfNone, option_map, ◌==◌, cond, is_none}
 use Rattle.std.proofs.lemmas.Bool.Decides.{nat_tests}
 use Rattle.std.specs.Option.{MatchOption}
 use Rattle.std.specs.VecDeque.{deque_len, deque_capacity}
 use Rattle.std.proofs.lemmas.Bool.{cases_eq}
-use Rattle.std.proofs.lemmas.List.{map-append, take_all, drop_all, drop_more}
+use Rattle.std.proofs.lemmas.List.{map-append, take_all, drop_all}
 use Rattle.std.proofs.lemmas.List.Elements.{filter-append, All-head, All-tail, All-cons, All-nil}
 use Rattle.slab.specs.Slab.{Slab, get}
 use Rattle.chess_answer.specs.declared.reads.Reply.{Reply}
@@ -15,12 +15,6 @@ use Rattle.chess_sessions.specs.declared.turn.TurnLine.{TurnLine}
 use Rattle.chess_sessions.specs.Session.{Said, said, SessionState, shown, session_at}
 use Rattle.chess_sessions.specs.Answers.{given_name, renamed, own_answer, alone, AreAnswers}
 use Rattle.chess_sessions.specs.Delivery.{DropsLines, Answered, own, name_over, HasAnswered, AllAnswered, IsGiven, HasRoom, HaveRoom, asking_count}
-
--- the item at a place is the first of those that are left
-pub left_from : {X : Type 0} (items : List X) (i : ℕ) (item : X) → i < length items → get_or items i item ≡ item →
-    drop i items ≡ item ∷ drop (i + 1) items
-left_from items i item within is =
-    drop_more items i item within ∙ ap (λ first. first ∷ drop (i + 1) items) is
 
 -- ---- one session
 

@@ -95,10 +95,6 @@ module _ {T : Type 0} where
       → P fault → IfErr made P
   of_fault made y fault P is same p = subst (λ (r : Result T HubFault). IfErr r P) (sym is) (subst P (sym same) p)
 
-  pub at_err : (made : Result T HubFault) (fault : HubFault) (P : HubFault → Type 0) → made ≡ Err fault → IfErr made P
-      → P fault
-  at_err made fault P is p = subst (λ (r : Result T HubFault). IfErr r P) is p
-
 submit_fault : (fault : StoreFault) (seq : ℕ) (failed : Bool) (before after : TableState) (commands : List Command)
     → IsBatchFault fault seq failed before after commands → IsSubmitFault fault
 submit_fault Exists seq failed before after commands why = why

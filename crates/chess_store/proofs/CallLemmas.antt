@@ -1,10 +1,11 @@
 -- What follows from the result of a call.
-use Rattle.std.specs.Prelude.{◌≡◌, ◌≤◌, ℕ, Bool, Result, Ok, Err, OnOk, OnErr, IfErr, is_err, true, false}
+use Rattle.std.specs.Prelude.{◌≡◌, ℕ, Bool, Result, Ok, Err, OnOk, OnErr, IfErr, is_err, true, false}
 use Rattle.std.proofs.Common.{refl, sym, subst}
 use Rattle.std.proofs.lemmas.Bool.{false≢true}
 use Rattle.sector_dev.specs.declared.device.Device.{Ghosts}
-use Rattle.sector_dev.specs.Device.{State, CountsFailure, HasRisen}
+use Rattle.sector_dev.specs.Device.{State}
 use Rattle.sector_journal.specs.declared.fault.JournalFault.{JournalFault}
+use Rattle.sector_journal.proofs.CommittedLemmas.{counts_ok, counts_err}
 use Rattle.chess_store.specs.Committing.{IsTried}
 use Rattle.chess_store.specs.declared.fault.StoreFault.{StoreFault}
 use Rattle.chess_store.specs.declared.fault.StoreFault.TheVariants.{Device, NoMemory, Worn}
@@ -22,20 +23,9 @@ pub err_of : {T E : Type 0} (r : Result T E) (P : Type 0) → is_err r ≡ true 
 err_of (Ok x) P err holds = absurd (false≢true err)
 err_of (Err e) P err holds = holds
 
--- how the failures of a call that did not fail are counted
-pub same_of : {T E : Type 0} (r : Result T E) (old new : ℕ) → is_err r ≡ false → CountsFailure r old new → new ≡ old
-same_of (Ok x) old new made counts = counts
-same_of (Err e) old new made counts = absurd (false≢true (sym made))
-
 -- want of memory is not worn out
 pub not_worn : {T : Type 0} (r : Result T StoreFault) (e : StoreFault) → r ≡ Err e → e ≡ NoMemory → r ≡ Err Worn → ⊥
 not_worn r e is memory worn = cc
-
--- how the failures of a call that failed are counted
-pub risen_of : {T E : Type 0} (r : Result T E) (old new : ℕ) → is_err r ≡ true → CountsFailure r old new
-    → HasRisen old new × (old ≤ new)
-risen_of (Ok x) old new err counts = absurd (false≢true err)
-risen_of (Err e) old new err counts = counts
 
 -- where the device alone can be at fault, nothing is said of other faults
 pub unless_device : {T : Type 0} (r : Result T StoreFault) (P : Type 0) → IfErr r IsDevice
@@ -121,7 +111,7 @@ module _ {D T : Type 0} (state : D → State) (sector_count failures : D → ℕ
       sectors = tried.size;
       works = works;
       fails = tt;
-      cause = same_of given (failures old) (failures new) made tried.count;
+      cause = counts_ok given (failures old) (failures new) made tried.count;
       cause_err = tt;
     }
 
@@ -134,5 +124,5 @@ module _ {D T : Type 0} (state : D → State) (sector_count failures : D → ℕ
       works = tt;
       fails = λ is. refl;
       cause = tt;
-      cause_err = risen_of given (failures old) (failures new) err tried.count;
+      cause_err = counts_err given (failures old) (failures new) err tried.count;
     }

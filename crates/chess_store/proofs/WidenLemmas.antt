@@ -24,10 +24,11 @@ use Rattle.chess_entry.specs.Snapshot.{IsSnapshotOf, IsMeaning}
 use Rattle.chess_entry.proofs.MeaningMore.{AreEnteredOn-none, IsMeaning-of}
 use Rattle.chess_table.specs.Widened.{with_limits}
 use Rattle.chess_table.proofs.Kept.{IsTable-widen}
+use Rattle.chess_table.proofs.StoredLemmas.{limits-meaning}
 use Rattle.chess_store.specs.Means.{MeansEither, IsKept, IsJournalKept}
 use Rattle.chess_store.specs.Committing.{IsBatch, JournalLasts}
 use Rattle.chess_store.specs.Widening.{IsWidenTried, SnapshotLasts}
-use Rattle.chess_store.proofs.CommitLemmas.{meaning_limits, switched_lasts, tried_so, limited_err_so}
+use Rattle.chess_store.proofs.CommitLemmas.{switched_lasts, tried_so, limited_err_so}
 
 -- ---- the table
 
@@ -71,7 +72,7 @@ module _ {D : Type 0} {ghosts : Ghosts D} (old new : Journal D ghosts) (result :
       → SnapshotLasts old new result snapshot (with_limits limits)
   widen_lasts limits snapshot range games plies switches table sound taken kept =
       let header = old.header in
-      let same = meaning_limits header.limits kept.base kept.tail table kept.means in
+      let same = limits-meaning header.limits kept.base kept.tail table kept.means in
       switched_lasts old new result (content (widened_header header limits (length snapshot)) snapshot []) switches
       table (with_limits limits table) kept
       (wider_means limits table snapshot sound range

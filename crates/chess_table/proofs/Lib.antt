@@ -14,4 +14,4 @@ mod WhichReads
 pub mod Comings
 pub mod AllowedLemmas
 mod StandLemmas
-mod StoredLemmas
+pub mod StoredLemmas

@@ -2,6 +2,7 @@
 use Rattle.std.proofs.Common.{ℕ, zero, suc, ◌≡◌, ◌<◌, ◌≤◌, List, [], ◌∷◌, ◌++◌, length, get_or, refl, sym, ap, subst, arith}
 use Rattle.std.specs.Prelude.{Bool, true, false, if◌then◌else◌, filter, map}
 use Rattle.chess_board.specs.Legal.{EachOf}
+use Rattle.chess_board.proofs.EachOfLemmas.{EachOf-push}
 use Rattle.chess_entry.specs.State.{GameState}
 use Rattle.chess_entry.specs.Table.{AreRising}
 
@@ -26,10 +27,6 @@ EachOf-at P (x ∷ xs) (suc i) d each within = EachOf-at P xs i d each.1 (omega 
 pub EachOf-weaker : {A : Type 0} (P Q : A → Type 0) (xs : List A) → ((x : A) → P x → Q x) → EachOf P xs → EachOf Q xs
 EachOf-weaker P Q [] weaker each = tt
 EachOf-weaker P Q (x ∷ xs) weaker each = (weaker x each.0, EachOf-weaker P Q xs weaker each.1)
-
-pub EachOf-push : {A : Type 0} (P : A → Type 0) (xs : List A) (y : A) → EachOf P xs → P y → EachOf P (xs ++ y ∷ [])
-EachOf-push P [] y each last = (last, tt)
-EachOf-push P (x ∷ xs) y each last = (each.0, EachOf-push P xs y each.1 last)
 
 pub EachOf-map : {A : Type 0} (P Q : A → Type 0) (f : A → A) (xs : List A) → ((x : A) → P x → Q (f x)) → EachOf P xs
     → EachOf Q (map f xs)

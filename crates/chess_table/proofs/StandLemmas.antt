@@ -1,5 +1,5 @@
 -- Games that may stand on a table, checked one after the other, and the table that has them.
-use Rattle.std.proofs.Common.{ℕ, ◌≡◌, ◌+◌, ◌≤◌, ◌<◌, ◌^◌, List, [], ◌∷◌, length, get_or, drop, suc, arith, ap, sym, subst, ◌∙◌, add-one, drop-cons}
+use Rattle.std.proofs.Common.{ℕ, ◌≡◌, ◌+◌, ◌≤◌, ◌<◌, ◌^◌, List, [], ◌∷◌, length, get_or, drop, arith, sym, subst}
 use Rattle.chess_board.specs.Legal.{EachOf}
 use Rattle.rec_codec.specs.declared.limits.Limits.{Limits}
 use Rattle.rec_codec.specs.declared.limits.Version.TheVariants.{Two}
@@ -7,6 +7,7 @@ use Rattle.rec_codec.specs.Limits.{IsInRange}
 use Rattle.rec_codec.specs.declared.record.Meta.{Meta}
 use Rattle.chess_entry.specs.State.{GameState, TableState}
 use Rattle.chess_entry.specs.Table.{IsOnTable}
+use Rattle.chess_entry.proofs.Places.{drop_at}
 use Rattle.chess_table.specs.Stored.{table_from, StandFrom, IsStanding}
 use Rattle.chess_table.proofs.Rising.{EachOf-weaker, Rise, Rise-of, AreRising-of}
 
@@ -75,11 +76,6 @@ AreWell-of limits games meta is =
 
 -- ---- one game after the other
 
-item_first : (games : List GameState) (i : ℕ) (game : GameState) → i < length games → game ≡ get_or games i game →
-    drop i games ≡ game ∷ drop (i + 1) games
-item_first games i game below here =
-    rw add-one (drop-cons games i game below ∙ ap (λ (g : GameState). g ∷ drop (suc i) games) (sym here))
-
 -- All games may stand just where those from a place on do.
 pub record GoesOn (table : TableState) (games : List GameState) (before i : ℕ) : Type 0 where
   pub forth : StandFrom table 0 games → StandFrom table before (drop i games)
@@ -90,14 +86,14 @@ pub stands_not : (table : TableState) (games : List GameState) (before i : ℕ) 
     GoesOn table games before i → i < length games → game ≡ get_or games i game →
     (before < game.number → IsOnTable table game → ⊥) → StandFrom table 0 games → ⊥
 stands_not table games before i game goes below here not_here all =
-    let stand = subst (StandFrom table before) (item_first games i game below here) (goes.forth all) in
+    let stand = subst (StandFrom table before) (drop_at games i game below here) (goes.forth all) in
     not_here stand.0 stand.1
 
 pub GoesOn-more : (table : TableState) (games : List GameState) (before i : ℕ) (game : GameState) →
     GoesOn table games before i → i < length games → game ≡ get_or games i game → before < game.number →
     IsOnTable table game → GoesOn table games game.number (i + 1)
 GoesOn-more table games before i game goes below here rises on =
-    let first = item_first games i game below here in
+    let first = drop_at games i game below here in
     record {
       forth = λ all. (subst (StandFrom table before) first (goes.forth all)).2;
       back = λ rest. goes.back (subst (StandFrom table before) (sym first) (rises, on, rest));

@@ -6,8 +6,8 @@ use Rattle.std.proofs.lemmas.Bool.{leb-true, leb-false, or_parts, eqb-true, not-
 use Rattle.std.proofs.lemmas.Bool.Decides.{nat_tests}
 use Rattle.arrayvec.specs.ArrayString.{ArrayString}
 use Rattle.chess_bits.specs.declared.men.Colour.{Colour}
-use Rattle.chess_bits.specs.declared.men.Colour.TheVariants.{White, Black}
-use Rattle.chess_bits.specs.Man.{is_colour, other}
+use Rattle.chess_bits.specs.Man.{other}
+use Rattle.chess_bits.proofs.ManLemmas.{is_colour-true}
 use Rattle.chess_board.specs.declared.moves.Move.{Move}
 use Rattle.chess_board.specs.Position.{Position}
 use Rattle.chess_board.specs.Legal.{EachOf, IsLegal}
@@ -64,12 +64,6 @@ third true false true a b c v j o f = refl
 third true false false a b c v j o f = absurd (cc)
 third true true f a b c v j o up = absurd (cc)
 third false o f a b c v j so up = absurd (cc)
-
-is_colour-same : (a b : Colour) → is_colour a b ≡ true → a ≡ b
-is_colour-same White White h = refl
-is_colour-same Black Black h = refl
-is_colour-same White Black h = absurd (cc)
-is_colour-same Black White h = absurd (cc)
 
 something : (move : Option Move) → is_none move ≡ false → true ≡ is_some move
 something None h = absurd (cc)
@@ -186,7 +180,7 @@ module _ (table : TableState) (is : IsTable table) (at : ℕ) (from : table.mome
     entered _ e h,
     ap (λ (n : ℕ). move_verdict table at n (Some m) game (position_of game).side) (sym same)
         ∙ ap (λ (s : Colour). move_verdict table at ply (Some m) game s)
-        (sym (is_colour-same side (position_of game).side mover))
+        (sym (is_colour-true side (position_of game).side mover))
         ∙ verdict,
   )
 

@@ -35,12 +35,12 @@ fare_empty true true first = refl
 fare_empty false true first = refl
 fare_empty false false first = refl
 
-abbrev state : Option (List ℕ) → Heard → List Said → Bool → SessionState
-state name heard answers left = record { name = name; heard = heard; answers = answers; has_left = left }
+abbrev pub session_state : Option (List ℕ) → Heard → List Said → Bool → SessionState
+session_state name heard answers left = record { name = name; heard = heard; answers = answers; has_left = left }
 
 due_given : (name : Option (List ℕ)) (heard : Heard) (answers : List Said) (left : Bool) (a : Said) →
-    Some a ≡ first_due (due (state name heard answers left)) →
-    due (state name heard answers left) ≡ a ∷ due (given_one (state name heard answers left))
+    Some a ≡ first_due (due (session_state name heard answers left)) →
+    due (session_state name heard answers left) ≡ a ∷ due (given_one (session_state name heard answers left))
 due_given name heard [] left a first = fare_given (is_done heard) left a first
 due_given name heard (x ∷ xs) left a first =
     let same : Some a ≡ Some x = first in
@@ -48,13 +48,14 @@ due_given name heard (x ∷ xs) left a first =
     ap (λ y. y ∷ (xs ++ fare (is_done heard) left)) is
 
 due_none : (name : Option (List ℕ)) (heard : Heard) (answers : List Said) (left : Bool) →
-    None ≡ first_due (due (state name heard answers left)) →
-    due (given_one (state name heard answers left)) ≡ due (state name heard answers left)
+    None ≡ first_due (due (session_state name heard answers left)) →
+    due (given_one (session_state name heard answers left)) ≡ due (session_state name heard answers left)
 due_none name heard [] left first = fare_none (is_done heard) left first
 due_none name heard (x ∷ xs) left first = absurd (let bad : None ≡ Some x = first in cc)
 
 due_empty : (name : Option (List ℕ)) (heard : Heard) (answers : List Said) (left : Bool) →
-    None ≡ first_due (due (state name heard answers left)) → due (given_one (state name heard answers left)) ≡ []
+    None ≡ first_due (due (session_state name heard answers left)) →
+    due (given_one (session_state name heard answers left)) ≡ []
 due_empty name heard [] left first = fare_empty (is_done heard) left first
 due_empty name heard (x ∷ xs) left first = absurd (let bad : None ≡ Some x = first in cc)
 

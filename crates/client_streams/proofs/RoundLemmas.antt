@@ -24,6 +24,7 @@ use Rattle.client_streams.proofs.PortionLemmas.{none-dear}
 use Rattle.client_streams.proofs.HeardLemmas.{heard_as_before, end_as_before}
 use Rattle.client_streams.proofs.TakingLemmas.{takes-kept, takes-in, some_at, up_unfinished, waits-still, waits-for, gives-none-up, gives-closed}
 use Rattle.client_streams.specs.Rounds.{Intake, intake, Holds, AreEach, PassesClosed, IsSent, IsRead, AreGivenTo, AreGiven, IsGivenOut, IsHandedOut, IsWritten}
+use Rattle.client_streams.proofs.ClientLemmas.{session_state}
 
 -- ---- sessions that are as they were
 
@@ -487,9 +488,6 @@ given_more sid a b c h k = record {
 given_later : (sid : ℕ) (a b c : Sessions) → IsUnchanged a b → AreGiven sid b c → AreGiven sid a c
 given_later sid a b c h k = record { answers = k.answers; given = given_since sid k.answers a b c h k.given }
 
-abbrev session : Option (List ℕ) → Heard → List Said → Bool → SessionState
-session name heard answers left = record { name = name; heard = heard; answers = answers; has_left = left }
-
 same_left : (done left : Bool) → None ≡ first_due (if done && not left then farewell ∷ [] else []) → (left || done) ≡ left
 same_left true false none = absurd (let bad : None ≡ Some farewell = none in cc)
 same_left true true none = refl
@@ -498,9 +496,9 @@ same_left false false none = refl
 
 -- a session that nothing is due to stays as it is
 same_one : (name : Option (List ℕ)) (heard : Heard) (answers : List Said) (left : Bool) →
-    None ≡ first_due (due (session name heard answers left)) →
-    given_one (session name heard answers left) ≡ session name heard answers left
-same_one name heard [] left none = ap (session name heard []) (same_left (is_done heard) left none)
+    None ≡ first_due (due (session_state name heard answers left)) →
+    given_one (session_state name heard answers left) ≡ session_state name heard answers left
+same_one name heard [] left none = ap (session_state name heard []) (same_left (is_done heard) left none)
 same_one name heard (x ∷ xs) left none = absurd (let bad : None ≡ Some x = none in cc)
 
 -- one call of `output`

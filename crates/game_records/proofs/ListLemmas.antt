@@ -6,6 +6,7 @@ use Rattle.std.proofs.Math.Seq.{drop-append_seam}
 use Rattle.std.proofs.lemmas.List.{append-nil}
 use Rattle.std.proofs.lemmas.Grind.{flat_map-append}
 use Rattle.chess_board.specs.Legal.{EachOf}
+use Rattle.chess_board.proofs.EachOfLemmas.{EachOf-push}
 use Rattle.rec_codec.specs.declared.record.Record.{Record}
 use Rattle.chess_entry.specs.State.{GameState}
 use Rattle.chess_entry.specs.Bounds.{IsGame}
@@ -13,10 +14,6 @@ use Rattle.chess_entry.specs.Snapshot.{StoredGame, moves_record, records_of, Are
 use Rattle.game_records.specs.Part.{StartsWithGame, StartsWithNone, HoldsGames}
 use Rattle.game_records.proofs.ReadLemmas.{after_head}
 use Rattle.game_records.proofs.GamesLemmas.{AreStoredAs-more}
-
-EachOf-more : {A : Type 0} (P : A → Type 0) (xs : List A) (x : A) → EachOf P xs → P x → EachOf P (xs ++ x ∷ [])
-EachOf-more P [] x each last = (last, tt)
-EachOf-more P (y ∷ xs) x each last = (each.0, EachOf-more P xs x each.1 last)
 
 -- records, of which a front holds games
 pub record HoldsSoFar (records rest : List Record) (games : List GameState) : Type 0 where
@@ -46,7 +43,7 @@ HoldsSoFar-more records rest games game many before is_game starts = record {
   holds = record {
     parts = before.holds.parts ++ starts.part ∷ [];
     stored = AreStoredAs-more games before.holds.parts game starts.part before.holds.stored starts.stored;
-    are_games = EachOf-more (IsGame 20000) games game before.holds.are_games is_game;
+    are_games = EachOf-push (IsGame 20000) games game before.holds.are_games is_game;
     kept =
         ap (λ (rs : List Record). rs ++ records_of starts.part) before.holds.kept
         ∙ ap (λ (rs : List Record). flat_map records_of before.holds.parts ++ rs)

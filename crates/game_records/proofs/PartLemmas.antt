@@ -1,7 +1,7 @@
 -- Records with one run more, and with a game's part.
 use Rattle.std.specs.Prelude.{ℕ, ◌≡◌, ◌≤◌, ◌<◌, ◌+◌, min, List, [], ◌∷◌, ◌++◌, length, map, Result, Ok, Err, OnOk, OnErr}
-use Rattle.std.proofs.Common.{arith, ap, sym, subst, ◌∙◌, refl, length-append, append_assoc}
-use Rattle.std.proofs.lemmas.List.{append-nil, map-append}
+use Rattle.std.proofs.Common.{arith, ap, sym, subst, ◌∙◌, length-append, append_assoc}
+use Rattle.std.proofs.lemmas.List.{append-nil, map-append, nil_from_length}
 use Rattle.chess_board.specs.declared.moves.Move.{Move}
 use Rattle.rec_codec.specs.declared.record.Record.{Record}
 use Rattle.rec_codec.specs.declared.record.Record.TheVariants as kind
@@ -9,10 +9,6 @@ use Rattle.chess_entry.specs.State.{GameState}
 use Rattle.chess_entry.specs.Snapshot.{AreRuns, moves_record}
 use Rattle.game_records.specs.Part.{IsFrontOf, HasHeadMore, HasRunsMore, HasGameMore}
 use Rattle.game_records.proofs.RunLemmas.{AreRuns-none, AreRuns-cons}
-
-nil_of : {A : Type 0} (xs : List A) → length xs ≡ 0 → xs ≡ []
-nil_of [] none = refl
-nil_of (x ∷ xs) none = absurd (omega arith)
 
 -- ---- runs, one after the other
 
@@ -60,7 +56,7 @@ pub all_written : (number : ℕ) (front now : List Record) (moves rest : List Mo
 all_written number front now moves rest done none written goes = record {
   runs = done;
   cut = subst (λ (rs : List (List Move)). AreRuns moves rs) (append-nil done)
-      (goes [] (subst (λ (ms : List Move). AreRuns ms []) (sym (nil_of rest none)) AreRuns-none));
+      (goes [] (subst (λ (ms : List Move). AreRuns ms []) (sym (nil_from_length rest none)) AreRuns-none));
   records = written;
 }
 

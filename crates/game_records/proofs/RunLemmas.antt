@@ -1,7 +1,6 @@
 -- Runs with one more in front, and the records that hold them.
 use Rattle.std.specs.Prelude.{ℕ, ◌≡◌, ◌≤◌, ◌<◌, ◌+◌, ◌-◌, min, List, [], ◌∷◌, ◌++◌, length, map}
-use Rattle.std.specs.List.{flat_map}
-use Rattle.std.proofs.Common.{suc, arith, ap, sym, subst, ◌∙◌, refl, length-append, add-one, append_assoc, drop, get_or, drop-cons}
+use Rattle.std.proofs.Common.{arith, ap, sym, subst, ◌∙◌, refl, length-append, append_assoc, drop, get_or}
 use Rattle.std.proofs.Math.ListN.{drop_of_length-le}
 use Rattle.std.proofs.lemmas.List.{append-nil}
 use Rattle.rec_codec.specs.Limits.{ceiling}
@@ -10,6 +9,9 @@ use Rattle.rec_codec.specs.declared.record.Record.{Record}
 use Rattle.rec_codec.specs.declared.record.Moves.{Moves}
 use Rattle.chess_entry.specs.Snapshot.{AreRuns, moves_record}
 use Rattle.chess_entry.proofs.LawfulLists.{nil-not_around}
+use Rattle.chess_entry.proofs.OneMeaning.{moves_part}
+use Rattle.chess_entry.proofs.Places.{drop_at}
+use Rattle.chess_entry.proofs.SnapshotSize.{joined_runs}
 use Rattle.game_records.specs.Part.{HoldsMoves}
 
 pub AreRuns-none : AreRuns [] []
@@ -19,17 +21,14 @@ AreRuns-none = record {
   full = λ before rest run next is. absurd (nil-not_around before run (next ∷ rest) is);
 }
 
-abbrev joined : List (List Move) → List Move
-joined runs = flat_map (λ run. run) runs
-
 -- Runs after a first one have moves.
 length-next : (rest : List Move) (next : List Move) (more runs : List (List Move)) → AreRuns rest runs →
     runs ≡ next ∷ more → 1 ≤ length rest
 length-next rest next more runs are is =
     let one : 1 ≤ length next = (are.some [] more next is).0 in
-    let whole : length (joined (next ∷ more)) ≡ length rest =
-    ap (λ (rs : List (List Move)). length (joined rs)) (sym is) ∙ ap length are.joined in
-    omega (arith, length-append next (joined more))
+    let whole : length (joined_runs (next ∷ more)) ≡ length rest =
+    ap (λ (rs : List (List Move)). length (joined_runs rs)) (sym is) ∙ ap length are.joined in
+    omega (arith, length-append next (joined_runs more))
 
 some_at : (run rest : List Move) (runs : List (List Move)) → 1 ≤ length run → length run ≤ 60 → AreRuns rest runs →
     (before after : List (List Move)) (r : List Move) → run ∷ runs ≡ before ++ r ∷ after →
@@ -76,14 +75,14 @@ most_of run [] moves are =
     let high : length run ≤ 60 = bounds.1 in
     omega (arith, length-append run [])
 most_of run (next ∷ runs) moves are =
-    let whole : length (run ++ joined (next ∷ runs)) ≡ length moves = ap length are.joined in
+    let whole : length (run ++ joined_runs (next ∷ runs)) ≡ length moves = ap length are.joined in
     let full : length run ≡ 60 = are.full [] runs run next refl in
-    omega (arith, length-append run (joined (next ∷ runs)))
+    omega (arith, length-append run (joined_runs (next ∷ runs)))
 
 pub AreRuns-uncons : (moves run : List Move) (runs : List (List Move)) → AreRuns moves (run ∷ runs) →
     IsRunMore moves run runs
 AreRuns-uncons moves run runs are = record {
-  rest = joined runs;
+  rest = joined_runs runs;
   parts = sym are.joined;
   some = (are.some [] runs run refl).0;
   most = most_of run runs moves are;
@@ -148,13 +147,9 @@ pub HoldsMoves-uncons : (number many : ℕ) (first : Record) (records : List Rec
 HoldsMoves-uncons number many first records all holds =
     uncons number many first records all holds.runs holds.cut holds.kept holds.size
 
--- a record has one run
-abbrev part_of : ℕ → List Move → Moves
-part_of number run = record { game = number; moves = run }
-
 pub one_run : (number : ℕ) (run next : List Move) → moves_record number run ≡ moves_record number next → run ≡ next
 one_run number run next same =
-    let parts : part_of number run ≡ part_of number next = cc in
+    let parts : moves_part number run ≡ moves_part number next = cc in
     ap (λ (m : Moves). m.moves) parts
 
 -- ---- gathering the moves of records, one record after the other
@@ -167,12 +162,6 @@ abbrev pub Back : ℕ → ℕ → ℕ → List Record → List Record → Type 0
 Back number many left records rest =
     (all : List Move) → HoldsMoves number many records all → (more : List Move) × HoldsMoves number left rest more
 
-item_first : (records : List Record) (i : ℕ) (first : Record) → i < length records → first ≡ get_or records i first →
-    drop i records ≡ first ∷ drop (i + 1) records
-item_first records i first below here =
-    rw add-one (drop-cons records i first below
-    ∙ ap (λ (r : Record). r ∷ drop (suc i) records) (sym here))
-
 -- A record that is not the next of the moves: the records hold no moves.
 pub no_moves : (number many left : ℕ) (records : List Record) (i : ℕ) (first : Record) → i < length records →
     first ≡ get_or records i first →
@@ -181,7 +170,7 @@ pub no_moves : (number many left : ℕ) (records : List Record) (i : ℕ) (first
 no_moves number many left records i first below here not_next back all holds =
     let rest = back all holds in
     let next = HoldsMoves-uncons number left first (drop (i + 1) records) rest.0
-    (subst (λ (rs : List Record). HoldsMoves number left rs rest.0) (item_first records i first below here) rest.1) in
+    (subst (λ (rs : List Record). HoldsMoves number left rs rest.0) (drop_at records i first below here) rest.1) in
     not_next next.run next.is next.most
 
 pub forth_more : (number many done done' : ℕ) (records : List Record) (i : ℕ) (first : Record)
@@ -196,7 +185,7 @@ forth_more number many done done' records i first run gathered gathered' below h
     let longer = HoldsMoves-cons number (many - done) run more (drop (i + 1) records) low most
     (subst (λ (n : ℕ). HoldsMoves number n (drop (i + 1) records) more) left holds) in
     let list : moves_record number run ∷ drop (i + 1) records ≡ drop i records =
-    ap (λ (r : Record). r ∷ drop (i + 1) records) (sym is) ∙ sym (item_first records i first below here) in
+    ap (λ (r : Record). r ∷ drop (i + 1) records) (sym is) ∙ sym (drop_at records i first below here) in
     let all = forth (run ++ more)
     (subst (λ (rs : List Record). HoldsMoves number (many - done) rs (run ++ more)) list longer) in
     subst (λ (ms : List Move). HoldsMoves number many records ms)
@@ -210,7 +199,7 @@ pub back_more : (number many done done' : ℕ) (records : List Record) (i : ℕ)
 back_more number many done done' records i first run below here is sum back = λ all holds.
     let rest = back all holds in
     let next = HoldsMoves-uncons number (many - done) first (drop (i + 1) records) rest.0
-    (subst (λ (rs : List Record). HoldsMoves number (many - done) rs rest.0) (item_first records i first below here)
+    (subst (λ (rs : List Record). HoldsMoves number (many - done) rs rest.0) (drop_at records i first below here)
     rest.1) in
     let same : length next.run ≡ length run = ap length (one_run number next.run run (sym next.is ∙ is)) in
     let left : many - done - length next.run ≡ many - done' = omega arith in

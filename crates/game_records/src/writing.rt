@@ -49,7 +49,7 @@ fn put_moves(
 
 /// Appends a game's part of a snapshot: its head record, and its moves, 60 a record. It fails where memory is refused; then
 /// the records that were there still are, and some of the game's may stand behind them.
-pub fn write_game(records: &mut Vec<Record>, game: &Game) -> Result<(), AllocError>
+pub fn push_game(records: &mut Vec<Record>, game: &Game) -> Result<(), AllocError>
     ensures written { OnOk result (HasGameMore records.old.items records.new.items game.now) }
     ensures refused { OnErr result (IsFrontOf records.old.items records.new.items) }
 {
@@ -59,12 +59,12 @@ pub fn write_game(records: &mut Vec<Record>, game: &Game) -> Result<(), AllocErr
 
 /// Appends the parts of games, one after the other. It fails where memory is refused; then the records that were there
 /// still are, and some more may stand behind them.
-pub fn write_games(records: &mut Vec<Record>, games: &[Game]) -> Result<(), AllocError>
+pub fn push_games(records: &mut Vec<Record>, games: &[Game]) -> Result<(), AllocError>
     ensures written { OnOk result (HasGamesMore records.old.items records.new.items games.now) }
     ensures refused { OnErr result (IsFrontOf records.old.items records.new.items) }
 {
     for game in games {
-        write_game(records, game)?;
+        push_game(records, game)?;
     }
     Ok(())
 }

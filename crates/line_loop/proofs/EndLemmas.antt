@@ -6,7 +6,7 @@ use Rattle.std.specs.Io.BufRead.{strip_last}
 use Rattle.std.specs.Io.KnownBytes.{Appends, Consumes, Keeps, IsAtEnd}
 use Rattle.session_lines.specs.Lines.{IsUnfinished, lines_of, has_long_line}
 use Rattle.session_lines.proofs.LineLemmas.{lines-feed, long-rest}
-use Rattle.session_lines.proofs.Wholes.{lines-rest_after}
+use Rattle.session_lines.proofs.Wholes.{lines-rest_after, unfinished-none}
 use Rattle.line_loop.specs.Texts.{IsRun, IsText, farewell, AnswersAll, AnswersLong, AnswersUntil, FindsNone, AnswersInPart, Ended}
 use Rattle.std.specs.Prelude.{OnOk, IsErrOf}
 use Rattle.line_loop.specs.declared.answerer.LoopFault.{LoopFault}
@@ -16,7 +16,7 @@ use Rattle.line_loop.specs.Turns.{Moment, IsHeard, HasCome, BreaksAt, Takes}
 use Rattle.line_loop.specs.declared.loops.Flow.{Flow}
 use Rattle.line_loop.specs.declared.loops.Flow.TheVariants.{Open, TooLong, Broken}
 use Rattle.line_loop.specs.declared.outlet.WriteFault.{WriteFault}
-use Rattle.line_loop.proofs.Runs.{unfinished-nil, heard-nothing}
+use Rattle.line_loop.proofs.Runs.{heard-nothing}
 use Rattle.line_loop.proofs.Writes.{said-nothing}
 
 -- where nothing is ready, all was written
@@ -48,7 +48,7 @@ stands-first Asked Answers before now asked line none = record {
   };
   empty = none;
   asked = asked;
-  unfinished = subst IsUnfinished (sym line) unfinished-nil;
+  unfinished = subst IsUnfinished (sym line) unfinished-none;
 }
 
 pub stands-kept : {S : Type 0} (Asked : S → Type 0) (Answers : S → List ℕ → List ℕ → S → Type 0)

@@ -1,10 +1,10 @@
 -- Lines one after another, and what was heard of them.
 use Rattle.std.proofs.Common.{◌≡◌, ℕ, ◌<◌, ◌≤◌, ◌+◌, false, List, [], ◌∷◌, ◌++◌, length, sym, refl, ap, ◌∙◌, subst, append_assoc, append-nil, arith, length-append}
 use Rattle.std.specs.Io.BufRead.{strip_last}
-use Rattle.std.proofs.lemmas.List.Elements.{All-append, All-nil}
+use Rattle.std.proofs.lemmas.List.Elements.{All-append}
 use Rattle.session_lines.specs.Lines.{is_feed, HasNoFeed, IsUnfinished, lines_of, has_long_line}
 use Rattle.session_lines.proofs.LineLemmas.{lines-feed, lines-rest, lines-long, long-long}
-use Rattle.session_lines.proofs.Wholes.{whole-none, whole-line, whole-append}
+use Rattle.session_lines.proofs.Wholes.{whole-none, whole-line, whole-append, unfinished-none}
 use Rattle.line_loop.specs.Texts.{IsRun}
 use Rattle.line_loop.specs.Turns.{IsHeard, IsTooLong, BreaksAt}
 
@@ -29,9 +29,6 @@ run-more Answers s (l ∷ lines) text t line answer u (a, between, more, first, 
   ap (λ (x : List ℕ). x ++ answer) whole ∙ append_assoc a more answer,
 )
 
-pub unfinished-nil : IsUnfinished []
-unfinished-nil = record { no_feed = All-nil (λ b. is_feed b ≡ false); short = omega arith }
-
 -- bytes for which there is room
 pub unfinished-more : (held part : List ℕ) → IsUnfinished held → HasNoFeed part → length held + length part ≤ 255 →
     IsUnfinished (held ++ part)
@@ -41,7 +38,7 @@ unfinished-more held part u n l = record {
 }
 
 pub heard-nothing : IsHeard [] [] []
-heard-nothing = record { whole = []; is = whole-none; lines = lines-rest [] unfinished-nil; cut = refl }
+heard-nothing = record { whole = []; is = whole-none; lines = lines-rest [] unfinished-none; cut = refl }
 
 -- more bytes
 pub heard-more : (taken : List ℕ) (done : List (List ℕ)) (after more : List ℕ) → IsHeard taken done after →
@@ -62,7 +59,7 @@ heard-feed taken done held h u = record {
   lines = h.is.lines (held ++ 10 ∷ [])
       ∙ ap (λ (x : List (List ℕ)). x ++ lines_of (held ++ 10 ∷ [])) h.lines
       ∙ ap (λ (x : List (List ℕ)). done ++ x)
-      (lines-feed held [] u ∙ ap (λ (x : List (List ℕ)). strip_last 13 held ∷ x) (lines-rest [] unfinished-nil));
+      (lines-feed held [] u ∙ ap (λ (x : List (List ℕ)). strip_last 13 held ∷ x) (lines-rest [] unfinished-none));
   cut = ap (λ (x : List ℕ). x ++ 10 ∷ []) h.cut ∙ append_assoc h.whole held (10 ∷ [])
       ∙ sym (append-nil (h.whole ++ (held ++ 10 ∷ [])));
 }

@@ -5,6 +5,7 @@ use Rattle.std.proofs.lemmas.List.{take_more, take_rest}
 use Rattle.std.proofs.lemmas.List.Elements.{All-append}
 use Rattle.std.specs.Io.BufRead.{strip_last}
 use Rattle.session_lines.specs.Lines.{is_feed, HasNoFeed, IsUnfinished}
+use Rattle.session_lines.proofs.Wholes.{unfinished-none}
 use Rattle.line_loop.specs.Texts.{IsRun, farewell}
 use Rattle.line_loop.specs.Outlets.{IsSaid, IsLost, Says, Loses}
 use Rattle.line_loop.specs.Turns.{Moment, IsHeard, IsTooLong, HasCome, AreAnswered, BreaksAt, HasLost, Came, MayGoOn, Takes}
@@ -12,7 +13,7 @@ use Rattle.line_loop.specs.declared.loops.Flow.{Flow}
 use Rattle.line_loop.specs.declared.loops.Flow.TheVariants.{Open, TooLong, Broken}
 use Rattle.line_loop.specs.declared.outlet.WriteFault.{WriteFault}
 use Rattle.std.specs.Prelude.{◌⊎◌}
-use Rattle.line_loop.proofs.Runs.{run-more, unfinished-nil, unfinished-more, heard-more, heard-feed, too-long, too-long-more, breaks-more}
+use Rattle.line_loop.proofs.Runs.{run-more, unfinished-more, heard-more, heard-feed, too-long, too-long-more, breaks-more}
 
 -- no more is taken after this
 abbrev pub IsOver : {F : Type 0} → Result (Flow F) WriteFault → Type 0
@@ -95,7 +96,7 @@ module _ {S F : Type 0} (Asked : S → Type 0) (Answers : S → List ℕ → Lis
       Says old.written old.ready answer new.written new.ready →
       Takes Asked Answers Breaks old (10 ∷ []) (Ok Open) new
   took-feed old new answer asked u none is says = record {
-    next = (asked, subst IsUnfinished (sym none) unfinished-nil);
+    next = (asked, subst IsUnfinished (sym none) unfinished-none);
     came = λ start first taken h. record {
       done = h.done ++ strip_last 13 old.held ∷ [];
       heard = subst (IsHeard (taken ++ 10 ∷ []) (h.done ++ strip_last 13 old.held ∷ [])) (sym none)
@@ -183,7 +184,8 @@ module _ {S F : Type 0} (Asked : S → Type 0) (Answers : S → List ℕ → Lis
   took-whole old new part result asked none none' u takes =
       emptied old new [] (part ++ 10 ∷ []) result (sym none) none'
       (then-takes (record old { held = [] }) (record old { held = part }) (record new { held = [] }) part (10 ∷ []) result
-      (took-part (record old { held = [] }) part part asked unfinished-nil u.no_feed (omega (arith, u.short)) refl) takes)
+      (took-part (record old { held = [] }) part part asked unfinished-none u.no_feed (omega (arith, u.short)) refl)
+      takes)
 
   -- bytes that come after its end change nothing
   answered-more : (start : S) (taken bytes more : List ℕ) (end : S) → AreAnswered Answers start (taken ++ bytes) end →

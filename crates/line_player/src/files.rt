@@ -14,15 +14,9 @@ use chess_entry::Command;
 use chess_store::{Store, StoreFault};
 use file_device::FileDevice;
 use player_lines::commits::{CommitFault, Plan, make_commits};
-use player_lines::{Fault, read_command, read_limits, split};
+use player_lines::{Fault, LIMITS, read_command, read_limits, split};
 use rec_codec::{Limits, need};
 use sector_journal::{Journal, JournalFault, format, open};
-
-// 2 MB: 1,965 sectors of 4 records in each half.
-const LIMITS: Limits = Limits {
-    games: 256,
-    plies: 1_024,
-};
 
 /// The commands that came since the last batches.
 #[derive(Drop)]

@@ -14,7 +14,7 @@ use chess_run::{ListMoments, ReaderSource, RunFault, run};
 use chess_store::Store;
 use player_lines::escapes::bytes_of;
 use player_lines::streams::{Sink, Source, read_manner};
-use player_lines::{Fault, SMALL, Size, push_reply, read_calls, read_size, split};
+use player_lines::{Fault, SMALL, Size, fault_text, push_reply, read_calls, read_size, split};
 use sector_dev::{CrashDevice, MemoryDevice};
 use std::alloc::{AllocError, Global};
 use std::mem;
@@ -151,16 +151,11 @@ fn run_text(alloc: Global, written: &[u8], ended: &Result<(), RunFault>) -> Resu
     }
 }
 
-// What is told of a fault of a hub.
-fn fault_text(alloc: Global, fault: HubFault) -> Result<String, Fault> {
-    Ok(format!(in alloc; "fault {fault:?}\n")?)
-}
-
 // What is told of a call that may be refused.
 fn called_text(alloc: Global, called: Result<(), HubFault>) -> Result<String, Fault> {
     match called {
         Ok(()) => Ok(String::new(alloc)),
-        Err(fault) => fault_text(alloc, fault),
+        Err(fault) => fault_text(alloc, &fault),
     }
 }
 
@@ -174,7 +169,7 @@ fn play_on(
     match word {
         "connect" => match hub.connect() {
             Ok(sid) => Ok(format!(in alloc; "session {sid}\n")?),
-            Err(fault) => fault_text(alloc, fault),
+            Err(fault) => fault_text(alloc, &fault),
         },
         "turn" => turn(alloc, hub, rest),
         "feed" => feed(alloc, hub, rest),

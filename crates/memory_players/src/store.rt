@@ -30,14 +30,14 @@ use chess_entry::Command;
 use chess_store::{Refused, Store};
 use player_lines::sectors::{device_of, digits, lose, put, sectors_of};
 use player_lines::{
-    Fault, Size, fates_of, read_calls, read_command, read_limits, read_size, split,
+    Fault, Size, fates_of, fault_text, read_calls, read_command, read_limits, read_size, split,
 };
 use rec_codec::Limits;
 use sector_dev::{CrashDevice, MemoryDevice, OnceDevice};
 use sector_journal::open;
 use std::alloc::Global;
 use std::mem;
-use texts::{done_text, fault_text, journal_text, replies_text, unread_text};
+use texts::{done_text, journal_text, replies_text, unread_text};
 
 // A device in memory, of which one call can be made to fail.
 type Device = OnceDevice<MemoryDevice>;
@@ -233,7 +233,7 @@ impl StorePlayer {
             Ok(store) => (Ground::Store(store), done_text(self.alloc, word)),
             Err(refused) => (
                 Ground::Device(refused.device.into_device()),
-                fault_text(self.alloc, refused.fault),
+                fault_text(self.alloc, &refused.fault),
             ),
         };
         self.put_ground(ground);
@@ -287,7 +287,7 @@ impl StorePlayer {
         }
         let answer = match store.submit(&self.batch) {
             Ok(replies) => replies_text(self.alloc, &replies),
-            Err(fault) => fault_text(self.alloc, fault),
+            Err(fault) => fault_text(self.alloc, &fault),
         };
         self.batch.clear();
         answer
@@ -305,7 +305,7 @@ impl StorePlayer {
         }
         match chess_store::widen(store, limits) {
             Ok(()) => done_text(self.alloc, "widened"),
-            Err(fault) => fault_text(self.alloc, fault),
+            Err(fault) => fault_text(self.alloc, &fault),
         }
     }
 
@@ -321,7 +321,7 @@ impl StorePlayer {
                 limits.games,
                 limits.plies
             )?),
-            Err(fault) => fault_text(self.alloc, fault),
+            Err(fault) => fault_text(self.alloc, &fault),
         }
     }
 }

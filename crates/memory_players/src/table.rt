@@ -12,18 +12,12 @@ use chess_answer::{AnswerLine, Reply, named_line, refusal_line};
 use chess_entry::{Command, Entry, GREATEST_MOMENT, Name, Refusal, Verdict, know_name};
 use chess_line::{Request, parse};
 use chess_table::{Table, judge};
-use player_lines::{Fault, Sent, push_reply, read_limits, read_sent, split, text_line};
+use player_lines::{Fault, LIMITS, Sent, push_reply, read_limits, read_sent, split, text_line};
 use rec_bytes::write_record;
 use rec_codec::{Limits, Record};
 use std::alloc::{AllocError, Global};
 use std::mem;
 use stored::{Change, Stored};
-
-// The limits of the table before one is asked for.
-const LIMITS: Limits = Limits {
-    games: 256,
-    plies: 1_024,
-};
 
 /// A table, where it takes its memory, and its records, where they were wanted.
 #[derive(Drop)]

@@ -62,7 +62,7 @@ pub fn answer(line: &str) -> Result<u64, Fault>
 }
 
 /// The name of a fault, that of its innermost part.
-pub fn name(fault: Fault) -> &'static str
+pub fn fault_name(fault: Fault) -> &'static str
     ensures { result.now ≡ fault_name fault }
 {
     match fault {

@@ -4,7 +4,7 @@
 mod answers;
 mod lines;
 
-use answers::{answer, name};
+use answers::{answer, fault_name};
 use std::io;
 use std::io::{BufRead, BufReader};
 
@@ -15,7 +15,7 @@ fn main(rt: HostRuntime) -> io::Result<()> {
         match answer(line.as_str()) {
             Ok(count) => println!(rt; "{count}")?,
             Err(fault) => {
-                let name = name(fault);
+                let name = fault_name(fault);
                 println!(rt; "fault {name}")?
             }
         }

@@ -1,6 +1,8 @@
 //! Answers as text.
+use crate::fault::Fault;
 use chess_answer::Reply;
 use std::alloc::{AllocError, Global};
+use std::fmt;
 
 /// Appends a reply: its line with a line feed, and the lines behind it.
 pub fn push_reply(text: &mut String, reply: &Reply) -> Result<(), AllocError> {
@@ -12,4 +14,9 @@ pub fn push_reply(text: &mut String, reply: &Reply) -> Result<(), AllocError> {
 /// A word as a line.
 pub fn text_line(alloc: Global, word: &str) -> Result<String, AllocError> {
     format!(in alloc; "{word}\n")
+}
+
+/// What a fault says.
+pub fn fault_text<E: fmt::Debug>(alloc: Global, fault: &E) -> Result<String, Fault> {
+    Ok(format!(in alloc; "fault {fault:?}\n")?)
 }

@@ -14,9 +14,10 @@ pub mod sectors;
 pub mod streams;
 mod words;
 
-pub use answers::{push_reply, text_line};
+pub use answers::{fault_text, push_reply, text_line};
 pub use fault::Fault;
 pub use playing::{LinePlayer, play_lines};
 pub use words::{
-    SMALL, Sent, Size, fates_of, read_calls, read_command, read_limits, read_sent, read_size, split,
+    LIMITS, SMALL, Sent, Size, fates_of, read_calls, read_command, read_limits, read_sent,
+    read_size, split,
 };

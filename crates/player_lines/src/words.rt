@@ -17,6 +17,12 @@ pub struct Size {
     pub limits: Limits,
 }
 
+/// 256 games of 1,024 moves, whose journal takes 2 MB: 1,965 sectors of 4 records in each half.
+pub const LIMITS: Limits = Limits {
+    games: 256,
+    plies: 1_024,
+};
+
 /// Four games of 60 moves, on as few sectors as they need.
 pub const SMALL: Size = Size {
     sectors: 212,

@@ -8,6 +8,7 @@ use Rattle.std.proofs.lemmas.List.{take_at, drop_at, take_more, take-append-drop
 use Rattle.byteorder.specs.Endian.{little_bytes, little_number, IsRead}
 use Rattle.byteorder.specs.Numbers.{little_number-reads_back}
 use Rattle.chess_bits.specs.Square.{IsOnBoard}
+use Rattle.chess_bits.proofs.TableLemmas.{IsOnBoard-square_at}
 use Rattle.chess_board.specs.declared.moves.Move.{Move}
 use Rattle.rec_codec.specs.declared.moves.MoveList.TheInside.{Inside}
 use Rattle.rec_codec.specs.Moves.{CanBecome, IsStorable, IsMoveList, promotion_of, move_code, move_of, move_code-move_of, codes_of, are_codes}

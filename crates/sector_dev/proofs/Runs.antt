@@ -1,5 +1,5 @@
 -- How a run of device calls goes on.
-use Rattle.std.proofs.Common.{◌≡◌, ◌<◌, ◌++◌, ◌∷◌, [], inl, inr, refl, sym, ◌∙◌, ap, subst, ⊎_elim, ℕ, List, length, arith}
+use Rattle.std.proofs.Common.{◌≡◌, ◌≤◌, ◌<◌, ◌++◌, ◌∷◌, [], inl, inr, refl, sym, ◌∙◌, ap, subst, ⊎_elim, ℕ, List, length, arith}
 use Rattle.std.specs.Prelude.{slice_set, Result, Ok, Err, IsErr}
 use Rattle.std.proofs.lemmas.Bool.{cases_lt, false≢true}
 use Rattle.std.proofs.lemmas.List.{get_or-set_other, get_or_past}

@@ -83,7 +83,7 @@ fn hub_name(fault: HubFault) -> &'static str
 }
 
 /// The name of a fault, which stands after `fault ` on standard error: that of the innermost.
-pub fn name(fault: Fault) -> &'static str
+pub fn fault_name(fault: Fault) -> &'static str
     ensures { result.now ≡ name_of fault }
 {
     match fault {

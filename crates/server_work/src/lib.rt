@@ -11,7 +11,7 @@ mod telling;
 mod words;
 
 pub use command_line::command;
-pub use ends::{End, Fault, end_of_words, end_of_work, name, status};
+pub use ends::{End, Fault, end_of_words, end_of_work, fault_name, status};
 pub use memory::play_board;
 pub use opening::{open_file, open_on, opened};
 pub use telling::{found_in, printed, told};

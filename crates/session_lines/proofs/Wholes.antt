@@ -69,7 +69,7 @@ taken-none whole came piece u = record {
   same = refl;
 }
 
-unfinished-none : IsUnfinished []
+pub unfinished-none : IsUnfinished []
 unfinished-none = record { no_feed = All-nil (λ b. is_feed b ≡ false); short = omega arith }
 
 -- one line more

@@ -1,6 +1,5 @@
 //! What is written.
 use chess_answer::Reply;
-use chess_store::StoreFault;
 use player_lines::{Fault, push_reply, text_line};
 use sector_dev::MemoryDevice;
 use sector_journal::{JournalFault, Opened};
@@ -18,11 +17,6 @@ pub fn replies_text(alloc: Global, replies: &[Reply]) -> Result<String, Fault> {
 /// That something was done, by its word.
 pub fn done_text(alloc: Global, word: &str) -> Result<String, Fault> {
     Ok(text_line(alloc, word)?)
-}
-
-/// What a fault says.
-pub fn fault_text(alloc: Global, fault: StoreFault) -> Result<String, Fault> {
-    Ok(format!(in alloc; "fault {fault:?}\n")?)
 }
 
 /// Why a journal is not read.

@@ -12,7 +12,7 @@ returns c =
     let answered = flag_ending-answered (position_of game) c.board-board.result.now c.side.result
     c.flag_result-ending.result c.board-board.ensures c.side.ensures c.flag_result-ending.ensures.result
     c.flag_result-ending.ensures.article in
-    let numbered : c.push_number.new.text.bytes ≡ with_fields (codes "fallen") (decimal game.number ∷ []) = cc in
+    let numbered : c.push_number_field.new.text.bytes ≡ with_fields (codes "fallen") (decimal game.number ∷ []) = cc in
     c.push_ending.ensures.bytes
     ∙ (ap (λ (text : List ℕ). with_fields text (end_fields (Some c.flag_result-ending.result))) numbered
     ∙ ap (λ (e : Ending). with_fields (codes "fallen") (decimal game.number ∷ end_fields (Some e))) answered)

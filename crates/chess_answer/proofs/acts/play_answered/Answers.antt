@@ -25,13 +25,14 @@ returns-clause-told c =
     let ended : c.play.new.self.ending ≡ ending_with game.start game.moves (Some m) =
     ap (λ (g : GameState). g.ending) c.in_ok-play.ensures.made
     ∙ ending-moved game c.args.at m c.requires.in_time.running.goes_on in
-    let numbered : c.push_number.new.text.bytes ≡
+    let numbered : c.push_number_field.new.text.bytes ≡
     ok_text (codes "move") game.number [] ++ 32 ∷ decimal (ply_of game + 1) = cc in
     record {
       san = c.push_made.ensures.san;
       is_san = subst San' c.board.ensures c.push_made.ensures.is_san;
       told = c.push_made.ensures.told
-          ∙ ap (λ (by : Option Ending). with_fields c.push_number.new.text.bytes (c.push_made.ensures.san ∷ end_fields by))
+          ∙ ap (λ (by : Option Ending).
+          with_fields c.push_number_field.new.text.bytes (c.push_made.ensures.san ∷ end_fields by))
           ended
           ∙ ap (λ (text : List ℕ). with_fields text
           (c.push_made.ensures.san ∷ end_fields (ending_with game.start game.moves (Some m)))) numbered;

@@ -6,13 +6,14 @@ use Rattle.chess_bits.specs.declared.men.Colour.{Colour}
 use Rattle.chess_entry.specs.declared.commands.Act.{Act}
 use Rattle.chess_entry.specs.declared.commands.Act.TheVariants as acts
 use Rattle.chess_entry.specs.Parsed.{bytes_of}
-use Rattle.chess_line.specs.Fields.{colour_word, times_text, optional}
+use Rattle.chess_entry.specs.Words.{colour_word}
+use Rattle.chess_line.specs.Fields.{times_text, optional}
 use Rattle.chess_line.specs.Line.{shown_act}
 use Rattle.chess_line.specs.Text.{shown}
 use Rattle.chess_line.specs.Cut.{rest_of}
 use Rattle.chess_line.proofs.Cuts.{SameCut, same_cut, same_pair, decimal_without}
 use Rattle.chess_line.proofs.Cases.{Opening, opening_after, colour_without, times_without, optional_joined}
-use Rattle.chess_line.proofs.acts.opening.Goals.{After-cut, In_ok-colour, In_ok-times}
+use Rattle.chess_line.proofs.acts.opening.Goals.{After-cut_word, In_ok-colour, In_ok-times}
 use Rattle.chess_line.proofs.acts.opening.Goals as goal
 
 -- what follows the colour, and what follows the times
@@ -37,12 +38,14 @@ times_cut c act o rest =
     (Some (c.in_ok-times.times, c.in_ok-times.rest)) c.in_ok-times.ensures.cases (omega arith) rest
     (times_without o.initial o.period o.times)
 
-increment_cut : (c : After-cut) (act : Act) (o : Opening c.args.rest.now act) → c.in_ok-times.rest.now ≡ after_times o →
-    SameCut c.cut.result.0.now (decimal o.increment) (rest_of c.cut.result.1) (bytes_of o.fen)
+increment_cut : (c : After-cut_word) (act : Act) (o : Opening c.args.rest.now act) →
+    c.in_ok-times.rest.now ≡ after_times o →
+    SameCut c.cut_word.result.0.now (decimal o.increment) (rest_of c.cut_word.result.1) (bytes_of o.fen)
 increment_cut c act o rest =
-    same_cut c.cut.result.0.now (decimal o.increment) (rest_of c.cut.result.1) (bytes_of o.fen) c.cut.ensures.unspaced
+    same_cut c.cut_word.result.0.now (decimal o.increment) (rest_of c.cut_word.result.1) (bytes_of o.fen)
+    c.cut_word.ensures.unspaced
     (decimal_without 32 o.increment (omega arith) o.number)
-    (sym c.cut.ensures.joined ∙ (rest ∙ optional_joined (decimal o.increment) o.fen))
+    (sym c.cut_word.ensures.joined ∙ (rest ∙ optional_joined (decimal o.increment) o.fen))
 
 pub returns-in_err-times-clause-every : goal.returns-in_err-times-clause-every
 returns-in_err-times-clause-every c = λ act h.
@@ -67,7 +70,7 @@ returns-in_err-increment-clause-every c = λ act h.
     let at = goal.at.returns-in_err-increment-clause-every c in
     let first = colour_cut at.In_ok-colour act o in
     let second = times_cut at.In_ok-times act o first.1 in
-    let parts = increment_cut at.After-cut act o second.1 in
+    let parts = increment_cut at.After-cut_word act o second.1 in
     let no : ◌≡◌ {A = Option ℕ} None (Some o.increment) = c.in_err-increment.ensures.every o.increment o.number parts.front in
     absurd (cc)
 
@@ -77,7 +80,7 @@ returns-in_err-fen-clause-every c = λ act h.
     let at = goal.at.returns-in_err-fen-clause-every c in
     let first = colour_cut at.In_ok-colour act o in
     let second = times_cut at.In_ok-times act o first.1 in
-    let parts = increment_cut at.After-cut act o second.1 in
+    let parts = increment_cut at.After-cut_word act o second.1 in
     absurd (c.in_err-fen.ensures.every o.fen o.text parts.rest)
 
 pub returns-clause-every : goal.returns-clause-every
@@ -86,7 +89,7 @@ returns-clause-every c = λ act h.
     let at = goal.at.returns-clause-every c in
     let first = colour_cut at.In_ok-colour act o in
     let second = times_cut at.In_ok-times act o first.1 in
-    let parts = increment_cut at.After-cut act o second.1 in
+    let parts = increment_cut at.After-cut_word act o second.1 in
     let colours : ◌≡◌ {A = Option Colour} (Some c.in_ok-colour-2.colour) (Some o.colour) =
     c.in_ok-colour-2.ensures.every o.colour first.0 in
     let colour : c.in_ok-colour-2.colour ≡ o.colour = cc in

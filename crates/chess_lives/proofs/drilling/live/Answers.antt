@@ -1,7 +1,7 @@
 use Rattle.std.proofs.Common.{subst, List}
+use Rattle.std.proofs.lemmas.Result.{IfOk-weaker}
 use Rattle.chess_lives.specs.declared.plan.Life.{Life}
 use Rattle.chess_lives.specs.Drill.{IsLivedInMemory, IsCase, drill_limits}
-use Rattle.chess_lives.proofs.LivesLemmas.{IfOk-map}
 use Rattle.chess_lives.proofs.DrillLemmas.{drill_submittable}
 use Rattle.chess_lives.proofs.drilling.live.Goals as goal
 
@@ -13,10 +13,11 @@ lives_in_memory-requires-clause-batches c =
 pub returns : goal.returns
 returns c =
     let one = c.in_ok-plan.ensures in
-    IfOk-map c.lives_in_memory.result (λ lived. IsLivedInMemory drill_limits c.in_ok-plan.plan.lives.items lived)
-    (IsCase c.args.case) c.lives_in_memory.ensures
+    IfOk-weaker c.lives_in_memory.result (λ lived. IsLivedInMemory drill_limits c.in_ok-plan.plan.lives.items lived)
+    (IsCase c.args.case)
     (λ lived is. record {
       life = one.life;
       is_life = one.is_life;
       is_lived = subst (λ (lives : List Life). IsLivedInMemory drill_limits lives lived) one.alone is;
     })
+    c.lives_in_memory.ensures

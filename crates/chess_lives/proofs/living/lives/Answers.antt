@@ -1,9 +1,11 @@
 use Rattle.std.proofs.Common.{◌≡◌, ◌∙◌, ◌+◌, ◌++◌, [], ◌∷◌, Result, ap, sym, subst, arith, List, length, length-append, take, IfOk, IfErr}
 use Rattle.std.proofs.lemmas.List.{take_all}
+use Rattle.std.proofs.lemmas.Result.{IfErr-weaker, IfOk-weaker}
 use Rattle.rec_codec.specs.declared.limits.Limits.{Limits}
 use Rattle.rec_codec.specs.declared.record.Entry.{Entry}
 use Rattle.chess_entry.specs.State.{TableState}
 use Rattle.chess_entry.specs.Games.{table_of}
+use Rattle.chess_entry.proofs.Places.{take_with}
 use Rattle.chess_store.specs.declared.fault.StoreFault.{StoreFault}
 use Rattle.chess_store.specs.Means.{Means}
 use Rattle.chess_store.specs.Faults.{IsDevice, CountsFault}
@@ -13,7 +15,7 @@ use Rattle.chess_lives.specs.declared.plan.LifeReport.{LifeReport}
 use Rattle.chess_lives.specs.Lives.{IsBegun, IsLifeThen}
 use Rattle.chess_lives.specs.Stops.{IsStopped, IsLivesFault}
 use Rattle.chess_lives.specs.Serving.{IsShown}
-use Rattle.chess_lives.proofs.LivesLemmas.{AreOver, are_over-none, are_over-more, cut_short, cut_at_start, cut_at_end, is_report, IfOk-both, IfOk-map, IfErr-map, take-more_at, around-one}
+use Rattle.chess_lives.proofs.LivesLemmas.{AreOver, are_over-none, are_over-more, cut_short, cut_at_start, cut_at_end, is_report, IfOk-both, around-one}
 use Rattle.chess_lives.proofs.ServingLemmas.{risen-fault}
 use Rattle.chess_lives.proofs.living.lives.Given.{Over}
 use Rattle.chess_lives.proofs.living.lives.Goals.{After-show}
@@ -76,7 +78,7 @@ loop-life-preserved g c =
           subst (λ (rs : List LifeReport). AreOver limits k (failures device) (take (i + 1) lives) rs (state new)
           (failures new)) (sym c.push_reserved.ensures.items)
           (subst (λ (ls : List Life). AreOver limits k (failures device) ls (reports ++ report ∷ []) (state new)
-          (failures new)) (sym (take-more_at lives i life c.loop-life-test.true c.life-item.is)) more);
+          (failures new)) (sym (take_with lives i life c.loop-life-test.true c.life-item.is)) more);
       within = omega (arith, c.loop-life-test.true);
       counted = omega (arith, inv.counted, c.live-device.ensures.counted);
       model = (λ model. inv.model.0 (c.live-device.ensures.model.0 model), λ model. c.live-device.ensures.model.1 (inv.model.1 model));
@@ -181,11 +183,12 @@ returns-clause-returned g c = λ limits k begun.
     let new = c.show.result.device in
     let so_far = all_over g (goal.at.returns-clause-returned g c).After-show limits k begun in
     let table = table_of limits so_far.last in
-    IfErr-map c.show.result.report _ _ (c.show.ensures.refused so_far.begun.model table so_far.begun.means)
+    IfErr-weaker c.show.result.report _ _
     (λ fault ends.
     cut_at_end limits k (failures c.args.device) c.args.plan.now.lives.items c.loop-life.reports.items (state left)
     (state new) (failures left) (failures new) fault so_far
     (c.show.ensures.images so_far.begun.model table so_far.begun.means) ends)
+    (c.show.ensures.refused so_far.begun.model table so_far.begun.means)
 
 pub returns-clause-each : goal.returns-clause-each
 returns-clause-each g c =
@@ -202,19 +205,20 @@ returns-clause-each g c =
       c.loop-life-test.false,
       ap (λ (ls : List Life). length ls) c.deref-life-items.ensures.value,
     ) in
-    IfOk-map c.show.result.report (λ report. report.lives.items ≡ reports)
-    (λ report. length report.lives.items ≡ length lives) c.show.ensures.reports
-    (λ report same. ap (λ (rs : List LifeReport). length rs) same ∙ so_many)
+    IfOk-weaker c.show.result.report (λ report. report.lives.items ≡ reports)
+    (λ report. length report.lives.items ≡ length lives)
+    (λ report same. ap (λ (rs : List LifeReport). length rs) same ∙ so_many) c.show.ensures.reports
 
 pub returns-clause-cause : goal.returns-clause-cause
 returns-clause-cause g c =
     let failures = g.D.Device.failures in
     let left = c.loop-life.left in
     let new = c.show.result.device in
-    IfErr-map c.show.result.report (λ fault. CountsFault fault (failures left) (failures new))
-    (λ fault. IsDevice fault → HasRisen (failures c.args.device) (failures new)) c.show.ensures.cause
+    IfErr-weaker c.show.result.report (λ fault. CountsFault fault (failures left) (failures new))
+    (λ fault. IsDevice fault → HasRisen (failures c.args.device) (failures new))
     (λ fault counts is.
     risen-fault fault (failures c.args.device) (failures left) (failures new) c.loop-life.invariant.counted counts is)
+    c.show.ensures.cause
 
 pub returns-clause-counted : goal.returns-clause-counted
 returns-clause-counted g c = omega (arith, c.loop-life.invariant.counted, c.show.ensures.counted)

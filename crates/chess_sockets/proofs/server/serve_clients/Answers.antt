@@ -1,10 +1,11 @@
 -- The store is asked by the hub's turn alone; what is done for the clients is done to the sessions alone.
 use Rattle.std.proofs.Common.{◌≡◌, Bool, Err, length, ap, refl}
+use Rattle.std.proofs.lemmas.Result.{IfErr-at_err}
 use Rattle.chess_hub.specs.Faults.{CountsFault}
 use Rattle.chess_hub.specs.Turning.{AsksFor, AreRefused, IsTurnFault}
 use Rattle.chess_sockets.specs.Serving.{state_of}
 use Rattle.chess_sockets.proofs.ServingLemmas.{are_read, are_written, some_there}
-use Rattle.chess_sockets.proofs.StoreLemmas.{lasts_over, lasts_refused, of_answered, of_refused, at_err, turn_ends, turn_refusal, counts_refused, counts_done}
+use Rattle.chess_sockets.proofs.StoreLemmas.{lasts_over, lasts_refused, of_answered, of_refused, turn_ends, turn_refusal, counts_refused, counts_done}
 use Rattle.chess_sockets.proofs.server.serve_clients.Goals as goal
 
 -- ---- who is served
@@ -63,7 +64,7 @@ returns-in-Err-clause-fault g c =
     let n = c.turn.new.self.store in
     let heard = c.take_in_all-has_read.new.sessions in
     turn_ends (n ≡ s) c.args.reading.at heard s.journal.header.seq s.failed s.table n.table c.in-Err.fault
-    (at_err c.turn.result c.in-Err.fault (λ fault. IsTurnFault fault (n ≡ s) (λ refused. AsksFor c.args.reading.at 64 heard
+    (IfErr-at_err (λ fault. IsTurnFault fault (n ≡ s) (λ refused. AsksFor c.args.reading.at 64 heard
     (AreRefused refused s.journal.header.seq s.failed s.table n.table))) c.in-Err.is c.turn.ensures.fault)
 
 pub returns-in-Err-clause-refused : goal.returns-in-Err-clause-refused
@@ -78,7 +79,7 @@ returns-in-Err-clause-refused g c =
     (are_read s.table g.S.Read.remaining c.args.reading.silence c.args.reading.at c.args.clients.now.items read old.sessions heard c.take_in_all-has_read.ensures.read)
     (of_refused c.turn.result c.in-Err.fault c.in-Err.is c.turn.ensures.unchanged) refl refl
     (λ e. ap (λ s. s.table) e) c.in-Err.fault
-    (at_err c.turn.result c.in-Err.fault (λ fault. IsTurnFault fault (n ≡ s) (λ refused. AsksFor c.args.reading.at 64 heard
+    (IfErr-at_err (λ fault. IsTurnFault fault (n ≡ s) (λ refused. AsksFor c.args.reading.at 64 heard
     (AreRefused refused s.journal.header.seq s.failed s.table n.table))) c.in-Err.is c.turn.ensures.fault)
 
 -- ---- the count of failures
@@ -86,7 +87,7 @@ returns-in-Err-clause-refused g c =
 pub returns-in-Err-clause-cause_err : goal.returns-in-Err-clause-cause_err
 returns-in-Err-clause-cause_err g c =
     let failures = g.D.Device.failures in
-    at_err c.turn.result c.in-Err.fault (λ fault. CountsFault fault (failures c.args.hub.now.store.journal.device)
+    IfErr-at_err (λ fault. CountsFault fault (failures c.args.hub.now.store.journal.device)
     (failures c.turn.new.self.store.journal.device)) c.in-Err.is c.turn.ensures.tried.cause_err
 
 -- ---- the count of refusals

@@ -1,6 +1,7 @@
 use Rattle.std.specs.Prelude.{ℕ, ◌≡◌, List, [], ◌∷◌, ◌++◌}
 use Rattle.std.proofs.Common.{subst}
-use Rattle.line_loop.proofs.Writes.{on_err, map_ok, map_err, loses-more, says-says, says-loses, says-answer, loses-answer}
+use Rattle.std.proofs.lemmas.Result.{on_ok_weaker}
+use Rattle.line_loop.proofs.Writes.{on_err, map_err, loses-more, says-says, says-loses, says-answer, loses-answer}
 use Rattle.line_loop.specs.Texts.{as_text, body_of}
 use Rattle.line_loop.specs.Outlets.{Says, Loses}
 use Rattle.line_loop.proofs.outlet.say_answer.Given.{Over}
@@ -56,7 +57,7 @@ returns-clause-says g c =
     let ready = c.args.ready.now.bytes in
     let s = c.say-2.new.ready.bytes in
     let t = c.say_body.new.ready.bytes in
-    map_ok c.say_body.result (Says feed s body new t) (Says now ready (as_text c.args.answer.now) new t)
+    on_ok_weaker {P = Says feed s body new t} {Q = Says now ready (as_text c.args.answer.now) new t} c.say_body.result
     (λ last. says-answer now new ready t line body (says-says now feed new ready s t (line ++ 10 ∷ []) body
     (line_said g (goal.at.returns-clause-says g c).After-say_body) last))
     c.say_body.ensures.says

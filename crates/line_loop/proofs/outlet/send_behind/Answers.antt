@@ -1,7 +1,8 @@
 use Rattle.std.specs.Prelude.{ℕ, ◌≡◌, ◌<◌, List, [], ◌++◌, length}
 use Rattle.std.specs.Io.KnownBytes.{Appends}
 use Rattle.std.proofs.Common.{refl}
-use Rattle.line_loop.proofs.Writes.{on_err, map_ok, map_err, loses-more, loses-front, loses-behind, says-behind}
+use Rattle.std.proofs.lemmas.Result.{on_ok_weaker}
+use Rattle.line_loop.proofs.Writes.{on_err, map_err, loses-more, loses-front, loses-behind, says-behind}
 use Rattle.line_loop.specs.Outlets.{Says, Loses}
 use Rattle.line_loop.proofs.outlet.send_behind.Goals as goal
 
@@ -20,7 +21,7 @@ returns-clause-says g c =
     let text = c.args.text.now in
     let ready = c.args.ready.now.bytes in
     let left = c.hand_out.new.ready.bytes in
-    map_ok c.send.result (Appends mid new text) (Says now ready text new left)
+    on_ok_weaker {P = Appends mid new text} {Q = Says now ready text new left} c.send.result
     (λ sent. says-behind now mid new ready left text c.in_ok-hand_out.ensures.says c.in_ok-hand_out.ensures.empty sent)
     c.send.ensures.whole
 

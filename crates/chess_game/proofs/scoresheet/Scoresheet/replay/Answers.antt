@@ -5,8 +5,10 @@ use Rattle.chess_board.specs.declared.moves.Move.{Move}
 use Rattle.chess_board.specs.Position.{Position}
 use Rattle.chess_board.specs.Next.{next}
 use Rattle.chess_board.specs.Legal.{IsLegal}
+use Rattle.chess_entry.proofs.InPlay.{none-not_some}
+use Rattle.chess_entry.proofs.Places.{take_with}
 use Rattle.chess_game.specs.Restored.{IsReplayed}
-use Rattle.chess_game.proofs.ReplayLemmas.{IsReplayed-none, IsReplayed-push, taken, HasRoom-before, IsScoresheet-not_legal, IsScoresheet-ended, none_from}
+use Rattle.chess_game.proofs.ReplayLemmas.{IsReplayed-none, IsReplayed-push, HasRoom-before, IsScoresheet-not_legal, IsScoresheet-ended}
 use Rattle.chess_game.proofs.RestoredLemmas.{none_made}
 use Rattle.chess_game.proofs.Refused.{no_ok}
 use Rattle.chess_game.proofs.scoresheet.Scoresheet.replay.Goals as goal
@@ -70,9 +72,10 @@ loop-mv-preserved c =
     let i = c.loop-mv.mv-index in
     let P : Position → Type 0 = λ p. IsLegal p c.mv-item.result in
     let Q : List Move → Type 0 = λ ms. IsReplayed c.args.start.now ms c.push_with.new.self c.in_ok-by_line.by_line in
-    subst Q (sym (taken moves i c.mv-item.result c.loop-mv-test.true c.mv-item.is))
+    subst Q (sym (take_with moves i c.mv-item.result c.loop-mv-test.true c.mv-item.is))
     (IsReplayed-push c.args.start.now (take i moves) c.mv-item.result c.loop-mv.line c.push_with.new.self c.loop-mv.by_line
-    c.in_ok-by_line.by_line c.loop-mv.invariant (none_from c.loop-mv.by_line (sym c.is_some.ensures ∙ c.if-is_some.false))
+    c.in_ok-by_line.by_line c.loop-mv.invariant
+    (none-not_some c.loop-mv.by_line (sym c.is_some.ensures ∙ c.if-is_some.false))
     (subst P c.board.ensures c.in-Some.ensures.legal) c.in_ok-by_line.ensures.pushed
     c.in_ok-by_line.ensures.ending)
 

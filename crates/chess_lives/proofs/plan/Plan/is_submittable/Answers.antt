@@ -1,12 +1,13 @@
 use Rattle.std.proofs.Common.{◌≡◌, ◌∙◌, List, Vec, Global, map, take, true, sym, subst, refl}
 use Rattle.std.proofs.lemmas.List.{take_all}
 use Rattle.chess_board.specs.Legal.{EachOf}
+use Rattle.chess_board.proofs.EachOfLemmas.{EachOf-push}
 use Rattle.chess_entry.specs.declared.commands.Command.{Command}
+use Rattle.chess_entry.proofs.Places.{take_with}
 use Rattle.chess_lives.specs.declared.plan.Life.{Life}
 use Rattle.chess_lives.specs.Courses.{IsSubmittable}
 use Rattle.chess_lives.specs.Lives.{AreSubmittable, batches_of}
-use Rattle.chess_lives.proofs.ServingLemmas.{EachOf-one, EachOf-push}
-use Rattle.chess_lives.proofs.LivesLemmas.{take-more_at}
+use Rattle.chess_lives.proofs.ServingLemmas.{EachOf-one}
 use Rattle.chess_lives.proofs.plan.Plan.is_submittable.Goals as goal
 
 pub returns-then-not-may : goal.returns-then-not-may
@@ -30,7 +31,7 @@ loop-life-preserved c =
     let may : c.are_batches-may.result ≡ true = cc in
     let one = subst (λ (bs : List (Vec Command Global)). EachOf IsSubmittable (map (λ b. b.items) bs)) c.deref.ensures.value
     (c.are_batches-may.ensures.0 may) in
-    subst (λ (ls : List Life). AreSubmittable ls) (sym (take-more_at lives i life c.loop-life-test.true c.life-item.is))
+    subst (λ (ls : List Life). AreSubmittable ls) (sym (take_with lives i life c.loop-life-test.true c.life-item.is))
     (EachOf-push (λ life. EachOf IsSubmittable (batches_of life)) (take i lives) life c.loop-life.invariant one)
 
 pub returns : goal.returns

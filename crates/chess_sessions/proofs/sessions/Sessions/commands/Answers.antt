@@ -1,9 +1,9 @@
 use Rattle.std.proofs.Common.{◌≡◌, ◌∙◌, sym, ap, take, drop, ◌++◌, ◌∷◌, [], ◌+◌, arith}
 use Rattle.std.specs.Prelude.{if◌then◌else◌, is_none}
 use Rattle.std.proofs.lemmas.List.{take_more}
+use Rattle.chess_entry.proofs.Places.{drop_at}
 use Rattle.chess_sessions.specs.Answers.{name_at, names_over, commands_of, asked, own_answer}
 use Rattle.chess_sessions.specs.Delivery.{asking_count}
-use Rattle.chess_sessions.proofs.DeliveryLemmas.{left_from}
 use Rattle.chess_sessions.proofs.NameLemmas.{commands-step, asking-few}
 use Rattle.chess_sessions.proofs.sessions.Sessions.commands.Goals as goal
 
@@ -17,7 +17,7 @@ loop-place-preserved c =
     let t = c.index-lines-place.result in
     let names = name_at c.args.self.now in
     let done = c.loop-place.commands.items in
-    let split = left_from lines i t c.loop-place-test.true (sym c.index-lines-place.is) in
+    let split = drop_at lines i t c.loop-place-test.true c.index-lines-place.is in
     let rest = commands_of c.args.at (names_over c.args.at names (take (i + 1) lines)) (drop (i + 1) lines) in
     let e : asking_count c.args.at (drop i lines)
     ≡ (if is_none (own_answer c.args.at t.line) then 1 else 0) + asking_count c.args.at (drop (i + 1) lines) =

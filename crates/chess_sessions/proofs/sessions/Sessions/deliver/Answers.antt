@@ -1,9 +1,10 @@
 use Rattle.std.proofs.Common.{◌∙◌, sym, ap, take, drop, ◌++◌, ◌∷◌, [], ◌+◌, length, subst}
 use Rattle.std.proofs.lemmas.List.{take_more}
 use Rattle.std.specs.Vec.Iter.{into_iter_items}
+use Rattle.chess_entry.proofs.Places.{drop_at}
 use Rattle.chess_sessions.specs.Answers.{own_answer}
 use Rattle.chess_sessions.specs.Delivery.{asking_count}
-use Rattle.chess_sessions.proofs.DeliveryLemmas.{Answering, left_from, answering-none, answering-one, answering-done, one-left, room-here}
+use Rattle.chess_sessions.proofs.DeliveryLemmas.{Answering, answering-none, answering-one, answering-done, one-left, room-here}
 use Rattle.chess_sessions.proofs.sessions.Sessions.deliver.Goals as goal
 
 pub loop-line-init : goal.loop-line-init
@@ -17,7 +18,7 @@ next_answer-reply-requires c =
     let lines = c.args.lines.now in
     let i = c.loop-line.line-index in
     let t = c.line-item.result in
-    let split = left_from lines i t c.loop-line-test.true (sym c.line-item.is) in
+    let split = drop_at lines i t c.loop-line-test.true c.line-item.is in
     one-left (own_answer c.args.at t.line) (length (into_iter_items c.loop-line.left))
     (asking_count c.args.at (drop (i + 1) lines))
     (c.loop-line.invariant.count ∙ ap (asking_count c.args.at) split)
@@ -27,7 +28,7 @@ give-requires c =
     let lines = c.args.lines.now in
     let i = c.loop-line.line-index in
     let t = c.line-item.result in
-    let split = left_from lines i t c.loop-line-test.true (sym c.line-item.is) in
+    let split = drop_at lines i t c.loop-line-test.true c.line-item.is in
     room-here c.args.at lines i c.args.replies.items (into_iter_items c.loop-line.left) c.args.self.now c.loop-line.self t
     c.loop-line.invariant c.loop-line-test.true split
 
@@ -36,7 +37,7 @@ loop-line-preserved c =
     let lines = c.args.lines.now in
     let i = c.loop-line.line-index in
     let t = c.line-item.result in
-    let split = left_from lines i t c.loop-line-test.true (sym c.line-item.is) in
+    let split = drop_at lines i t c.loop-line-test.true c.line-item.is in
     answering-one c.args.at lines i t c.args.replies.items (into_iter_items c.loop-line.left)
     (into_iter_items c.next_answer-reply.new.left) c.args.self.now c.loop-line.self
     (record c.loop-line.self { slab = c.give.new.slab }) c.given_name.result c.next_answer-reply.result c.loop-line.invariant

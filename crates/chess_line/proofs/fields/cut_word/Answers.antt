@@ -1,6 +1,6 @@
 use Rattle.std.proofs.Common.{arith}
 use Rattle.std.proofs.lemmas.Str.Pattern.{split_parts}
-use Rattle.chess_line.proofs.fields.cut.Goals as goal
+use Rattle.chess_line.proofs.fields.cut_word.Goals as goal
 
 pub returns-in-Some-clause-unspaced : goal.returns-in-Some-clause-unspaced
 returns-in-Some-clause-unspaced c =

@@ -2,7 +2,7 @@ use Rattle.std.proofs.Common.{sym, subst, List}
 use Rattle.chess_board.specs.declared.moves.Move.{Move}
 use Rattle.game_records.proofs.Promotions.{AllBecome, AllBecome-legal}
 use Rattle.game_records.proofs.PartLemmas.{game_written, game_begun}
-use Rattle.game_records.proofs.writing.write_game.Goals as goal
+use Rattle.game_records.proofs.writing.push_game.Goals as goal
 
 pub put_moves-requires : goal.put_moves-requires
 put_moves-requires c =

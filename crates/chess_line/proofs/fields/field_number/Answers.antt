@@ -1,5 +1,5 @@
 use Rattle.chess_line.proofs.Numbers.{every_told, some_told}
-use Rattle.chess_line.proofs.fields.number_named.Goals as goal
+use Rattle.chess_line.proofs.fields.field_number.Goals as goal
 
 pub returns-clause-some : goal.returns-clause-some
 returns-clause-some c = some_told c.args.text.now c.number_of_32_bits.result c.number_of_32_bits.ensures
