@@ -4,9 +4,8 @@ ghost use Rattle.std.specs.List.{starts_with};
 ghost use Rattle.lobby_desk.specs.Refusals as spec;
 
 use crate::desk::number_after;
-use lobby_words::{game_told, is_accepted, is_table_act, line_said, number_named};
+use lobby_words::{cut_word, game_told, is_accepted, is_table_act, line_said, number_named};
 use std::alloc::AllocError;
-use text_parts::cut;
 
 /// A game, and how many acts of who plays in it were refused since one was accepted there.
 #[derive(Clone, Copy)]
@@ -56,8 +55,8 @@ fn is_no(answer: &str) -> bool
 fn is_refusal(answer: &str) -> bool
     ensures { result ≡ spec.is_refusal answer.now }
 {
-    let (_, rest) = cut(answer, ' ');
-    let (number, _) = cut(rest, ' ');
+    let (_, rest) = cut_word(answer);
+    let (number, _) = cut_word(rest);
     let is_no = is_no(answer);
     let is_of_seated = is_of_seated(number_named(number));
     is_no & is_of_seated
@@ -67,8 +66,8 @@ fn is_refusal(answer: &str) -> bool
 pub fn game_named(text: &str) -> Option<u32>
     ensures { result ≡ spec.game_named text.now }
 {
-    let (_, rest) = cut(line_said(text), ' ');
-    let (game, _) = cut(rest, ' ');
+    let (_, rest) = cut_word(line_said(text));
+    let (game, _) = cut_word(rest);
     number_named(game)
 }
 

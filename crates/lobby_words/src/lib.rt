@@ -18,6 +18,6 @@ pub use planning::{Identity, Order, Plan, Standing, order_of, plan_of};
 pub use refusals::Refusal;
 pub use servers::{GAMES_OF_A_SERVER, SERVERS_MOST, server_of};
 pub use words::{
-    Sort, actor, are_message_bytes, as_line, as_name, is_play_word, line_said, number_named,
-    number_or_0,
+    Sort, actor, are_message_bytes, as_line, as_name, cut_word, is_play_word, line_said,
+    number_named, number_or_0,
 };

@@ -7,8 +7,8 @@ ghost use Rattle.server_switch.specs.Fields as fields;
 ghost use Rattle.server_switch.specs.Fields.{tail_text};
 
 use crate::fields::{cut_at, push_number_and_tail, push_tail, renumbered};
+use lobby_words::cut_word;
 use std::alloc::{AllocError, Global};
-use text_parts::cut;
 
 /// What is told in place of an answer that is not known.
 pub const LOST: &str = "lost\n";
@@ -60,8 +60,8 @@ pub fn told(alloc: Global, place: usize, answer: &str) -> Result<String, AllocEr
     ensures { IfOk result (λ told. string_bytes told ≡ answers.told place answer.now) }
 {
     let (line, tail) = cut_at(answer, '\n');
-    let (word, rest) = cut(line, ' ');
-    let (kind, behind) = cut(rest, ' ');
+    let (word, rest) = cut_word(line);
+    let (kind, behind) = cut_word(rest);
     if word == "fallen" {
         tell_behind(alloc, "fallen ", place, rest, tail)
     } else if word == "ok" {
