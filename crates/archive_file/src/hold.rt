@@ -1,6 +1,6 @@
 //! One `keep` at a time keeps games in an archive.
 use anyhow::{Context, Error, Result, anyhow};
-use night_files::NamedFile;
+use night_files::DiskFile;
 use std::fs::File;
 use std::io::{self, ErrorKind};
 use std::rt::Files;
@@ -9,7 +9,7 @@ use std::rt::Files;
 /// It ends with this value, and where the process is killed.
 #[derive(Drop)]
 pub struct Hold {
-    file: NamedFile,
+    file: DiskFile,
 }
 
 // Why an archive cannot be held.
@@ -25,7 +25,7 @@ impl Hold {
     /// Holds an archive. It fails where another does.
     pub fn of<R: Files<File = File> + AllocGlobal>(rt: &R, archive: &str) -> Result<Hold> {
         let path = format!(in rt.alloc(); "{archive}.lock")?;
-        match NamedFile::open(rt, path.as_str()) {
+        match DiskFile::open(rt, path.as_str()) {
             Ok(file) => Ok(Hold { file }),
             Err(error) => Err(not_held(archive, path.as_str(), error)),
         }

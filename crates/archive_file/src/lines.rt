@@ -4,7 +4,7 @@ use crate::archive::games_of;
 use crate::behind::look_behind;
 use crate::reading::game_of;
 use anyhow::{Context, Result};
-use night_files::{AppendedFile, NamedFile, cut_lines, whole_length};
+use night_files::{AppendedFile, DiskFile, cut_lines, whole_length};
 use std::alloc::Global;
 use std::fs;
 use std::rt::Files;
@@ -52,7 +52,7 @@ pub fn lines_of<R: Files + AllocGlobal>(rt: &R, file: &str) -> Result<String> {
 pub fn end_last_line<R: Files + AllocGlobal>(
     rt: &R,
     path: &str,
-    file: &mut NamedFile,
+    file: &mut DiskFile,
 ) -> Result<()> {
     let bytes = fs::read(rt, path)?;
     if lacks_feed(rt.alloc(), bytes.as_slice())? {

@@ -2,23 +2,23 @@
 use crate::archive::Archive;
 use crate::lines::{end_last_line, lines_of};
 use anyhow::{Context, Result};
-use night_files::NamedFile;
+use night_files::DiskFile;
 use std::fs::{self, File};
 use std::rt::Files;
 
 /// An archive, and its lines when it was opened.
 #[derive(Drop)]
 pub struct Opened {
-    pub archive: Archive<NamedFile>,
+    pub archive: Archive<DiskFile>,
     pub lines: String,
 }
 
 // The archive of a file.
-fn archive_of<R>(rt: &R, path: &str) -> Result<Archive<NamedFile>>
+fn archive_of<R>(rt: &R, path: &str) -> Result<Archive<DiskFile>>
 where
     R: Files<File = File> + AllocGlobal,
 {
-    let mut file = NamedFile::open(rt, path)?;
+    let mut file = DiskFile::open(rt, path)?;
     end_last_line(rt, path, &mut file)?;
     Ok(Archive::open(rt.alloc(), file)?)
 }

@@ -1,19 +1,15 @@
 -- The PGN of a game as the archive has it.
-use Rattle.std.specs.Prelude.{ℕ, ◌≡◌, Bool, false, List, [], ◌∷◌, ◌++◌, Option, filter}
+use Rattle.std.specs.Prelude.{ℕ, ◌≡◌, Bool, false, List, [], ◌∷◌, ◌++◌, Option}
 use Rattle.text_parts.specs.Parts.{parts_of}
 use Rattle.chess_text.specs.Movetext.{are_tokens, IsMovetext}
 use Rattle.archive_text.specs.declared.heading.Heading.{Heading}
 use Rattle.archive_text.specs.Tags.{told_tags}
-use Rattle.pgn_tags.specs.Pgn.{is_move}
-use Rattle.archive_text.specs.Moves.{tokens_of, told_tokens}
+use Rattle.pgn_tags.specs.Pgn.{tokens_of}
+use Rattle.archive_text.specs.Moves.{told_tokens}
 
 -- the moves of a text and the result, with the clocks
 abbrev pub archive_tokens : List ℕ → List (Option ℕ) → List (List ℕ)
 archive_tokens pgn clocks = told_tokens [] false (tokens_of (parts_of 10 pgn)) clocks
-
--- the moves among tokens, in their order
-abbrev pub moves_in : List (List ℕ) → List (List ℕ)
-moves_in tokens = filter is_move tokens
 
 -- there is a token, and each fits into a line
 abbrev pub is_laid : List (List ℕ) → Bool

@@ -1,14 +1,6 @@
 -- The moves of a game as the archive has them.
-use Rattle.std.specs.Prelude.{ℕ, ◌/◌, ◌%◌, ◌+◌, Bool, true, false, List, [], ◌∷◌, ◌++◌, codes, decimal, Option, Some, None, flat_map, if◌then◌else◌}
-use Rattle.text_parts.specs.Parts.{parts_of}
-use Rattle.pgn_tags.specs.Pgn.{is_tag, is_move}
-
--- the tokens of the lines that are no tags
-abbrev pub tokens_of_line : List ℕ → List (List ℕ)
-tokens_of_line line = if is_tag line then [] else parts_of 32 line
-
-abbrev pub tokens_of : List (List ℕ) → List (List ℕ)
-tokens_of lines = flat_map tokens_of_line lines
+use Rattle.std.specs.Prelude.{ℕ, ◌/◌, ◌%◌, ◌+◌, Bool, true, false, List, [], ◌∷◌, ◌++◌, codes, decimal, Option, Some, None, if◌then◌else◌}
+use Rattle.pgn_tags.specs.Pgn.{is_move}
 
 -- two digits of a number below 100
 abbrev pub two_digits : ℕ → List ℕ

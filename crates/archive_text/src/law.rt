@@ -1,8 +1,8 @@
 //! What the archive keeps of a game.
 ghost use Rattle.std.specs.Prelude.{◌≡◌, ℕ, List, Option};
 ghost use Rattle.text_parts.specs.Parts.{parts_of};
-ghost use Rattle.archive_text.specs.Moves.{tokens_of};
-ghost use Rattle.archive_text.specs.Archived.{archive_tokens, moves_in};
+ghost use Rattle.pgn_tags.specs.Pgn.{tokens_of, moves_in};
+ghost use Rattle.archive_text.specs.Archived.{archive_tokens};
 
 /// The moves of the archive's PGN are those of the server's, in their order, whatever clocks are known.
 pub fn law_of_moves()

@@ -3,36 +3,8 @@ ghost use Rattle.std.specs.Prelude.{◌≡◌, ◌++◌, ◌∷◌, [], ◌<◌,
 ghost use Rattle.archive_text.specs.Moves as spec;
 
 use itoa::Buffer;
-use pgn_tags::{is_move, is_tag};
+use pgn_tags::is_move;
 use std::alloc::{AllocError, Global};
-use text_parts::parts;
-
-// The tokens of a line.
-fn push_tokens<'a>(
-    tokens: &mut Vec<&'a str>,
-    alloc: Global,
-    line: &'a str,
-) -> Result<(), AllocError>
-    ensures { OnOk result (map (λ t. t.now) tokens.new.items ≡ map (λ t. t.now) tokens.old.items ++ spec.tokens_of_line line.entry.now) }
-{
-    if is_tag(line) {
-        return Ok(());
-    }
-    let more = parts(alloc, line, ' ')?;
-    tokens.extend_from_slice(more.as_slice())?;
-    Ok(())
-}
-
-/// The tokens of a PGN's lines that are no tags. It fails where memory is refused.
-pub fn tokens_of<'a>(alloc: Global, lines: &[&'a str]) -> Result<Vec<&'a str>, AllocError>
-    ensures { IfOk result (λ tokens. map (λ t. t.now) tokens.items ≡ spec.tokens_of (map (λ line. line.now) lines.now)) }
-{
-    let mut tokens = Vec::new(alloc);
-    for line in lines {
-        push_tokens(&mut tokens, alloc, line)?;
-    }
-    Ok(tokens)
-}
 
 // Two digits.
 fn push_two(out: &mut Vec<u8>, number: u8) -> Result<(), AllocError>

@@ -5,8 +5,9 @@ ghost use Rattle.archive_text.specs.declared.whole.TextFault.TheVariants as faul
 
 use crate::heading::Heading;
 use crate::lines::{are_laid, push_lines};
-use crate::moves::{tokens_of, told_tokens};
+use crate::moves::told_tokens;
 use crate::tags::push_tags;
+use pgn_tags::tokens_of;
 use std::alloc::{AllocError, Global};
 use text_parts::parts;
 use thiserror::Error;

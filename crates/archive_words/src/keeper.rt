@@ -6,12 +6,12 @@ ghost use Rattle.lobby_archive.specs.Files.{contains};
 ghost use Rattle.archive_words.specs.Games.{games_over_in, is_at};
 
 use crate::asking::{Knowledge, pgn_of};
-use act_log::{Ended, first_half, is_opened_for};
+use act_log::{KeptGame, first_half, is_opened_for};
 use anyhow::{Context, Result, anyhow, bail};
 use archive_file::Archive;
 use archive_games::{Kept, games_kept, has_game, push_ended};
 use lobby_archive::Night;
-use night_files::NamedFile;
+use night_files::DiskFile;
 use pgn_tags::with_tag;
 use server_link::{Link, Row};
 use std::alloc::{AllocError, Global};
@@ -43,7 +43,7 @@ pub trait Onlookers {
 pub struct Keeper<'a, O> {
     pub alloc: Global,
     pub link: Link,
-    pub archive: Archive<NamedFile>,
+    pub archive: Archive<DiskFile>,
     /// The archive's lines when it was opened, and the games that were kept since.
     pub lines: String,
     pub kept: Vec<Kept>,
@@ -178,7 +178,7 @@ fn is_dropped(alloc: Global, link: &mut Link, row: Row<'_>) -> Result<bool> {
 
 impl<O> Keeper<'_, O> {
     // Puts those of the archive's games behind others that may go on in a game with this PGN.
-    fn push_halves(&self, ended: &mut Vec<Ended>, pgn: &str) -> Result<()> {
+    fn push_halves(&self, ended: &mut Vec<KeptGame>, pgn: &str) -> Result<()> {
         let alloc = self.alloc;
         let before = games_kept(alloc, self.lines.as_str())?;
         push_ended(ended, alloc, before.as_slice(), pgn)?;

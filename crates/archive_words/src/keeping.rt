@@ -14,7 +14,7 @@ use anyhow::Result;
 use archive_file::{Archive, Hold, Opened, open_archive};
 use lobby_archive::look;
 use lobby_watchers::Watchers;
-use night_files::NamedFile;
+use night_files::DiskFile;
 use server_link::{Link, Row};
 use std::alloc::Global;
 use std::fs::File;
@@ -65,7 +65,7 @@ impl<'a, R: Files + AllocGlobal + Eprint> Looking<'a, R> {
 impl<R: Files + AllocGlobal> Looking<'_, R> {
     // Those games of a list that are over, a first half before its second one, which is linked with it. Where one of them
     // was not kept the log is read on before: behind the list, so that it has what is told of the games that are over in it.
-    fn games_in_order(&mut self, archive: &Archive<NamedFile>, rows: &[Row<'_>]) -> Result<Vec<u32>>
+    fn games_in_order(&mut self, archive: &Archive<DiskFile>, rows: &[Row<'_>]) -> Result<Vec<u32>>
         ensures { IfOk result (λ games. AreAll (λ game. contains game (games_over_in rows.now)) games.items) }
     {
         if is_asked(rows, archive) {
@@ -133,7 +133,7 @@ where
 }
 
 // Whether the log is asked about games: one is over, and was not kept.
-fn is_asked(rows: &[Row<'_>], archive: &Archive<NamedFile>) -> bool {
+fn is_asked(rows: &[Row<'_>], archive: &Archive<DiskFile>) -> bool {
     rows.iter().any(|row| row.is_over && !archive.has(row.game))
 }
 

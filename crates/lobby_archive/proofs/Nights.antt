@@ -1,8 +1,7 @@
 -- Games that are safe or have left the table, one more; and what is so of a night behind a step.
 use Rattle.std.proofs.Common.{ℕ, ◌≡◌, ◌<◌, Bool, true, false, not, ◌||◌, ◌&&◌, ◌==◌, List, [], ◌∷◌, ◌++◌, Option, None, Some, length, get_or, refl, sym, ap, ◌∙◌}
 use Rattle.std.specs.Prelude.{is_some, is_none, if◌then◌else◌}
-use Rattle.std.proofs.lemmas.Bool.{false≢true, or_right, cond-true, cond-false}
-use Rattle.std.proofs.lemmas.Bool.Decides.{Decides-eqb}
+use Rattle.std.proofs.lemmas.Bool.{eq-eqb, false≢true, or_right, cond-true, cond-false}
 use Rattle.std.proofs.lemmas.List.Folds.{list_any_at}
 use Rattle.lobby_archive.specs.declared.clerk.Stage.{Stage}
 use Rattle.lobby_archive.specs.declared.clerk.Stage.TheVariants.{Asked, Found}
@@ -43,11 +42,8 @@ settled_more settled left settled_now left_now game games more f k all one e = �
     (λ other. or_later (settled g) (left g) (settled_now g) (left_now g) (λ s. f g other ∙ s) (k g)
     (all g (second_of (game == g) (contains g games) other (sym (contains_more g game games) ∙ (sym (ap (contains g) e) ∙ h)))))
 
-pub here_is : (game : ℕ) → (game == game) ≡ true
-here_is game = (Decides-eqb game game).1 refl
-
 pub contains_at : (games : List ℕ) (i : ℕ) → i < length games → contains (get_or games i 0) games ≡ true
-contains_at games i h = list_any_at (λ one. one == get_or games i 0) games i 0 h (here_is (get_or games i 0))
+contains_at games i h = list_any_at (λ one. one == get_or games i 0) games i 0 h (eq-eqb (get_or games i 0) (get_or games i 0) refl)
 
 asked_stage : (stage : Option Stage) (t : Bool) → (is_none stage && t) ≡ true →
     (if is_none stage then (if t then Some Asked else Some Found) else stage) ≡ Some Asked
@@ -61,7 +57,7 @@ module _ (game : ℕ) (droppable : Bool) (old new : View) (asked : asks old game
   new_stage : new.stage game ≡ Some Asked
   new_stage =
       step.stage_is game
-      ∙ (cond-true (game == game) (seen old game droppable) (old.stage game) (here_is game)
+      ∙ (cond-true (game == game) (seen old game droppable) (old.stage game) (eq-eqb game game refl)
       ∙ asked_stage (old.stage game) (droppable || not (old.has game)) asked)
 
   other_stage : (g : ℕ) → (game == g) ≡ false → new.stage g ≡ old.stage g

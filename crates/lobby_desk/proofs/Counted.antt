@@ -5,7 +5,7 @@ use Rattle.std.proofs.lemmas.Bool.{false≢true}
 use Rattle.std.proofs.lemmas.Bool.Decides.{Decides-eqb}
 use Rattle.lobby_words.specs.Answers.{act_game, is_whole, is_table_act, answer}
 use Rattle.lobby_roster.specs.declared.players.Player.{Player}
-use Rattle.lobby_desk.specs.declared.refusals.Refused.{Refused}
+use Rattle.lobby_desk.specs.declared.refusals.RefusedActs.{RefusedActs}
 use Rattle.lobby_desk.specs.Events.{DeskInput, Opened, Closed, Said, Hurried, Heard, ServerTurned, Renewed, Linked, ForItself, ForPositions, ForTable, ForGame, ForAct, Owed, Nobody, Asker, Dropper, Followers, Behind}
 use Rattle.lobby_desk.specs.Refusals.{is_act_accepted, is_refusal, game_named, refused_game, count_in, count_of, without, cleared, one_more}
 use Rattle.lobby_desk.specs.Tellings.{Known, is_number, refused_heard, refused_next, refused_now}
@@ -20,25 +20,25 @@ not_other a g h true e same other =
 not_other a g h false e same other = e
 
 -- of a game that is taken off, what stands behind counts
-gone_at : (r : Refused) (kept more : List Refused) (game n : ℕ) (t : Bool) → (r.game == game) ≡ t → count_in game (kept ++ more) ≡ n →
+gone_at : (r : RefusedActs) (kept more : List RefusedActs) (game n : ℕ) (t : Bool) → (r.game == game) ≡ t → count_in game (kept ++ more) ≡ n →
     count_in game (cond (not t) (r ∷ kept) kept ++ more) ≡ n
 gone_at r kept more game n true e is = is
 gone_at r kept more game n false e is = ap (λ (b : Bool). if b then r.count else count_in game (kept ++ more)) e ∙ is
 
-gone : (game : ℕ) (refused more : List Refused) → count_in game (without game refused ++ more) ≡ count_in game more
+gone : (game : ℕ) (refused more : List RefusedActs) → count_in game (without game refused ++ more) ≡ count_in game more
 gone game [] more = refl
 gone game (r ∷ refused) more =
     gone_at r (without game refused) more game (count_in game more) (r.game == game) refl (gone game refused more)
 
 -- of another it is the same
-kept_at : (r : Refused) (kept more refused : List Refused) (game other : ℕ) (t : Bool) → (r.game == other) ≡ t → (game == other) ≡ false →
+kept_at : (r : RefusedActs) (kept more refused : List RefusedActs) (game other : ℕ) (t : Bool) → (r.game == other) ≡ t → (game == other) ≡ false →
     count_in game (kept ++ more) ≡ count_in game refused →
     count_in game (cond (not t) (r ∷ kept) kept ++ more) ≡ count_in game (r ∷ refused)
 kept_at r kept more refused game other true e h is =
     is ∙ sym (ap (λ (b : Bool). if b then r.count else count_in game refused) (not_other r.game game other (r.game == game) refl e h))
 kept_at r kept more refused game other false e h is = ap (λ (n : ℕ). if r.game == game then r.count else n) is
 
-kept : (game other : ℕ) (refused more : List Refused) → (game == other) ≡ false → count_in game more ≡ 0 →
+kept : (game other : ℕ) (refused more : List RefusedActs) → (game == other) ≡ false → count_in game more ≡ 0 →
     count_in game (without other refused ++ more) ≡ count_in game refused
 kept game other [] more h none = none
 kept game other (r ∷ refused) more h none =
@@ -64,7 +64,7 @@ none_refused : (text now : List ℕ) → is_act_accepted now ≡ true → refuse
 none_refused text now h = ap (λ (b : Bool). if b && not (is_table_act text) then game_named text else None) (not_refused now h)
 
 -- one more was refused, or none
-refused_at : (t : Bool) (game other : ℕ) (refused : List Refused) (n : ℕ) → (game == other) ≡ t → count_in game refused ≡ n →
+refused_at : (t : Bool) (game other : ℕ) (refused : List RefusedActs) (n : ℕ) → (game == other) ≡ t → count_in game refused ≡ n →
     count_in game (one_more (Some other) refused) ≡ (if t then suc n else n)
 refused_at true game other refused n e is =
     let same : game ≡ other = (Decides-eqb game other).0 e in
@@ -83,14 +83,14 @@ counted_if : (t : Bool) (act : Acted) (acts : List Acted) → length (cond t (ac
 counted_if true act acts = refl
 counted_if false act acts = refl
 
-refused_more : (o : Option ℕ) (act : Acted) (acts : List Acted) (game : ℕ) (refused : List Refused) → count_in game refused ≡ length acts →
+refused_more : (o : Option ℕ) (act : Acted) (acts : List Acted) (game : ℕ) (refused : List RefusedActs) → count_in game refused ≡ length acts →
     count_in game (one_more o refused) ≡ length (cond (is_number game o) (act ∷ acts) acts)
 refused_more None act acts game refused is = is
 refused_more (Some other) act acts game refused is =
     refused_at (game == other) game other refused (length acts) refl is ∙ sym (counted_if (game == other) act acts)
 
 -- an act was accepted in a game, or in another
-accepted_at : (t : Bool) (game other : ℕ) (act : Acted) (acts : List Acted) (refused : List Refused) → (game == other) ≡ t →
+accepted_at : (t : Bool) (game other : ℕ) (act : Acted) (acts : List Acted) (refused : List RefusedActs) → (game == other) ≡ t →
     refuses game act ≡ false → count_in game refused ≡ length (filter (refuses game) acts) →
     count_in game (without other refused) ≡ length (filter (refuses game) (if t then [] else act ∷ acts))
 accepted_at true game other act acts refused e h is =
@@ -101,14 +101,14 @@ accepted_at false game other act acts refused e h is =
     ∙ (kept game other refused [] e refl
     ∙ (is ∙ sym (ap (λ (b : Bool). length (cond b (act ∷ filter (refuses game) acts) (filter (refuses game) acts))) h)))
 
-accepted_more : (o : Option ℕ) (game : ℕ) (act : Acted) (acts : List Acted) (refused : List Refused) → refuses game act ≡ false →
+accepted_more : (o : Option ℕ) (game : ℕ) (act : Acted) (acts : List Acted) (refused : List RefusedActs) → refuses game act ≡ false →
     count_in game refused ≡ length (filter (refuses game) acts) →
     count_in game (cleared o refused) ≡ length (filter (refuses game) (if is_number game o then [] else act ∷ acts))
 accepted_more None game act acts refused h is =
     is ∙ sym (ap (λ (b : Bool). length (cond b (act ∷ filter (refuses game) acts) (filter (refuses game) acts))) h)
 accepted_more (Some other) game act acts refused h is = accepted_at (game == other) game other act acts refused refl h is
 
-told_at : (t : Bool) (text now : List ℕ) (game : ℕ) (acts : List Acted) (refused : List Refused) → is_act_accepted now ≡ t →
+told_at : (t : Bool) (text now : List ℕ) (game : ℕ) (acts : List Acted) (refused : List RefusedActs) → is_act_accepted now ≡ t →
     count_in game refused ≡ length (filter (refuses game) (since game acts)) →
     count_in game (if t then cleared (act_game now) refused else one_more (refused_game text now) refused)
     ≡ length (filter (refuses game) (if t && is_number game (act_game now) then [] else record { text = text; answer = now } ∷ since game acts))
@@ -121,10 +121,10 @@ told_at false text now game acts refused e is =
 -- ---- over a whole run
 
 -- these are as many as are kept
-abbrev pub AreCounted : List Refused → List Acted → Type 0
+abbrev pub AreCounted : List RefusedActs → List Acted → Type 0
 AreCounted refused acts = (game : ℕ) → count_in game refused ≡ refused_since (Some game) acts
 
-heard_counted : (o : Owed) (now : List ℕ) (refused : List Refused) (acts : List Acted) → AreCounted refused acts →
+heard_counted : (o : Owed) (now : List ℕ) (refused : List RefusedActs) (acts : List Acted) → AreCounted refused acts →
     AreCounted (refused_heard o now refused) (acted_for o now ++ acts)
 heard_counted Nobody now refused acts h = h
 heard_counted (Asker c ForItself) now refused acts h = h
@@ -136,7 +136,7 @@ heard_counted (Dropper c by text) now refused acts h = h
 heard_counted (Followers noticed act is_table) now refused acts h = h
 heard_counted Behind now refused acts h = h
 
-next_counted : (owed : List Owed) (now : List ℕ) (refused : List Refused) (acts : List Acted) → AreCounted refused acts →
+next_counted : (owed : List Owed) (now : List ℕ) (refused : List RefusedActs) (acts : List Acted) → AreCounted refused acts →
     AreCounted (refused_next owed now refused) (acted_next owed now ++ acts)
 next_counted [] now refused acts h = h
 next_counted (o ∷ owed) now refused acts h = heard_counted o now refused acts h

@@ -15,7 +15,7 @@ use Rattle.lobby_words.specs.declared.planning.Standing.{Standing}
 use Rattle.lobby_words.specs.declared.planning.Identity.{Identity}
 use Rattle.lobby_roster.specs.declared.players.Player.{Player}
 use Rattle.lobby_words.specs.declared.listing.Waiting.{Waiting}
-use Rattle.lobby_desk.specs.declared.refusals.Refused.{Refused}
+use Rattle.lobby_desk.specs.declared.refusals.RefusedActs.{RefusedActs}
 use Rattle.lobby_desk.specs.declared.watching.Watch.{Watch}
 use Rattle.lobby_words.specs.Words.{word_of, rest_of, as_name, as_line, line_said, is_message, sort_of, is_act_sort, is_as_sort, is_drop_sort, is_name_sort, is_login_sort, u32_in, or_0}
 use Rattle.lobby_words.specs.Plans.{asked, entered_plan, act_plan, named_plan, as_plan, arbiter_plan, order_plan, drop_plan, login_plan, numbered_plan, plan_of}
@@ -409,7 +409,7 @@ said_good players old c text lines tells new h =
     subst (λ (n : Option (List ℕ)). Good (sort_asks (sort_of text) (or_0 (u32_in (rest_of text))) text) (name_for players (old.who c) text) old.said lines n) (sym h.said_is) lined
 
 -- what is known is the same if each part of it is
-abbrev known_of : List Owed → ℕ → List ℕ → List ℕ → List Watch → List ℕ → List Waiting → List Refused → Option Following → Known
+abbrev known_of : List Owed → ℕ → List ℕ → List ℕ → List Watch → List ℕ → List Waiting → List RefusedActs → Option Following → Known
 known_of owed left begun last watches table waiting refused follows = record {
   owed = owed;
   left = left;
@@ -432,7 +432,7 @@ same_known a b owed left begun last watches table waiting refused follows =
     ∙ (ap (λ (x : List Watch). known_of b.owed b.left b.begun b.last x a.table a.waiting a.refused a.follows) watches
     ∙ (ap (λ (x : List ℕ). known_of b.owed b.left b.begun b.last b.watches x a.waiting a.refused a.follows) table
     ∙ (ap (λ (x : List Waiting). known_of b.owed b.left b.begun b.last b.watches b.table x a.refused a.follows) waiting
-    ∙ (ap (λ (x : List Refused). known_of b.owed b.left b.begun b.last b.watches b.table b.waiting x a.follows) refused
+    ∙ (ap (λ (x : List RefusedActs). known_of b.owed b.left b.begun b.last b.watches b.table b.waiting x a.follows) refused
     ∙ ap (λ (x : Option Following). known_of b.owed b.left b.begun b.last b.watches b.table b.waiting b.refused x) follows)))))))
 
 -- who watches depends on who is open alone

@@ -3,7 +3,7 @@ use Rattle.std.specs.Prelude.{ℕ, ◌&&◌, ◌||◌, ◌==◌, ◌+◌, Bool, 
 use Rattle.std.specs.List.{starts_with}
 use Rattle.lobby_words.specs.Words.{word_of, rest_of, line_said, u32_in}
 use Rattle.lobby_words.specs.Answers.{act_game, is_accepted, is_table_act}
-use Rattle.lobby_desk.specs.declared.refusals.Refused.{Refused}
+use Rattle.lobby_desk.specs.declared.refusals.RefusedActs.{RefusedActs}
 
 -- whether the server accepted an act, by its answer: `ok ..`, or `fallen ..`
 abbrev pub is_fallen : List ℕ → Bool
@@ -30,27 +30,27 @@ abbrev pub refused_game : List ℕ → List ℕ → Option ℕ
 refused_game text answer = if is_refusal answer && not (is_table_act text) then game_named text else None
 
 -- how many were refused in a game
-abbrev pub count_in : ℕ → List Refused → ℕ
+abbrev pub count_in : ℕ → List RefusedActs → ℕ
 count_in game [] = 0
 count_in game (r ∷ refused) = if r.game == game then r.count else count_in game refused
 
-abbrev pub count_of : Option ℕ → List Refused → ℕ
+abbrev pub count_of : Option ℕ → List RefusedActs → ℕ
 count_of None refused = 0
 count_of (Some game) refused = count_in game refused
 
 -- none in a game any more, and one more
-abbrev pub without : ℕ → List Refused → List Refused
-without game refused = filter (λ (r : Refused). not (r.game == game)) refused
+abbrev pub without : ℕ → List RefusedActs → List RefusedActs
+without game refused = filter (λ (r : RefusedActs). not (r.game == game)) refused
 
-abbrev pub cleared : Option ℕ → List Refused → List Refused
+abbrev pub cleared : Option ℕ → List RefusedActs → List RefusedActs
 cleared None refused = refused
 cleared (Some game) refused = without game refused
 
-abbrev pub one_more : Option ℕ → List Refused → List Refused
+abbrev pub one_more : Option ℕ → List RefusedActs → List RefusedActs
 one_more None refused = refused
 one_more (Some game) refused = without game refused ++ record { game = game; count = count_in game refused + 1 } ∷ []
 
 -- The same behind the answer to an act.
-abbrev pub refused_told : List ℕ → List ℕ → List Refused → List Refused
+abbrev pub refused_told : List ℕ → List ℕ → List RefusedActs → List RefusedActs
 refused_told text answer refused =
     if is_act_accepted answer then cleared (act_game answer) refused else one_more (refused_game text answer) refused

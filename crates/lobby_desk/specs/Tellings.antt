@@ -3,7 +3,7 @@ use Rattle.std.specs.Prelude.{ℕ, ◌≡◌, Bool, true, false, ◌&&◌, ◌||
 use Rattle.std.specs.List.{list_any}
 use Rattle.lobby_words.specs.declared.listing.Waiting.{Waiting}
 use Rattle.lobby_desk.specs.declared.watching.Watch.{Watch}
-use Rattle.lobby_desk.specs.declared.refusals.Refused.{Refused}
+use Rattle.lobby_desk.specs.declared.refusals.RefusedActs.{RefusedActs}
 use Rattle.lobby_desk.specs.declared.telling.Kind.{Kind}
 use Rattle.lobby_desk.specs.declared.telling.Kind.TheVariants as kinds
 use Rattle.lobby_words.specs.Words.{rest_of, is_message, sort_of, is_close_sort, is_leave_sort, is_leave_lobby_sort, u32_in}
@@ -29,7 +29,7 @@ pub record Known : Type 0 where
   pub watches : List Watch
   pub table : List ℕ
   pub waiting : List Waiting
-  pub refused : List Refused
+  pub refused : List RefusedActs
   pub follows : Option Following
 
 -- the front of the answer to a `watch` that is accepted, and of that to `lobby`
@@ -104,15 +104,15 @@ waiting_now (Heard line) k = if is_whole k.left line then waiting_answered k.owe
 waiting_now _ k = k.waiting
 
 -- How many acts were refused after an answer, by whose it is.
-abbrev pub refused_heard : Owed → List ℕ → List Refused → List Refused
+abbrev pub refused_heard : Owed → List ℕ → List RefusedActs → List RefusedActs
 refused_heard (Asker c (ForAct by text)) now refused = refused_told text now refused
 refused_heard _ now refused = refused
 
-abbrev pub refused_next : List Owed → List ℕ → List Refused → List Refused
+abbrev pub refused_next : List Owed → List ℕ → List RefusedActs → List RefusedActs
 refused_next [] now refused = refused
 refused_next (o ∷ owed) now refused = refused_heard o now refused
 
-abbrev pub refused_now : DeskInput → Known → List Refused
+abbrev pub refused_now : DeskInput → Known → List RefusedActs
 refused_now (Heard line) k = if is_whole k.left line then refused_next k.owed (answer k.begun line) k.refused else k.refused
 refused_now _ k = k.refused
 
@@ -212,7 +212,7 @@ abbrev pub undropped : List ℕ → List ℕ
 undropped now = if is_accepted now then refusal_text refusals.NotWaiting else now
 
 -- What is told for an answer of the server, by whose it is. What goes to the log is told before the rest.
-abbrev pub IsToldFor : List ℕ → List Watch → List ℕ → List Refused → Owed → List ℕ → List (List ℕ) → List MessageValue → Type 0
+abbrev pub IsToldFor : List ℕ → List Watch → List ℕ → List RefusedActs → Owed → List ℕ → List (List ℕ) → List MessageValue → Type 0
 IsToldFor before watches table refused Nobody now lines tells = (lines ≡ []) × (tells ≡ [])
 IsToldFor before watches table refused (Asker c ask) now lines tells =
     tells ≡ logged_for refused ask now ++ to_one_as c (kind_of ask before now) (made_of ask before now) ∷ []

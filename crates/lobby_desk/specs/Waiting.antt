@@ -3,7 +3,7 @@ use Rattle.std.specs.Prelude.{ℕ, Bool, false, ◌&&◌, ◌==◌, ◌+◌, not
 use Rattle.std.specs.List.{count_by}
 use Rattle.std.specs.Str.{bytes_eq}
 use Rattle.lobby_words.specs.declared.listing.Waiting.{Waiting}
-use Rattle.lobby_words.specs.Waiting.{is_open, ends_wait, is_list, waiting_in, waiting_of}
+use Rattle.lobby_words.specs.Waiting.{opens_game, ends_wait, is_list, waiting_in, waiting_of}
 use Rattle.lobby_words.specs.Words.{actor}
 use Rattle.lobby_desk.specs.Events.{Owed, Asker, ForAct}
 
@@ -15,7 +15,7 @@ behind waiting (Some one) = waiting ++ one ∷ []
 
 abbrev pub waiting_acted : List ℕ → List ℕ → ℕ → List Waiting → List Waiting
 waiting_acted by text game waiting =
-    if is_open text then behind waiting (waiting_of (Some game) (actor by text))
+    if opens_game text then behind waiting (waiting_of (Some game) (actor by text))
     else (if ends_wait text then filter (λ (w : Waiting). not (w.game == game)) waiting else waiting)
 
 -- the same, where the act was done in a game
@@ -29,7 +29,7 @@ waiting_listed answer waiting = if is_list answer then waiting_in answer else wa
 
 -- whether an answer is owed to an `open` for this player
 abbrev pub is_opening : List ℕ → Owed → Bool
-is_opening name (Asker c (ForAct by text)) = bytes_eq (actor by text) name && is_open text
+is_opening name (Asker c (ForAct by text)) = bytes_eq (actor by text) name && opens_game text
 is_opening name _ = false
 
 -- Whether 16 games of a player wait; those count whose opening is not answered.

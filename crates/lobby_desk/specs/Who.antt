@@ -15,7 +15,7 @@ use Rattle.lobby_desk.specs.declared.visitors.Visitor.{Visitor}
 use Rattle.lobby_desk.specs.declared.watching.Watch.{Watch}
 use Rattle.lobby_desk.specs.declared.desk.Desk.{Desk}
 use Rattle.lobby_words.specs.Words.{rest_of, as_name, actor, is_message, sort_of, u32_in}
-use Rattle.lobby_words.specs.Waiting.{is_open as opens_game}
+use Rattle.lobby_words.specs.Waiting.{opens_game}
 use Rattle.lobby_roster.specs.Players.{holder_of, known_name, renewed, is_token_of, login_text, players_text, present_names, who_text}
 use Rattle.lobby_words.specs.Plans.{refusal_text, plan_of, order_of}
 use Rattle.lobby_desk.specs.Lines.{bytes_of, lines_of, act_lines, said_after, notice_lines, IsNamed}

@@ -4,12 +4,12 @@ ghost use Rattle.std.specs.List.{starts_with};
 ghost use Rattle.lobby_desk.specs.Refusals as spec;
 
 use crate::desk::number_after;
-use lobby_words::{cut, game_told, is_accepted, is_table_act, line_said, number_named};
+use lobby_words::{cut_word, game_told, is_accepted, is_table_act, line_said, number_named};
 use std::alloc::AllocError;
 
 /// A game, and how many acts of who plays in it were refused since one was accepted there.
 #[derive(Clone, Copy)]
-pub struct Refused {
+pub struct RefusedActs {
     pub game: u32,
     pub count: u64,
 }
@@ -55,8 +55,8 @@ fn is_no(answer: &str) -> bool
 fn is_refusal(answer: &str) -> bool
     ensures { result ≡ spec.is_refusal answer.now }
 {
-    let (_, rest) = cut(answer);
-    let (number, _) = cut(rest);
+    let (_, rest) = cut_word(answer);
+    let (number, _) = cut_word(rest);
     let is_no = is_no(answer);
     let is_of_seated = is_of_seated(number_named(number));
     is_no & is_of_seated
@@ -66,8 +66,8 @@ fn is_refusal(answer: &str) -> bool
 pub fn game_named(text: &str) -> Option<u32>
     ensures { result ≡ spec.game_named text.now }
 {
-    let (_, rest) = cut(line_said(text));
-    let (game, _) = cut(rest);
+    let (_, rest) = cut_word(line_said(text));
+    let (game, _) = cut_word(rest);
     number_named(game)
 }
 
@@ -85,7 +85,7 @@ fn refused_game(text: &str, answer: &str) -> Option<u32>
 }
 
 // How many acts were refused in a game.
-fn count_in(refused: &[Refused], game: u32) -> u64
+fn count_in(refused: &[RefusedActs], game: u32) -> u64
     ensures { result ≡ spec.count_in game refused.now }
 {
     for one in refused {
@@ -97,7 +97,7 @@ fn count_in(refused: &[Refused], game: u32) -> u64
 }
 
 /// How many acts were refused in a game, if one is named.
-pub fn count_of(refused: &[Refused], game: Option<u32>) -> u64
+pub fn count_of(refused: &[RefusedActs], game: Option<u32>) -> u64
     ensures { result ≡ spec.count_of game refused.now }
 {
     match game {
@@ -107,14 +107,14 @@ pub fn count_of(refused: &[Refused], game: Option<u32>) -> u64
 }
 
 // None was refused in a game any more.
-fn take_off(refused: &mut Vec<Refused>, game: u32)
+fn take_off(refused: &mut Vec<RefusedActs>, game: u32)
     ensures { refused.new.items ≡ spec.without game refused.old.items }
 {
     refused.retain(|one| one.game != game);
 }
 
 // The same, if a game is named.
-fn clear(refused: &mut Vec<Refused>, game: Option<u32>)
+fn clear(refused: &mut Vec<RefusedActs>, game: Option<u32>)
     ensures { refused.new.items ≡ spec.cleared game refused.old.items }
 {
     match game {
@@ -124,7 +124,7 @@ fn clear(refused: &mut Vec<Refused>, game: Option<u32>)
 }
 
 // One more was refused in a game, if one is named.
-fn add_one(refused: &mut Vec<Refused>, game: Option<u32>) -> Result<(), AllocError>
+fn add_one(refused: &mut Vec<RefusedActs>, game: Option<u32>) -> Result<(), AllocError>
     ensures { OnOk result (refused.new.items ≡ spec.one_more game refused.old.items) }
 {
     match game {
@@ -132,14 +132,18 @@ fn add_one(refused: &mut Vec<Refused>, game: Option<u32>) -> Result<(), AllocErr
         Some(game) => {
             let count = number_after(count_in(refused.as_slice(), game))?;
             take_off(refused, game);
-            refused.push(Refused { game, count })?;
+            refused.push(RefusedActs { game, count })?;
             Ok(())
         }
     }
 }
 
 /// Notes the answer to an act.
-pub fn note_refused(refused: &mut Vec<Refused>, text: &str, answer: &str) -> Result<(), AllocError>
+pub fn note_refused(
+    refused: &mut Vec<RefusedActs>,
+    text: &str,
+    answer: &str,
+) -> Result<(), AllocError>
     ensures { OnOk result (refused.new.items ≡ spec.refused_told text.now answer.now refused.old.items) }
 {
     if is_act_accepted(answer) {

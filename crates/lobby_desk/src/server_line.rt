@@ -7,7 +7,7 @@ ghost use Rattle.lobby_desk.specs.Events.{owed_of, owed_last, owed_lines, Nobody
 ghost use Rattle.lobby_desk.specs.Refusals.{game_named};
 ghost use Rattle.lobby_desk.specs.Lines.{ended, bytes_of, name_lines, act_lines, notice_lines, game_line, IsHeardSame};
 
-use crate::refusals::{Refused, game_named};
+use crate::refusals::{RefusedActs, game_named};
 use itoa::Buffer;
 use lobby_words::{Coming, Waiting, is_said};
 use rec_codec::Name;
@@ -82,7 +82,7 @@ pub struct ServerLine {
     /// The games that wait for a second player, as far as the answers have told.
     pub waiting: Vec<Waiting>,
     /// The acts that were refused, of each game since one was accepted there.
-    pub refused: Vec<Refused>,
+    pub refused: Vec<RefusedActs>,
 }
 
 // Puts a line of two parts behind others.

@@ -4,13 +4,13 @@ ghost use Rattle.std.specs.List.{count_by};
 ghost use Rattle.std.specs.Str.{bytes_eq};
 ghost use Rattle.std.specs.String.{string_bytes};
 ghost use Rattle.lobby_words.specs.declared.listing.Waiting.{Waiting};
-ghost use Rattle.lobby_words.specs.Waiting.{is_open};
+ghost use Rattle.lobby_words.specs.Waiting.{opens_game};
 ghost use Rattle.lobby_words.specs.Words.{actor};
 ghost use Rattle.lobby_desk.specs.Events.{owed_of};
 ghost use Rattle.lobby_desk.specs.Waiting.{behind, is_opening, is_crowded, waiting_acted, waiting_told, waiting_listed};
 
 use crate::server_line::{Acting, Due, ServerLine};
-use lobby_words::{Waiting, actor, ends_wait, is_list, is_open, waiting_in, waiting_of};
+use lobby_words::{Waiting, actor, ends_wait, is_list, opens_game, waiting_in, waiting_of};
 use std::alloc::{AllocError, Global};
 
 // The most games of one player that wait.
@@ -38,10 +38,10 @@ fn waiting_by(waiting: &[Waiting], name: &str) -> usize
 
 // Whether an act is an `open` for this player.
 fn opens_by(act: &Acting, name: &str) -> bool
-    ensures { result ≡ (bytes_eq (actor act.now.who (string_bytes act.now.text)) name.now && is_open (string_bytes act.now.text)) }
+    ensures { result ≡ (bytes_eq (actor act.now.who (string_bytes act.now.text)) name.now && opens_game (string_bytes act.now.text)) }
 {
     let is_his = actor(act.who.as_str(), act.text.as_str()) == name;
-    let opens = is_open(act.text.as_str());
+    let opens = opens_game(act.text.as_str());
     is_his & opens
 }
 
@@ -118,7 +118,7 @@ fn note_game(waiting: &mut Vec<Waiting>, act: &Acting, game: u32) -> Result<(), 
     ensures { OnOk result (waiting.new.items ≡ waiting_acted act.now.who (string_bytes act.now.text) game waiting.old.items) }
 {
     let text = act.text.as_str();
-    if is_open(text) {
+    if opens_game(text) {
         add_waiting(
             waiting,
             waiting_of(Some(game), actor(act.who.as_str(), text)),

@@ -1,5 +1,5 @@
 //! How many games the server has, as its answer to `list` tells.
-use lobby_words::{cut, is_list, number_named, waiting_row};
+use lobby_words::{cut_word, is_list, number_named, waiting_row};
 use std::alloc::{AllocError, Global};
 use std::str;
 
@@ -39,8 +39,8 @@ fn rows_of(first: &str) -> Option<u64> {
     if !is_list(first) {
         return None;
     }
-    let (_, rest) = cut(first);
-    let (_, rest) = cut(rest);
+    let (_, rest) = cut_word(first);
+    let (_, rest) = cut_word(rest);
     Some(u64::from(number_named(rest)?))
 }
 

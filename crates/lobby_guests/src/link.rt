@@ -6,12 +6,9 @@ ghost use Rattle.lobby_guests.specs.Held.{IsKept, TakesIn, HandsOn};
 use crate::lines::hear_lines;
 use crate::pieces::{Gone, PIECE_ROOM, write_piece};
 use crate::talk::Talk;
-use session_lines::{Came, give_up, read_piece};
+use session_lines::{Came, SERVER_LINE_ROOM, give_up, read_piece};
 use std::alloc::{AllocError, Global};
 use std::io::{Read, Write};
-
-/// The most bytes of a line of the server.
-const LINE_MOST: usize = 65_536;
 
 /// The connection to the server.
 #[derive(Drop)]
@@ -100,7 +97,7 @@ impl<S: Read + Write> Link<S> {
         let any = self.read_more(piece)?;
         let (count, is_sound) = hear_lines(talk, self.held.as_slice())?;
         give_up(&mut self.held, count);
-        if !is_sound || self.held.len() > LINE_MOST {
+        if !is_sound || self.held.len() > SERVER_LINE_ROOM {
             self.is_lost = true;
         }
         Ok(any)

@@ -4,8 +4,7 @@ use Rattle.std.specs.Prelude.{◌⊎◌, ◌==◌, IsUtf8, if◌then◌else◌}
 use Rattle.std.specs.List.{AllZip}
 use Rattle.std.specs.String.{string_bytes}
 use Rattle.std.specs.Io.KnownBytes.{Consumes, Appends}
-use Rattle.std.proofs.lemmas.Bool.{cases_Bool, false≢true}
-use Rattle.std.proofs.lemmas.Bool.Decides.{eqb_tells}
+use Rattle.std.proofs.lemmas.Bool.{eq-eqb, ne_eqb, cases_Bool, false≢true}
 use Rattle.websocket.specs.Content.{text as Text, ping as Ping}
 use Rattle.lobby_desk.specs.declared.telling.Message.{Message}
 use Rattle.lobby_desk.specs.Events.{DeskInput, Opened, Closed, Said, Hurried, Heard, ServerTurned, Renewed, Linked, MessageValue, message_value, message_values}
@@ -24,12 +23,6 @@ use Rattle.lobby_loop.specs.Doing.{Doing, Took, Tried, Gave, WasTold, Wrote, Spo
 
 -- ---- events of other connections
 
-differs : (d c : ℕ) → d ≢ c → (d == c) ≡ false
-differs d c other = elim (eqb_tells d c) [ inl both ↦ absurd (other both.1) | inr both ↦ both.0 ]
-
-pub is_same : (c : ℕ) → (c == c) ≡ true
-is_same c = elim (eqb_tells c c) [ inl both ↦ both.0 | inr both ↦ absurd (both.1 refl) ]
-
 -- an event that says nothing of what a connection said, and does not open it
 abbrev pub IsApart : ℕ → DeskInput → Type 0
 IsApart c (Opened d) = d ≢ c
@@ -47,18 +40,18 @@ AreApart [] e = Unit {0}
 AreApart (n ∷ ns) e = ApartFrom n e × AreApart ns e
 
 message_apart : (c : ℕ) (e : DeskInput) (before : List DeskInput) → IsApart c e → message_of c e before ≡ before
-message_apart c (Opened d) before apart = ap (λ (b : Bool). if b then [] else before) (differs d c apart)
+message_apart c (Opened d) before apart = ap (λ (b : Bool). if b then [] else before) (ne_eqb d c apart)
 message_apart c (Closed d) before apart = refl
-message_apart c (Said d text) before apart = ap (λ (b : Bool). if b then Said d text ∷ before else before) (differs d c apart)
-message_apart c (Hurried d) before apart = ap (λ (b : Bool). if b then Hurried d ∷ before else before) (differs d c apart)
+message_apart c (Said d text) before apart = ap (λ (b : Bool). if b then Said d text ∷ before else before) (ne_eqb d c apart)
+message_apart c (Hurried d) before apart = ap (λ (b : Bool). if b then Hurried d ∷ before else before) (ne_eqb d c apart)
 message_apart c (Linked d text players token) before apart =
-    ap (λ (b : Bool). if b then Linked d text players token ∷ before else before) (differs d c apart)
+    ap (λ (b : Bool). if b then Linked d text players token ∷ before else before) (ne_eqb d c apart)
 message_apart c (Renewed players) before apart = refl
 message_apart c (Heard line) before apart = refl
 message_apart c (ServerTurned is_here) before apart = refl
 
 opening_apart : (c : ℕ) (e : DeskInput) → IsApart c e → is_opening c e ≡ false
-opening_apart c (Opened d) apart = differs d c apart
+opening_apart c (Opened d) apart = ne_eqb d c apart
 opening_apart c (Closed d) apart = refl
 opening_apart c (Said d text) apart = refl
 opening_apart c (Hurried d) apart = refl
@@ -327,10 +320,10 @@ module _ {S : Type 0} (remaining contents : S → Option (List ℕ)) (site : Sit
       all_tells steps ≡ out ++ t → DoesAt remaining contents (Gave (Some heards.Opened)) a b → Served steps out None a →
       Served (s ∷ steps) out (Some c) b
   gave_opened steps s out t c a b is tells does was =
-      let own : is_opening c s.event ≡ true = ap (is_opening c) is ∙ is_same c in
+      let own : is_opening c s.event ≡ true = ap (is_opening c) is ∙ eq-eqb c c refl in
       let none : message_of c s.event (messages_of c steps) ≡ [] =
       ap (λ (e : DeskInput). message_of c e (messages_of c steps)) is
-      ∙ ap (λ (u : Bool). if u then [] else messages_of c steps) (is_same c) in
+      ∙ ap (λ (u : Bool). if u then [] else messages_of c steps) (eq-eqb c c refl) in
       let whole : length out ≤ length (all_tells steps) = omega (arith, ap length tells, length-append out t) in
       record {
         first = was.first;
@@ -358,12 +351,12 @@ module _ {S : Type 0} (remaining contents : S → Option (List ℕ)) (site : Sit
       (¬ IsUtf8 text → shown ≡ []) → (texts : List (List ℕ)) → AllZip IsSaidAs texts before →
       AllZip IsSaidAs (text ∷ texts) (message_of c (saying how c shown) before)
   said_as TooFast c text shown before is is_not texts said =
-      subst (λ (u : Bool). AllZip IsSaidAs (text ∷ texts) (if u then Hurried c ∷ before else before)) (sym (is_same c)) (tt, said)
+      subst (λ (u : Bool). AllZip IsSaidAs (text ∷ texts) (if u then Hurried c ∷ before else before)) (sym (eq-eqb c c refl)) (tt, said)
   said_as (WithLink players token) c text shown before is is_not texts said =
-      subst (λ (u : Bool). AllZip IsSaidAs (text ∷ texts) (if u then Linked c shown players token ∷ before else before)) (sym (is_same c))
+      subst (λ (u : Bool). AllZip IsSaidAs (text ∷ texts) (if u then Linked c shown players token ∷ before else before)) (sym (eq-eqb c c refl))
       ((is, is_not), said)
   said_as InTime c text shown before is is_not texts said =
-      subst (λ (u : Bool). AllZip IsSaidAs (text ∷ texts) (if u then Said c shown ∷ before else before)) (sym (is_same c))
+      subst (λ (u : Bool). AllZip IsSaidAs (text ∷ texts) (if u then Said c shown ∷ before else before)) (sym (eq-eqb c c refl))
       ((is, is_not), said)
 
   not_opening : (how : Saying) (c : ℕ) (shown : List ℕ) → is_opening c (saying how c shown) ≡ false

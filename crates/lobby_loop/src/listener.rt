@@ -5,7 +5,7 @@ ghost use Rattle.lobby_loop.specs.Turning.{Admits, AreAdmitted};
 use crate::hall::Hall;
 use mio::net::{TcpListener, TcpStream};
 use mio::{Interest, Registry, Token};
-use server_calls::{AcceptFault, accept_fault};
+use server_calls::{ACCEPT_TRIES, AcceptFault, accept_fault};
 use std::io;
 use std::net::{Net, SocketAddr};
 
@@ -96,14 +96,11 @@ fn take_in<A: Acceptor>(
     hall.turn_away();
 }
 
-/// So many connections are accepted in a turn.
-const TRIES: usize = 64;
-
 /// Accepts those who wait, up to 64.
 pub fn welcome<A: Acceptor>(acceptor: &mut A, hall: &mut Hall<A::Stream>, at: u64) -> Welcomed
     ensures { (streams : List A.Stream) × AreAdmitted streams hall.old hall.new }
 {
-    for _ in 0..TRIES {
+    for _ in 0..ACCEPT_TRIES {
         match acceptor.accept_one() {
             Ok(stream) => take_in(acceptor, hall, stream, at),
             Err(AcceptFault::Nobody) => return Welcomed::All,

@@ -14,7 +14,7 @@ use lobby_roster::Player;
 use lobby_web::{File, Site};
 use mio::net::TcpStream;
 use mio::{Events, Interest, Poll, Token};
-use server_calls::{call, is_made};
+use server_calls::{RETRY, call, is_made};
 use std::alloc::{AllocError, Global};
 use std::hash::RandomState;
 use std::io;
@@ -38,9 +38,7 @@ const SERVER: usize = 1;
 // How many sockets one wait tells of.
 const EVENTS: usize = 1_024;
 
-// So many milliseconds lie between two tries to reach the server, and after so many one is given up.
-const RETRY: u64 = 500;
-
+// After so many milliseconds a try to reach the server is given up.
 const PATIENCE: u64 = 5_000;
 
 // So many milliseconds the listener is left alone where the system has nothing for another connection.

@@ -1,14 +1,11 @@
 use anyhow::Result;
-use night_files::folder_of;
+use night_files::{OWNERS_MODE, folder_of};
 use std::alloc::Global;
 use std::fs::{File, OpenFile, OpenOptions, Permissions};
 use std::io::Write;
 use std::os::unix::fs::{OpenOptionsExt, PermissionsExt};
 use std::rt::Files;
 use std::{fs, io};
-
-// Who may read and write a new players' file: its owner.
-const OWNERS_MODE: u32 = 0o600;
 
 /// The bytes of a file; none where there is no file. Other errors of the system are handed on.
 pub fn read_file<R: Files + AllocGlobal>(rt: &R, file: &str) -> io::Result<Vec<u8>> {

@@ -1,8 +1,6 @@
 -- The moves that words name, one after another.
-use Rattle.std.proofs.Common.{ℕ, zero, suc, ◌≡◌, ◌<◌, ◌+◌, List, [], ◌∷◌, ◌++◌, length, get_or, map, take, drop, sym, ap, ◌∙◌, subst, append_assoc, append-nil, arith, Option, Some, None}
-use Rattle.std.specs.Borrow.{Bor}
+use Rattle.std.proofs.Common.{ℕ, zero, suc, ◌≡◌, ◌<◌, ◌+◌, List, [], ◌∷◌, ◌++◌, length, get_or, take, refl, sym, ap, ◌∙◌, subst, append_assoc, append-nil, arith, Option, Some, None}
 use Rattle.std.specs.Prelude.{IfSome, IfNone}
-use Rattle.std.proofs.lemmas.List.{drop_more, get_or-map, length-map}
 use Rattle.chess_board.specs.declared.moves.Move.{Move}
 use Rattle.chess_board.specs.Position.{Position}
 use Rattle.chess_board.specs.Next.{next}
@@ -22,6 +20,12 @@ pub record Continued (p : Position) (left : List (List ℕ)) (done all : List Mo
 pub record Runs (start p : Position) (words left : List (List ℕ)) (done : List Move) : Type 0 where
   pub back : (rest : List Move) → ArePlayed p left rest → ArePlayed start words (done ++ rest)
   pub forth : (all : List Move) → ArePlayed start words all → Continued p left done all
+
+pub runs_start : (p : Position) (words : List (List ℕ)) → Runs p p words words []
+runs_start p words = record {
+  back = λ rest h. h;
+  forth = λ all h. record { rest = all; joined = refl; played = h };
+}
 
 more_by : (p after : Position) (word : List ℕ) (left : List (List ℕ)) (done more all : List Move) (m : Move) (rest : List Move) →
     ((other : Move) → Plays p word other → other ≡ m) → after ≡ next p m → more ≡ done ++ (m ∷ []) → all ≡ done ++ rest →
@@ -70,16 +74,6 @@ pub runs_stop : (start p : Position) (words left : List (List ℕ)) (word : List
 runs_stop start p words left word done runs none all h =
     let so_far = runs.forth all h in
     stop_by p word left so_far.rest none so_far.played
-
--- the word at a place of those that are left
-pub left_at : (items : List (Bor (List ℕ))) (i : ℕ) (d : Bor (List ℕ)) → i < length items →
-    drop i (map (λ (word : Bor (List ℕ)). word.now) items)
-    ≡ (get_or items i d).now ∷ drop (i + 1) (map (λ (word : Bor (List ℕ)). word.now) items)
-left_at items i d below =
-    let now = λ (word : Bor (List ℕ)). word.now in
-    let inside : i < length (map (λ (word : Bor (List ℕ)). word.now) items) = rw (length-map items now) below in
-    drop_more (map now items) i d.now inside
-    ∙ ap (λ (word : List ℕ). word ∷ drop (i + 1) (map now items)) (get_or-map now items i d d.now below)
 
 legal_of : (p : Position) (word : List ℕ) (m : Move) → Plays p word m → IsLegal p m
 legal_of p word m plays = plays.named.legal

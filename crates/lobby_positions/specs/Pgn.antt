@@ -1,11 +1,11 @@
 -- What is read of a game's PGN: the start, and the words that name its moves.
-use Rattle.std.specs.Prelude.{ℕ, ◌≡◌, ◌<◌, Bool, true, false, ◌==◌, List, [], ◌∷◌, ◌++◌, codes, Option, Some, None, if◌then◌else◌, find, filter, flat_map}
+use Rattle.std.specs.Prelude.{ℕ, ◌≡◌, ◌<◌, Bool, true, false, ◌==◌, List, [], ◌∷◌, ◌++◌, codes, Option, Some, None, find}
 use Rattle.std.specs.List.{before_first, after_first}
 use Rattle.std.specs.Str.{bytes_eq}
 use Rattle.std.specs.Option.{option_map}
 use Rattle.text_parts.specs.Parts.{parts_of}
 use Rattle.text_parts.specs.Signs.{line_feed, quote}
-use Rattle.pgn_tags.specs.Pgn.{is_tag, is_move}
+use Rattle.pgn_tags.specs.Pgn.{tokens_of, moves_in}
 use Rattle.chess_board.specs.declared.moves.Move.{Move}
 use Rattle.chess_board.specs.Position.{Position, IsValid}
 use Rattle.chess_board.specs.Initial.{initial}
@@ -34,13 +34,6 @@ fen_in lines = option_map value_of (find is_fen_tag lines)
 abbrev pub StartsAt : Option (List ℕ) → Position → Type 0
 StartsAt None p = p ≡ initial
 StartsAt (Some fen) p = IsValid p × IsFenOf fen p
-
-abbrev pub words_of_line : List ℕ → List (List ℕ)
-words_of_line line = if is_tag line then [] else filter is_move (parts_of space line)
-
--- the words that name moves, in their order: those of the lines that are no tags
-abbrev pub words_of : List (List ℕ) → List (List ℕ)
-words_of lines = flat_map words_of_line lines
 
 -- the word names this move, and both counters have room for it
 pub record Plays (p : Position) (word : List ℕ) (m : Move) : Type 0 where
@@ -75,4 +68,4 @@ StepsBy false before word done after more = (m : Move) → ¬ Plays before word 
 -- the text tells this game
 pub record TellsGame (text : List ℕ) (start : Position) (moves : List Move) : Type 0 where
   pub begun : StartsAt (fen_in (lines_of text)) start
-  pub played : ArePlayed start (words_of (lines_of text)) moves
+  pub played : ArePlayed start (moves_in (tokens_of (lines_of text))) moves

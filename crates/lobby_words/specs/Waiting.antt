@@ -8,8 +8,8 @@ use Rattle.lobby_words.specs.declared.listing.Waiting.{Waiting}
 use Rattle.lobby_words.specs.Words.{word_of, rest_of, line_said, u32_in}
 
 -- whether a message opens a game, and whether it is one by which a game waits no more
-abbrev pub is_open : List ℕ → Bool
-is_open text = bytes_eq (word_of (line_said text)) (codes "open")
+abbrev pub opens_game : List ℕ → Bool
+opens_game text = bytes_eq (word_of (line_said text)) (codes "open")
 
 abbrev pub ends_wait : List ℕ → Bool
 ends_wait text = bytes_eq (word_of (line_said text)) (codes "join") || bytes_eq (word_of (line_said text)) (codes "drop")

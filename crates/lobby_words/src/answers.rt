@@ -4,7 +4,7 @@ ghost use Rattle.std.specs.List.{ends_with};
 ghost use Rattle.rec_codec.specs.Name.{IsName};
 ghost use Rattle.lobby_words.specs.Answers.{IsSeated, IsFirstSeated, IsSeatless, has_empty_seat, first_line, act_game, is_table_act, is_accepted, is_ended, is_no_game, is_over};
 
-use crate::words::{cut, line_said, number_named};
+use crate::words::{cut_word, line_said, number_named};
 use rec_codec::Name;
 use text_parts::before;
 
@@ -19,9 +19,9 @@ fn first_line(answer: &str) -> &str
 pub fn game_told(answer: &str) -> Option<u32>
     ensures { result ≡ act_game answer.now }
 {
-    let (word, rest) = cut(first_line(answer));
-    let (second, rest) = cut(rest);
-    let (third, _) = cut(rest);
+    let (word, rest) = cut_word(first_line(answer));
+    let (second, rest) = cut_word(rest);
+    let (third, _) = cut_word(rest);
     if word == "ok" {
         number_named(third)
     } else if word == "fallen" {
@@ -35,7 +35,7 @@ pub fn game_told(answer: &str) -> Option<u32>
 pub fn is_table_act(text: &str) -> bool
     ensures { result ≡ is_table_act text.now }
 {
-    let (word, _) = cut(line_said(text));
+    let (word, _) = cut_word(line_said(text));
     let is_open = word == "open";
     let is_join = word == "join";
     let is_drop = word == "drop";
@@ -88,11 +88,11 @@ pub fn seated(answer: &str, game: &str) -> Option<Name>
     ensures first { IfSome result (λ name. IsFirstSeated answer.now name) }
     ensures none { IfNone result (IsSeatless answer.now game.now) }
 {
-    let (ok, rest) = cut(answer);
-    let (show, rest) = cut(rest);
-    let (number, rest) = cut(rest);
-    let (white, rest) = cut(rest);
-    let (black, _) = cut(rest);
+    let (ok, rest) = cut_word(answer);
+    let (show, rest) = cut_word(rest);
+    let (number, rest) = cut_word(rest);
+    let (white, rest) = cut_word(rest);
+    let (black, _) = cut_word(rest);
     let is_ok = ok == "ok";
     let is_show = show == "show";
     let is_game = number == game;
@@ -110,11 +110,11 @@ pub fn seated(answer: &str, game: &str) -> Option<Name>
 pub fn has_empty_seat(answer: &str) -> bool
     ensures { result ≡ has_empty_seat answer.now }
 {
-    let (_, rest) = cut(answer);
-    let (_, rest) = cut(rest);
-    let (_, rest) = cut(rest);
-    let (white, rest) = cut(rest);
-    let (black, _) = cut(rest);
+    let (_, rest) = cut_word(answer);
+    let (_, rest) = cut_word(rest);
+    let (_, rest) = cut_word(rest);
+    let (white, rest) = cut_word(rest);
+    let (black, _) = cut_word(rest);
     let is_white = white == "-";
     let is_black = black == "-";
     is_white | is_black

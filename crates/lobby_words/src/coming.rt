@@ -4,7 +4,7 @@ ghost use Rattle.std.specs.String.{string_bytes};
 ghost use Rattle.lobby_words.specs.Answers.{answer, IsTaken};
 ghost use Rattle.lobby_words.specs.Answers as answers;
 
-use crate::words::{cut, number_or_0};
+use crate::words::{cut_word, number_or_0};
 use std::alloc::{AllocError, Global};
 
 /// An answer of which not every line has come.
@@ -20,9 +20,9 @@ pub struct Coming {
 fn lines_behind(first: &str) -> u32
     ensures { result ≡ answers.lines_behind first.now }
 {
-    let (word, rest) = cut(first);
-    let (kind, rest) = cut(rest);
-    let (_, last) = cut(rest);
+    let (word, rest) = cut_word(first);
+    let (kind, rest) = cut_word(rest);
+    let (_, last) = cut_word(rest);
     if word != "ok" {
         0
     } else if kind == "list" {

@@ -1,9 +1,9 @@
 //! The games that wait for a second player, as the server's answers tell.
 ghost use Rattle.std.specs.Prelude.{◌≡◌, ◌++◌, ◌∷◌, [], IfOk, OnOk};
 ghost use Rattle.std.specs.List.{filter_map};
-ghost use Rattle.lobby_words.specs.Waiting.{is_open, ends_wait, waiting_of, waiting_row, is_list, waiting_in};
+ghost use Rattle.lobby_words.specs.Waiting.{opens_game, ends_wait, waiting_of, waiting_row, is_list, waiting_in};
 
-use crate::words::{cut, line_said, number_named};
+use crate::words::{cut_word, line_said, number_named};
 use rec_codec::Name;
 use std::alloc::{AllocError, Global};
 use text_parts::parts;
@@ -16,10 +16,10 @@ pub struct Waiting {
 }
 
 /// Whether a message opens a game.
-pub fn is_open(text: &str) -> bool
-    ensures { result ≡ is_open text.now }
+pub fn opens_game(text: &str) -> bool
+    ensures { result ≡ opens_game text.now }
 {
-    let (word, _) = cut(line_said(text));
+    let (word, _) = cut_word(line_said(text));
     word == "open"
 }
 
@@ -27,7 +27,7 @@ pub fn is_open(text: &str) -> bool
 pub fn ends_wait(text: &str) -> bool
     ensures { result ≡ ends_wait text.now }
 {
-    let (word, _) = cut(line_said(text));
+    let (word, _) = cut_word(line_said(text));
     let is_join = word == "join";
     let is_drop = word == "drop";
     is_join | is_drop
@@ -52,9 +52,9 @@ pub fn waiting_of(game: Option<u32>, seated: &str) -> Option<Waiting>
 pub fn waiting_row(row: &str) -> Option<Waiting>
     ensures { result ≡ waiting_row row.now }
 {
-    let (number, rest) = cut(row);
-    let (white, rest) = cut(rest);
-    let (black, _) = cut(rest);
+    let (number, rest) = cut_word(row);
+    let (white, rest) = cut_word(rest);
+    let (black, _) = cut_word(rest);
     let game = number_named(number);
     if white == "-" {
         waiting_of(game, black)

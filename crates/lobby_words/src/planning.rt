@@ -4,7 +4,7 @@ ghost use Rattle.lobby_words.specs.Words as words;
 ghost use Rattle.lobby_words.specs.Plans as plans;
 
 use crate::refusals::Refusal;
-use crate::words::{Sort, cut, is_message, number_named, sort_of};
+use crate::words::{Sort, cut_word, is_message, number_named, sort_of};
 use rec_codec::Name;
 
 /// For whom a connection acts.
@@ -246,7 +246,7 @@ fn sort_plan(sort: Sort, standing: &Standing, game: Option<u32>) -> Plan
 pub fn plan_of(standing: &Standing, text: &str) -> Plan
     ensures { result ≡ plans.plan_of (words.is_message text.now) (words.sort_of text.now) standing.now (words.u32_in (words.rest_of text.now)) }
 {
-    let (_, rest) = cut(text);
+    let (_, rest) = cut_word(text);
     let game = number_named(rest);
     let sort = sort_of(text);
     let is_line = is_message(text);

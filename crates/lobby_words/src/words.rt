@@ -35,7 +35,7 @@ pub enum Sort {
 }
 
 /// The first word, and what stands behind the space after it.
-pub fn cut(text: &str) -> (&str, &str)
+pub fn cut_word(text: &str) -> (&str, &str)
     ensures word { result.0.now ≡ words.word_of text.entry.now }
     ensures rest { result.1.now ≡ words.rest_of text.entry.now }
 {
@@ -109,8 +109,8 @@ fn is_act_word(word: &str) -> bool
 pub fn as_name(text: &str) -> &str
     ensures { result.now ≡ words.as_name text.entry.now }
 {
-    let (_, rest) = cut(text);
-    let (name, _) = cut(rest);
+    let (_, rest) = cut_word(text);
+    let (name, _) = cut_word(rest);
     name
 }
 
@@ -118,8 +118,8 @@ pub fn as_name(text: &str) -> &str
 pub fn as_line(text: &str) -> &str
     ensures { result.now ≡ words.as_line text.entry.now }
 {
-    let (_, rest) = cut(text);
-    let (_, line) = cut(rest);
+    let (_, rest) = cut_word(text);
+    let (_, line) = cut_word(rest);
     line
 }
 
@@ -127,7 +127,7 @@ pub fn as_line(text: &str) -> &str
 pub fn line_said(text: &str) -> &str
     ensures { result.now ≡ words.line_said text.entry.now }
 {
-    let (word, _) = cut(text);
+    let (word, _) = cut_word(text);
     if word == "as" { as_line(text) } else { text }
 }
 
@@ -135,7 +135,7 @@ pub fn line_said(text: &str) -> &str
 pub fn actor<'a>(by: &'a str, text: &'a str) -> &'a str
     ensures { result.now ≡ words.actor by.now text.now }
 {
-    let (word, _) = cut(text);
+    let (word, _) = cut_word(text);
     if word == "as" { as_name(text) } else { by }
 }
 
@@ -143,7 +143,7 @@ pub fn actor<'a>(by: &'a str, text: &'a str) -> &'a str
 fn as_sort(text: &str) -> Sort
     ensures { result ≡ words.as_sort text.now }
 {
-    let (word, _) = cut(as_line(text));
+    let (word, _) = cut_word(as_line(text));
     if is_act_word(word) {
         Sort::As
     } else {
@@ -198,7 +198,7 @@ fn own_sort(word: &str, text: &str) -> Sort
 pub fn sort_of(text: &str) -> Sort
     ensures { result ≡ words.sort_of text.now }
 {
-    let (word, _) = cut(text);
+    let (word, _) = cut_word(text);
     if word == "name" {
         Sort::Name
     } else if is_read_word(word) {

@@ -9,7 +9,6 @@ use Rattle.pairing_texts.specs.declared.steps.Row.{Row}
 use Rattle.lobby_words.specs.Servers.{server_of}
 use Rattle.pairing_texts.specs.Newer.{is_past, is_newer}
 use Rattle.pairing_texts.specs.Steps.{numbers_of}
-use Rattle.pairing_texts.proofs.RunsKept.{and_true}
 
 -- of three games of their servers: what is past a game that is not older is past the older one
 past_by : (s t u one game n : ℕ) → (not (s == t) || nat_lt one game) ≡ false → (not (s == u) || nat_lt one n) ≡ true →
@@ -77,6 +76,3 @@ without rows i n d games below old =
     let b = is_newer games n in
     passed x a b (past_all games (get_or rows i d).game n old)
     ∙ ap (λ (y : Bool). y && b) (sym (numbers_more rows i n d below))
-
-pub first : (x : Bool) → (x && true) ≡ x
-first x = and_true x

@@ -7,6 +7,7 @@ use Rattle.std.proofs.lemmas.Bool.Decides.{Decides-eqb}
 use Rattle.std.proofs.lemmas.List.{map-append}
 use Rattle.std.proofs.lemmas.List.Folds.{list_all-append}
 use Rattle.std.proofs.lemmas.Slice.Eq.{bytes_eq-Decides}
+use Rattle.std.proofs.Math.Bool.{and-true, and-false, or-false}
 use Rattle.pairing_texts.specs.declared.steps.Seats.{Seats}
 use Rattle.pairing_texts.specs.declared.steps.Step.{Step}
 use Rattle.pairing_texts.specs.declared.steps.Step.TheVariants as steps
@@ -19,18 +20,6 @@ use Rattle.pairing_texts.proofs.WholeLooks.{whole}
 
 -- ---- the games that may be the board's
 
-pub and_true : (x : Bool) → (x && true) ≡ x
-and_true true = refl
-and_true false = refl
-
-and_false : (x : Bool) → (x && false) ≡ false
-and_false true = refl
-and_false false = refl
-
-or_false : (x : Bool) → (x || false) ≡ x
-or_false true = refl
-or_false false = refl
-
 -- the table has this game, which may be the board's
 abbrev is_there : Board → List ℕ → ℕ → Row → Bool
 is_there b noted game row = (row.game == game) && (may_be noted b.white row && b.fits row.game)
@@ -42,9 +31,9 @@ has_found b noted game rows = list_any (is_there b noted game) rows
 one_more : (game n : ℕ) (fits : ℕ → Bool) (m f : Bool) (more : List ℕ) (rest : Bool) → fits n ≡ f →
     list_any (λ x. x == game) (filter fits more) ≡ rest →
     list_any (λ x. x == game) (filter fits ((if m then n ∷ [] else []) ++ more)) ≡ (((n == game) && (m && fits n)) || rest)
-one_more game n fits true true more rest e r = rw e (rw r (ap (λ (b : Bool). b || rest) (sym (and_true (n == game)))))
-one_more game n fits true false more rest e r = rw e (rw r (ap (λ (b : Bool). b || rest) (sym (and_false (n == game)))))
-one_more game n fits false f more rest e r = rw r (ap (λ (b : Bool). b || rest) (sym (and_false (n == game))))
+one_more game n fits true true more rest e r = rw e (rw r (ap (λ (b : Bool). b || rest) (sym (and-true (n == game)))))
+one_more game n fits true false more rest e r = rw e (rw r (ap (λ (b : Bool). b || rest) (sym (and-false (n == game)))))
+one_more game n fits false f more rest e r = rw r (ap (λ (b : Bool). b || rest) (sym (and-false (n == game))))
 
 -- a game that may be the board's is among those that `start` finds
 found : (b : Board) (noted : List ℕ) (game : ℕ) (rows : List Row) →
@@ -63,10 +52,10 @@ the_one : (b : Board) (noted : List ℕ) (game one : ℕ) (rows : List Row) → 
     has_found b noted game rows ≡ true → game ≡ one
 the_one b noted game one rows alone there =
     let among : list_any (λ x. x == game) (one ∷ []) ≡ true = ap (list_any (λ x. x == game)) (sym alone) ∙ (found b noted game rows ∙ there) in
-    sym ((Decides-eqb one game).0 (sym (or_false (one == game)) ∙ among))
+    sym ((Decides-eqb one game).0 (sym (or-false (one == game)) ∙ among))
 
 any_append : {A : Type 0} (p : A → Bool) (xs : List A) (x : A) → p x ≡ true → list_any p (xs ++ x ∷ []) ≡ true
-any_append p [] x h = or_false (p x) ∙ h
+any_append p [] x h = or-false (p x) ∙ h
 any_append p (y ∷ ys) x h = or_right (p y) (list_any p (ys ++ x ∷ [])) (any_append p ys x h)
 
 -- a game that is newer than was noted, and has the board's times, may be the board's where White sits in it
@@ -263,7 +252,7 @@ acted_sound b s older game is_noted (Some steps.Ask) sound holds done = record {
 
 is_opened : (opened : List ℕ) (game : ℕ) → opened ≡ game ∷ [] → list_any (λ one. one == game) opened ≡ true
 is_opened opened game one =
-    subst (λ (xs : List ℕ). list_any (λ x. x == game) xs ≡ true) (sym one) (or_false (game == game) ∙ (Decides-eqb game game).1 refl)
+    subst (λ (xs : List ℕ). list_any (λ x. x == game) xs ≡ true) (sym one) (or-false (game == game) ∙ (Decides-eqb game game).1 refl)
 
 pass_note : (b : Board) (note : Option Reached) (given more : List ℕ) (old new : List Row) (opened : List ℕ) → Stays b note opened old new →
     NoteHolds b note given old opened → NoteHolds b note (given ++ more) new opened
@@ -348,7 +337,7 @@ no_other opened game holds =
     let P : List ℕ → Type 0 = λ xs. list_any (λ one. not (one == game)) xs ≡ false in
     elim holds [
       | inl none ↦ subst P (sym none) refl
-      | inr one ↦ subst P (sym one) (or_false (not (game == game)) ∙ ap not ((Decides-eqb game game).1 refl))
+      | inr one ↦ subst P (sym one) (or-false (not (game == game)) ∙ ap not ((Decides-eqb game game).1 refl))
     ]
 
 noted_by : (b : Board) (note : Option Reached) (given : List ℕ) (rows : List Row) (opened : List ℕ) → NoteHolds b note given rows opened →

@@ -6,5 +6,5 @@ mod lines;
 mod tags;
 
 pub use dates::is_date;
-pub use lines::{is_move, is_tag};
-pub use tags::{unescaped, value_in, value_of, with_tag};
+pub use lines::{is_move, is_tag, tokens_of};
+pub use tags::{value_in, value_of, with_tag, without_escapes};

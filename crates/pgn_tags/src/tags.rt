@@ -4,7 +4,7 @@ use std::alloc::{AllocError, Global};
 use text_parts::{before, parts};
 
 /// The value of a tag without its escapes: a backslash stands before each quote and each backslash (PGN Standard, section 7).
-pub fn unescaped(alloc: Global, value: &str) -> Result<String, AllocError> {
+pub fn without_escapes(alloc: Global, value: &str) -> Result<String, AllocError> {
     let mut text = String::new(alloc);
     let mut is_escaped = false;
     for character in value.chars() {
@@ -26,7 +26,7 @@ pub fn value_in<'a>(line: &'a str, tag: &str) -> Option<&'a str> {
 pub fn value_of(alloc: Global, pgn: &str, tag: &str) -> Result<Option<String>, AllocError> {
     for line in parts(alloc, pgn, '\n')?.as_slice() {
         if let Some(value) = value_in(line, tag) {
-            return Ok(Some(unescaped(alloc, value)?));
+            return Ok(Some(without_escapes(alloc, value)?));
         }
     }
     Ok(None)

@@ -5,7 +5,7 @@ use lobby_players::full_name;
 use lobby_roster::Player;
 use pairing_commands::Source;
 use pairing_texts::{Note, Pairing, Seats, game_in, last_of};
-use pgn_tags::{is_move, is_tag, unescaped, value_in};
+use pgn_tags::{is_move, is_tag, value_in, without_escapes};
 use rec_codec::Name;
 use round_games::{Shown, show_game};
 use server_link::Link;
@@ -380,8 +380,8 @@ impl<'a> Outcomes<'a> {
         pgn: &str,
     ) -> Result<Found, AllocError> {
         let tags = tags_in(self.alloc, pgn)?;
-        let first = unescaped(self.alloc, tags.white)?;
-        let second = unescaped(self.alloc, tags.black)?;
+        let first = without_escapes(self.alloc, tags.white)?;
+        let second = without_escapes(self.alloc, tags.black)?;
         let sides = Sides {
             white: first.as_str(),
             black: second.as_str(),
@@ -534,7 +534,7 @@ impl<'a> Outcomes<'a> {
     }
 
     /// Fails where a board's game is of others than its players: it may have ended, though nothing came of it.
-    pub fn check_players(&self) -> Result<()> {
+    pub fn check_names(&self) -> Result<()> {
         if self.has_others {
             bail!(
                 "a game of other names counts for no board: where a full name was changed since, change it in the archive too"

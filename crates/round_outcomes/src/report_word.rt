@@ -161,7 +161,7 @@ where
 {
     let rounds = rounds_of(rt, reporting.rounds.as_slice(), players, outcomes)?;
     outcomes.tell(rt)?;
-    outcomes.check_players()?;
+    outcomes.check_names()?;
     Ok(Met {
         rounds,
         has_halves: outcomes.has_halves(),

@@ -107,7 +107,7 @@ where
     R: AllocGlobal + Print + Eprint,
 {
     write_outcomes(rt, file, paired, outcomes)?;
-    outcomes.check_players()?;
+    outcomes.check_names()?;
     check_halves(outcomes.has_halves())
 }
 

@@ -4,6 +4,9 @@ use mio::{Interest, Registry, Token};
 use std::io::ErrorKind;
 use std::net::{Net, SocketAddr};
 
+/// So many milliseconds lie between two tries to reach a server.
+pub const RETRY: u64 = 500;
+
 /// A connection to an address that begins, and is watched under this name. `None` where the system does not begin, watch or set it
 /// up. Nothing is waited for.
 pub fn call(

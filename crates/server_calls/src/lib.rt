@@ -9,7 +9,9 @@ mod moments;
 mod watch;
 
 pub use accepting::{AcceptFault, accept_fault};
-pub use calls::{call, is_made};
-pub use listener::{AcceptOutcome, Listens, LocalListener, may_wait, next_connection, outcome_of};
+pub use calls::{RETRY, call, is_made};
+pub use listener::{
+    ACCEPT_TRIES, AcceptOutcome, Listens, LocalListener, may_wait, next_connection, outcome_of,
+};
 pub use moments::{Moments, milliseconds};
 pub use watch::Watch;

@@ -71,8 +71,8 @@ pub trait Listens {
         ensures { result ≡ last_outcome self.now };
 }
 
-/// So many connections that were lost are passed over in a turn.
-const TRIES: usize = 64;
+/// So many tries to accept a connection are made in a turn.
+pub const ACCEPT_TRIES: usize = 64;
 
 /// Accepts the next connection, if one waits. Those that were lost are passed over, up to 64 tries; where the system has
 /// nothing for it, it is tried no further for now.
@@ -83,7 +83,7 @@ pub fn next_connection<L: Listens>(listener: &mut L) -> Option<L::Stream>
     ensures none { IfNone result (L.given_so_far listener.new ≡ L.given_so_far listener.old) }
     ensures asked { IsAsked (L.tried_so_far listener.old) (L.tried_so_far listener.new) }
 {
-    for _ in 1..TRIES {
+    for _ in 1..ACCEPT_TRIES {
         if let Some(stream) = listener.accept_one() {
             return Some(stream);
         }

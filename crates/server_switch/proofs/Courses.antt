@@ -2,7 +2,7 @@
 use Rattle.std.proofs.Common.{ℕ, zero, suc, ◌≡◌, ◌+◌, ◌-◌, ◌<◌, ◌≤◌, ◌==◌, Bool, true, false, ◌||◌, List, [], ◌∷◌, ◌++◌, length, map, take, drop, Option, Some, None, inl, inr, refl, sym, ap, subst, ◌∙◌, arith, append-nil}
 use Rattle.std.specs.Prelude.{slice_get, option_map, flat_map, codes, decimal, nat_le, replicate, if◌then◌else◌}
 use Rattle.std.specs.List.{list_any, last_or}
-use Rattle.std.proofs.lemmas.Bool.{ne_eqb, eqb-true, eqb-false, true≢false, not-true, false_from_ne_true}
+use Rattle.std.proofs.lemmas.Bool.{eq-eqb, ne_eqb, eqb-true, eqb-false, true≢false, not-true, false_from_ne_true}
 use Rattle.std.proofs.lemmas.Bool.Decides.{nat_tests}
 use Rattle.std.proofs.lemmas.List.{length-append, length-drop, map-append, length-map, length-replicate, drop-append-le}
 use Rattle.std.proofs.lemmas.Grind.{flat_map-append}
@@ -16,7 +16,7 @@ use Rattle.server_switch.specs.Waits.{Share, Due, Absent, Wait, Answered, Sent, 
 use Rattle.server_switch.specs.Exchanges.{View, is_here_of, is_here, is_away_of, is_away, wire_of, wire_at, Outcome, Answers, Sends, IsOutcome, game_outcome, IsSame, IsOpened, IsListed, asked, share_asked, Becomes, IsTold, with_answer, refusal_in, without_last, IsPassedOn, IsAnswered, with_line, whole_answer, IsHeard, with_connection, with_lost, IsHere, IsGone, IsSent, IsTook}
 use Rattle.server_switch.specs.Runs.{Call, Said, Said_too_long, Heard, Here, Gone, Wrote, Took, MayCome, IsCall, IsRun, first_answer}
 use Rattle.server_switch.specs.Story.{name_of, there, connections, lines_by, begun_with, answers_in, answers_by, Ticket, reply, Games, Starts, Ask, All_of, share_by, share_at, shares_from, state, states, Story, asked_itself, asked_of, first_there, asked_start, tickets_from, asked_all, asked_for, asked_again, begun_at, story, answers_told, taken, written, lines_sent}
-use Rattle.server_switch.proofs.Replies.{is_self, begun_in, left_in, begun_more, left_more, lines_other, lines_own, lines_fresh, Whole, answers_now, heard_other, heard_part, gone_there, gone_own, gone_other, here_there, here_own, here_count, here_next, here_other, is_awaited}
+use Rattle.server_switch.proofs.Replies.{begun_in, left_in, begun_more, left_more, lines_other, lines_own, lines_fresh, Whole, answers_now, heard_other, heard_part, gone_there, gone_own, gone_other, here_there, here_own, here_count, here_next, here_other, is_awaited}
 use Rattle.server_switch.proofs.Runs.{are_here, all_told}
 use Rattle.server_switch.proofs.Tickets.{joined, awaited_in, awaits, waits_awaits, next_number, AreDealt, same_dealt, same_states}
 use Rattle.server_switch.proofs.Turns.{no_less, heard_states, heard_dealt, gone_states, gone_dealt, here_states, here_dealt}
@@ -677,7 +677,7 @@ here_own_fits q past None away = absurd (true≢false (sym away))
 here_own_fits q past (Some st) away =
     let none : lines_by q (connections q (Here q ∷ past)) (Here q ∷ past) ≡ [] =
     ap (λ (n : ℕ). lines_by q n past) (here_next q past) ∙ lines_fresh q (suc (connections q past)) past (omega arith) in
-    let zero_now : written q (Here q ∷ past) ≡ 0 = ap (λ (b : Bool). if b then 0 else written q past) (is_self q) in (
+    let zero_now : written q (Here q ∷ past) ≡ 0 = ap (λ (b : Bool). if b then 0 else written q past) (eq-eqb q q refl) in (
       sym (here_own q past),
       λ stays. (
         refl,
@@ -743,7 +743,7 @@ wrote_own_fits : (q count : ℕ) (past : List Call) (said : Option (List ℕ)) (
 wrote_own_fits q count past said sent None most h = h
 wrote_own_fits q count past said sent (Some st) most h =
     let now : written q (Wrote q count ∷ past) ≡ written q past + count =
-    ap (λ (b : Bool). if b then written q past + count else written q past) (is_self q) in (
+    ap (λ (b : Bool). if b then written q past + count else written q past) (eq-eqb q q refl) in (
       h.0,
       λ stays. let b = h.1 stays in
           let most_now : count ≤ length st.wire = most in

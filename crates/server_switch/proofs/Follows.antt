@@ -2,7 +2,7 @@
 use Rattle.std.proofs.Common.{ℕ, zero, suc, ◌≡◌, ◌+◌, ◌≤◌, ◌==◌, Bool, true, false, ◌&&◌, List, [], ◌∷◌, ◌++◌, length, drop, Option, Some, None, refl, sym, ap, subst, ◌∙◌, arith, append-nil}
 use Rattle.std.specs.Prelude.{slice_get, option_map, flat_map, codes, if◌then◌else◌}
 use Rattle.std.specs.List.{last_or}
-use Rattle.std.proofs.lemmas.Bool.{ne_eqb, eqb-true, eqb-false, true≢false}
+use Rattle.std.proofs.lemmas.Bool.{eq-eqb, ne_eqb, eqb-true, eqb-false, true≢false}
 use Rattle.std.proofs.lemmas.List.{length-append, map-append, length-set, drop-append-le}
 use Rattle.std.proofs.lemmas.Grind.{flat_map-append}
 use Rattle.std.proofs.lemmas.Option.{slice_get_past, none-some, same_Some}
@@ -11,7 +11,7 @@ use Rattle.server_switch.specs.Waits.{Wait, Answered, Naming, refusal_of}
 use Rattle.server_switch.specs.Exchanges.{View, is_here_of, is_here, said_of, said_at, name_waits, Sends, IsOutcome, refusal_in}
 use Rattle.server_switch.specs.Runs.{Call}
 use Rattle.server_switch.specs.Story.{name_of, there, connections, lines_by, answers_by, Ticket, Reply, Awaited, reply_by, reply, Kind, Names, Games, Starts, Ask, Itself, One, awaited, stands, state, states, Story, asked_itself, lines_under, asks_under, asked_of, taken, written}
-use Rattle.server_switch.proofs.Replies.{is_self, begun_in, left_in, is_awaited}
+use Rattle.server_switch.proofs.Replies.{begun_in, left_in, is_awaited}
 use Rattle.server_switch.proofs.Runs.{moved}
 use Rattle.server_switch.proofs.Tickets.{awaited_in, awaits, next_number, AreDealt}
 use Rattle.server_switch.proofs.Queues.{Holds, holds_more, last_added, last_two}
@@ -102,7 +102,7 @@ fresh_reply calls place t stays one least =
     ap (λ (c : ℕ). reply_by (there place calls && connections place calls == c) (slice_get (answers_by place c calls) t.number)) one
     ∙ (ap (λ (b : Bool). reply_by (b && connections place calls == connections place calls)
     (slice_get (answers_by place (connections place calls) calls) t.number)) stays
-    ∙ (ap (λ (b : Bool). reply_by b (slice_get (answers_by place (connections place calls) calls) t.number)) (is_self (connections place calls))
+    ∙ (ap (λ (b : Bool). reply_by b (slice_get (answers_by place (connections place calls) calls) t.number)) (eq-eqb (connections place calls) (connections place calls) refl)
     ∙ ap (reply_by true) (slice_get_past (answers_by place (connections place calls) calls) t.number least)))
 
 add_other : (q n : ℕ) (calls : List Call) (new : List (List ℕ)) (kind : Kind) (place : ℕ) (t : Ticket) (asks : List Ask) → (place == q) ≡ false →
@@ -196,14 +196,14 @@ under_own : (q n : ℕ) (calls : List Call) (sent : List (List ℕ)) (name : Opt
 under_own q n calls sent name line kind true stays number least =
     let long : length (sent ++ lines_under true name line) ≡ length sent + 2 = length-append sent (lines_under true name line) in
     add_own q n calls (sent ++ lines_under true name line) Names q (record { connection = connections q calls; number = n })
-    (One kind q (record { connection = connections q calls; number = suc n }) ∷ []) (is_self q) refl refl
+    (One kind q (record { connection = connections q calls; number = suc n }) ∷ []) (eq-eqb q q refl) refl refl
     (fresh_reply calls q (record { connection = connections q calls; number = n }) stays refl least)
-    (add_own q (suc n) calls (sent ++ lines_under true name line) kind q (record { connection = connections q calls; number = suc n }) [] (is_self q) refl refl
+    (add_own q (suc n) calls (sent ++ lines_under true name line) kind q (record { connection = connections q calls; number = suc n }) [] (eq-eqb q q refl) refl refl
     (fresh_reply calls q (record { connection = connections q calls; number = suc n }) stays refl (omega (arith, least)))
     (λ is_there_now. omega (arith, number, long)))
 under_own q n calls sent name line kind false stays number least =
     let long : length (sent ++ lines_under false name line) ≡ length sent + 1 = length-append sent (lines_under false name line) in
-    add_own q n calls (sent ++ lines_under false name line) kind q (record { connection = connections q calls; number = n }) [] (is_self q) refl refl
+    add_own q n calls (sent ++ lines_under false name line) kind q (record { connection = connections q calls; number = n }) [] (eq-eqb q q refl) refl refl
     (fresh_reply calls q (record { connection = connections q calls; number = n }) stays refl least)
     (λ is_there_now. omega (arith, number, long))
 

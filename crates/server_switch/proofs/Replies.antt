@@ -1,15 +1,12 @@
 -- What servers have replied, from one thing that comes in to the next.
 use Rattle.std.proofs.Common.{ℕ, zero, suc, ◌≡◌, ◌<◌, ◌≤◌, ◌==◌, Bool, true, false, ◌&&◌, List, [], ◌∷◌, ◌++◌, length, Option, Some, None, refl, sym, ap, ◌∙◌, append_assoc, append-nil, arith}
 use Rattle.std.specs.Prelude.{slice_get, if◌then◌else◌}
-use Rattle.std.proofs.lemmas.Bool.{ne_eqb, eqb-true, eqb-false, true_from_ne_false, and_parts, true≢false}
+use Rattle.std.proofs.lemmas.Bool.{eq-eqb, ne_eqb, eqb-true, and_parts, true≢false}
 use Rattle.std.proofs.lemmas.List.{length-append}
 use Rattle.std.proofs.lemmas.Option.{slice_get_past, none-some}
 use Rattle.lobby_words.specs.Answers.{left_after}
 use Rattle.server_switch.specs.Runs.{Call, Said, Said_too_long, Heard, Here, Gone, Wrote, Took}
 use Rattle.server_switch.specs.Story.{there, connections, lines_by, whole_with, begun_with, answers_in, answers_by, Ticket, Reply, Awaited, Missed, Got, reply_by, reply}
-
-pub is_self : (n : ℕ) → (n == n) ≡ true
-is_self n = true_from_ne_false (n == n) (λ e. eqb-false n n e refl)
 
 -- what has come of an answer after some lines
 abbrev pub begun_in : List ℕ → ℕ → List (List ℕ) → List ℕ
@@ -63,7 +60,7 @@ pub lines_elsewhere : (place one : ℕ) (line : List ℕ) (past : List Call) →
     lines_by place one (Heard place line ∷ past) ≡ lines_by place one past
 lines_elsewhere place one line past e =
     ap (λ (b : Bool). if b && connections place past == one then lines_by place one past ++ line ∷ [] else lines_by place one past)
-    (is_self place)
+    (eq-eqb place place refl)
     ∙ ap (λ (b : Bool). if b then lines_by place one past ++ line ∷ [] else lines_by place one past) e
 
 pub lines_own : (place : ℕ) (line : List ℕ) (past : List Call) →
@@ -71,8 +68,8 @@ pub lines_own : (place : ℕ) (line : List ℕ) (past : List Call) →
 lines_own place line past =
     let one = connections place past in
     ap (λ (b : Bool). if b && one == one then lines_by place one past ++ line ∷ [] else lines_by place one past)
-    (is_self place)
-    ∙ ap (λ (b : Bool). if b then lines_by place one past ++ line ∷ [] else lines_by place one past) (is_self one)
+    (eq-eqb place place refl)
+    ∙ ap (λ (b : Bool). if b then lines_by place one past ++ line ∷ [] else lines_by place one past) (eq-eqb one one refl)
 
 -- no line came by a connection that has not begun
 differ : (a : Bool) (m n : ℕ) → m < n → (a && m == n) ≡ true → ⊥
@@ -145,7 +142,7 @@ own_reply : (calls : List Call) (at : ℕ) (t : Ticket) → there at calls ≡ t
 own_reply calls at t is_there e =
     ap (λ (one : ℕ). reply_by (there at calls && connections at calls == one) (slice_get (answers_by at one calls) t.number)) e
     ∙ (ap (λ (b : Bool). reply_by (b && connections at calls == connections at calls) (slice_get (answers_by at (connections at calls) calls) t.number)) is_there
-    ∙ ap (λ (b : Bool). reply_by b (slice_get (answers_by at (connections at calls) calls) t.number)) (is_self (connections at calls)))
+    ∙ ap (λ (b : Bool). reply_by b (slice_get (answers_by at (connections at calls) calls) t.number)) (eq-eqb (connections at calls) (connections at calls) refl))
 
 own_now : (at : ℕ) (line : List ℕ) (past : List Call) (more : List (List ℕ)) (t : Ticket) → Whole at line past more → there at past ≡ true →
     t.connection ≡ connections at past →
@@ -220,7 +217,7 @@ pub gone_there : (at q : ℕ) (past : List Call) → (q ≡ at → ⊥) → ther
 gone_there at q past other = ap (λ (b : Bool). if b then false else there q past) (ne_eqb at q (λ e. other (sym e)))
 
 pub gone_own : (at : ℕ) (past : List Call) → there at (Gone at ∷ past) ≡ false
-gone_own at past = ap (λ (b : Bool). if b then false else there at past) (is_self at)
+gone_own at past = ap (λ (b : Bool). if b then false else there at past) (eq-eqb at at refl)
 
 pub gone_other : (at : ℕ) (past : List Call) (q : ℕ) (t : Ticket) → (q ≡ at → ⊥) → reply (Gone at ∷ past) q t ≡ reply past q t
 gone_other at past q t other =
@@ -256,14 +253,14 @@ pub here_there : (at q : ℕ) (past : List Call) → (q ≡ at → ⊥) → ther
 here_there at q past other = ap (λ (b : Bool). if b then true else there q past) (ne_eqb at q (λ e. other (sym e)))
 
 pub here_own : (at : ℕ) (past : List Call) → there at (Here at ∷ past) ≡ true
-here_own at past = ap (λ (b : Bool). if b then true else there at past) (is_self at)
+here_own at past = ap (λ (b : Bool). if b then true else there at past) (eq-eqb at at refl)
 
 pub here_count : (at q : ℕ) (past : List Call) → (q ≡ at → ⊥) → connections q (Here at ∷ past) ≡ connections q past
 here_count at q past other =
     ap (λ (b : Bool). if b then suc (connections q past) else connections q past) (ne_eqb at q (λ e. other (sym e)))
 
 pub here_next : (at : ℕ) (past : List Call) → connections at (Here at ∷ past) ≡ suc (connections at past)
-here_next at past = ap (λ (b : Bool). if b then suc (connections at past) else connections at past) (is_self at)
+here_next at past = ap (λ (b : Bool). if b then suc (connections at past) else connections at past) (eq-eqb at at refl)
 
 pub here_other : (at : ℕ) (past : List Call) (q : ℕ) (t : Ticket) → (q ≡ at → ⊥) → reply (Here at ∷ past) q t ≡ reply past q t
 here_other at past q t other =

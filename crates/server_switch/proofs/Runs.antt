@@ -2,7 +2,7 @@
 use Rattle.std.proofs.Common.{ℕ, zero, suc, ◌≡◌, ◌+◌, ◌-◌, ◌==◌, Bool, true, false, ◌||◌, List, [], ◌∷◌, ◌++◌, length, map, take, drop, Option, Some, None, inl, inr, refl, sym, ap, subst, ◌∙◌}
 use Rattle.std.specs.Prelude.{slice_get, codes, decimal, nat_le, if◌then◌else◌}
 use Rattle.std.specs.List.{list_any, last_or}
-use Rattle.std.proofs.lemmas.Bool.{ne_eqb, eqb-true, eqb-false, true_from_ne_false, or_from, or_parts, true≢false}
+use Rattle.std.proofs.lemmas.Bool.{eq-eqb, ne_eqb, eqb-true, eqb-false, or_from, or_parts, true≢false}
 use Rattle.std.proofs.lemmas.List.Folds.{list_any-append}
 use Rattle.lobby_words.specs.Waiting.{is_list}
 use Rattle.server_switch.specs.Answers.{told, is_full, rows_told}
@@ -425,11 +425,8 @@ more_due : (ws more : List Wait) → AreDue ws → AreDue more → AreDue (ws ++
 more_due [] more h k = k
 more_due (w ∷ ws) more h k = (h.0, more_due ws more h.1 k)
 
-own_is : (place : ℕ) → (place == place) ≡ true
-own_is place = true_from_ne_false (place == place) (λ e. eqb-false place place e refl)
-
 names_due : (place : ℕ) (b : Bool) (w : Wait) → IsDue w → AreDue (name_waits place b ++ w ∷ [])
-names_due place true w h = ((λ none. (place, own_is place)), (h, tt))
+names_due place true w h = ((λ none. (place, eq-eqb place place refl)), (h, tt))
 names_due place false w h = (h, tt)
 
 answers_due : (text : List ℕ) (old new : View) → IsOutcome (Answers text) old new → AreDue old.waits → AreDue new.waits
@@ -447,12 +444,12 @@ game_due : (a b c : Bool) (place : ℕ) (line one two : List ℕ) (old new : Vie
     AreDue old.waits → AreDue new.waits
 game_due true b c place line one two old new h before = answers_due one old new h before
 game_due false true c place line one two old new h before = answers_due one old new h before
-game_due false false true place line one two old new h before = sends_due place line (Sent place) old new (λ none. (place, own_is place)) h before
+game_due false false true place line one two old new h before = sends_due place line (Sent place) old new (λ none. (place, eq-eqb place place refl)) h before
 game_due false false false place line one two old new h before = answers_due two old new h before
 
 opened_due : (from : ℕ) (line refusal : List ℕ) (old new : View) → IsOpened from line refusal old new → AreDue old.waits → AreDue new.waits
 opened_due from line refusal old new (inl h) before =
-    sends_due h.0 line (Opening h.0 line) old new (λ none. (h.0, own_is h.0)) h.4 before
+    sends_due h.0 line (Opening h.0 line) old new (λ none. (h.0, eq-eqb h.0 h.0 refl)) h.4 before
 opened_due from line refusal old new (inr h) before = answers_due refusal old new h.1 before
 
 become_due : (way : Option Way) (line : List ℕ) (old new : View) → Becomes way line old new → AreDue old.waits → AreDue new.waits

@@ -2,13 +2,13 @@
 use Rattle.std.proofs.Common.{ℕ, zero, suc, ◌≡◌, ◌+◌, ◌<◌, ◌≤◌, ◌==◌, Bool, true, false, List, [], ◌∷◌, length, Option, Some, None, refl, sym, ap, subst, ◌∙◌, arith}
 use Rattle.std.specs.Prelude.{slice_get, option_map, if◌then◌else◌}
 use Rattle.std.specs.List.{list_any}
-use Rattle.std.proofs.lemmas.Bool.{eqb-true, or_parts, true≢false}
+use Rattle.std.proofs.lemmas.Bool.{eq-eqb, eqb-true, or_parts, true≢false}
 use Rattle.lobby_words.specs.Waiting.{is_list}
 use Rattle.server_switch.specs.Answers.{told, is_full, rows_told}
 use Rattle.server_switch.specs.Waits.{Share, Rows, Absent, Wait, Answered, Refused, is_due, is_due_share, is_due_at, waits_for, listing_by, listing, put_at, filled, lost_of}
 use Rattle.server_switch.specs.Runs.{Call}
 use Rattle.server_switch.specs.Story.{there, connections, Ticket, Reply, Awaited, Missed, Got, reply, Kind, Names, Games, Starts, Ask, Itself, One, All_of, awaited, missed, got, stands, share_by, share_at, shares_from, state, states}
-use Rattle.server_switch.proofs.Replies.{is_self, is_awaited, awaited_is}
+use Rattle.server_switch.proofs.Replies.{is_awaited, awaited_is}
 
 -- what a line has gone to a server as
 abbrev pub joined : Option (Option Ticket) → Option Ticket
@@ -82,7 +82,7 @@ awaited_waits Games q place = refl
 awaited_waits (Starts line) q place = refl
 
 own_waits : (kind : Kind) (q : ℕ) (r : Reply) → waits_for q (stands kind q r) ≡ is_awaited r
-own_waits kind q Awaited = awaited_waits kind q q ∙ is_self q
+own_waits kind q Awaited = awaited_waits kind q q ∙ eq-eqb q q refl
 own_waits kind q Missed = missed_waits kind q
 own_waits kind q (Got text) = got_waits kind q q text
 
@@ -126,7 +126,7 @@ pub same_state : (calls later : List Call) (ask : Ask) → ((q : ℕ) (t : Ticke
     state later ask ≡ state calls ask
 same_state calls later (Itself text) h = refl
 same_state calls later (One kind place ticket) h =
-    ap (stands kind place) (h place ticket (ap (λ (b : Bool). if b then Some ticket else None) (is_self place)))
+    ap (stands kind place) (h place ticket (ap (λ (b : Bool). if b then Some ticket else None) (eq-eqb place place refl)))
 same_state calls later (All_of tickets) h =
     ap listing (same_shares calls later 0 tickets (λ q k t e is.
     h q t (ap (λ (n : ℕ). joined (slice_get tickets n)) (let same : q ≡ k = omega (arith, e) in same) ∙ is)))

@@ -6,8 +6,8 @@ ghost use Rattle.server_switch.specs.Answers.{told_behind};
 ghost use Rattle.server_switch.specs.Fields as fields;
 ghost use Rattle.server_switch.specs.Fields.{tail_text};
 
-use crate::fields::{cut_at, push_number, push_tail, renumbered};
-use lobby_words::cut;
+use crate::fields::{cut_at, push_number_and_tail, push_tail, renumbered};
+use lobby_words::cut_word;
 use std::alloc::{AllocError, Global};
 
 /// What is told in place of an answer that is not known.
@@ -39,7 +39,7 @@ fn tell_behind(
         return String::from_str(alloc, LOST);
     };
     let mut told = String::from_str(alloc, words)?;
-    push_number(&mut told, number, behind)?;
+    push_number_and_tail(&mut told, number, behind)?;
     push_tail(&mut told, '\n', tail)?;
     Ok(told)
 }
@@ -60,8 +60,8 @@ pub fn told(alloc: Global, place: usize, answer: &str) -> Result<String, AllocEr
     ensures { IfOk result (λ told. string_bytes told ≡ answers.told place answer.now) }
 {
     let (line, tail) = cut_at(answer, '\n');
-    let (word, rest) = cut(line);
-    let (kind, behind) = cut(rest);
+    let (word, rest) = cut_word(line);
+    let (kind, behind) = cut_word(rest);
     if word == "fallen" {
         tell_behind(alloc, "fallen ", place, rest, tail)
     } else if word == "ok" {

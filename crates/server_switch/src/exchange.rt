@@ -11,7 +11,7 @@ ghost use Rattle.server_switch.specs.Waits.{wait_of, share_of};
 ghost use Rattle.server_switch.specs.Waits as waits;
 
 use crate::answers::{BAD_LINE, NO_GAME, NO_SERVER, TOO_LONG, joined};
-use crate::fields::push_number;
+use crate::fields::push_number_and_tail;
 use crate::lists::{Part, ask_each, listing_of};
 use crate::numbers::game_of;
 use crate::pending::{Pending, answer_first, any_opens, any_waits, lose_each, refused, take_ahead};
@@ -250,7 +250,7 @@ impl Exchange {
     {
         let mut line = String::from_str(self.alloc, word)?;
         line.push(' ')?;
-        push_number(&mut line, game_of(number), tail)?;
+        push_number_and_tail(&mut line, game_of(number), tail)?;
         self.send(place, line.as_str(), Pending::Sent(place))
     }
 

@@ -65,7 +65,11 @@ pub fn push_tail(text: &mut String, sign: char, tail: Option<&str>) -> Result<()
 }
 
 /// Puts a number, and what stands behind it, behind a text.
-pub fn push_number(text: &mut String, number: u32, tail: Option<&str>) -> Result<(), AllocError>
+pub fn push_number_and_tail(
+    text: &mut String,
+    number: u32,
+    tail: Option<&str>,
+) -> Result<(), AllocError>
     ensures { OnOk result (string_bytes text.new ≡ string_bytes text.old ++ (decimal number ++ tail_text 32 tail.entry)) }
 {
     text_parts::push_number(text, u64::from(number))?;

@@ -10,7 +10,7 @@ ghost use Rattle.server_switch.specs.Waits as waits;
 ghost use Rattle.server_switch.specs.Waits.{is_due, share_of, wait_of, rows_in, listing};
 
 use crate::answers::NO_SERVER;
-use crate::fields::{push_number, renumbered};
+use crate::fields::{push_number_and_tail, renumbered};
 use crate::pending::Pending;
 use crate::server_line::ServerLine;
 use lobby_words::is_list;
@@ -45,7 +45,7 @@ fn add_row(rows: &mut String, place: usize, row: &str) -> Result<(), AllocError>
     let Some((number, tail)) = renumbered(place, row) else {
         return Ok(());
     };
-    push_number(rows, number, tail)?;
+    push_number_and_tail(rows, number, tail)?;
     rows.push('\n')?;
     Ok(())
 }

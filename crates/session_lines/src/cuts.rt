@@ -6,6 +6,9 @@ ghost use Rattle.session_lines.specs.Lines.{HasNoFeed};
 /// The most bytes of a line, without the line feed that ends it; a carriage return before that counts.
 pub const LINE_ROOM: usize = 255;
 
+/// The most bytes of a line of a server, for those who read such lines. It binds no session.
+pub const SERVER_LINE_ROOM: usize = 65_536;
+
 /// The place of the first line feed, and `None` just where there is none.
 pub fn first_feed(bytes: &[u8]) -> Option<usize>
     ensures found { IfSome result (λ at. (at < length bytes.now) × (slice_index bytes.now at ≡ 10)) }

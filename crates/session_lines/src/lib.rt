@@ -5,6 +5,6 @@ mod cuts;
 mod heard;
 mod pieces;
 
-pub use cuts::{LINE_ROOM, first_feed, without_return};
+pub use cuts::{LINE_ROOM, SERVER_LINE_ROOM, first_feed, without_return};
 pub use heard::{Ahead, FeedFault, Lines};
 pub use pieces::{Came, give_up, read_piece};

@@ -2,7 +2,7 @@
 ghost use Rattle.std.specs.Prelude.{◌≡◌, ◌<◌, ◌≤◌, ◌^◌, ◌++◌, length, OnOk};
 ghost use Rattle.sqlite_file.specs.Cell as spec;
 
-use crate::number::{push_number, push_varint};
+use crate::number::{push_big_endian, push_varint};
 use crate::overflow::CARRIED;
 use std::alloc::AllocError;
 
@@ -34,7 +34,7 @@ fn push_chain(cell: &mut Vec<u8>, payload: usize, first: u32) -> Result<(), Allo
     ensures { OnOk result (cell.new.items ≡ cell.old.items ++ spec.chain_of payload first) }
 {
     if payload > MOST_LOCAL {
-        push_number(cell, 4, u64::from(first))?;
+        push_big_endian(cell, 4, u64::from(first))?;
     }
     Ok(())
 }
@@ -60,6 +60,6 @@ pub fn push_leaf_cell(
 pub fn push_interior_cell(cell: &mut Vec<u8>, page: u32, last: u32) -> Result<(), AllocError>
     ensures { OnOk result (cell.new.items ≡ cell.old.items ++ spec.interior_cell page last) }
 {
-    push_number(cell, 4, u64::from(page))?;
+    push_big_endian(cell, 4, u64::from(page))?;
     push_varint(cell, u64::from(last))
 }

@@ -8,12 +8,10 @@ use crate::cell::{local_length, push_interior_cell, push_leaf_cell};
 use crate::faults::Fault;
 use crate::header::file_header;
 use crate::overflow::push_overflow;
-use crate::page::{interior_page, leaf_page};
+use crate::page::{PAGE, interior_page, leaf_page};
 use crate::record::{Value, record_of};
 use std::alloc::Global;
 use std::mem;
-
-const PAGE: usize = 4096;
 
 // The most pages: in the next one lies the byte that SQLite locks, and it holds nothing (file format, section 1.4).
 const MOST_PAGES: usize = 262_144;

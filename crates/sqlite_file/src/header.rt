@@ -2,7 +2,7 @@
 ghost use Rattle.std.specs.Prelude.{◌≡◌, ◌++◌, length, vec_len, IfOk, OnOk};
 ghost use Rattle.sqlite_file.specs.Header as spec;
 
-use crate::number::push_number;
+use crate::number::push_big_endian;
 use crate::overflow::push_zeros;
 use std::alloc::{AllocError, Global};
 
@@ -14,7 +14,7 @@ const FRONT: &[u8; 24] = b"SQLite format 3\x00\x10\x00\x01\x01\x00\x40\x20\x20";
 fn push_word(header: &mut Vec<u8>, word: u32) -> Result<(), AllocError>
     ensures { OnOk result (header.new.items ≡ header.old.items ++ spec.word word) }
 {
-    push_number(header, 4, u64::from(word))
+    push_big_endian(header, 4, u64::from(word))
 }
 
 // How often the file was changed, how many pages it has, no pages that are free, and the schema's version.

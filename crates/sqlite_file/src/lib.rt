@@ -16,7 +16,7 @@ pub use cell::{local_length, push_interior_cell, push_leaf_cell};
 pub use database::Database;
 pub use faults::Fault;
 pub use header::file_header;
-pub use number::{push_number, push_varint};
+pub use number::{push_big_endian, push_varint};
 pub use overflow::{pages_for, push_overflow};
 pub use page::{interior_page, leaf_page};
 pub use record::{Value, record_of};

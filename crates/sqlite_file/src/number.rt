@@ -7,7 +7,7 @@ use std::alloc::AllocError;
 
 /// Puts the lowest bytes of a number behind others, the highest first.
 #[tactic(auto, using(crate::proofs::Numbers::lowest))]
-pub fn push_number(out: &mut Vec<u8>, width: usize, number: u64) -> Result<(), AllocError>
+pub fn push_big_endian(out: &mut Vec<u8>, width: usize, number: u64) -> Result<(), AllocError>
     requires { width ≤ 8 }
     ensures { OnOk result (out.new.items ≡ out.old.items ++ bytes_high_first width number) }
 {

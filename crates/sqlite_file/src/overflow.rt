@@ -2,7 +2,7 @@
 ghost use Rattle.std.specs.Prelude.{◌≡◌, ◌+◌, ◌*◌, ◌<◌, ◌≤◌, ◌^◌, ◌++◌, length, replicate, vec_len, OnOk};
 ghost use Rattle.sqlite_file.specs.Cell as spec;
 
-use crate::number::push_number;
+use crate::number::push_big_endian;
 use std::alloc::AllocError;
 
 /// How many bytes of a payload an overflow page has.
@@ -43,7 +43,7 @@ fn push_page(pages: &mut Vec<u8>, next: u32, part: &[u8]) -> Result<(), AllocErr
     ensures page { OnOk result (pages.new.items ≡ pages.old.items ++ spec.overflow_page next part.now) }
     ensures length { OnOk result (vec_len pages.new ≡ vec_len pages.old + 4096) }
 {
-    push_number(pages, 4, u64::from(next))?;
+    push_big_endian(pages, 4, u64::from(next))?;
     pages.extend_from_slice(part)?;
     push_zeros(pages, CARRIED - part.len())?;
     Ok(())

@@ -4,11 +4,12 @@ ghost use Rattle.std.specs.Int.{bytes_high_first};
 ghost use Rattle.sqlite_file.specs.Page as spec;
 
 use crate::faults::Fault;
-use crate::number::push_number;
+use crate::number::push_big_endian;
 use crate::overflow::push_zeros;
 use std::alloc::{AllocError, Global};
 
-const PAGE: usize = 4096;
+/// The bytes of a page.
+pub const PAGE: usize = 4096;
 
 // The most cells for which a page has pointers.
 const MOST_CELLS: usize = 2044;
@@ -46,7 +47,7 @@ fn push_pointers(page: &mut Vec<u8>, first: usize, cells: &[Vec<u8>]) -> Result<
 {
     let mut at = first;
     for cell in cells {
-        push_number(page, 2, at as u64)?;
+        push_big_endian(page, 2, at as u64)?;
         at += cell.len();
     }
     Ok(())
@@ -72,8 +73,8 @@ fn push_head(
     ensures { OnOk result (page.new.items ≡ page.old.items ++ spec.head head.now.kind head.now.right.now count content) }
 {
     page.extend_from_slice(&[head.kind, 0, 0])?;
-    push_number(page, 2, count as u64)?;
-    push_number(page, 2, content as u64)?;
+    push_big_endian(page, 2, count as u64)?;
+    push_big_endian(page, 2, content as u64)?;
     page.push(0)?;
     page.extend_from_slice(head.right)
 }
@@ -146,7 +147,7 @@ pub fn interior_page(alloc: Global, last: u32, cells: &[Vec<u8>]) -> Result<Vec<
     ensures length { IfOk result (λ page. length page.items ≡ 4096) }
 {
     let mut right = Vec::new(alloc);
-    push_number(&mut right, 4, u64::from(last))?;
+    push_big_endian(&mut right, 4, u64::from(last))?;
     let head = Head {
         before: 0,
         kind: 5,

@@ -4,7 +4,7 @@ ghost use Rattle.sqlite_file.specs.Record as spec;
 ghost use Rattle.sqlite_file.specs.Varint.{varint};
 
 use crate::faults::Fault;
-use crate::number::{push_number, push_varint};
+use crate::number::{push_big_endian, push_varint};
 use std::alloc::{AllocError, Global};
 
 /// What a column of a row has.
@@ -109,7 +109,7 @@ fn push_content(out: &mut Vec<u8>, value: &Value<'_>) -> Result<(), AllocError>
         Value::Null => Ok(()),
         Value::Number(number) => {
             let width = width_of_type(type_of_number(*number));
-            push_number(out, width, *number)
+            push_big_endian(out, width, *number)
         }
         Value::Text(text) => {
             out.extend_from_slice(text.as_bytes())?;

@@ -4,7 +4,7 @@ use crate::pieces::PIECE_ROOM;
 use anyhow::{Context, Result};
 use mio::net::{TcpListener, TcpStream};
 use mio::{Events, Interest, Poll, Token};
-use server_calls::{AcceptFault, accept_fault};
+use server_calls::{AcceptOutcome, may_wait, outcome_of};
 use std::alloc::Global;
 use std::io::ErrorKind;
 use std::net::{Net, SocketAddr};
@@ -113,14 +113,9 @@ impl<'a> Hall<'a> {
 
     // Whether one may have come where none could be accepted for this reason.
     fn looks_again(&mut self, kind: ErrorKind) -> bool {
-        match accept_fault(kind) {
-            AcceptFault::Nobody => {
-                self.has_more = false;
-                false
-            }
-            AcceptFault::Lost => true,
-            AcceptFault::Refused => false,
-        }
+        let outcome = outcome_of(kind);
+        self.has_more = may_wait(outcome);
+        outcome == AcceptOutcome::Lost
     }
 
     // Accepts at most one client. It tells whether one came; one more than there may be is closed.

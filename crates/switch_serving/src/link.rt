@@ -3,20 +3,15 @@ use crate::pieces::{PIECE_ROOM, Wire};
 use anyhow::Result;
 use mio::net::TcpStream;
 use mio::{Registry, Token};
-use server_calls::{call, is_made};
+use server_calls::{RETRY, call, is_made};
 use server_switch::Exchange;
-use session_lines::{first_feed, give_up};
+use session_lines::{SERVER_LINE_ROOM, first_feed, give_up};
 use std::alloc::{AllocError, Global};
 use std::net::{Net, SocketAddr};
 use std::{mem, str};
 
-// So many milliseconds lie between two tries to reach a server, and after so many without an answer it is given up.
-const RETRY: u64 = 500;
-
+// After so many milliseconds without an answer a server is given up.
 const PATIENCE: u64 = 10_000;
-
-// The most bytes of a line of a server.
-const LINE_MOST: usize = 65_536;
 
 // What is asked first: a server is there once it has answered it.
 const PROBE: &[u8] = b"show 0\n";
@@ -267,7 +262,7 @@ impl Link {
                 None => break,
             }
         }
-        Ok(self.held.len() <= LINE_MOST)
+        Ok(self.held.len() <= SERVER_LINE_ROOM)
     }
 
     // The server is gone.

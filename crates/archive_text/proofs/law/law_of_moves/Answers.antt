@@ -1,6 +1,6 @@
 use Rattle.std.proofs.Common.{[], false, refl}
 use Rattle.text_parts.specs.Parts.{parts_of}
-use Rattle.archive_text.specs.Moves.{tokens_of}
+use Rattle.pgn_tags.specs.Pgn.{tokens_of}
 use Rattle.archive_text.proofs.Kept.{moves_told}
 use Rattle.archive_text.proofs.law.law_of_moves.Goals as goal
 

@@ -1,8 +1,7 @@
-use Rattle.std.proofs.Common.{◌==◌, ◌&&◌, not, sym, ◌∙◌}
-use Rattle.std.proofs.lemmas.Bool.{and_from, and_parts}
+use Rattle.std.proofs.Common.{◌==◌, ◌&&◌, not, refl, sym, ◌∙◌}
+use Rattle.std.proofs.lemmas.Bool.{eq-eqb, and_from, and_parts}
 use Rattle.lobby_archive.specs.Files.{contains}
 use Rattle.lobby_archive.specs.Clerk.{View, view, is_kept}
-use Rattle.lobby_archive.proofs.Nights.{here_is}
 use Rattle.lobby_archive.proofs.night.let_go.Goals as goal
 
 pub drop_game-requires : goal.drop_game-requires
@@ -15,5 +14,5 @@ drop_game-requires g c =
       drops = c.in_ok-is_left.ensures.drops c.if-branch.true ∙ c.requires.drops;
       matched = c.is_left.ensures.matched game
           ∙ c.requires.told.matched game (and_parts (is_kept (old.stage game)) (old.has game && not (contains game old.fresh)) may).0;
-      unwatched = c.in_ok-is_left.ensures.unwatched game ∙ and_from (game == game) c.in_ok-is_left.field-0 (here_is game) c.if-branch.true;
+      unwatched = c.in_ok-is_left.ensures.unwatched game ∙ and_from (game == game) c.in_ok-is_left.field-0 (eq-eqb game game refl) c.if-branch.true;
     }

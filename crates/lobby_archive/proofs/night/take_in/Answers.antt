@@ -1,8 +1,8 @@
-use Rattle.std.proofs.Common.{◌==◌, false, not, sym, ap, ◌∙◌}
+use Rattle.std.proofs.Common.{◌==◌, false, not, refl, sym, ap, ◌∙◌}
 use Rattle.std.specs.Prelude.{is_none}
-use Rattle.std.proofs.lemmas.Bool.{false≢true, and_parts, cond-false, not-true}
+use Rattle.std.proofs.lemmas.Bool.{eq-eqb, false≢true, and_parts, cond-false, not-true}
 use Rattle.lobby_archive.specs.Clerk.{View, view, is_asked}
-use Rattle.lobby_archive.proofs.Nights.{here_is, refused_told, refused_settled}
+use Rattle.lobby_archive.proofs.Nights.{refused_told, refused_settled}
 use Rattle.lobby_archive.proofs.night.take_in.Goals as goal
 
 pub ask-requires : goal.ask-requires
@@ -11,7 +11,7 @@ ask-requires g c = record { over = c.requires.over }
 pub is_same-requires : goal.is_same-requires
 is_same-requires g c =
     let told = rw c.in-Some.is at c.in_ok-pgn.ensures.told in
-    record { told = told c.args.game ∙ here_is c.args.game }
+    record { told = told c.args.game ∙ eq-eqb c.args.game c.args.game refl }
 
 pub put-requires : goal.put-requires
 put-requires g c =
@@ -24,7 +24,7 @@ put-requires g c =
           ∙ (c.ask.ensures.safe game
           ∙ (sym (c.requires.asking.has game)
           ∙ not-true (old.has game) (and_parts (is_asked (old.stage game)) (not (old.has game)) puts).1));
-      told = c.is_same.ensures.told game c.in-Some.pgn ∙ (told game ∙ here_is game);
+      told = c.is_same.ensures.told game c.in-Some.pgn ∙ (told game ∙ eq-eqb game game refl);
     }
 
 pub returns-in_default : goal.returns-in_default

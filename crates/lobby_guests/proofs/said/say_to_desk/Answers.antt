@@ -1,8 +1,7 @@
-use Rattle.std.proofs.Common.{ℕ, ◌≡◌, List, [], Bor, Result, Ok, Err, OnOk, refl, ap, ◌∙◌}
+use Rattle.std.proofs.Common.{ℕ, ◌≡◌, List, [], Bor, Result, Ok, Err, refl, ap, ◌∙◌}
 use Rattle.std.specs.Prelude.{IsUtf8}
+use Rattle.std.proofs.lemmas.Result.{on_ok_weaker}
 use Rattle.std.specs.Result.{MatchResult, result_unwrap_or}
-use Rattle.lobby_guests.specs.Talking.{Says}
-use Rattle.lobby_guests.specs.Talking.{IsTextSaid}
 use Rattle.lobby_guests.proofs.said.say_to_desk.Goals as goal
 
 -- what is shown of a text: the text, or nothing where it is none
@@ -14,17 +13,9 @@ shown_of P text (Ok s) none shown cases empty is =
 shown_of P text (Err e) none shown cases empty is =
     (λ yes. absurd (cases.0 yes), λ _. ap (λ (b : Bor (List ℕ)). b.now) is ∙ empty)
 
-on_ok : {T E : Type 0} (X Y : Type 0) (result : Result T E) → (X → Y) → OnOk result X → OnOk result Y
-on_ok X Y (Ok v) step h = step h
-on_ok X Y (Err e) step h = h
-
 pub returns : goal.returns
 returns g c =
     let text = c.args.text.now in
     let shown = c.unwrap_or-shown.result.now in
     let both = shown_of _ text c.from_utf8.result _ c.unwrap_or-shown.result c.from_utf8.ensures.cases refl c.unwrap_or-shown.ensures in
-    on_ok (Says shown c.args.number c.args.at c.args.talk.now c.say.new.talk)
-    (IsTextSaid text c.args.number c.args.at c.args.talk.now c.say.new.talk)
-    c.say.result
-    (λ says. (shown, both.0, both.1, says))
-    c.say.ensures
+    on_ok_weaker c.say.result (λ says. (shown, both.0, both.1, says)) c.say.ensures

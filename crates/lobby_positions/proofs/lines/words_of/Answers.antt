@@ -1,18 +1,13 @@
-use Rattle.std.proofs.Common.{ℕ, List, [], ◌++◌, get_or, map, take, sym, ap, ◌∙◌}
+use Rattle.std.proofs.Common.{ℕ, List, map, filter, sym, ap, ◌∙◌, rules}
 use Rattle.std.specs.Borrow.{Bor}
-use Rattle.lobby_positions.specs.Pgn.{words_of, words_of_line}
-use Rattle.text_parts.proofs.Items.{items_more}
-use Rattle.lobby_positions.proofs.Found.{flat_more}
+use Rattle.std.proofs.lemmas.Fn.{filter_same}
+use Rattle.pgn_tags.specs.Pgn.{is_move, moves_in}
+use Rattle.chess_bits.proofs.MemberLemmas.{filter-map}
 use Rattle.lobby_positions.proofs.lines.words_of.Goals as goal
 
-pub loop-line-preserved : goal.loop-line-preserved
-loop-line-preserved c =
+pub returns-clause : goal.returns-clause
+returns-clause c =
     let now = λ (word : Bor (List ℕ)). word.now in
-    let items = c.args.lines.now in
-    let i = c.loop-line.line-index in
-    let d : Bor (List ℕ) = record { ref_ptr = (0, 0); now = [] } in
-    let line = (get_or items i d).now in
-    let front = take i (map now items) in
-    c.in_ok-push_words.ensures
-    ∙ (ap (λ (ws : List (List ℕ)). ws ++ words_of_line line) c.loop-line.invariant
-    ∙ (sym (flat_more front line) ∙ ap words_of (sym (items_more items i d c.loop-line-test.true))))
+    let tokens = c.in_ok-tokens_of.field-0.items in
+    ap (map now) (filter_same _ (λ (word : Bor (List ℕ)). is_move word.now) _ (λ x b f' k. search rules) _ _ c.retain.ensures.filtered)
+    ∙ (sym (filter-map is_move now tokens) ∙ ap moves_in c.in_ok-tokens_of.ensures)

@@ -3,7 +3,8 @@ use Rattle.std.specs.Borrow.{Bor}
 use Rattle.std.proofs.lemmas.List.{drop_all, length-map}
 use Rattle.chess_board.specs.declared.moves.Move.{Move}
 use Rattle.chess_board.specs.Position.{Position}
-use Rattle.lobby_positions.proofs.Played.{Runs, runs_more, runs_end, runs_one, runs_stop, left_at}
+use Rattle.text_parts.proofs.Items.{items_from}
+use Rattle.lobby_positions.proofs.Played.{Runs, runs_more, runs_end, runs_one, runs_stop}
 use Rattle.lobby_positions.proofs.playing.played.Goals as goal
 
 -- one word is taken off those that are left
@@ -13,7 +14,7 @@ at_word : (start p : Position) (items : List (Bor (List ℕ))) (i : ℕ) (d : Bo
     ((get_or items i d).now ∷ drop (i + 1) (map (λ (word : Bor (List ℕ)). word.now) items)) done
 at_word start p items i d done below runs =
     let words = map (λ (word : Bor (List ℕ)). word.now) items in
-    subst (λ (left : List (List ℕ)). Runs start p words left done) (left_at items i d below) runs
+    subst (λ (left : List (List ℕ)). Runs start p words left done) (items_from items i d below) runs
 
 -- none is left
 at_end : (start p : Position) (items : List (Bor (List ℕ))) (i : ℕ) (done : List Move) → length items ≤ i →

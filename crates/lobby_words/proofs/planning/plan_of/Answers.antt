@@ -7,7 +7,7 @@ use Rattle.lobby_words.proofs.planning.plan_of.Goals as goal
 pub returns-then-is_line : goal.returns-then-is_line
 returns-then-is_line c =
     let st = c.args.standing.now in
-    let game : c.number_named-game.result ≡ u32_in (rest_of c.args.text.now) = c.number_named-game.ensures ∙ ap u32_in c.cut.ensures.rest in
+    let game : c.number_named-game.result ≡ u32_in (rest_of c.args.text.now) = c.number_named-game.ensures ∙ ap u32_in c.cut_word.ensures.rest in
     c.sort_plan.ensures
     ∙ (ap (λ (k : Sort). sort_plan k st c.number_named-game.result) c.sort_of-sort.ensures
     ∙ (ap (λ (g : Option ℕ). sort_plan (sort_of c.args.text.now) st g) game

@@ -1,9 +1,10 @@
 use Rattle.std.proofs.Common.{ℕ, ◌≡◌, ◌<◌, ◌+◌, ◌-◌, ◌&&◌, List, length, get_or, take, sym, ap, ◌∙◌, arith}
+use Rattle.std.proofs.Math.Bool.{and-true}
 use Rattle.std.proofs.Math.Seq.{take-length}
 use Rattle.pairing_texts.specs.declared.steps.Row.{Row}
 use Rattle.pairing_texts.specs.Newer.{is_newer}
 use Rattle.pairing_texts.specs.Steps.{numbers_of}
-use Rattle.pairing_texts.proofs.NewestKept.{without, first}
+use Rattle.pairing_texts.proofs.NewestKept.{without}
 use Rattle.pairing_texts.proofs.steps.newest.Goals as goal
 
 pub loop-left-init : goal.loop-left-init
@@ -12,7 +13,7 @@ loop-left-init c =
       omega arith,
       λ n.
           ap (λ (gs : List ℕ). is_newer (numbers_of (take (length rows) rows)) n && is_newer gs n) c.new-games.ensures.items
-          ∙ (first (is_newer (numbers_of (take (length rows) rows)) n) ∙ ap (λ (rs : List Row). is_newer (numbers_of rs) n) (take-length rows)),
+          ∙ (and-true (is_newer (numbers_of (take (length rows) rows)) n) ∙ ap (λ (rs : List Row). is_newer (numbers_of rs) n) (take-length rows)),
     )
 
 pub loop-left-preserved : goal.loop-left-preserved
