@@ -1,6 +1,6 @@
 -- What is done at a browser's connection is told on.
 use Rattle.std.proofs.Common.{◌≡◌, ◌≢◌, ◌≤◌, ℕ, Bool, true, false, inl, inr, List, [], ◌∷◌, ◌++◌, Option, None, Some, filter, cond, length, take, refl, ap, sym, ◌∙◌, subst, append_assoc, append-nil, length-append, arith, Vec, Global}
-use Rattle.std.specs.Prelude.{◌⊎◌, ◌==◌, IsUtf8, if◌then◌else◌}
+use Rattle.std.specs.Prelude.{◌⊎◌, IsUtf8, if◌then◌else◌}
 use Rattle.std.specs.List.{AllZip}
 use Rattle.std.specs.String.{string_bytes}
 use Rattle.std.specs.Io.KnownBytes.{Consumes, Appends}

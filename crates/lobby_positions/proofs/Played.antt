@@ -1,5 +1,5 @@
 -- The moves that words name, one after another.
-use Rattle.std.proofs.Common.{ℕ, zero, suc, ◌≡◌, ◌<◌, ◌+◌, List, [], ◌∷◌, ◌++◌, length, get_or, take, refl, sym, ap, ◌∙◌, subst, append_assoc, append-nil, arith, Option, Some, None}
+use Rattle.std.proofs.Common.{ℕ, zero, suc, ◌≡◌, ◌<◌, ◌+◌, List, [], ◌∷◌, ◌++◌, length, get_or, take, sym, ap, ◌∙◌, subst, append_assoc, append-nil, arith, Option, Some, None}
 use Rattle.std.specs.Prelude.{IfSome, IfNone}
 use Rattle.chess_board.specs.declared.moves.Move.{Move}
 use Rattle.chess_board.specs.Position.{Position}
@@ -20,12 +20,6 @@ pub record Continued (p : Position) (left : List (List ℕ)) (done all : List Mo
 pub record Runs (start p : Position) (words left : List (List ℕ)) (done : List Move) : Type 0 where
   pub back : (rest : List Move) → ArePlayed p left rest → ArePlayed start words (done ++ rest)
   pub forth : (all : List Move) → ArePlayed start words all → Continued p left done all
-
-pub runs_start : (p : Position) (words : List (List ℕ)) → Runs p p words words []
-runs_start p words = record {
-  back = λ rest h. h;
-  forth = λ all h. record { rest = all; joined = refl; played = h };
-}
 
 more_by : (p after : Position) (word : List ℕ) (left : List (List ℕ)) (done more all : List Move) (m : Move) (rest : List Move) →
     ((other : Move) → Plays p word other → other ≡ m) → after ≡ next p m → more ≡ done ++ (m ∷ []) → all ≡ done ++ rest →

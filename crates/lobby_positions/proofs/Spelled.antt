@@ -7,7 +7,7 @@ use Rattle.chess_board.specs.Line.{position_after}
 use Rattle.chess_notation.specs.San.{IsSan}
 use Rattle.chess_notation.specs.Fen.{fen_of}
 use Rattle.lobby_positions.specs.Telling.{coordinate_of}
-use Rattle.lobby_positions.specs.Answer.{row, rows, AreSans, PutsRow, PutsRows, IsLineAnswer}
+use Rattle.lobby_positions.specs.Answer.{row, rows, AreSans, PutsRow, PutsRows}
 
 sans_more : (p : Position) (moves : List Move) (sans : List (List ℕ)) (m : Move) (san : List ℕ) → AreSans p moves sans →
     IsSan (position_after p moves) m san → AreSans p (moves ++ m ∷ []) (sans ++ san ∷ [])
@@ -90,25 +90,4 @@ row_put number p q m old a b s c new san is one two three four five =
           ∙ (ap (λ (t : List ℕ). t ++ (san ++ move)) two
           ∙ (append_assoc a (32 ∷ []) (san ++ move)
           ∙ (ap (λ (t : List ℕ). t ++ (32 ∷ (san ++ move))) one ∙ append_assoc old (decimal number) (32 ∷ (san ++ move)))))))));
-    }
-
-pub answer_put : (game : ℕ) (start : Position) (moves : List Move) (a b c d e f new : List ℕ) → a ≡ codes "ok line " → b ≡ a ++ decimal game →
-    c ≡ b ++ (32 ∷ []) → d ≡ c ++ decimal (length moves) → e ≡ d ++ (10 ∷ []) → f ≡ e ++ row 0 (codes "-") (codes "-") start →
-    PutsRows start moves f new → IsLineAnswer game start moves new
-answer_put game start moves a b c d e f new one two three four five six put =
-    let rest = row 0 (codes "-") (codes "-") start ++ put.behind in
-    record {
-      behind = put.behind;
-      are = put.are;
-      spelled = put.put ∙ (ap (λ (t : List ℕ). t ++ put.behind) six
-          ∙ (append_assoc e (row 0 (codes "-") (codes "-") start) put.behind
-          ∙ (ap (λ (t : List ℕ). t ++ rest) five
-          ∙ (append_assoc d (10 ∷ []) rest
-          ∙ (ap (λ (t : List ℕ). t ++ (10 ∷ rest)) four
-          ∙ (append_assoc c (decimal (length moves)) (10 ∷ rest)
-          ∙ (ap (λ (t : List ℕ). t ++ (decimal (length moves) ++ (10 ∷ rest))) three
-          ∙ (append_assoc b (32 ∷ []) (decimal (length moves) ++ (10 ∷ rest))
-          ∙ (ap (λ (t : List ℕ). t ++ (32 ∷ (decimal (length moves) ++ (10 ∷ rest)))) two
-          ∙ (append_assoc a (decimal game) (32 ∷ (decimal (length moves) ++ (10 ∷ rest)))
-          ∙ ap (λ (t : List ℕ). t ++ (decimal game ++ (32 ∷ (decimal (length moves) ++ (10 ∷ rest))))) one))))))))));
     }

@@ -7,7 +7,6 @@ pub mod SendLemmas
 pub mod TakeLemmas
 pub mod GivesLemmas
 pub mod ServeLemmas
-pub mod ReadLemmas
 pub mod LifeLemmas
 pub mod SayingLemmas
 pub mod RoomLemmas

@@ -1,4 +1,4 @@
-use Rattle.std.proofs.Common.{ℕ, List, map, filter, sym, ap, ◌∙◌, rules}
+use Rattle.std.proofs.Common.{ℕ, List, map, sym, ap, ◌∙◌, rules}
 use Rattle.std.specs.Borrow.{Bor}
 use Rattle.std.proofs.lemmas.Fn.{filter_same}
 use Rattle.pgn_tags.specs.Pgn.{is_move, moves_in}
