@@ -27,7 +27,8 @@ pub fn law_of_meaning()
 {}
 
 /// The law that nothing is lost in a snapshot: the records of a table, with any entries after them that may come on it
-/// and with which there are fewer than 2^64 in all, mean that table followed by these entries. It does nothing when it runs.
+/// and with which there are fewer than 2^64 in all, mean that table followed by these entries. It does nothing when it
+/// runs.
 pub fn law_of_snapshots()
     ensures { LawOfSnapshots }
 {}
