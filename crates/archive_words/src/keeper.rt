@@ -6,7 +6,7 @@ ghost use Rattle.lobby_archive.specs.Files.{contains};
 ghost use Rattle.archive_words.specs.Games.{games_over_in, is_at};
 
 use crate::asking::{Knowledge, pgn_of};
-use act_log::{KeptGame, first_half, is_opened_for};
+use act_log::{EndedGame, first_half, is_opened_for};
 use anyhow::{Context, Result, anyhow, bail};
 use archive_file::Archive;
 use archive_games::{Kept, games_kept, has_game, push_ended};
@@ -178,7 +178,7 @@ fn is_dropped(alloc: Global, link: &mut Link, row: Row<'_>) -> Result<bool> {
 
 impl<O> Keeper<'_, O> {
     // Puts those of the archive's games behind others that may go on in a game with this PGN.
-    fn push_halves(&self, ended: &mut Vec<KeptGame>, pgn: &str) -> Result<()> {
+    fn push_halves(&self, ended: &mut Vec<EndedGame>, pgn: &str) -> Result<()> {
         let alloc = self.alloc;
         let before = games_kept(alloc, self.lines.as_str())?;
         push_ended(ended, alloc, before.as_slice(), pgn)?;

@@ -9,7 +9,6 @@ use Rattle.std.proofs.Math.Seq.{take-append-add, take-append_seam, get_or-append
 use Rattle.chess_bits.specs.Square.{Square, IsOnBoard, is_square, number_of, square}
 use Rattle.chess_bits.specs.Table.{has}
 use Rattle.chess_bits.proofs.TableLemmas.{is_square-true, is_square-false, number_of-below}
-use Rattle.chess_board.specs.Occupancy.{AreChanges}
 use Rattle.chess_board.specs.Position.{Placement, man_at}
 use Rattle.chess_notation.specs.Fen.{rank_of, row_text, letter_or_zero}
 use Rattle.chess_fen.specs.Shown.{TellsRanks, IsRankText, filled_up}
@@ -82,14 +81,15 @@ AreTextsFrom from until texts placement = (rank : ℕ) (d : RankText) → from �
 
 -- ---- for the calls
 
-pub ranks_told : (old new : Placement) (changed touched : List Bool) → AreChanges old new changed →
+pub ranks_told : (old new : Placement) (changed touched : List Bool) →
+    ((s : Square) → has changed s ≡ false → man_at old s ≡ man_at new s) →
     ((s : Square) → IsOnBoard s → has changed s ≡ true → slice_index_or touched s.rank false ≡ true) →
     TellsRanks old new touched
 ranks_told old new changed touched same told = λ rank low high none. same_rank old new rank
     (λ file from to. elim (cases_Bool (has changed (square file rank))) [
       | inl here ↦ absurd (false≢true (sym none ∙ told (square file rank)
           (record { file_from = from; file_to = to; rank_from = low; rank_to = high }) here))
-      | inr away ↦ (same (square file rank)).0 away
+      | inr away ↦ same (square file rank) away
     ])
 
 -- ---- a text that is filled up

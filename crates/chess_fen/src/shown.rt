@@ -1,8 +1,9 @@
 //! A board with its FEN at hand.
-ghost use Rattle.std.specs.Prelude.{◌≡◌, ◌≤◌, ◌+◌, ◌++◌, ◌∷◌, ℕ, [], length};
+ghost use Rattle.std.specs.Prelude.{◌≡◌, ◌≤◌, ◌+◌, ◌++◌, ◌∷◌, ℕ, [], false, length};
 ghost use Rattle.arrayvec.specs.ArrayString.{array_string_len};
-ghost use Rattle.chess_bits.specs.Square.{IsOnBoard};
-ghost use Rattle.chess_board.specs.Occupancy.{AreChanges};
+ghost use Rattle.chess_bits.specs.Square.{Square, IsOnBoard};
+ghost use Rattle.chess_bits.specs.Table.{has};
+ghost use Rattle.chess_board.specs.Position.{man_at};
 ghost use Rattle.chess_notation.specs.Fen.{rank_of, placement_text, fen_of, IsFenOf, AreLetters};
 ghost use Rattle.chess_fen.specs.Shown.{IsFilled, filled_up, shown_part, IsRankText, AreRankTexts, TellsRanks};
 
@@ -134,7 +135,7 @@ fn rank_texts(men: &Men, letters: &[u8; 64]) -> [RankText; 8]
 // alone.
 fn reletter(letters: &mut [u8; 64], _old: &Men, men: &Men, changed: Bits) -> [bool; 9]
     requires letters { AreLetters letters.old _old.now }
-    requires changed { AreChanges _old.now men.now changed }
+    requires changed { (s : Square) → has changed s ≡ false → man_at _old.now s ≡ man_at men.now s }
     ensures letters { AreLetters letters.new men.now }
     ensures touched { TellsRanks _old.now men.now result }
 {

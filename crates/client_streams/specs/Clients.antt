@@ -23,7 +23,7 @@ IsOpen sessions sid = IsSome (session_at sessions sid)
 abbrev pub OthersStay : Sessions → Sessions → ℕ → Type 0
 OthersStay old new sid = (other : ℕ) → other ≢ sid → session_at new other ≡ session_at old other
 
--- Nothing came of a client for so long, by this moment, and nothing waits for it: nothing to be written, no line of its
+-- Nothing came of a client for so long, by this moment, and nothing waits for it: nothing to be written, no byte of its
 -- session and nothing that this is due, and no line that is held back.
 pub record IsSilent {S : Type 0} (client : Client S) (sessions : Sessions) (at most : ℕ) : Type 0 where
   pub long : client.heard_at + most ≤ at

@@ -43,7 +43,7 @@ pub record HasAll (session : Option SessionState) (left : List ℕ) : Type 0 whe
   pub given : IfSome session (λ s. due s ≡ [])
   pub written : left ≡ []
 
--- The peer sends no more, no line of it waits, neither of its session nor held back, and it has all its answers.
+-- The peer sends no more, no byte of it waits in its session and no line is held back, and it has all its answers.
 pub record HasEnded {S : Type 0} (client : Client S) (session : Option SessionState) (left : List ℕ) : Type 0 where
   pub no_more : client.has_ended ≡ true
   pub unfinished : IsUnfinished (held client.incoming)

@@ -102,8 +102,8 @@ abbrev pub AreTold : {S : Type 0} → List Message → Guest S → Guest S → T
 AreTold [] old new = new ≡ old
 AreTold {S = S} (one ∷ made) old new = (between : Guest S) × IsTold one old between × AreTold made between new
 
--- Each browser is told those of these messages that are for its connection, whole and in their order, as they go out; as far
--- as its socket may say something, and else nothing, or the socket is over.
+-- Each browser is told those of these messages that are for its connection, whole and in their order, as they go out. One
+-- whose socket may say nothing is told nothing, and one for which there is no room or memory has its socket ended.
 pub record AreDelivered {S : Type 0} (told : List Message) (old new : List (Guest S)) : Type 0 where
   pub made : List Message
   pub are_made : AllZip IsMadeOf told made

@@ -124,9 +124,9 @@ pub fn text_with(
 }
 
 /// The text of the file with the player's line: in the place of the line that had the name, so that a player who is there
-/// already has a new token, and this full name and role; and behind all for a new one. It fails, and nothing is added, at
-/// one of these, which is so: the file is none, the name or the full name is none, another player has the token; or where memory
-/// is refused.
+/// already has a new token, and this full name and role; and behind all for a new one. It fails, and nothing is added,
+/// only where one of these is so: the file is none, the name or the full name is none, another player has the token; or
+/// where memory is refused.
 pub fn added(
     alloc: Global,
     text: &[u8],

@@ -93,9 +93,9 @@ fn text_linked(
     Ok(new)
 }
 
-/// The file in which the player of this name has this token, in the place of the one that he had: in the player's line the sum is
-/// another, and all other lines stand as and where they stood. It fails at one of these, which is so: the file is none, it has no such
-/// player, or one of its players has the token; or where memory is refused.
+/// The file in which the player of this name has this token, in the place of the one that he had: in the player's line
+/// the sum is another, and all other lines stand as and where they stood. It fails only where one of these is so: the
+/// file is none, it has no such player, or one of its players has the token; or where memory is refused.
 pub fn relinked(
     alloc: Global,
     text: &[u8],

@@ -71,7 +71,7 @@ pub trait Listens {
         ensures { result ≡ last_outcome self.now };
 }
 
-/// So many tries to accept a connection are made in a turn.
+/// The most tries to accept a connection that a turn makes.
 pub const ACCEPT_TRIES: usize = 64;
 
 /// Accepts the next connection, if one waits. Those that were lost are passed over, up to 64 tries; where the system has

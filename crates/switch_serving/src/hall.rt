@@ -14,7 +14,7 @@ use std::time::Duration;
 const CLIENTS_MOST: usize = 32;
 
 // The name of the socket where clients come.
-const ENTRANCE: usize = 0;
+const LISTENER: usize = 0;
 
 const EVENTS: usize = 256;
 
@@ -32,12 +32,12 @@ pub struct Hall<'a> {
 }
 
 // The socket where clients come, which is watched.
-fn entrance(net: &impl Net, poll: &Poll, address: SocketAddr) -> Result<TcpListener> {
+fn listener_on(net: &impl Net, poll: &Poll, address: SocketAddr) -> Result<TcpListener> {
     let mut listener = TcpListener::bind(net, address).context(format_args!(
         "listening on {address}"
     ))?;
     poll.registry()
-        .register(&mut listener, Token(ENTRANCE), Interest::READABLE)?;
+        .register(&mut listener, Token(LISTENER), Interest::READABLE)?;
     Ok(listener)
 }
 
@@ -51,7 +51,7 @@ impl<'a> Hall<'a> {
     ) -> Result<Hall<'a>> {
         let events = Events::with_capacity(alloc, EVENTS)?;
         let poll = Poll::new(net)?;
-        let listener = entrance(net, &poll, address)?;
+        let listener = listener_on(net, &poll, address)?;
         Ok(Hall {
             alloc,
             listener,
@@ -183,7 +183,7 @@ impl<'a> Hall<'a> {
     fn wake(&mut self) {
         for event in self.events.iter() {
             let token = usize::from(event.token());
-            if token == ENTRANCE {
+            if token == LISTENER {
                 self.has_more = true;
             }
             for client in self.clients.as_mut_slice() {

@@ -17,7 +17,7 @@ loop-square-init c =
     record {
       letters = λ s on gone. elim (cases_Bool (has c.args.changed s)) [
         | inl here ↦ absurd (false≢true (sym gone ∙ ap (list_any (is_square s)) start ∙ listed c.args.changed s on here))
-        | inr away ↦ c.requires.letters s on ∙ ap letter_or_zero ((c.requires.changed s).0 away)
+        | inr away ↦ c.requires.letters s on ∙ ap letter_or_zero (c.requires.changed s away)
       ];
       touched = λ s on here gone. absurd (false≢true (sym gone ∙ ap (list_any (is_square s)) start
           ∙ listed c.args.changed s on here));

@@ -5,9 +5,8 @@ use Rattle.pgn_tags.specs.Pgn.{is_move, moves_in}
 use Rattle.chess_bits.proofs.MemberLemmas.{filter-map}
 use Rattle.lobby_positions.proofs.lines.words_of.Goals as goal
 
-pub returns-clause : goal.returns-clause
-returns-clause c =
+pub returns : goal.returns
+returns c =
     let now = λ (word : Bor (List ℕ)). word.now in
-    let tokens = c.in_ok-tokens_of.field-0.items in
     ap (map now) (filter_same _ (λ (word : Bor (List ℕ)). is_move word.now) _ (λ x b f' k. search rules) _ _ c.retain.ensures.filtered)
-    ∙ (sym (filter-map is_move now tokens) ∙ ap moves_in c.in_ok-tokens_of.ensures)
+    ∙ (sym (filter-map is_move now c.in_ok-words.words.items) ∙ ap moves_in c.in_ok-words.ensures)

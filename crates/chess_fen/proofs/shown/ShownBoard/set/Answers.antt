@@ -11,10 +11,12 @@ reletter-touched-requires-clause-letters c =
 
 pub reletter-touched-requires-clause-changed : goal.reletter-touched-requires-clause-changed
 reletter-touched-requires-clause-changed c =
+    let changes : AreChanges c.men-3.result.now c.men-4.result.now c.changes-changed.result =
     subst (λ (old : Placement). AreChanges old c.men-4.result.now c.changes-changed.result)
     (c.men.ensures ∙ sym c.men-3.ensures)
     (subst (λ (new : Placement). AreChanges c.men.result.now new c.changes-changed.result)
-    (c.men-2.ensures ∙ sym c.men-4.ensures) c.changes-changed.ensures)
+    (c.men-2.ensures ∙ sym c.men-4.ensures) c.changes-changed.ensures) in
+    λ s away. (changes s).0 away
 
 pub renew_all-requires-clause-letters : goal.renew_all-requires-clause-letters
 renew_all-requires-clause-letters c =
