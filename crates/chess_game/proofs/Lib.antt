@@ -4,7 +4,7 @@ pub mod TimeLemmas
 pub mod KeptLine
 pub mod ScoresheetKept
 pub mod SidesLemmas
-pub mod EndedGame
+pub mod KeptGame
 pub mod Shown
 pub mod Acts
 mod Refused
