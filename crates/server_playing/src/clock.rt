@@ -16,7 +16,9 @@ fn moment_after(start: u64, passed: u64) -> u64
 /// The milliseconds since a reading of the monotonic clock; 0 where there is none, or no second one.
 pub(crate) fn milliseconds_since(clock: &impl Clock, begun: Option<Instant>) -> u64 {
     match begun {
-        Some(begun) => begun.elapsed(clock).map_or(0, milliseconds),
+        Some(begun) => begun
+            .elapsed(clock)
+            .map_or(0, |passed| milliseconds(passed)),
         None => 0,
     }
 }
@@ -37,7 +39,7 @@ impl<'a, R: Clock> SteadyClock<'a, R> {
     pub fn new(clock: &'a R) -> Self
         ensures { result.last ≡ result.start }
     {
-        let start = clock.since_1970().map_or(0, milliseconds);
+        let start = clock.since_1970().map_or(0, |passed| milliseconds(passed));
         SteadyClock {
             clock,
             begun: Instant::now(clock).ok(),
