@@ -87,16 +87,20 @@ whole_sort text =
     else (if bytes_eq text (codes "leave lobby") then sorts.LeaveLobby
     else sorts.Nothing)))))
 
+abbrev pub arbiter_sort : List ℕ → List ℕ → Sort
+arbiter_sort w text =
+    if bytes_eq w (codes "link") then sorts.Link
+    else (if bytes_eq w (codes "close") then sorts.Close
+    else (if bytes_eq w (codes "pair") then pair_sort text
+    else whole_sort text))
+
 abbrev pub own_sort : List ℕ → List ℕ → Sort
 own_sort w text =
     if bytes_eq w (codes "login") then sorts.Login
     else (if bytes_eq w (codes "watch") then sorts.Watch
     else (if bytes_eq w (codes "line") then sorts.Line
     else (if bytes_eq w (codes "leave") && not (bytes_eq text (codes "leave lobby")) then sorts.Leave
-    else (if bytes_eq w (codes "link") then sorts.Link
-    else (if bytes_eq w (codes "close") then sorts.Close
-    else (if bytes_eq w (codes "pair") then pair_sort text
-    else whole_sort text))))))
+    else arbiter_sort w text)))
 
 -- what a message asks for
 unfoldable pub sort_of : List ℕ → Sort

@@ -225,7 +225,16 @@ fn own_sort(word: &str, text: &str) -> Sort
         Sort::Line
     } else if word == "leave" && text != "leave lobby" {
         Sort::Leave
-    } else if word == "link" {
+    } else {
+        arbiter_sort(word, text)
+    }
+}
+
+// What a message asks for whose word is an arbiter's.
+fn arbiter_sort(word: &str, text: &str) -> Sort
+    ensures { result ≡ words.arbiter_sort word.now text.now }
+{
+    if word == "link" {
         Sort::Link
     } else if word == "close" {
         Sort::Close
