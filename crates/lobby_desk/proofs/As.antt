@@ -9,7 +9,7 @@ use Rattle.std.proofs.lemmas.List.{length-drop}
 use Rattle.std.proofs.lemmas.Slice.Eq.{bytes_eq-Decides}
 use Rattle.lobby_words.specs.declared.words.Sort.{Sort}
 use Rattle.lobby_words.specs.declared.words.Sort.TheVariants as sorts
-use Rattle.lobby_words.specs.Words.{word_of, rest_of, as_line, is_message, is_message_byte, is_play_word, is_read_word, is_act_word, as_sort, own_sort, whole_sort, sort_of, is_as_sort}
+use Rattle.lobby_words.specs.Words.{word_of, rest_of, as_line, is_message, is_message_byte, is_play_word, is_read_word, is_act_word, as_sort, own_sort, whole_sort, sort_of, is_as_sort, is_as_word, is_act_sort}
 use Rattle.lobby_desk.proofs.Lines.{message}
 
 -- ---- where a message asks for that, LINE is an act
@@ -59,6 +59,60 @@ as_plays text is =
     (whole_none (bytes_eq text (codes "players")) (bytes_eq text (codes "who")) (bytes_eq text (codes "pause entries"))
     (bytes_eq text (codes "resume entries")) (bytes_eq text (codes "lobby")) (bytes_eq text (codes "leave lobby"))))
     (ap is_as_sort is)
+
+-- ---- which messages are `as NAME LINE`
+
+as_if : (a b c d e p : Bool) (last : Sort) → is_as_sort last ≡ false →
+    is_as_sort (if a then sorts.Name else (if b then sorts.Read else (if c then sorts.Act else (if d then sorts.Drop
+    else (if e then (if p then sorts.As else sorts.Nothing) else last))))) ≡ true → e ≡ true
+as_if true b c d e p last none h = absurd (false≢true h)
+as_if false true c d e p last none h = absurd (false≢true h)
+as_if false false true d e p last none h = absurd (false≢true h)
+as_if false false false true e p last none h = absurd (false≢true h)
+as_if false false false false true p last none h = refl
+as_if false false false false false p last none h = absurd (false≢true (sym none ∙ h))
+
+pub as_word : (text : List ℕ) → sort_of text ≡ sorts.As → is_as_word (word_of text) ≡ true
+unfolding sort_of
+as_word text is =
+    let w = word_of text in
+    as_if (bytes_eq w (codes "name")) (is_read_word w) (is_act_word w) (bytes_eq w (codes "drop")) (bytes_eq w (codes "as"))
+    (is_act_word (word_of (as_line text))) (own_sort w text)
+    (own_none (bytes_eq w (codes "login")) (bytes_eq w (codes "watch")) (bytes_eq w (codes "line"))
+    (bytes_eq w (codes "leave") && not (bytes_eq text (codes "leave lobby"))) (bytes_eq w (codes "link")) (bytes_eq w (codes "close"))
+    (whole_sort text)
+    (whole_none (bytes_eq text (codes "players")) (bytes_eq text (codes "who")) (bytes_eq text (codes "pause entries"))
+    (bytes_eq text (codes "resume entries")) (bytes_eq text (codes "lobby")) (bytes_eq text (codes "leave lobby"))))
+    (ap is_as_sort is)
+
+no_act_if : (a b c d e p : Bool) (last : Sort) → a ≡ false → b ≡ false → c ≡ false → d ≡ false → e ≡ true →
+    is_act_sort (if a then sorts.Name else (if b then sorts.Read else (if c then sorts.Act else (if d then sorts.Drop
+    else (if e then (if p then sorts.As else sorts.Nothing) else last))))) ≡ false
+no_act_if false false false false true true last h k l m n = refl
+no_act_if false false false false true false last h k l m n = refl
+no_act_if true b c d e p last h k l m n = absurd (false≢true (sym h))
+no_act_if false true c d e p last h k l m n = absurd (false≢true (sym k))
+no_act_if false false true d e p last h k l m n = absurd (false≢true (sym l))
+no_act_if false false false true e p last h k l m n = absurd (false≢true (sym m))
+no_act_if false false false false false p last h k l m n = absurd (false≢true n)
+
+as_no_act : (text : List ℕ) → is_as_word (word_of text) ≡ true → is_act_sort (sort_of text) ≡ false
+unfolding sort_of is_read_word is_act_word is_play_word
+as_no_act text is =
+    let w = word_of text in
+    let same : word_of text ≡ codes "as" = (bytes_eq-Decides (word_of text) (codes "as")).0 is in
+    no_act_if (bytes_eq w (codes "name")) (is_read_word w) (is_act_word w) (bytes_eq w (codes "drop")) (bytes_eq w (codes "as"))
+    (is_act_word (word_of (as_line text))) (own_sort w text)
+    (ap (λ (v : List ℕ). bytes_eq v (codes "name")) same) (ap is_read_word same) (ap is_act_word same)
+    (ap (λ (v : List ℕ). bytes_eq v (codes "drop")) same) is
+
+plain_if : (text : List ℕ) (b : Bool) → is_as_word (word_of text) ≡ b → is_act_sort (sort_of text) ≡ true → b ≡ false
+plain_if text true is acts = absurd (false≢true (sym (as_no_act text is) ∙ acts))
+plain_if text false is acts = refl
+
+-- a message that is itself an act is none
+pub plain_word : (text : List ℕ) → is_act_sort (sort_of text) ≡ true → is_as_word (word_of text) ≡ false
+plain_word text acts = plain_if text (is_as_word (word_of text)) refl acts
 
 -- ---- a line with such a word is an act
 

@@ -134,10 +134,10 @@ planned_last true sorts.Name s game said text c = refl
 planned_last true sorts.Nothing s game said text c = refl
 
 -- what each plan does that may be for a message
-asked_does : (P : Plan → Type 0) (s : Standing) (plan : Plan) → P (plans.Refuse refusals.NoServer) → P plan → P (asked s plan)
+pub asked_does : (P : Plan → Type 0) (s : Standing) (plan : Plan) → P (plans.Refuse refusals.NoServer) → P plan → P (asked s plan)
 asked_does P s plan none h = elim s.is_here as (λ b. P (if b then plan else plans.Refuse refusals.NoServer)) [ true ↦ h | false ↦ none ]
 
-entered_does : (P : Plan → Type 0) (s : Standing) (plan : Plan) → ((r : Refusal) → P (plans.Refuse r)) → P plan → P (entered_plan s plan)
+pub entered_does : (P : Plan → Type 0) (s : Standing) (plan : Plan) → ((r : Refusal) → P (plans.Refuse r)) → P plan → P (entered_plan s plan)
 entered_does P s plan none h =
     elim s.is_crowded as (λ b. P (if b then asked s (plans.Refuse refusals.TooManyOpen) else asked s plan)) [
       | true ↦ asked_does P s (plans.Refuse refusals.TooManyOpen) (none refusals.NoServer) (none refusals.TooManyOpen)
@@ -176,7 +176,7 @@ drop_does P s (Some who) game none h =
       | false ↦ none refusals.NotArbiter
     ]
 
-dropped_does : (P : Plan → Type 0) (s : Standing) (game : Option ℕ) → ((r : Refusal) → P (plans.Refuse r)) →
+pub dropped_does : (P : Plan → Type 0) (s : Standing) (game : Option ℕ) → ((r : Refusal) → P (plans.Refuse r)) →
     ((one : Identity) (g : ℕ) → P (plans.Drop one g)) → P (numbered_plan sorts.Drop s game)
 dropped_does P s None none h = none refusals.BadLine
 dropped_does P s (Some game) none h = drop_does P s s.who game none (λ one. h one game)
@@ -195,12 +195,12 @@ pub link_does : (P : Plan → Type 0) (who : Option Identity) (closes : Bool) (l
     ((o : Order) → P (plans.Order o)) → P (arbiter_plan who (order_plan closes linked))
 link_does P who closes linked none h = arbiter_does P who (order_plan closes linked) none (order_does P closes linked none h)
 
-login_does : (P : Plan → Type 0) (holder : Option Identity) → ((r : Refusal) → P (plans.Refuse r)) → ((one : Identity) → P (plans.Login one)) →
+pub login_does : (P : Plan → Type 0) (holder : Option Identity) → ((r : Refusal) → P (plans.Refuse r)) → ((one : Identity) → P (plans.Login one)) →
     P (login_plan holder)
 login_does P None none h = none refusals.BadToken
 login_does P (Some who) none h = h who
 
-watch_does : (P : Plan → Type 0) (s : Standing) (game : Option ℕ) → ((r : Refusal) → P (plans.Refuse r)) → ((g : ℕ) → P (plans.Watch g)) →
+pub watch_does : (P : Plan → Type 0) (s : Standing) (game : Option ℕ) → ((r : Refusal) → P (plans.Refuse r)) → ((g : ℕ) → P (plans.Watch g)) →
     P (numbered_plan sorts.Watch s game)
 watch_does P s None none h = none refusals.BadLine
 watch_does P s (Some game) none h =
@@ -209,7 +209,7 @@ watch_does P s (Some game) none h =
       | false ↦ asked_does P s (plans.Watch game) (none refusals.NoServer) (h game)
     ]
 
-line_does : (P : Plan → Type 0) (s : Standing) (game : Option ℕ) → ((r : Refusal) → P (plans.Refuse r)) → ((g : ℕ) → P (plans.Line g)) →
+pub line_does : (P : Plan → Type 0) (s : Standing) (game : Option ℕ) → ((r : Refusal) → P (plans.Refuse r)) → ((g : ℕ) → P (plans.Line g)) →
     P (numbered_plan sorts.Line s game)
 line_does P s None none h = none refusals.BadLine
 line_does P s (Some game) none h = asked_does P s (plans.Line game) (none refusals.NoServer) (h game)

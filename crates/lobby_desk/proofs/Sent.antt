@@ -4,7 +4,7 @@ use Rattle.std.proofs.lemmas.Bool.{false≢true}
 use Rattle.std.proofs.lemmas.Slice.Eq.{bytes_eq-Decides}
 use Rattle.std.specs.Prelude.{if◌then◌else◌}
 use Rattle.lobby_desk.specs.Lines.{ended, bytes_of, is_said, name_line, name_lines, notice_lines, act_lines}
-use Rattle.lobby_desk.specs.Events.{ForAct, Owed, Nobody, Asker, Behind, owed_last, owed_acted, owed_lines}
+use Rattle.lobby_desk.specs.Events.{ForAct, Owed, Nobody, Naming, Asker, Behind, owed_last, owed_acted, owed_lines}
 
 pub one_line : (line : List ℕ) → bytes_of (line ∷ []) ≡ ended line
 one_line line = append-nil (ended line)
@@ -46,21 +46,21 @@ act_bytes said name line game old mid next new a b c =
 
 -- for whom the answers to them are
 owed_if : (b : Bool) (who : Owed) (name line : List ℕ) (game : Option ℕ) (old : List Owed) →
-    ((old ++ owed_last Nobody (if b then [] else name_line name ∷ [])) ++ who ∷ []) ++ owed_last Behind (notice_lines game)
+    ((old ++ owed_last (Naming name) (if b then [] else name_line name ∷ [])) ++ who ∷ []) ++ owed_last Behind (notice_lines game)
     ≡ old ++ owed_acted who (if b then line ∷ notice_lines game else name_line name ∷ line ∷ notice_lines game)
 owed_if true who name line None old = append-nil _ ∙ ap (λ (t : List Owed). t ++ who ∷ []) (append-nil old)
 owed_if true who name line (Some game) old =
     ap (λ (t : List Owed). (t ++ who ∷ []) ++ Nobody ∷ Behind ∷ []) (append-nil old) ∙ append_assoc old (who ∷ []) (Nobody ∷ Behind ∷ [])
-owed_if false who name line None old = append-nil _ ∙ append_assoc old (Nobody ∷ []) (who ∷ [])
+owed_if false who name line None old = append-nil _ ∙ append_assoc old (Naming name ∷ []) (who ∷ [])
 owed_if false who name line (Some game) old =
-    append_assoc (old ++ Nobody ∷ []) (who ∷ []) (Nobody ∷ Behind ∷ []) ∙ append_assoc old (Nobody ∷ []) (who ∷ Nobody ∷ Behind ∷ [])
+    append_assoc (old ++ Naming name ∷ []) (who ∷ []) (Nobody ∷ Behind ∷ []) ∙ append_assoc old (Naming name ∷ []) (who ∷ Nobody ∷ Behind ∷ [])
 
 of_act : (c : ℕ) (by text : List ℕ) (lines : List (List ℕ)) → owed_acted (Asker c (ForAct by text)) lines ≡ owed_lines (Asker c (ForAct by text)) lines
 of_act c by text [] = refl
 of_act c by text (line ∷ lines) = refl
 
 pub act_owed : (said : Option (List ℕ)) (c : ℕ) (by text name line : List ℕ) (game : Option ℕ) (old mid next new : List Owed) →
-    mid ≡ old ++ owed_last Nobody (name_lines said name) → next ≡ mid ++ Asker c (ForAct by text) ∷ [] →
+    mid ≡ old ++ owed_last (Naming name) (name_lines said name) → next ≡ mid ++ Asker c (ForAct by text) ∷ [] →
     new ≡ next ++ owed_last Behind (notice_lines game) → new ≡ old ++ owed_lines (Asker c (ForAct by text)) (act_lines said name line game)
 act_owed said c by text name line game old mid next new a b d =
     d ∙ (ap (λ (t : List Owed). t ++ owed_last Behind (notice_lines game)) (b ∙ ap (λ (t : List Owed). t ++ Asker c (ForAct by text) ∷ []) a)

@@ -13,7 +13,7 @@ mod words;
 pub use answers::{game_told, has_empty_seat, is_accepted, is_over, is_table_act, seated};
 pub use coming::Coming;
 pub use listing::{Waiting, ends_wait, is_list, opens_game, waiting_in, waiting_of, waiting_row};
-pub use naming::is_said;
+pub use naming::{is_said, takes_name};
 pub use planning::{Identity, Order, Plan, Standing, order_of, plan_of};
 pub use refusals::Refusal;
 pub use servers::{GAMES_OF_A_SERVER, SERVERS_MOST, server_of};
