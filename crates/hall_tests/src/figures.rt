@@ -1,5 +1,5 @@
 //! How many games a list of the server tells.
-use lobby_figures::{Games, Listing, Told};
+use lobby_serving::{Games, Listing, Told};
 use std::alloc::Global;
 use std::process::Abort;
 
