@@ -454,6 +454,24 @@ fn acts_are_logged_and_told(rt: &impl Abort, lab: &mut Lab) {
     assert!(rt; lab.log.text.as_str() == LOGGED);
 }
 
+// A browser that shows ann's token and opens a game.
+const OPENS: &[u8] = b"UP~\x81\x87\0\0\0\0login t\x81\x90\0\0\0\0open white 300 2";
+
+// A server that does not take ann's name, one that takes another, and one that leaves the answer to it out.
+const MISNAMES: [&[u8]; 3] = [
+    b"~~~~~~~~no 23 BadMoment\nok open 1\nok show 1 eve - 0 w 300000 300000 - * -\nok fen 1 FEN\n",
+    b"~~~~~~~~ok name eve\n~ok open 1\nok show 1 eve - 0 w 300000 300000 - * -\nok fen 1 FEN\n",
+    b"~~~~~~~~ok open 1\nok show 1 eve - 0 w 300000 300000 - * -\nok fen 1 FEN\n",
+];
+
+fn an_act_counts_only_under_its_name(rt: &impl Abort, lab: &mut Lab) {
+    for answers in MISNAMES {
+        assert!(rt; lab.play(rt, &(OPENS, answers, How::Plainly), 40, 1).is_none());
+        assert!(rt; lab.is_so(GONE, b"ann player ann\n\x81\x05lost\n\x81\x0cserver gone\n"));
+        assert!(rt; lab.log.text.is_empty());
+    }
+}
+
 const ASKS: &[u8] =
     b"GET /live.pgn HTTP/1.1\r\nHost: a:1\r\n\r\n~~GET /live.pgn HTTP/1.1\r\nHost: a:1\r\n\r\n~~GET /live.pgn HTTP/1.1\r\nHost: a:1\r\n\r\n";
 
@@ -584,6 +602,7 @@ fn halls(rt: HostRuntime) {
     };
     browsers_and_servers_are_told(&rt, &mut lab);
     acts_are_logged_and_told(&rt, &mut lab);
+    an_act_counts_only_under_its_name(&rt, &mut lab);
     a_file_changes_between_turns(&rt, &mut lab);
     what_was_said_is_counted(&rt, &mut lab);
     who_left_is_there_no_more(&rt, &mut lab);

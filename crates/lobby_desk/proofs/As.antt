@@ -10,7 +10,7 @@ use Rattle.std.proofs.lemmas.List.Folds.{list_all-append}
 use Rattle.std.proofs.lemmas.Slice.Eq.{bytes_eq-Decides}
 use Rattle.lobby_words.specs.declared.words.Sort.{Sort}
 use Rattle.lobby_words.specs.declared.words.Sort.TheVariants as sorts
-use Rattle.lobby_words.specs.Words.{word_of, rest_of, as_name, as_line, black_name, pair_times, pair_line, is_as_word, is_message, is_message_byte, is_play_word, is_read_word, is_act_word, as_sort, own_sort, whole_sort, sort_of, is_as_sort, is_pair_sort}
+use Rattle.lobby_words.specs.Words.{word_of, rest_of, as_name, as_line, black_name, pair_times, pair_line, is_as_word, is_act_sort, is_message, is_message_byte, is_play_word, is_read_word, is_act_word, as_sort, own_sort, whole_sort, sort_of, is_as_sort, is_pair_sort}
 use Rattle.lobby_desk.proofs.Lines.{message}
 
 -- ---- where a message asks for that, LINE is an act
@@ -92,37 +92,36 @@ abbrev pub is_own_act : Sort → Bool
 is_own_act sorts.Act = true
 is_own_act _ = false
 
-as_no_act : (p : Bool) → is_own_act (if p then sorts.As else sorts.Nothing) ≡ false
-as_no_act true = refl
-as_no_act false = refl
+-- ---- which messages are `as NAME LINE`
 
--- what a message asks for, by its word
-sort_by : List ℕ → List ℕ → Sort
-sort_by w text =
-    if bytes_eq w (codes "name") then sorts.Name
-    else (if is_read_word w then sorts.Read
-    else (if is_act_word w then sorts.Act
-    else (if bytes_eq w (codes "drop") then sorts.Drop
-    else (if bytes_eq w (codes "as") then as_sort text
-    else own_sort w text))))
+no_act_if : (a b c d e p : Bool) (last : Sort) → a ≡ false → b ≡ false → c ≡ false → d ≡ false → e ≡ true →
+    is_act_sort (if a then sorts.Name else (if b then sorts.Read else (if c then sorts.Act else (if d then sorts.Drop
+    else (if e then (if p then sorts.As else sorts.Nothing) else last))))) ≡ false
+no_act_if false false false false true true last h k l m n = refl
+no_act_if false false false false true false last h k l m n = refl
+no_act_if true b c d e p last h k l m n = absurd (false≢true (sym h))
+no_act_if false true c d e p last h k l m n = absurd (false≢true (sym k))
+no_act_if false false true d e p last h k l m n = absurd (false≢true (sym l))
+no_act_if false false false true e p last h k l m n = absurd (false≢true (sym m))
+no_act_if false false false false false p last h k l m n = absurd (false≢true n)
 
-by_word : (text : List ℕ) → sort_of text ≡ sort_by (word_of text) text
-unfolding sort_of sort_by
-by_word text = refl
+as_no_act : (text : List ℕ) → is_as_word (word_of text) ≡ true → is_act_sort (sort_of text) ≡ false
+unfolding sort_of is_read_word is_act_word is_play_word
+as_no_act text is =
+    let w = word_of text in
+    let same : word_of text ≡ codes "as" = (bytes_eq-Decides (word_of text) (codes "as")).0 is in
+    no_act_if (bytes_eq w (codes "name")) (is_read_word w) (is_act_word w) (bytes_eq w (codes "drop")) (bytes_eq w (codes "as"))
+    (is_act_word (word_of (as_line text))) (own_sort w text)
+    (ap (λ (v : List ℕ). bytes_eq v (codes "name")) same) (ap is_read_word same) (ap is_act_word same)
+    (ap (λ (v : List ℕ). bytes_eq v (codes "drop")) same) is
 
-as_by_word : (text : List ℕ) → sort_by (codes "as") text ≡ as_sort text
-unfolding sort_by is_read_word is_act_word is_play_word
-as_by_word text = refl
+plain_if : (text : List ℕ) (b : Bool) → is_as_word (word_of text) ≡ b → is_act_sort (sort_of text) ≡ true → b ≡ false
+plain_if text true is acts = absurd (false≢true (sym (as_no_act text is) ∙ acts))
+plain_if text false is acts = refl
 
-own_word_at : (text : List ℕ) (b : Bool) → is_as_word (word_of text) ≡ b → sort_of text ≡ sorts.Act → b ≡ false
-own_word_at text false e is = refl
-own_word_at text true e is =
-    let w : word_of text ≡ codes "as" = (bytes_eq-Decides (word_of text) (codes "as")).0 e in
-    let sort = by_word text ∙ (ap (λ (v : List ℕ). sort_by v text) w ∙ as_by_word text) in
-    absurd (false≢true (sym (as_no_act (is_act_word (word_of (as_line text)))) ∙ (sym (ap is_own_act sort) ∙ ap is_own_act is)))
-
-pub own_word : (text : List ℕ) → sort_of text ≡ sorts.Act → is_as_word (word_of text) ≡ false
-own_word text is = own_word_at text (is_as_word (word_of text)) refl is
+-- a message that is itself an act is none
+pub plain_word : (text : List ℕ) → is_act_sort (sort_of text) ≡ true → is_as_word (word_of text) ≡ false
+plain_word text acts = plain_if text (is_as_word (word_of text)) refl acts
 
 -- ---- a line with such a word is an act
 

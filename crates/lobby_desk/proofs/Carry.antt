@@ -167,7 +167,7 @@ barred_does : (P : Plan → Type 0) (bar : Option Refusal) (plan : Plan) → ((r
 barred_does P None plan none h = h
 barred_does P (Some refusal) plan none h = none refusal
 
-entered_does : (P : Plan → Type 0) (s : Standing) (plan : Plan) → ((r : Refusal) → P (plans.Refuse r)) → P plan → P (entered_plan s plan)
+pub entered_does : (P : Plan → Type 0) (s : Standing) (plan : Plan) → ((r : Refusal) → P (plans.Refuse r)) → P plan → P (entered_plan s plan)
 entered_does P s plan none h = asked_does P s (barred s.bar plan) (none refusals.NoServer) (barred_does P s.bar plan none h)
 
 pub act_does : (P : Plan → Type 0) (s : Standing) (who : Option Identity) → ((r : Refusal) → P (plans.Refuse r)) → ((one : Identity) → P (plans.Act one)) →

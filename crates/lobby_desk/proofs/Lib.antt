@@ -12,3 +12,4 @@ pub mod Runs
 pub mod Counted
 pub mod Logged
 pub mod Paired
+pub mod Named

@@ -25,8 +25,8 @@ use Rattle.lobby_desk.specs.Lines.{lines_of, act_lines, said_after, name_line, g
 use Rattle.lobby_words.specs.Answers.{is_accepted, first_line, act_game, is_whole, answer}
 use Rattle.lobby_desk.specs.Refusals.{game_named}
 use Rattle.lobby_desk.specs.Watching.{watch_if, sit_if}
-use Rattle.lobby_desk.specs.Events.{DeskInput, Opened, Closed, Said, Hurried, Heard, ServerTurned, Renewed, Linked, MessageValue, ForItself, ForPositions, ForTable, ForGame, ForAct, Owed, Nobody, Asker, Dropper, Pairer, Followers, Behind, owed_last, owed_acted, owed_some, owed_lines, sort_asker, asker, followers_of, follower, Following, is_asked_behind, game_if, asked_after}
-use Rattle.lobby_desk.specs.Tellings.{Known, open_now, watch_heard, watch_next, watches_now, table_heard, table_next, table_now, owed_answered, owed_now, known_now, presence, lost, AreToldAll, IsTold}
+use Rattle.lobby_desk.specs.Events.{DeskInput, Opened, Closed, Said, Hurried, Heard, ServerTurned, Renewed, Linked, MessageValue, ForItself, ForPositions, ForTable, ForGame, ForAct, Owed, Nobody, Naming, Asker, Dropper, Pairer, Followers, Behind, owed_last, owed_acted, owed_some, owed_lines, sort_asker, asker, followers_of, follower, Following, is_asked_behind, game_if, asked_after}
+use Rattle.lobby_desk.specs.Tellings.{Known, is_counted, open_now, watch_heard, watch_next, watches_now, table_heard, table_next, table_now, owed_answered, owed_now, known_now, presence, lost, AreToldAll, IsTold}
 use Rattle.lobby_desk.specs.Who.{View, BeginsView, IsSaid, IsHeard, IsDropped, IsPaired, IsSentFor, IsSentNext, IsSentHeard, IsDone, IsRenewed, IsLinked, IsKnown, who_noted, name_of, speaker}
 use Rattle.lobby_roster.specs.Players.{known_name, renewed}
 use Rattle.lobby_desk.specs.History.{Step, comes, has_come, shown_by, player_said, player_after, players_in, player_in, is_drop, is_pairing, name_as, name_for, name_behind, name_through, name_before, name_in, ActsUnder, ActsRight, NoActs, NoDrops, sort_asks, IsOf, open_in, known_in, IsArbiter, AsksNow, HasAsked, HasPaired, IsDropOf, IsJoinOf, IsNoticeOf, IsRight, AreWhole, AllRight, AllTold, IsRun}
@@ -451,8 +451,8 @@ said_good players old c text lines tells new h =
     subst (λ (n : Option (List ℕ)). Good (sort_asks (sort_of text) (or_0 (u32_in (rest_of text))) text) (name_for players (old.who c) text) old.said lines n) (sym h.said_is) lined
 
 -- what is known is the same if each part of it is
-abbrev known_of : List Owed → ℕ → List ℕ → List ℕ → List Watch → List ℕ → List Waiting → List Pairing → List RefusedActs → Option Following → Known
-known_of owed left begun last watches table waiting pairings refused follows = record {
+abbrev known_of : List Owed → ℕ → List ℕ → List ℕ → List Watch → List ℕ → List Waiting → List Pairing → List RefusedActs → Option Following → Bool → Known
+known_of owed left begun last watches table waiting pairings refused follows misnamed = record {
   owed = owed;
   left = left;
   begun = begun;
@@ -463,26 +463,29 @@ known_of owed left begun last watches table waiting pairings refused follows = r
   pairings = pairings;
   refused = refused;
   follows = follows;
+  misnamed = misnamed;
 }
 
 same_known : (a b : Known) → a.owed ≡ b.owed → a.left ≡ b.left → a.begun ≡ b.begun → a.last ≡ b.last → a.watches ≡ b.watches →
-    a.table ≡ b.table → a.waiting ≡ b.waiting → a.pairings ≡ b.pairings → a.refused ≡ b.refused → a.follows ≡ b.follows → a ≡ b
-same_known a b owed left begun last watches table waiting pairings refused follows =
-    ap (λ (x : List Owed). known_of x a.left a.begun a.last a.watches a.table a.waiting a.pairings a.refused a.follows) owed
-    ∙ (ap (λ (x : ℕ). known_of b.owed x a.begun a.last a.watches a.table a.waiting a.pairings a.refused a.follows) left
-    ∙ (ap (λ (x : List ℕ). known_of b.owed b.left x a.last a.watches a.table a.waiting a.pairings a.refused a.follows) begun
-    ∙ (ap (λ (x : List ℕ). known_of b.owed b.left b.begun x a.watches a.table a.waiting a.pairings a.refused a.follows) last
-    ∙ (ap (λ (x : List Watch). known_of b.owed b.left b.begun b.last x a.table a.waiting a.pairings a.refused a.follows) watches
-    ∙ (ap (λ (x : List ℕ). known_of b.owed b.left b.begun b.last b.watches x a.waiting a.pairings a.refused a.follows) table
-    ∙ (ap (λ (x : List Waiting). known_of b.owed b.left b.begun b.last b.watches b.table x a.pairings a.refused a.follows) waiting
-    ∙ (ap (λ (x : List Pairing). known_of b.owed b.left b.begun b.last b.watches b.table b.waiting x a.refused a.follows) pairings
-    ∙ (ap (λ (x : List RefusedActs). known_of b.owed b.left b.begun b.last b.watches b.table b.waiting b.pairings x a.follows) refused
-    ∙ ap (λ (x : Option Following). known_of b.owed b.left b.begun b.last b.watches b.table b.waiting b.pairings b.refused x) follows))))))))
+    a.table ≡ b.table → a.waiting ≡ b.waiting → a.pairings ≡ b.pairings → a.refused ≡ b.refused → a.follows ≡ b.follows → a.misnamed ≡ b.misnamed → a ≡ b
+same_known a b owed left begun last watches table waiting pairings refused follows misnamed =
+    ap (λ (x : List Owed). known_of x a.left a.begun a.last a.watches a.table a.waiting a.pairings a.refused a.follows a.misnamed) owed
+    ∙ (ap (λ (x : ℕ). known_of b.owed x a.begun a.last a.watches a.table a.waiting a.pairings a.refused a.follows a.misnamed) left
+    ∙ (ap (λ (x : List ℕ). known_of b.owed b.left x a.last a.watches a.table a.waiting a.pairings a.refused a.follows a.misnamed) begun
+    ∙ (ap (λ (x : List ℕ). known_of b.owed b.left b.begun x a.watches a.table a.waiting a.pairings a.refused a.follows a.misnamed) last
+    ∙ (ap (λ (x : List Watch). known_of b.owed b.left b.begun b.last x a.table a.waiting a.pairings a.refused a.follows a.misnamed) watches
+    ∙ (ap (λ (x : List ℕ). known_of b.owed b.left b.begun b.last b.watches x a.waiting a.pairings a.refused a.follows a.misnamed) table
+    ∙ (ap (λ (x : List Waiting). known_of b.owed b.left b.begun b.last b.watches b.table x a.pairings a.refused a.follows a.misnamed) waiting
+    ∙ (ap (λ (x : List Pairing). known_of b.owed b.left b.begun b.last b.watches b.table b.waiting x a.refused a.follows a.misnamed) pairings
+    ∙ (ap (λ (x : List RefusedActs). known_of b.owed b.left b.begun b.last b.watches b.table b.waiting b.pairings x a.follows a.misnamed) refused
+    ∙ (ap (λ (x : Option Following). known_of b.owed b.left b.begun b.last b.watches b.table b.waiting b.pairings b.refused x a.misnamed) follows
+    ∙ ap (λ (x : Bool). known_of b.owed b.left b.begun b.last b.watches b.table b.waiting b.pairings b.refused b.follows x) misnamed)))))))))
 
 -- who watches depends on who is open alone
 watch_alike : (f g : ℕ → Bool) → ((c : ℕ) → f c ≡ g c) → (before : List ℕ) (o : Owed) (watches : List Watch) →
     watch_heard f before o watches ≡ watch_heard g before o watches
 watch_alike f g same before Nobody watches = refl
+watch_alike f g same before (Naming name) watches = refl
 watch_alike f g same before (Asker c ForItself) watches = refl
 watch_alike f g same before (Asker c ForPositions) watches = refl
 watch_alike f g same before (Asker c ForTable) watches = refl
@@ -504,7 +507,7 @@ watches_alike (Closed c) f g same k = refl
 watches_alike (Said c text) f g same k = refl
 watches_alike (Hurried c) f g same k = refl
 watches_alike (Heard line) f g same k =
-    ap (λ (watches : List Watch). if is_whole k.left line then watches else k.watches) (watch_next_alike f g same k.last k.owed k.watches)
+    ap (λ (watches : List Watch). if is_counted k line then watches else k.watches) (watch_next_alike f g same k.last k.owed k.watches)
 watches_alike (Renewed later) f g same k = refl
 watches_alike (Linked c text later token) f g same k = refl
 watches_alike (ServerTurned is_here) f g same k = refl
@@ -512,6 +515,7 @@ watches_alike (ServerTurned is_here) f g same k = refl
 -- and so does who is told of the table
 table_alike : (f g : ℕ → Bool) → ((c : ℕ) → f c ≡ g c) → (o : Owed) (table : List ℕ) → table_heard f o table ≡ table_heard g o table
 table_alike f g same Nobody table = refl
+table_alike f g same (Naming name) table = refl
 table_alike f g same (Asker c ForItself) table = refl
 table_alike f g same (Asker c ForPositions) table = refl
 table_alike f g same (Asker c ForTable) table = ap (λ (b : Bool). sit_if b c table) (same c)
@@ -532,7 +536,7 @@ tables_alike (Closed c) f g same k = refl
 tables_alike (Said c text) f g same k = refl
 tables_alike (Hurried c) f g same k = refl
 tables_alike (Heard line) f g same k =
-    ap (λ (table : List ℕ). if is_whole k.left line then table else k.table) (table_next_alike f g same k.owed k.table)
+    ap (λ (table : List ℕ). if is_counted k line then table else k.table) (table_next_alike f g same k.owed k.table)
 tables_alike (Renewed later) f g same k = refl
 tables_alike (Linked c text later token) f g same k = refl
 tables_alike (ServerTurned is_here) f g same k = refl
@@ -546,7 +550,7 @@ known_alike event by lines f g same k =
 known_then : (event : DeskInput) (by : List ℕ) (lines : List (List ℕ)) (f g : ℕ → Bool) → ((c : ℕ) → f c ≡ g c) → (old new past : Known) →
     IsKnown event by lines f old new → old ≡ past → new ≡ known_now event by lines g past
 known_then event by lines f g same old new past known is =
-    same_known new (known_now event by lines f old) known.owed known.left known.begun known.last known.watches known.table known.waiting known.pairings known.refused known.follows
+    same_known new (known_now event by lines f old) known.owed known.left known.begun known.last known.watches known.table known.waiting known.pairings known.refused known.follows known.misnamed
     ∙ (known_alike event by lines f g same old ∙ ap (λ (k : Known). known_now event by lines g k) is)
 
 -- for whom a connection acts that speaks
@@ -587,6 +591,7 @@ AreAsked players past owed = AllByRecursion (IsAsked players past) owed
 
 asked_later : (players : List Player) (s : Step) (past : List Step) (o : Owed) → IsAsked players past o → IsAsked players (s ∷ past) o
 asked_later players s past Nobody h = tt
+asked_later players s past (Naming name) h = tt
 asked_later players s past (Asker c ask) h = tt
 asked_later players s past (Dropper c by text) h = inr h
 asked_later players s past (Pairer c by black text) h = inr h
@@ -617,6 +622,7 @@ wait_acted players past o h (name ∷ act ∷ show ∷ fen ∷ lines) = (tt, wai
 wait_some : (players : List Player) (past : List Step) (o : Owed) → IsAsked players past o → (line : List ℕ) (lines : List (List ℕ)) →
     AreAsked players past (owed_some o line lines)
 wait_some players past Nobody h line lines = wait_last players past Nobody h (line ∷ lines)
+wait_some players past (Naming name) h line lines = wait_last players past (Naming name) h (line ∷ lines)
 wait_some players past (Asker c ForItself) h line lines = wait_last players past (Asker c ForItself) h (line ∷ lines)
 wait_some players past (Asker c ForPositions) h line lines = wait_last players past (Asker c ForPositions) h (line ∷ lines)
 wait_some players past (Asker c ForTable) h line lines = wait_last players past (Asker c ForTable) h (line ∷ lines)
@@ -638,6 +644,7 @@ asked_followers players past (Some game) by text now = tt
 
 asked_follower : (players : List Player) (past : List Step) (o : Owed) (now : List ℕ) → IsAsked players past (follower o now)
 asked_follower players past Nobody now = tt
+asked_follower players past (Naming name) now = tt
 asked_follower players past (Asker c ForItself) now = tt
 asked_follower players past (Asker c ForPositions) now = tt
 asked_follower players past (Asker c ForTable) now = tt
@@ -1000,6 +1007,7 @@ sent_for : (players : List Player) (past : List Step) (line : List ℕ) (o : Owe
     IsAsked players past o → (lines : List (List ℕ)) (later : Option (List ℕ)) →
     IsSentFor o (name_in past) (answer (known_in players past).begun line) lines later → HeardGood players past line lines later
 sent_for players past line Nobody others waits asked lines later h = heard_none players past line lines later h.1 h.0
+sent_for players past line (Naming name) others waits asked lines later h = heard_none players past line lines later h.1 h.0
 sent_for players past line (Asker c ForItself) others waits asked lines later h = heard_none players past line lines later h.1 h.0
 sent_for players past line (Asker c ForPositions) others waits asked lines later h = heard_none players past line lines later h.1 h.0
 sent_for players past line (Asker c ForTable) others waits asked lines later h = heard_none players past line lines later h.1 h.0
@@ -1036,9 +1044,9 @@ heard_good : (players : List Player) (past : List Step) (old : View) (line : Lis
     Agrees players past old → IsHeard old line lines now → HeardGood players past line lines now.said
 heard_good players past old line lines now agrees h =
     let k = known_in players past in
-    let said = subst (λ (n : Option (List ℕ)). IsSentHeard (is_whole old.known.left line) old.known.owed n (answer old.known.begun line) lines now.said) agrees.said h.sent in
-    let known = subst (λ (k : Known). IsSentHeard (is_whole k.left line) k.owed (name_in past) (answer k.begun line) lines now.said) agrees.known said in
-    sent_heard players past line k.owed refl (subst (λ (k : Known). AreAsked players past k.owed) agrees.known agrees.asked) lines now.said (is_whole k.left line) known
+    let said = subst (λ (n : Option (List ℕ)). IsSentHeard (is_counted old.known line) old.known.owed n (answer old.known.begun line) lines now.said) agrees.said h.sent in
+    let known = subst (λ (k : Known). IsSentHeard (is_counted k line) k.owed (name_in past) (answer k.begun line) lines now.said) agrees.known said in
+    sent_heard players past line k.owed refl (subst (λ (k : Known). AreAsked players past k.owed) agrees.known agrees.asked) lines now.said (is_counted k line) known
 
 -- no number comes that came before
 not_come : (b : Bool) (c : ℕ) → (b ≡ true → c < c) → b ≡ false
@@ -1145,14 +1153,14 @@ asked_then players past old (Said c text) lines tells now agrees step =
 asked_then players past old (Heard line) lines tells now agrees step =
     asked_heard players (record { event = Heard line; lines = lines; tells = tells } ∷ past) old.known.owed (answer old.known.begun line) lines
     (are_asked_later players (record { event = Heard line; lines = lines; tells = tells }) past old.known.owed agrees.asked)
-    (is_whole old.known.left line)
+    (is_counted old.known line)
 asked_then players past old (Renewed later) lines tells now agrees step = are_asked_later players (record { event = Renewed later; lines = lines; tells = tells }) past old.known.owed agrees.asked
 asked_then players past old (Linked c text later token) lines tells now agrees step = are_asked_later players (record { event = Linked c text later token; lines = lines; tells = tells }) past old.known.owed agrees.asked
 asked_then players past old (ServerTurned is_here) lines tells now agrees step = tt
 
 begins_known : (players : List Player) (is_paused : Bool) (now : View) → BeginsView is_paused now → now.known ≡ known_in players []
 begins_known players is_paused now begins =
-    same_known now.known (known_in players []) begins.owed begins.left begins.begun begins.last begins.watches begins.table begins.waiting begins.pairings begins.refused begins.follows
+    same_known now.known (known_in players []) begins.owed begins.left begins.begun begins.last begins.watches begins.table begins.waiting begins.pairings begins.refused begins.follows begins.misnamed
 
 pub record RunGood (players : List Player) (steps : List Step) (now : View) : Type 0 where
   pub agrees : Agrees players steps now

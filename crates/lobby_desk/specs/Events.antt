@@ -67,12 +67,13 @@ pub data Ask : Type 0 where
   ForGame : (game : ℕ) → Ask
   ForAct : (by : List ℕ) → (text : List ℕ) → Ask
 
--- For whom the server's answer to a line is: for nobody; for the connection whose message it answers; for the one whose `drop`,
--- by this arbiter, waits for it; for the one whose pairing, by this arbiter, has its game opened, for this player to join it; for those
--- who are told of a game, with the lines that tell of the act, and whether the table is told; for those who are told of the act right
--- behind which the line went out, if the server accepted it.
+-- For whom the server's answer to a line is: for nobody; for the desk, which has said this name; for the connection whose message
+-- it answers; for the one whose `drop`, by this arbiter, waits for it; for the one whose pairing, by this arbiter, has its game opened,
+-- for this player to join it; for those who are told of a game, with the lines that tell of the act, and whether the table is told;
+-- for those who are told of the act right behind which the line went out, if the server accepted it.
 pub data Owed : Type 0 where
   Nobody : Owed
+  Naming : (name : List ℕ) → Owed
   Asker : (c : ℕ) → (ask : Ask) → Owed
   Dropper : (c : ℕ) → (by : List ℕ) → (text : List ℕ) → Owed
   Pairer : (c : ℕ) → (by : List ℕ) → (black : List ℕ) → (text : List ℕ) → Owed
@@ -82,6 +83,7 @@ pub data Owed : Type 0 where
 -- the same, by the desk's own
 abbrev pub owed_of : Due → Owed
 owed_of dues.Own = Nobody
+owed_of (dues.Name name) = Naming name
 owed_of (dues.Reply c) = Asker c ForItself
 owed_of (dues.Positions c) = Asker c ForPositions
 owed_of (dues.Table c) = Asker c ForTable
@@ -98,14 +100,14 @@ owed_last who [] = []
 owed_last who (line ∷ []) = who ∷ []
 owed_last who (line ∷ next ∷ lines) = Nobody ∷ owed_last who (next ∷ lines)
 
--- Of the lines of an act, with a name before it or not, the answer to the act is for somebody; and that to `fen`, where `show` and
--- `fen` stand behind it, for those who are told of it.
+-- Of the lines of an act, with a `name` line before it or not, the answer to the act is for somebody; that to the `name` line for the
+-- desk; and that to `fen`, where `show` and `fen` stand behind it, for those who are told of it.
 abbrev pub owed_acted : Owed → List (List ℕ) → List Owed
 owed_acted who [] = []
 owed_acted who (act ∷ []) = who ∷ []
-owed_acted who (name ∷ act ∷ []) = Nobody ∷ who ∷ []
+owed_acted who (name ∷ act ∷ []) = Naming (rest_of name) ∷ who ∷ []
 owed_acted who (act ∷ show ∷ fen ∷ []) = who ∷ Nobody ∷ Behind ∷ []
-owed_acted who (name ∷ act ∷ show ∷ fen ∷ lines) = Nobody ∷ owed_acted who (act ∷ show ∷ fen ∷ lines)
+owed_acted who (name ∷ act ∷ show ∷ fen ∷ lines) = Naming (rest_of name) ∷ owed_acted who (act ∷ show ∷ fen ∷ lines)
 
 -- for whom the answers to lines are that go out together
 abbrev pub owed_some : Owed → List ℕ → List (List ℕ) → List Owed

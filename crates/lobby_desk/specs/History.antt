@@ -6,17 +6,18 @@ use Rattle.lobby_words.specs.declared.words.Sort.{Sort}
 use Rattle.lobby_words.specs.declared.words.Sort.TheVariants as sorts
 use Rattle.lobby_words.specs.declared.planning.Identity.{Identity}
 use Rattle.lobby_roster.specs.declared.players.Player.{Player}
-use Rattle.lobby_words.specs.Words.{rest_of, as_name, as_line, black_name, pair_line, is_message, sort_of, is_act_sort, is_as_sort, is_pair_sort, is_drop_sort, is_name_sort, is_login_sort, is_link_sort, number_or_0}
+use Rattle.lobby_words.specs.Words.{rest_of, as_name, as_line, line_said, actor, black_name, pair_line, is_message, sort_of, is_act_sort, is_as_sort, is_pair_sort, is_drop_sort, is_name_sort, is_login_sort, is_link_sort, number_or_0}
 use Rattle.lobby_roster.specs.Players.{holder_of, known_name, renewed, is_token_of}
-use Rattle.lobby_words.specs.Answers.{IsSeated, IsFirstSeated, has_empty_seat, act_game, is_whole, answer}
+use Rattle.lobby_words.specs.Answers.{IsSeated, IsFirstSeated, has_empty_seat, act_game, answer}
 use Rattle.lobby_desk.specs.Lines.{name_line, game_line, join_line, notice_lines}
 use Rattle.lobby_desk.specs.Events.{DeskInput, Opened, Closed, Said, Heard, ServerTurned, Renewed, Linked, MessageValue, ForAct, Owed, Asker, Dropper, Pairer, Followers, Following, asked_after, told_as}
+use Rattle.lobby_words.specs.Naming.{takes_name}
 use Rattle.lobby_desk.specs.Refusals.{is_act_accepted, game_named, refused_game}
 use Rattle.lobby_words.specs.declared.listing.Waiting.{Waiting}
 use Rattle.lobby_desk.specs.declared.pairings.Pairing.{Pairing}
 use Rattle.lobby_desk.specs.Pairings.{game_joined, IsFree, IsOffered}
 use Rattle.lobby_desk.specs.Logging.{act_logged, is_of_act, one_if, log_texts}
-use Rattle.lobby_desk.specs.Tellings.{Known, known_now, pairings_now, open_now, is_number, IsTold}
+use Rattle.lobby_desk.specs.Tellings.{Known, is_counted, known_now, pairings_now, open_now, is_number, IsTold}
 use Rattle.lobby_desk.specs.Who.{View, BeginsView, IsStep, speaker, players_now}
 
 -- one event, the lines that went to the server for it, and what connections were told
@@ -69,7 +70,7 @@ is_as text = is_as_sort (sort_of text)
 abbrev pub is_pairing : List ℕ → Bool
 is_pairing text = is_pair_sort (sort_of text)
 
--- the name that holds behind a line, and behind lines
+-- the name that was said last behind a line, and behind lines
 abbrev pub name_behind : Option (List ℕ) → List ℕ → Option (List ℕ)
 name_behind said line = if says_name line then Some (rest_of line) else said
 
@@ -77,12 +78,12 @@ abbrev pub name_through : Option (List ℕ) → List (List ℕ) → Option (List
 name_through said [] = said
 name_through said (line ∷ lines) = name_through (name_behind said line) lines
 
--- no name holds on a new connection to the server
+-- none was said on a new connection to the server
 abbrev pub name_before : DeskInput → Option (List ℕ) → Option (List ℕ)
 name_before (ServerTurned is_here) said = None
 name_before _ said = said
 
--- the name that holds at the server behind all lines that went to it
+-- the name that was said last to the server behind all lines that went to it, on the connection that stands
 abbrev pub name_in : List Step → Option (List ℕ)
 name_in [] = None
 name_in (s ∷ past) = name_through (name_before s.event (name_in past)) s.lines
@@ -141,7 +142,7 @@ open_in (s ∷ past) c = open_now s.event c (open_in past c)
 
 -- what is known of the connections and of the server behind a past
 abbrev pub known_in : List Player → List Step → Known
-known_in players [] = record { owed = []; left = 0; begun = []; last = []; watches = []; table = []; waiting = []; pairings = []; refused = []; follows = None }
+known_in players [] = record { owed = []; left = 0; begun = []; last = []; watches = []; table = []; waiting = []; pairings = []; refused = []; follows = None; misnamed = false }
 known_in players (s ∷ past) =
     known_now s.event (speaker (player_in players past) s.event) s.lines (open_in past) (known_in players past)
 
@@ -289,7 +290,7 @@ acted_next [] now = []
 acted_next (o ∷ owed) now = acted_for o now
 
 abbrev pub acted_now : DeskInput → Known → List Acted
-acted_now (Heard line) k = if is_whole k.left line then acted_next k.owed (answer k.begun line) else []
+acted_now (Heard line) k = if is_counted k line then acted_next k.owed (answer k.begun line) else []
 acted_now _ k = []
 
 -- The acts that the server answered, the newest first. An act is among them once its answer has come, with all its lines.
@@ -335,7 +336,7 @@ accepted_next acts [] now = []
 accepted_next acts (o ∷ owed) now = accepted_for acts o now
 
 abbrev pub accepted_now : List Acted → DeskInput → Known → List Accepted
-accepted_now acts (Heard line) k = if is_whole k.left line then accepted_next acts k.owed (answer k.begun line) else []
+accepted_now acts (Heard line) k = if is_counted k line then accepted_next acts k.owed (answer k.begun line) else []
 accepted_now acts _ k = []
 
 -- The acts that the server accepted, in the order of its answers. An act is among them once its answer has come, with all its lines:
@@ -359,7 +360,7 @@ entries_next acts before follows [] now = []
 entries_next acts before follows (o ∷ owed) now = entries_for acts before (told_as follows o) now
 
 abbrev pub entries_now : List Acted → DeskInput → Known → List (List ℕ)
-entries_now acts (Heard line) k = if is_whole k.left line then entries_next acts k.last k.follows k.owed (answer k.begun line) else []
+entries_now acts (Heard line) k = if is_counted k line then entries_next acts k.last k.follows k.owed (answer k.begun line) else []
 entries_now acts _ k = []
 
 abbrev pub entries_in : List Player → List Step → List (List ℕ)
@@ -380,3 +381,102 @@ abbrev pub IsLogged : List Player → List Step → Type 0
 IsLogged players steps =
     (logged_in steps ≡ entries_in players steps)
     × (filter is_of_act (logged_in steps) ≡ map accepted_text (accepted_in players steps))
+
+-- a line that went to the server, and the name that was said last before it
+pub record Sent : Type 0 where
+  pub line : List ℕ
+  pub under : Option (List ℕ)
+
+abbrev pub sent_under : Option (List ℕ) → List (List ℕ) → List Sent
+sent_under said [] = []
+sent_under said (line ∷ lines) = record { line = line; under = said } ∷ sent_under (name_behind said line) lines
+
+-- the lines behind the first
+abbrev pub but_first : List Sent → List Sent
+but_first [] = []
+but_first (s ∷ sent) = sent
+
+-- The lines that went to the server on the connection that stands, and that it has not answered, the oldest first: it answers each
+-- line, in the order in which they went to it.
+abbrev pub unanswered_now : DeskInput → Known → List Sent → List Sent
+unanswered_now (Heard line) k sent = if is_counted k line then but_first sent else sent
+unanswered_now (ServerTurned is_here) k sent = []
+unanswered_now _ k sent = sent
+
+abbrev pub unanswered_in : List Player → List Step → List Sent
+unanswered_in players [] = []
+unanswered_in players (s ∷ past) =
+    unanswered_now s.event (known_in players past) (unanswered_in players past) ++ sent_under (name_before s.event (name_in past)) s.lines
+
+-- The name that holds at the server behind its answer to a line, as that answer shows: behind `ok name NAME` to `name NAME` that one,
+-- behind another answer to such a line none, and behind any other line the one before.
+abbrev pub shown_behind : Option (List ℕ) → List ℕ → List ℕ → Option (List ℕ)
+shown_behind shown line now =
+    if says_name line then (if takes_name (rest_of line) now then Some (rest_of line) else None) else shown
+
+abbrev pub shown_next : Option (List ℕ) → List Sent → List ℕ → Option (List ℕ)
+shown_next shown [] now = shown
+shown_next shown (s ∷ sent) now = shown_behind shown s.line now
+
+abbrev pub shown_now : DeskInput → Known → List Sent → Option (List ℕ) → Option (List ℕ)
+shown_now (Heard line) k sent shown = if is_counted k line then shown_next shown sent (answer k.begun line) else shown
+shown_now (ServerTurned is_here) k sent shown = None
+shown_now _ k sent shown = shown
+
+-- the name that holds at the server, as its answers on the connection that stands show; none before it has taken one
+abbrev pub shown_in : List Player → List Step → Option (List ℕ)
+shown_in players [] = None
+shown_in players (s ∷ past) = shown_now s.event (known_in players past) (unanswered_in players past) (shown_in players past)
+
+-- Which line goes for an act of this player's message, and under which name: that is his own message, of `as NAME LINE` the LINE and
+-- that NAME; of a `drop` the name of who waits in its game (`IsDropOf`); and of a pairing, once its game is opened, the line that joins
+-- it, and the name of Black.
+abbrev pub IsLineIf : Bool → List ℕ → List ℕ → Type 0
+IsLineIf true text line = (game : ℕ) × (line ≡ join_line game)
+IsLineIf false text line = line ≡ line_said text
+
+abbrev pub IsLineOf : List ℕ → List ℕ → Type 0
+IsLineOf text line = IsLineIf (is_pairing text) text line
+
+abbrev pub IsNameIf : Bool → List ℕ → List ℕ → List ℕ → Type 0
+IsNameIf true by text name = name ≡ black_name text
+IsNameIf false by text name = is_drop text ≡ false → name ≡ actor by text
+
+abbrev pub IsNameOf : List ℕ → List ℕ → List ℕ → Type 0
+IsNameOf by text name = IsNameIf (is_pairing text) by text name
+
+-- An answer to an act counts where it is the answer to that very act's line, the first that has none; and where the server's
+-- answers before it show that at it the very name holds that was said last before that line went out, under which the act stands.
+pub record IsOfAct (IsLine IsName : List ℕ → Type 0) (sent : List Sent) (shown : Option (List ℕ)) : Type 0 where
+  pub line : List ℕ
+  pub name : List ℕ
+  pub others : List Sent
+  pub first : sent ≡ record { line = line; under = Some name } ∷ others
+  pub act : is_act line ≡ true
+  pub of_text : IsLine line
+  pub named : IsName name
+  pub holds : shown ≡ Some name
+
+-- The line that opens the game of a pairing stands under White's name.
+abbrev pub IsOfOwed : Owed → List Sent → Option (List ℕ) → Type 0
+IsOfOwed (Asker c (ForAct by text)) sent shown = IsOfAct (IsLineOf text) (IsNameOf by text) sent shown
+IsOfOwed (Pairer c by black text) sent shown = IsOfAct (λ line. line ≡ pair_line text) (λ name. name ≡ as_name text) sent shown
+IsOfOwed _ sent shown = Unit {0}
+
+abbrev pub IsOfNext : List Owed → List Sent → Option (List ℕ) → Type 0
+IsOfNext [] sent shown = Unit {0}
+IsOfNext (o ∷ owed) sent shown = IsOfOwed o sent shown
+
+abbrev pub IsOfHeard : Bool → List Owed → List Sent → Option (List ℕ) → Type 0
+IsOfHeard false owed sent shown = Unit {0}
+IsOfHeard true owed sent shown = IsOfNext owed sent shown
+
+abbrev pub IsOfName : DeskInput → Known → List Sent → Option (List ℕ) → Type 0
+IsOfName (Heard line) k sent shown = IsOfHeard (is_counted k line) k.owed sent shown
+IsOfName _ k sent shown = Unit {0}
+
+-- at each step, by what came and went before it
+abbrev pub AllNamed : List Player → List Step → Type 0
+AllNamed players [] = Unit {0}
+AllNamed players (s ∷ past) =
+    IsOfName s.event (known_in players past) (unanswered_in players past) (shown_in players past) × AllNamed players past

@@ -67,4 +67,4 @@ IsNamed _ = Unit {0}
 abbrev pub IsHeardSame : ServerLine → ServerLine → Type 0
 IsHeardSame old new =
     (new.coming ≡ old.coming) × (new.last ≡ old.last) × (new.waiting ≡ old.waiting) × (new.refused ≡ old.refused)
-    × (new.acted ≡ old.acted) × (new.pairings ≡ old.pairings)
+    × (new.acted ≡ old.acted) × (new.pairings ≡ old.pairings) × (new.is_misnamed ≡ old.is_misnamed)

@@ -20,7 +20,7 @@ use Rattle.lobby_words.specs.Waiting.{opens_game, joins_game}
 use Rattle.lobby_roster.specs.Players.{holder_of, known_name, renewed, is_token_of, login_text, players_text, present_names, who_text}
 use Rattle.lobby_words.specs.Plans.{refusal_text, plan_of, order_of}
 use Rattle.lobby_desk.specs.Lines.{bytes_of, lines_of, act_lines, join_line, said_after, notice_lines, IsNamed}
-use Rattle.lobby_words.specs.Answers.{IsSeated, IsFirstSeated, IsSeatless, has_empty_seat, act_game, is_whole, answer}
+use Rattle.lobby_words.specs.Answers.{IsSeated, IsFirstSeated, IsSeatless, has_empty_seat, act_game, answer}
 use Rattle.lobby_desk.specs.Watching.{games_of, unwatched, risen, is_full}
 use Rattle.lobby_desk.specs.Refusals.{game_named}
 use Rattle.lobby_desk.specs.Waiting.{is_crowded}
@@ -28,7 +28,7 @@ use Rattle.lobby_desk.specs.Pairings.{open_bar, join_bar}
 use Rattle.lobby_desk.specs.Pace.{is_too_fast}
 pub use Rattle.lobby_desk.specs.Watching.{at_table}
 use Rattle.lobby_desk.specs.Events.{DeskInput, Opened, Closed, Said, Hurried, Heard, ServerTurned, Renewed, Linked, MessageValue, to_one, ForAct, Owed, Asker, Dropper, Pairer, owed_of, owed_lines, plan_asker, follower, following, asked_after, follows_heard, told_as}
-use Rattle.lobby_desk.specs.Tellings.{Known, open_now, watch_heard, watch_next, table_heard, table_next, watches_now, table_now, waiting_heard, waiting_next, waiting_now, pairings_heard, pairings_next, pairings_now, refused_heard, refused_next, refused_now, follows_next, follows_now, owed_now, left_now, begun_now, last_now, owed_answered, owes, presence, IsTold, IsToldFor, IsToldNext}
+use Rattle.lobby_desk.specs.Tellings.{Known, is_counted, open_now, watch_heard, watch_next, table_heard, table_next, watches_now, table_now, waiting_heard, waiting_next, waiting_now, pairings_heard, pairings_next, pairings_now, refused_heard, refused_next, refused_now, follows_next, follows_now, misnamed_heard, misnamed_next, misnamed_now, owed_now, left_now, begun_now, last_now, owed_answered, owes, presence, IsTold, IsToldFor, IsToldNext}
 
 -- the player for whom a connection acts
 abbrev pub who_in : BTreeMap ℕ Visitor → ℕ → Option Identity
@@ -159,6 +159,7 @@ known desk = record {
   pairings = desk.line.pairings.items;
   refused = desk.line.refused.items;
   follows = following desk.line.acted;
+  misnamed = desk.line.is_misnamed;
 }
 
 -- the connection is open, and no answer is owed to it
@@ -196,6 +197,7 @@ pub record BeginsView (is_paused : Bool) (now : View) : Type 0 where
   pub pairings : now.known.pairings ≡ []
   pub refused : now.known.refused ≡ []
   pub follows : now.known.follows ≡ None
+  pub misnamed : now.known.misnamed ≡ false
 
 abbrev pub Begins : Bool → Desk → Type 0
 Begins is_paused desk = BeginsView is_paused (view desk)
@@ -301,7 +303,7 @@ IsSentHeard true owed said now lines later = IsSentNext owed said now lines late
 
 -- a line of the server is taken
 pub record IsHeard (old : View) (line : List ℕ) (lines : List (List ℕ)) (new : View) : Type 0 where
-  pub sent : IsSentHeard (is_whole old.known.left line) old.known.owed old.said (answer old.known.begun line) lines new.said
+  pub sent : IsSentHeard (is_counted old.known line) old.known.owed old.said (answer old.known.begun line) lines new.said
   pub next_is : new.next ≡ old.next
   pub here_is : new.here ≡ old.here
   pub paused_is : new.paused ≡ old.paused
@@ -388,6 +390,7 @@ pub record IsKnown (event : DeskInput) (by : List ℕ) (lines : List (List ℕ))
   pub pairings : new.pairings ≡ pairings_now event old
   pub refused : new.refused ≡ refused_now event old
   pub follows : new.follows ≡ follows_now event old
+  pub misnamed : new.misnamed ≡ misnamed_now event old
 
 -- a step: what comes in, the lines that go to the server, and what connections are told
 pub record IsStep (players : List Player) (old : View) (event : DeskInput) (lines : List (List ℕ)) (tells : List MessageValue) (new : View) : Type 0 where
@@ -427,6 +430,7 @@ pub record Carried (old : Desk) (from : ℕ) (text : List ℕ) (plan : Plan) (un
   pub pairings : new.line.pairings ≡ old.line.pairings
   pub refused : new.line.refused ≡ old.line.refused
   pub follows : new.line.acted ≡ old.line.acted
+  pub misnamed : new.line.is_misnamed ≡ old.line.is_misnamed
   pub coming : new.line.coming ≡ old.line.coming
   pub last : new.line.last ≡ old.line.last
   pub players : new.players ≡ old.players
@@ -457,6 +461,7 @@ pub record AnswersTo (o : Owed) (now : List ℕ) (old : Desk) (before after : Li
   pub pairings : new.line.pairings.items ≡ pairings_heard o now old.line.pairings.items
   pub refused : new.line.refused.items ≡ refused_heard o now old.line.refused.items
   pub follows : following new.line.acted ≡ follows_heard o now (following old.line.acted)
+  pub misnamed : new.line.is_misnamed ≡ misnamed_heard o now old.line.is_misnamed
   pub rests : IsElseSame old new
 
 -- the same of the first that is owed
@@ -474,4 +479,5 @@ pub record Answered (now : List ℕ) (old : Desk) (before after : List ℕ) (tol
   pub pairings : new.line.pairings.items ≡ pairings_next (known old).owed now old.line.pairings.items
   pub refused : new.line.refused.items ≡ refused_next (known old).owed now old.line.refused.items
   pub follows : following new.line.acted ≡ follows_next (known old).owed now (following old.line.acted)
+  pub misnamed : new.line.is_misnamed ≡ misnamed_next (known old).owed now old.line.is_misnamed
   pub rests : IsElseSame old new

@@ -3,7 +3,7 @@
 ghost use Rattle.std.specs.Prelude.{◌≡◌, ◌++◌, [], ◌∷◌, map, false, Some, None, IfOk, OnOk};
 ghost use Rattle.rec_codec.specs.Name.{IsName};
 ghost use Rattle.std.specs.String.{string_bytes};
-ghost use Rattle.lobby_desk.specs.Events.{owed_of, owed_last, owed_lines, Nobody, Behind, Asker, Pairer, ForAct};
+ghost use Rattle.lobby_desk.specs.Events.{owed_of, owed_last, owed_lines, Nobody, Naming, Behind, Asker, Pairer, ForAct};
 ghost use Rattle.lobby_desk.specs.Refusals.{game_named};
 ghost use Rattle.lobby_desk.specs.Lines.{ended, bytes_of, name_lines, act_lines, join_line, notice_lines, game_line, IsHeardSame};
 ghost use Rattle.lobby_words.specs.Words.{pair_line};
@@ -48,6 +48,8 @@ pub struct Notice {
 pub enum Due {
     /// The desk's own line: nobody is told of it by itself.
     Own,
+    /// The `name` line that says this name.
+    Name(Name),
     /// A connection's line.
     Reply(u64),
     /// The `pgn G` of a connection that asks for the positions of the game.
@@ -68,7 +70,7 @@ pub enum Due {
     Behind,
 }
 
-/// The lobby's line to the server. The first five are of the connection that stands, and begin anew with the next one; what the
+/// The lobby's line to the server. The first six are of the connection that stands, and begin anew with the next one; what the
 /// server has told stays.
 #[derive(Drop)]
 pub struct ServerLine {
@@ -81,6 +83,8 @@ pub struct ServerLine {
     pub coming: Coming,
     /// The act of which is told with the answers behind it, once they are there.
     pub acted: Option<Notice>,
+    /// Whether the server has not taken a name there: no answer counts any more.
+    pub is_misnamed: bool,
     /// The last whole answer.
     pub last: String,
     /// The games that wait for a second player, as far as the answers have told.
@@ -113,6 +117,7 @@ impl ServerLine {
         ensures pairings { result.pairings.items ≡ [] }
         ensures refused { result.refused.items ≡ [] }
         ensures acted { result.acted ≡ None }
+        ensures misnamed { result.is_misnamed ≡ false }
     {
         ServerLine {
             is_here: false,
@@ -120,6 +125,7 @@ impl ServerLine {
             queue: VecDeque::new(alloc),
             coming: Coming::new(alloc),
             acted: None,
+            is_misnamed: false,
             last: String::new(alloc),
             waiting: Vec::new(alloc),
             pairings: Vec::new(alloc),
@@ -140,12 +146,14 @@ impl ServerLine {
         ensures pairings { self.new.pairings ≡ self.old.pairings }
         ensures refused { self.new.refused ≡ self.old.refused }
         ensures acted { self.new.acted ≡ None }
+        ensures misnamed { self.new.is_misnamed ≡ false }
     {
         self.is_here = is_here;
         self.said = None;
         self.queue.clear();
         self.coming.clear();
         self.acted = None;
+        self.is_misnamed = false;
     }
 
     // Sends a line of two parts, whose answer is due.
@@ -200,7 +208,7 @@ impl ServerLine {
     #[tactic(auto, using(crate::proofs::Sent::one_line, crate::proofs::Sent::is_said_same))]
     fn say_name(&mut self, name: Name, wire: &mut Vec<u8>) -> Result<(), AllocError>
         ensures sent { OnOk result (wire.new.items ≡ wire.old.items ++ bytes_of (name_lines self.old.said name)) }
-        ensures owed { OnOk result (map owed_of self.new.queue.items ≡ map owed_of self.old.queue.items ++ owed_last Nobody (name_lines self.old.said name)) }
+        ensures owed { OnOk result (map owed_of self.new.queue.items ≡ map owed_of self.old.queue.items ++ owed_last (Naming name) (name_lines self.old.said name)) }
         ensures said { OnOk result (self.new.said ≡ Some name) }
         ensures here { self.new.is_here ≡ self.old.is_here }
         ensures heard { IsHeardSame self.old self.new }
@@ -209,7 +217,7 @@ impl ServerLine {
         if is_said(&self.said, &name) {
             return Ok(());
         }
-        self.send("name ", name.as_str(), Due::Own, wire)?;
+        self.send("name ", name.as_str(), Due::Name(name), wire)?;
         self.said = Some(name);
         Ok(())
     }

@@ -9,7 +9,7 @@ use rec_codec::Name;
 use text_parts::before;
 
 // What stands before the first line feed.
-fn first_line(answer: &str) -> &str
+pub(crate) fn first_line(answer: &str) -> &str
     ensures { result.now ≡ first_line answer.now }
 {
     before(answer, '\n')

@@ -14,7 +14,7 @@ pub use coming::Coming;
 pub use listing::{
     Waiting, ends_wait, is_list, joins_game, opens_game, waiting_in, waiting_of, waiting_row,
 };
-pub use naming::is_said;
+pub use naming::{is_said, takes_name};
 pub use planning::{Identity, Order, Plan, Standing, order_of, plan_of};
 pub use refusals::Refusal;
 pub use words::{

@@ -12,11 +12,7 @@ mod club_files;
 #[cfg(test)]
 mod cuts;
 #[cfg(test)]
-mod database;
-#[cfg(test)]
 mod dates;
-#[cfg(test)]
-mod figures;
 #[cfg(test)]
 mod headings;
 #[cfg(test)]
