@@ -15,7 +15,7 @@ use Rattle.lobby_words.specs.declared.planning.Plan.TheVariants as plans
 use Rattle.lobby_words.specs.declared.planning.Standing.{Standing}
 use Rattle.lobby_words.specs.declared.planning.Identity.{Identity}
 use Rattle.lobby_roster.specs.declared.players.Player.{Player}
-use Rattle.lobby_words.specs.declared.listing.Waiting.{Waiting}
+use Rattle.lobby_words.specs.declared.listing.Seat.{Seat}
 use Rattle.lobby_desk.specs.declared.refusals.RefusedActs.{RefusedActs}
 use Rattle.lobby_desk.specs.declared.pairings.Pairing.{Pairing}
 use Rattle.lobby_desk.specs.declared.watching.Watch.{Watch}
@@ -451,15 +451,15 @@ said_good players old c text lines tells new h =
     subst (λ (n : Option (List ℕ)). Good (sort_asks (sort_of text) (or_0 (u32_in (rest_of text))) text) (name_for players (old.who c) text) old.said lines n) (sym h.said_is) lined
 
 -- what is known is the same if each part of it is
-abbrev known_of : List Owed → ℕ → List ℕ → List ℕ → List Watch → List ℕ → List Waiting → List Pairing → List RefusedActs → Option Following → Bool → Known
-known_of owed left begun last watches table waiting pairings refused follows misnamed = record {
+abbrev known_of : List Owed → ℕ → List ℕ → List ℕ → List Watch → List ℕ → List Seat → List Pairing → List RefusedActs → Option Following → Bool → Known
+known_of owed left begun last watches table seats pairings refused follows misnamed = record {
   owed = owed;
   left = left;
   begun = begun;
   last = last;
   watches = watches;
   table = table;
-  waiting = waiting;
+  seats = seats;
   pairings = pairings;
   refused = refused;
   follows = follows;
@@ -467,19 +467,19 @@ known_of owed left begun last watches table waiting pairings refused follows mis
 }
 
 same_known : (a b : Known) → a.owed ≡ b.owed → a.left ≡ b.left → a.begun ≡ b.begun → a.last ≡ b.last → a.watches ≡ b.watches →
-    a.table ≡ b.table → a.waiting ≡ b.waiting → a.pairings ≡ b.pairings → a.refused ≡ b.refused → a.follows ≡ b.follows → a.misnamed ≡ b.misnamed → a ≡ b
-same_known a b owed left begun last watches table waiting pairings refused follows misnamed =
-    ap (λ (x : List Owed). known_of x a.left a.begun a.last a.watches a.table a.waiting a.pairings a.refused a.follows a.misnamed) owed
-    ∙ (ap (λ (x : ℕ). known_of b.owed x a.begun a.last a.watches a.table a.waiting a.pairings a.refused a.follows a.misnamed) left
-    ∙ (ap (λ (x : List ℕ). known_of b.owed b.left x a.last a.watches a.table a.waiting a.pairings a.refused a.follows a.misnamed) begun
-    ∙ (ap (λ (x : List ℕ). known_of b.owed b.left b.begun x a.watches a.table a.waiting a.pairings a.refused a.follows a.misnamed) last
-    ∙ (ap (λ (x : List Watch). known_of b.owed b.left b.begun b.last x a.table a.waiting a.pairings a.refused a.follows a.misnamed) watches
-    ∙ (ap (λ (x : List ℕ). known_of b.owed b.left b.begun b.last b.watches x a.waiting a.pairings a.refused a.follows a.misnamed) table
-    ∙ (ap (λ (x : List Waiting). known_of b.owed b.left b.begun b.last b.watches b.table x a.pairings a.refused a.follows a.misnamed) waiting
-    ∙ (ap (λ (x : List Pairing). known_of b.owed b.left b.begun b.last b.watches b.table b.waiting x a.refused a.follows a.misnamed) pairings
-    ∙ (ap (λ (x : List RefusedActs). known_of b.owed b.left b.begun b.last b.watches b.table b.waiting b.pairings x a.follows a.misnamed) refused
-    ∙ (ap (λ (x : Option Following). known_of b.owed b.left b.begun b.last b.watches b.table b.waiting b.pairings b.refused x a.misnamed) follows
-    ∙ ap (λ (x : Bool). known_of b.owed b.left b.begun b.last b.watches b.table b.waiting b.pairings b.refused b.follows x) misnamed)))))))))
+    a.table ≡ b.table → a.seats ≡ b.seats → a.pairings ≡ b.pairings → a.refused ≡ b.refused → a.follows ≡ b.follows → a.misnamed ≡ b.misnamed → a ≡ b
+same_known a b owed left begun last watches table seats pairings refused follows misnamed =
+    ap (λ (x : List Owed). known_of x a.left a.begun a.last a.watches a.table a.seats a.pairings a.refused a.follows a.misnamed) owed
+    ∙ (ap (λ (x : ℕ). known_of b.owed x a.begun a.last a.watches a.table a.seats a.pairings a.refused a.follows a.misnamed) left
+    ∙ (ap (λ (x : List ℕ). known_of b.owed b.left x a.last a.watches a.table a.seats a.pairings a.refused a.follows a.misnamed) begun
+    ∙ (ap (λ (x : List ℕ). known_of b.owed b.left b.begun x a.watches a.table a.seats a.pairings a.refused a.follows a.misnamed) last
+    ∙ (ap (λ (x : List Watch). known_of b.owed b.left b.begun b.last x a.table a.seats a.pairings a.refused a.follows a.misnamed) watches
+    ∙ (ap (λ (x : List ℕ). known_of b.owed b.left b.begun b.last b.watches x a.seats a.pairings a.refused a.follows a.misnamed) table
+    ∙ (ap (λ (x : List Seat). known_of b.owed b.left b.begun b.last b.watches b.table x a.pairings a.refused a.follows a.misnamed) seats
+    ∙ (ap (λ (x : List Pairing). known_of b.owed b.left b.begun b.last b.watches b.table b.seats x a.refused a.follows a.misnamed) pairings
+    ∙ (ap (λ (x : List RefusedActs). known_of b.owed b.left b.begun b.last b.watches b.table b.seats b.pairings x a.follows a.misnamed) refused
+    ∙ (ap (λ (x : Option Following). known_of b.owed b.left b.begun b.last b.watches b.table b.seats b.pairings b.refused x a.misnamed) follows
+    ∙ ap (λ (x : Bool). known_of b.owed b.left b.begun b.last b.watches b.table b.seats b.pairings b.refused b.follows x) misnamed)))))))))
 
 -- who watches depends on who is open alone
 watch_alike : (f g : ℕ → Bool) → ((c : ℕ) → f c ≡ g c) → (before : List ℕ) (o : Owed) (watches : List Watch) →
@@ -550,7 +550,7 @@ known_alike event by lines f g same k =
 known_then : (event : DeskInput) (by : List ℕ) (lines : List (List ℕ)) (f g : ℕ → Bool) → ((c : ℕ) → f c ≡ g c) → (old new past : Known) →
     IsKnown event by lines f old new → old ≡ past → new ≡ known_now event by lines g past
 known_then event by lines f g same old new past known is =
-    same_known new (known_now event by lines f old) known.owed known.left known.begun known.last known.watches known.table known.waiting known.pairings known.refused known.follows known.misnamed
+    same_known new (known_now event by lines f old) known.owed known.left known.begun known.last known.watches known.table known.seats known.pairings known.refused known.follows known.misnamed
     ∙ (known_alike event by lines f g same old ∙ ap (λ (k : Known). known_now event by lines g k) is)
 
 -- for whom a connection acts that speaks
@@ -1160,7 +1160,7 @@ asked_then players past old (ServerTurned is_here) lines tells now agrees step =
 
 begins_known : (players : List Player) (is_paused : Bool) (now : View) → BeginsView is_paused now → now.known ≡ known_in players []
 begins_known players is_paused now begins =
-    same_known now.known (known_in players []) begins.owed begins.left begins.begun begins.last begins.watches begins.table begins.waiting begins.pairings begins.refused begins.follows begins.misnamed
+    same_known now.known (known_in players []) begins.owed begins.left begins.begun begins.last begins.watches begins.table begins.seats begins.pairings begins.refused begins.follows begins.misnamed
 
 pub record RunGood (players : List Player) (steps : List Step) (now : View) : Type 0 where
   pub agrees : Agrees players steps now

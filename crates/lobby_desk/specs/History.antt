@@ -13,7 +13,7 @@ use Rattle.lobby_desk.specs.Lines.{name_line, game_line, join_line, notice_lines
 use Rattle.lobby_desk.specs.Events.{DeskInput, Opened, Closed, Said, Heard, ServerTurned, Renewed, Linked, MessageValue, ForAct, Owed, Asker, Dropper, Pairer, Followers, Following, asked_after, told_as}
 use Rattle.lobby_words.specs.Naming.{takes_name}
 use Rattle.lobby_desk.specs.Refusals.{is_act_accepted, game_named, refused_game}
-use Rattle.lobby_words.specs.declared.listing.Waiting.{Waiting}
+use Rattle.lobby_words.specs.declared.listing.Seat.{Seat}
 use Rattle.lobby_desk.specs.declared.pairings.Pairing.{Pairing}
 use Rattle.lobby_desk.specs.Pairings.{game_joined, IsFree, IsOffered}
 use Rattle.lobby_desk.specs.Logging.{act_logged, is_of_act, one_if, log_texts}
@@ -142,7 +142,7 @@ open_in (s ∷ past) c = open_now s.event c (open_in past c)
 
 -- what is known of the connections and of the server behind a past
 abbrev pub known_in : List Player → List Step → Known
-known_in players [] = record { owed = []; left = 0; begun = []; last = []; watches = []; table = []; waiting = []; pairings = []; refused = []; follows = None; misnamed = false }
+known_in players [] = record { owed = []; left = 0; begun = []; last = []; watches = []; table = []; seats = []; pairings = []; refused = []; follows = None; misnamed = false }
 known_in players (s ∷ past) =
     known_now s.event (speaker (player_in players past) s.event) s.lines (open_in past) (known_in players past)
 
@@ -258,15 +258,15 @@ AreFree pairings said [] = Unit {0}
 AreFree pairings said (line ∷ lines) = IsFree pairings said (game_joined line) × AreFree pairings (name_behind said line) lines
 
 -- those for a message join no game but one that the server's answers told as waiting
-abbrev pub AreOffered : DeskInput → List Waiting → List (List ℕ) → Type 0
-AreOffered (Said c text) waiting lines = AllByRecursion (λ line. IsOffered waiting (game_joined line)) lines
-AreOffered _ waiting lines = Unit {0}
+abbrev pub AreOffered : DeskInput → List Seat → List (List ℕ) → Type 0
+AreOffered (Said c text) seats lines = AllByRecursion (λ line. IsOffered seats (game_joined line)) lines
+AreOffered _ seats lines = Unit {0}
 
 abbrev pub AllPaired : List Player → List Step → Type 0
 AllPaired players [] = Unit {0}
 AllPaired players (s ∷ past) =
     AreFree (pairings_now s.event (known_in players past)) (name_before s.event (name_in past)) s.lines
-    × AreOffered s.event (known_in players past).waiting s.lines × AllPaired players past
+    × AreOffered s.event (known_in players past).seats s.lines × AllPaired players past
 
 -- a desk that begins with these players, with entries paused or not, and steps of it
 abbrev pub IsRun : List Player → Bool → List Step → View → Type 0

@@ -66,5 +66,5 @@ IsNamed _ = Unit {0}
 -- what the server has told is the same
 abbrev pub IsHeardSame : ServerLine → ServerLine → Type 0
 IsHeardSame old new =
-    (new.coming ≡ old.coming) × (new.last ≡ old.last) × (new.waiting ≡ old.waiting) × (new.refused ≡ old.refused)
+    (new.coming ≡ old.coming) × (new.last ≡ old.last) × (new.seats ≡ old.seats) × (new.refused ≡ old.refused)
     × (new.acted ≡ old.acted) × (new.pairings ≡ old.pairings) × (new.is_misnamed ≡ old.is_misnamed)

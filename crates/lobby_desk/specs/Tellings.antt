@@ -1,7 +1,7 @@
 -- What connections are told.
 use Rattle.std.specs.Prelude.{ℕ, ◌≡◌, Bool, true, false, ◌&&◌, ◌||◌, ◌==◌, not, List, [], ◌∷◌, ◌++◌, codes, decimal, Option, None, Some, if◌then◌else◌}
 use Rattle.std.specs.List.{list_any}
-use Rattle.lobby_words.specs.declared.listing.Waiting.{Waiting}
+use Rattle.lobby_words.specs.declared.listing.Seat.{Seat}
 use Rattle.lobby_desk.specs.declared.watching.Watch.{Watch}
 use Rattle.lobby_desk.specs.declared.refusals.RefusedActs.{RefusedActs}
 use Rattle.lobby_desk.specs.declared.pairings.Pairing.{Pairing}
@@ -11,18 +11,19 @@ use Rattle.lobby_words.specs.Words.{rest_of, is_pair, is_message, sort_of, is_cl
 use Rattle.lobby_words.specs.declared.refusals.Refusal.TheVariants as refusals
 use Rattle.lobby_words.specs.Plans.{refusal_text}
 use Rattle.lobby_words.specs.Naming.{takes_name}
+use Rattle.lobby_words.specs.Waiting.{tells_end}
 use Rattle.lobby_words.specs.Answers.{left_after, is_whole, answer, is_accepted, is_over, act_game}
 use Rattle.lobby_desk.specs.Watching.{at_table, watch_if, sit_if, unwatched, none_watched, risen, followers}
 use Rattle.lobby_desk.specs.Events.{DeskInput, Opened, Closed, Said, Hurried, Heard, ServerTurned, Renewed, Linked, MessageValue, to_one, to_one_as, Ask, ForPositions, ForGame, ForTable, ForAct, Owed, Nobody, Naming, Asker, Dropper, Pairer, Followers, Behind, owed_lines, asker, follower, Following, follows_heard, told_as}
 use Rattle.lobby_desk.specs.Logging.{logged_for, logged_standing}
-use Rattle.lobby_desk.specs.Waiting.{waiting_told, waiting_opened, waiting_listed}
+use Rattle.lobby_desk.specs.Waiting.{seats_told, seats_opened, seats_listed}
 use Rattle.lobby_desk.specs.Pairings.{pairings_opened, pairings_told}
 use Rattle.lobby_desk.specs.Refusals.{refused_told}
 
 -- What is known of the connections and of the server: for whom the next answers of the server are, the oldest first; how many
 -- lines of the answer that has begun are still to come, and those that came; the last whole answer; who watches which game, and
--- who is told of the table, each in the order in which they came to; which games wait for a second player, and which are kept for
--- whom; how many acts were refused in which game since one was accepted there; the last act of which it was asked right behind it
+-- who is told of the table, each in the order in which they came to; who has a seat in which game that waits or goes on, and which are kept
+-- for whom; how many acts were refused in which game since one was accepted there; the last act of which it was asked right behind it
 -- how its game stands, where the server accepted it and that is not told yet; and whether the server has not taken a name on the
 -- connection that stands.
 pub record Known : Type 0 where
@@ -32,7 +33,7 @@ pub record Known : Type 0 where
   pub last : List ℕ
   pub watches : List Watch
   pub table : List ℕ
-  pub waiting : List Waiting
+  pub seats : List Seat
   pub pairings : List Pairing
   pub refused : List RefusedActs
   pub follows : Option Following
@@ -97,23 +98,23 @@ table_now (Said c text) is_open k = if leaves_table text then risen c k.table el
 table_now (Heard line) is_open k = if is_counted k line then table_next is_open k.owed k.table else k.table
 table_now _ is_open k = k.table
 
--- Which games wait for a second player after an answer, by whose it is: an act was done in the game that its answer names; and
--- whoever asked for it, the answer to `list` tells all that wait.
-abbrev pub waiting_heard : Owed → List ℕ → List Waiting → List Waiting
-waiting_heard (Asker c (ForAct by text)) now waiting = waiting_told by text (act_game now) waiting
-waiting_heard (Pairer c by black text) now waiting = waiting_opened text (act_game now) waiting
-waiting_heard _ now waiting = waiting
+-- Who has a seat in which game after an answer, by whose it is: an act was done in the game that its answer names; and whoever asked
+-- for it, the answer to `list` tells all.
+abbrev pub seats_heard : Owed → List ℕ → List Seat → List Seat
+seats_heard (Asker c (ForAct by text)) now seats = seats_told by text (tells_end now) (act_game now) seats
+seats_heard (Pairer c by black text) now seats = seats_opened text (act_game now) seats
+seats_heard _ now seats = seats
 
-abbrev pub waiting_next : List Owed → List ℕ → List Waiting → List Waiting
-waiting_next [] now waiting = waiting
-waiting_next (o ∷ owed) now waiting = waiting_heard o now waiting
+abbrev pub seats_next : List Owed → List ℕ → List Seat → List Seat
+seats_next [] now seats = seats
+seats_next (o ∷ owed) now seats = seats_heard o now seats
 
-abbrev pub waiting_answered : List Owed → List ℕ → List Waiting → List Waiting
-waiting_answered owed now waiting = waiting_listed now (waiting_next owed now waiting)
+abbrev pub seats_answered : List Owed → List ℕ → List Seat → List Seat
+seats_answered owed now seats = seats_listed now (seats_next owed now seats)
 
-abbrev pub waiting_now : DeskInput → Known → List Waiting
-waiting_now (Heard line) k = if is_counted k line then waiting_answered k.owed (answer k.begun line) k.waiting else k.waiting
-waiting_now _ k = k.waiting
+abbrev pub seats_now : DeskInput → Known → List Seat
+seats_now (Heard line) k = if is_counted k line then seats_answered k.owed (answer k.begun line) k.seats else k.seats
+seats_now _ k = k.seats
 
 -- Which games are kept for whom after an answer, by whose it is: that to the opening of a pairing, or to an act.
 abbrev pub pairings_heard : Owed → List ℕ → List Pairing → List Pairing
@@ -204,7 +205,7 @@ known_now event by lines is_open k = record {
   last = last_now event k;
   watches = watches_now event is_open k;
   table = table_now event is_open k;
-  waiting = waiting_now event k;
+  seats = seats_now event k;
   pairings = pairings_now event k;
   refused = refused_now event k;
   follows = follows_now event k;

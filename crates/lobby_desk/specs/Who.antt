@@ -1,5 +1,5 @@
 -- For whom connections act, and what a step of the desk does.
-use Rattle.std.specs.Prelude.{ℕ, ◌≡◌, ◌⊎◌, Bool, true, false, ◌&&◌, ◌||◌, ◌==◌, List, [], ◌∷◌, ◌++◌, ◌+◌, codes, decimal, map, Option, None, Some, is_some, option_and_then, if◌then◌else◌}
+use Rattle.std.specs.Prelude.{ℕ, ◌≡◌, ◌⊎◌, Bool, true, false, not, ◌&&◌, ◌||◌, ◌==◌, List, [], ◌∷◌, ◌++◌, ◌+◌, codes, decimal, map, Option, None, Some, is_some, option_and_then, if◌then◌else◌}
 use Rattle.std.specs.BTreeMap.{BTreeMap, get}
 use Rattle.std.specs.Ordering.{nat_cmp}
 use Rattle.std.specs.String.{string_bytes}
@@ -23,12 +23,12 @@ use Rattle.lobby_desk.specs.Lines.{bytes_of, lines_of, act_lines, join_line, sai
 use Rattle.lobby_words.specs.Answers.{IsSeated, IsFirstSeated, IsSeatless, has_empty_seat, act_game, answer}
 use Rattle.lobby_desk.specs.Watching.{games_of, unwatched, risen, is_full}
 use Rattle.lobby_desk.specs.Refusals.{game_named}
-use Rattle.lobby_desk.specs.Waiting.{is_crowded}
+use Rattle.lobby_desk.specs.Waiting.{is_crowded, is_busy}
 use Rattle.lobby_desk.specs.Pairings.{open_bar, join_bar}
 use Rattle.lobby_desk.specs.Pace.{is_too_fast}
 pub use Rattle.lobby_desk.specs.Watching.{at_table}
 use Rattle.lobby_desk.specs.Events.{DeskInput, Opened, Closed, Said, Hurried, Heard, ServerTurned, Renewed, Linked, MessageValue, to_one, ForAct, Owed, Asker, Dropper, Pairer, owed_of, owed_lines, plan_asker, follower, following, asked_after, follows_heard, told_as}
-use Rattle.lobby_desk.specs.Tellings.{Known, is_counted, open_now, watch_heard, watch_next, table_heard, table_next, watches_now, table_now, waiting_heard, waiting_next, waiting_now, pairings_heard, pairings_next, pairings_now, refused_heard, refused_next, refused_now, follows_next, follows_now, misnamed_heard, misnamed_next, misnamed_now, owed_now, left_now, begun_now, last_now, owed_answered, owes, presence, IsTold, IsToldFor, IsToldNext}
+use Rattle.lobby_desk.specs.Tellings.{Known, is_counted, open_now, watch_heard, watch_next, table_heard, table_next, watches_now, table_now, seats_heard, seats_next, seats_now, pairings_heard, pairings_next, pairings_now, refused_heard, refused_next, refused_now, follows_next, follows_now, misnamed_heard, misnamed_next, misnamed_now, owed_now, left_now, begun_now, last_now, owed_answered, owes, presence, IsTold, IsToldFor, IsToldNext}
 
 -- the player for whom a connection acts
 abbrev pub who_in : BTreeMap ℕ Visitor → ℕ → Option Identity
@@ -155,7 +155,7 @@ known desk = record {
   last = string_bytes desk.line.last;
   watches = desk.watches.items;
   table = desk.table.items;
-  waiting = desk.line.waiting.items;
+  seats = desk.line.seats.items;
   pairings = desk.line.pairings.items;
   refused = desk.line.refused.items;
   follows = following desk.line.acted;
@@ -193,7 +193,7 @@ pub record BeginsView (is_paused : Bool) (now : View) : Type 0 where
   pub last : now.known.last ≡ []
   pub watches : now.known.watches ≡ []
   pub table : now.known.table ≡ []
-  pub waiting : now.known.waiting ≡ []
+  pub seats : now.known.seats ≡ []
   pub pairings : now.known.pairings ≡ []
   pub refused : now.known.refused ≡ []
   pub follows : now.known.follows ≡ None
@@ -208,15 +208,15 @@ said_event true c text = Hurried c
 said_event false c text = Said c text
 
 -- Why a message does not open a game, or does not join one, by the games that are known, where it would under this name: no game more
--- of this player may wait for a second one; or no such game waits for him.
-abbrev pub name_bar : Known → List ℕ → List ℕ → Option Refusal
-name_bar k name text =
-    if opens_game text then open_bar (is_crowded k.waiting k.owed name)
-    else (if joins_game text then join_bar k.waiting k.pairings name (game_named text) else None)
+-- of this player may wait for a second one, or, but for an arbiter's message, go on; or no such game waits for him.
+abbrev pub name_bar : Known → Bool → List ℕ → List ℕ → Option Refusal
+name_bar k is_arbiter name text =
+    if opens_game text then open_bar (is_crowded k.seats k.owed name) (not is_arbiter && is_busy k.seats k.owed name)
+    else (if joins_game text then join_bar k.seats k.pairings (not is_arbiter && is_busy k.seats k.owed name) name (game_named text) else None)
 
 abbrev pub bar_of : Known → Option Identity → List ℕ → Option Refusal
 bar_of k None text = None
-bar_of k (Some who) text = name_bar k (actor who.name text) text
+bar_of k (Some who) text = name_bar k who.is_arbiter (actor who.name text) text
 
 -- what the plan for a message of a connection rests on
 abbrev pub standing_of : Desk → ℕ → List ℕ → Standing
@@ -386,7 +386,7 @@ pub record IsKnown (event : DeskInput) (by : List ℕ) (lines : List (List ℕ))
   pub last : new.last ≡ last_now event old
   pub watches : new.watches ≡ watches_now event is_open old
   pub table : new.table ≡ table_now event is_open old
-  pub waiting : new.waiting ≡ waiting_now event old
+  pub seats : new.seats ≡ seats_now event old
   pub pairings : new.pairings ≡ pairings_now event old
   pub refused : new.refused ≡ refused_now event old
   pub follows : new.follows ≡ follows_now event old
@@ -426,7 +426,7 @@ pub record Carried (old : Desk) (from : ℕ) (text : List ℕ) (plan : Plan) (un
   pub untils : (c : ℕ) → until_of new c ≡ (if from == c then until else until_of old c)
   pub watches : new.watches.items ≡ plan_watches plan from old.watches.items
   pub table : new.table.items ≡ plan_table plan from old.table.items
-  pub waiting : new.line.waiting ≡ old.line.waiting
+  pub seats : new.line.seats ≡ old.line.seats
   pub pairings : new.line.pairings ≡ old.line.pairings
   pub refused : new.line.refused ≡ old.line.refused
   pub follows : new.line.acted ≡ old.line.acted
@@ -457,7 +457,7 @@ pub record AnswersTo (o : Owed) (now : List ℕ) (old : Desk) (before after : Li
   pub owed : (known new).owed ≡ (known old).owed ++ owed_lines (follower o now) lines
   pub watches : new.watches.items ≡ watch_heard (open_of old) (string_bytes old.line.last) o old.watches.items
   pub table : new.table.items ≡ table_heard (open_of old) o old.table.items
-  pub waiting : new.line.waiting.items ≡ waiting_heard o now old.line.waiting.items
+  pub seats : new.line.seats.items ≡ seats_heard o now old.line.seats.items
   pub pairings : new.line.pairings.items ≡ pairings_heard o now old.line.pairings.items
   pub refused : new.line.refused.items ≡ refused_heard o now old.line.refused.items
   pub follows : following new.line.acted ≡ follows_heard o now (following old.line.acted)
@@ -475,7 +475,7 @@ pub record Answered (now : List ℕ) (old : Desk) (before after : List ℕ) (tol
   pub owed : (known new).owed ≡ owed_answered (known old).owed now lines
   pub watches : new.watches.items ≡ watch_next (open_of old) (string_bytes old.line.last) (known old).owed old.watches.items
   pub table : new.table.items ≡ table_next (open_of old) (known old).owed old.table.items
-  pub waiting : new.line.waiting.items ≡ waiting_next (known old).owed now old.line.waiting.items
+  pub seats : new.line.seats.items ≡ seats_next (known old).owed now old.line.seats.items
   pub pairings : new.line.pairings.items ≡ pairings_next (known old).owed now old.line.pairings.items
   pub refused : new.line.refused.items ≡ refused_next (known old).owed now old.line.refused.items
   pub follows : following new.line.acted ≡ follows_next (known old).owed now (following old.line.acted)

@@ -3,7 +3,7 @@ ghost use Rattle.std.specs.Prelude.{◌≡◌, ◌==◌, not, filter, OnOk};
 ghost use Rattle.lobby_desk.specs.declared.pairings.Pairing.{Pairing};
 ghost use Rattle.lobby_desk.specs.Pairings as spec;
 
-use lobby_words::{Refusal, Waiting, ends_wait};
+use lobby_words::{Refusal, Seat, ends_wait};
 use rec_codec::Name;
 use std::alloc::AllocError;
 
@@ -15,10 +15,10 @@ pub struct Pairing {
 }
 
 // Whether a game waits for a second player.
-fn waits(waiting: &[Waiting], game: u32) -> bool
-    ensures { result ≡ spec.waits waiting.now game }
+fn waits(seats: &[Seat], game: u32) -> bool
+    ensures { result ≡ spec.waits seats.now game }
 {
-    waiting.iter().any(|one| one.game == game)
+    seats.iter().any(|one| one.game == game && !one.plays)
 }
 
 // Whether it is this game, kept for another than this player.
@@ -72,22 +72,34 @@ pub fn note_pairing(pairings: &mut Vec<Pairing>, text: &str, game: Option<u32>)
     }
 }
 
-/// Why a player may not join the game that a message names, if it names one.
+// Why a player may not play in one more game, where as many of his go on as may.
+fn game_bar(is_busy: bool) -> Option<Refusal>
+    ensures { result ≡ spec.game_bar is_busy }
+{
+    if is_busy {
+        Some(Refusal::TooManyGames)
+    } else {
+        None
+    }
+}
+
+/// Why a player may not join the game that a message names, if it names one, where as many of his go on as may or not.
 pub fn join_bar(
-    waiting: &[Waiting],
+    seats: &[Seat],
     pairings: &[Pairing],
+    is_busy: bool,
     name: &str,
     game: Option<u32>,
 ) -> Option<Refusal>
-    ensures { result ≡ spec.join_bar waiting.now pairings.now name.now game }
+    ensures { result ≡ spec.join_bar seats.now pairings.now is_busy name.now game }
 {
     match game {
         None => Some(Refusal::BadLine),
         Some(game) => {
-            let waits = waits(waiting, game);
+            let waits = waits(seats, game);
             let is_kept = is_kept(pairings, game, name);
             if waits & !is_kept {
-                None
+                game_bar(is_busy)
             } else {
                 Some(Refusal::NotOffered)
             }
@@ -95,13 +107,13 @@ pub fn join_bar(
     }
 }
 
-/// Why he may not open one, where as many of his wait as may.
-pub fn open_bar(is_crowded: bool) -> Option<Refusal>
-    ensures { result ≡ spec.open_bar is_crowded }
+/// Why he may not open one, where as many of his wait as may, or go on.
+pub fn open_bar(is_crowded: bool, is_busy: bool) -> Option<Refusal>
+    ensures { result ≡ spec.open_bar is_crowded is_busy }
 {
     if is_crowded {
         Some(Refusal::TooManyOpen)
     } else {
-        None
+        game_bar(is_busy)
     }
 }

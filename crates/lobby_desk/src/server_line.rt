@@ -11,7 +11,7 @@ ghost use Rattle.lobby_words.specs.Words.{pair_line};
 use crate::pairings::Pairing;
 use crate::refusals::{RefusedActs, game_named};
 use itoa::Buffer;
-use lobby_words::{Coming, Waiting, is_said, pair_times};
+use lobby_words::{Coming, Seat, is_said, pair_times};
 use rec_codec::Name;
 use std::alloc::{AllocError, Global};
 use std::collections::VecDeque;
@@ -88,7 +88,7 @@ pub struct ServerLine {
     /// The last whole answer.
     pub last: String,
     /// The games that wait for a second player, as far as the answers have told.
-    pub waiting: Vec<Waiting>,
+    pub seats: Vec<Seat>,
     /// Those that pairings have opened, and that are kept for Black until then.
     pub pairings: Vec<Pairing>,
     /// The acts that were refused, of each game since one was accepted there.
@@ -113,7 +113,7 @@ impl ServerLine {
         ensures left { result.coming.left ≡ 0 }
         ensures begun { string_bytes result.coming.text ≡ [] }
         ensures last { string_bytes result.last ≡ [] }
-        ensures waiting { result.waiting.items ≡ [] }
+        ensures seats { result.seats.items ≡ [] }
         ensures pairings { result.pairings.items ≡ [] }
         ensures refused { result.refused.items ≡ [] }
         ensures acted { result.acted ≡ None }
@@ -127,7 +127,7 @@ impl ServerLine {
             acted: None,
             is_misnamed: false,
             last: String::new(alloc),
-            waiting: Vec::new(alloc),
+            seats: Vec::new(alloc),
             pairings: Vec::new(alloc),
             refused: Vec::new(alloc),
         }
@@ -142,7 +142,7 @@ impl ServerLine {
         ensures left { self.new.coming.left ≡ 0 }
         ensures begun { string_bytes self.new.coming.text ≡ [] }
         ensures last { self.new.last ≡ self.old.last }
-        ensures waiting { self.new.waiting ≡ self.old.waiting }
+        ensures seats { self.new.seats ≡ self.old.seats }
         ensures pairings { self.new.pairings ≡ self.old.pairings }
         ensures refused { self.new.refused ≡ self.old.refused }
         ensures acted { self.new.acted ≡ None }

@@ -24,6 +24,7 @@ refusal_text refusals.EntriesPaused = codes "no 39 EntriesPaused\n"
 refusal_text refusals.NotWritten = codes "no 40 NotWritten\n"
 refusal_text refusals.NotWaiting = codes "no 41 NotWaiting\n"
 refusal_text refusals.NotOffered = codes "no 42 NotOffered\n"
+refusal_text refusals.TooManyGames = codes "no 43 TooManyGames\n"
 
 -- what asks for the server
 abbrev pub asked : Standing → Plan → Plan

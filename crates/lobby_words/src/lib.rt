@@ -11,9 +11,7 @@ mod words;
 
 pub use answers::{game_told, has_empty_seat, is_accepted, is_over, is_table_act, seated};
 pub use coming::Coming;
-pub use listing::{
-    Waiting, ends_wait, is_list, joins_game, opens_game, waiting_in, waiting_of, waiting_row,
-};
+pub use listing::{Seat, ends_wait, is_list, joins_game, opens_game, seat_of, seats_in, tells_end};
 pub use naming::{is_said, takes_name};
 pub use planning::{Identity, Order, Plan, Standing, order_of, plan_of};
 pub use refusals::Refusal;

@@ -29,6 +29,8 @@ pub enum Refusal {
     NotWaiting,
     /// The game that is to be joined was not told as one that waits, or it is kept for another player.
     NotOffered,
+    /// As many games of the player go on as may be.
+    TooManyGames,
 }
 
 impl Refusal {
@@ -49,6 +51,7 @@ impl Refusal {
             Refusal::NotWritten => "no 40 NotWritten\n",
             Refusal::NotWaiting => "no 41 NotWaiting\n",
             Refusal::NotOffered => "no 42 NotOffered\n",
+            Refusal::TooManyGames => "no 43 TooManyGames\n",
         }
     }
 }
