@@ -365,7 +365,7 @@ static CASES: [Case; 13] = [
     ),
 ];
 
-static ACTS: [Case; 6] = [
+static ACTS: [Case; 7] = [
     // half a frame, and an answer in two pieces
     (
         (
@@ -405,6 +405,17 @@ static ACTS: [Case; 6] = [
         (40, 1),
         b"",
         PAUSED,
+    ),
+    // an arbiter pairs two players: the game is opened for one, and once that is answered joined for the other
+    (
+        (
+            b"UP~\x81\x87\0\0\0\0login e\x81\x92\0\0\0\0pair ann eve 300 2",
+            b"~~~~~~~~ok name ann\nok open 1\n~~ok name eve\nok join 1 black\n~~ok show 1 ann eve 0 w 1 1 - * -\nok fen 1 FEN\n",
+            How::Plainly,
+        ),
+        (60, 1),
+        b"name ann\nopen white 300 2\nname eve\njoin 1\nshow 1\nfen 1\n",
+        b"\x81\x0aok pair 1\n",
     ),
     // where the log fails, nobody is told of the act
     (
@@ -452,6 +463,24 @@ const LOGGED: &str =
 fn acts_are_logged_and_told(rt: &impl Abort, lab: &mut Lab) {
     check_cases(rt, lab, &ACTS);
     assert!(rt; lab.log.text.as_str() == LOGGED);
+}
+
+// A browser that shows ann's token and opens a game.
+const OPENS: &[u8] = b"UP~\x81\x87\0\0\0\0login t\x81\x90\0\0\0\0open white 300 2";
+
+// A server that does not take ann's name, one that takes another, and one that leaves the answer to it out.
+const MISNAMES: [&[u8]; 3] = [
+    b"~~~~~~~~no 23 BadMoment\nok open 1\nok show 1 eve - 0 w 300000 300000 - * -\nok fen 1 FEN\n",
+    b"~~~~~~~~ok name eve\n~ok open 1\nok show 1 eve - 0 w 300000 300000 - * -\nok fen 1 FEN\n",
+    b"~~~~~~~~ok open 1\nok show 1 eve - 0 w 300000 300000 - * -\nok fen 1 FEN\n",
+];
+
+fn an_act_counts_only_under_its_name(rt: &impl Abort, lab: &mut Lab) {
+    for answers in MISNAMES {
+        assert!(rt; lab.play(rt, &(OPENS, answers, How::Plainly), 40, 1).is_none());
+        assert!(rt; lab.is_so(GONE, b"ann player ann\n\x81\x05lost\n\x81\x0cserver gone\n"));
+        assert!(rt; lab.log.text.is_empty());
+    }
 }
 
 const ASKS: &[u8] =
@@ -584,6 +613,7 @@ fn halls(rt: HostRuntime) {
     };
     browsers_and_servers_are_told(&rt, &mut lab);
     acts_are_logged_and_told(&rt, &mut lab);
+    an_act_counts_only_under_its_name(&rt, &mut lab);
     a_file_changes_between_turns(&rt, &mut lab);
     what_was_said_is_counted(&rt, &mut lab);
     who_left_is_there_no_more(&rt, &mut lab);

@@ -3,12 +3,12 @@ use Rattle.std.proofs.Common.{ℕ, suc, ◌≡◌, ◌+◌, ◌==◌, ◌&&◌, 
 use Rattle.std.specs.Prelude.{if◌then◌else◌}
 use Rattle.std.proofs.lemmas.Bool.{false≢true}
 use Rattle.std.proofs.lemmas.Bool.Decides.{Decides-eqb}
-use Rattle.lobby_words.specs.Answers.{act_game, is_whole, is_table_act, answer}
+use Rattle.lobby_words.specs.Answers.{act_game, is_table_act, answer}
 use Rattle.lobby_roster.specs.declared.players.Player.{Player}
 use Rattle.lobby_desk.specs.declared.refusals.RefusedActs.{RefusedActs}
-use Rattle.lobby_desk.specs.Events.{DeskInput, Opened, Closed, Said, Hurried, Heard, ServerTurned, Renewed, Linked, ForItself, ForPositions, ForTable, ForGame, ForAct, Owed, Nobody, Asker, Dropper, Followers, Behind}
+use Rattle.lobby_desk.specs.Events.{DeskInput, Opened, Closed, Said, Hurried, Heard, ServerTurned, Renewed, Linked, ForItself, ForPositions, ForTable, ForGame, ForAct, Owed, Nobody, Naming, Asker, Dropper, Pairer, Followers, Behind}
 use Rattle.lobby_desk.specs.Refusals.{is_act_accepted, is_refusal, game_named, refused_game, count_in, count_of, without, cleared, one_more}
-use Rattle.lobby_desk.specs.Tellings.{Known, is_number, refused_heard, refused_next, refused_now}
+use Rattle.lobby_desk.specs.Tellings.{Known, is_counted, is_number, refused_heard, refused_next, refused_now}
 use Rattle.lobby_desk.specs.History.{Step, known_in, Acted, acted_for, acted_next, acted_now, acted_in, refuses, since, refused_since}
 
 -- ---- what is kept of games
@@ -127,12 +127,14 @@ AreCounted refused acts = (game : ℕ) → count_in game refused ≡ refused_sin
 heard_counted : (o : Owed) (now : List ℕ) (refused : List RefusedActs) (acts : List Acted) → AreCounted refused acts →
     AreCounted (refused_heard o now refused) (acted_for o now ++ acts)
 heard_counted Nobody now refused acts h = h
+heard_counted (Naming name) now refused acts h = h
 heard_counted (Asker c ForItself) now refused acts h = h
 heard_counted (Asker c ForPositions) now refused acts h = h
 heard_counted (Asker c ForTable) now refused acts h = h
 heard_counted (Asker c (ForGame watched)) now refused acts h = h
 heard_counted (Asker c (ForAct by text)) now refused acts h = λ game. told_at (is_act_accepted now) text now game acts refused refl (h game)
 heard_counted (Dropper c by text) now refused acts h = h
+heard_counted (Pairer c by black text) now refused acts h = λ game. told_at (is_act_accepted now) text now game acts refused refl (h game)
 heard_counted (Followers noticed act is_table) now refused acts h = h
 heard_counted Behind now refused acts h = h
 
@@ -148,7 +150,7 @@ now_counted (Closed c) k acts h = h
 now_counted (Said c text) k acts h = h
 now_counted (Hurried c) k acts h = h
 now_counted (Heard line) k acts h =
-    elim (is_whole k.left line) as (λ b. AreCounted (if b then refused_next k.owed (answer k.begun line) k.refused else k.refused)
+    elim (is_counted k line) as (λ b. AreCounted (if b then refused_next k.owed (answer k.begun line) k.refused else k.refused)
     ((if b then acted_next k.owed (answer k.begun line) else []) ++ acts)) [
       | true ↦ next_counted k.owed (answer k.begun line) k.refused acts h
       | false ↦ h

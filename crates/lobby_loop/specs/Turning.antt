@@ -1,5 +1,5 @@
 -- One turn of all that are connected.
-use Rattle.std.specs.Prelude.{ℕ, ◌≡◌, ◌⊎◌, Bool, true, false, List, [], ◌∷◌, ◌++◌, Option, None, Some}
+use Rattle.std.specs.Prelude.{ℕ, ◌≡◌, ◌⊎◌, ◌||◌, Bool, true, false, List, [], ◌∷◌, ◌++◌, Option, None, Some}
 use Rattle.std.specs.List.{AllZip}
 use Rattle.lobby_roster.specs.declared.players.Player.{Player}
 use Rattle.lobby_desk.specs.Events.{Gone, Here, message_values}
@@ -25,10 +25,10 @@ abbrev pub bytes_heard : {S : Type 0} → (remaining : S → Option (List ℕ)) 
 bytes_heard remaining None after old new (is, same) = []
 bytes_heard remaining (Some link) after old new (next, is, takes) = takes.taken
 
--- whether its connection is lost
-abbrev pub link_lost : {S : Type 0} → Option (Link S) → Bool
-link_lost None = false
-link_lost (Some link) = link.is_lost
+-- whether its connection is lost: it has ended or failed, or the server has not taken a name on it, so that none of its answers counts
+abbrev pub link_lost : {S : Type 0} → Option (Link S) → Talk → Bool
+link_lost None talk = false
+link_lost (Some link) talk = link.is_lost || talk.desk.line.is_misnamed
 
 -- Where its connection is lost it is there no more, and the desk is told that.
 abbrev pub PartsFromServer : {S : Type 0} → Bool → Option (Link S) → Option (Link S) → Talk → Talk → Type 0
@@ -88,7 +88,7 @@ pub record TakesAllIn {S : Type 0} (remaining : S → Option (List ℕ)) (at : �
   pub hears : HearsServer remaining old.server server_heard old.talk heard
   pub parted : Talk
   pub is_gone : Bool
-  pub gone_is : is_gone ≡ link_lost server_heard
+  pub gone_is : is_gone ≡ link_lost server_heard heard
   pub parts : PartsFromServer is_gone server_heard new.server heard parted
   pub attended : List (Guest S)
   pub attends : AreAttended remaining old.site at old.guests.items attended parted new.talk

@@ -3,6 +3,8 @@ ghost use Rattle.std.specs.Prelude.{◌≡◌};
 ghost use Rattle.rec_codec.specs.Name.{IsName};
 ghost use Rattle.lobby_words.specs.Naming as naming;
 
+use crate::answers::first_line;
+use crate::words::cut_word;
 use rec_codec::Name;
 
 /// Whether the name was said last.
@@ -15,4 +17,16 @@ pub fn is_said(said: &Option<Name>, name: &Name) -> bool
         None => false,
         Some(said) => said.as_str() == name,
     }
+}
+
+/// Whether an answer of the server takes a name: it is `ok name NAME`, with this name.
+pub fn takes_name(name: &Name, answer: &str) -> bool
+    ensures { result ≡ naming.takes_name name.now answer.now }
+{
+    let (ok, rest) = cut_word(first_line(answer));
+    let (word, said) = cut_word(rest);
+    let is_ok = ok == "ok";
+    let is_name = word == "name";
+    let is_same = said == name.as_str();
+    is_ok & is_name & is_same
 }

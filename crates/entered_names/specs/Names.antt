@@ -1,0 +1,101 @@
+-- A line of the lobby's at the server, and the name under which it is entered there.
+use Rattle.std.specs.Prelude.{ℕ, ◌≡◌, Bool, true, false, List, [], ◌∷◌, ◌++◌, Option, None, Some, if◌then◌else◌}
+use Rattle.std.specs.Option.{MatchOption}
+use Rattle.chess_entry.specs.declared.commands.Act.{Act as Asked}
+use Rattle.chess_line.specs.declared.lines.Request.{Request}
+use Rattle.chess_line.specs.declared.lines.Request.TheVariants.{Act}
+use Rattle.chess_sessions.specs.Session.{Said}
+use Rattle.chess_sessions.specs.Turn.{IsReading}
+use Rattle.chess_sessions.specs.Answers.{given_name, renamed, own_answer, alone, asked}
+use Rattle.lobby_roster.specs.declared.players.Player.{Player}
+use Rattle.lobby_words.specs.Words.{line_said}
+use Rattle.lobby_words.specs.Answers.{ended, answer}
+use Rattle.lobby_desk.specs.Events.{DeskInput, Heard, ServerTurned, ForAct, Owed, Asker}
+use Rattle.lobby_desk.specs.Tellings.{Known, is_counted}
+use Rattle.lobby_desk.specs.History.{Step, Sent, known_in, unanswered_in, IsNameOf}
+
+-- ---- at the server
+
+-- A line that a session took: its text, what it asks for, the moment, and the answer to it.
+pub record Taken : Type 0 where
+  pub text : List ℕ
+  pub read : Option Request
+  pub at : ℕ
+  pub said : Said
+
+-- It was read as the protocol has it; and where it asks nothing of the table, the answer is the session's own.
+pub record IsTaken (t : Taken) : Type 0 where
+  pub reads : IsReading t.text t.read
+  pub own : MatchOption (own_answer t.at t.read) (Unit {0}) (λ line. t.said ≡ alone line)
+
+-- the session's name after lines: that of the last `name` line that it accepted
+abbrev pub name_after : Option (List ℕ) → List Taken → Option (List ℕ)
+name_after name [] = name
+name_after name (t ∷ taken) = name_after (renamed (given_name t.at t.read) name) taken
+
+-- ---- at the lobby
+
+-- a line that the server answered, and the whole answer
+pub record Told : Type 0 where
+  pub line : List ℕ
+  pub answer : List ℕ
+
+abbrev pub told_first : List Sent → List ℕ → List Told
+told_first [] now = []
+told_first (s ∷ sent) now = record { line = s.line; answer = now } ∷ []
+
+abbrev pub told_now : DeskInput → Known → List Sent → List Told → List Told
+told_now (Heard line) k sent told = if is_counted k line then told ++ told_first sent (answer k.begun line) else told
+told_now (ServerTurned is_here) k sent told = []
+told_now _ k sent told = told
+
+-- the lines that the server has answered on the connection that stands, with answers that count, the oldest first
+abbrev pub told_in : List Player → List Step → List Told
+told_in players [] = []
+told_in players (s ∷ past) = told_now s.event (known_in players past) (unanswered_in players past) (told_in players past)
+
+-- ---- together
+
+-- the answer as it goes over the line
+abbrev pub text_of : Said → List ℕ
+text_of said = ended said.line ++ said.body
+
+-- The session took just these lines, in this order, and gave these answers.
+abbrev pub AreTaken : List Told → List Taken → Type 0
+AreTaken [] [] = Unit {0}
+AreTaken [] (t ∷ taken) = ⊥
+AreTaken (a ∷ told) [] = ⊥
+AreTaken (a ∷ told) (t ∷ taken) = (t.text ≡ a.line) × (text_of t.said ≡ a.answer) × IsTaken t × AreTaken told taken
+
+-- The line that is answered next is that of the message `text` of the player `by`, and the session asks what it reads as an act of
+-- the table under this name.
+pub record IsEnteredAs (by text : List ℕ) (sent : List Sent) (told : List Told) : Type 0 where
+  pub name : List ℕ
+  pub named : IsNameOf by text name
+  pub others : List Sent
+  pub next : sent ≡ record { line = line_said text; under = Some name } ∷ others
+  pub entered : (taken : List Taken) (at : ℕ) (act : Asked) → AreTaken told taken →
+      asked at (name_after None taken) (Some (Act act)) ≡ record { moment = at; who = Some name; act = act } ∷ []
+
+abbrev pub IsEnteredFor : Owed → List Sent → List Told → Type 0
+IsEnteredFor (Asker c (ForAct by text)) sent told = IsEnteredAs by text sent told
+IsEnteredFor _ sent told = Unit {0}
+
+abbrev pub IsEnteredNext : List Owed → List Sent → List Told → Type 0
+IsEnteredNext [] sent told = Unit {0}
+IsEnteredNext (o ∷ owed) sent told = IsEnteredFor o sent told
+
+abbrev pub IsEnteredHeard : Bool → List Owed → List Sent → List Told → Type 0
+IsEnteredHeard false owed sent told = Unit {0}
+IsEnteredHeard true owed sent told = IsEnteredNext owed sent told
+
+-- where an answer to an act counts
+abbrev pub IsEntered : DeskInput → Known → List Sent → List Told → Type 0
+IsEntered (Heard line) k sent told = IsEnteredHeard (is_counted k line) k.owed sent told
+IsEntered _ k sent told = Unit {0}
+
+-- at each step, by what came and went before it
+abbrev pub AllEntered : List Player → List Step → Type 0
+AllEntered players [] = Unit {0}
+AllEntered players (s ∷ past) =
+    IsEntered s.event (known_in players past) (unanswered_in players past) (told_in players past) × AllEntered players past
