@@ -102,14 +102,25 @@ acts_fit : (c : ℕ) (by text name line : List ℕ) (game : Option ℕ) (said : 
     AreFor (owed_lines (Asker c (ForAct by text)) (if b then line ∷ notice_lines game else name_line name ∷ line ∷ notice_lines game))
     (sent_under said (if b then line ∷ notice_lines game else name_line name ∷ line ∷ notice_lines game))
 acts_fit c by text name line None said act of_text named true same = ((act, of_text, (name, same refl, named)), tt)
-acts_fit c by text name line (Some game) said act of_text named true same =
-    ((act, of_text, (name, same refl, named)), (no_name (game_line (codes "show ") game) (show_reads game),
-    (no_name (game_line (codes "fen ") game) (fen_reads game), tt)))
+acts_fit c by text name line (Some game) said act of_text named true same = (
+  (act, of_text, (name, same refl, named)),
+  (
+    no_name (game_line (codes "show ") game) (show_reads game),
+    (no_name (game_line (codes "fen ") game) (fen_reads game), tt),
+  ),
+)
 acts_fit c by text name line None said act of_text named false same =
     (refl, ((act, of_text, (name, named_first said name, named)), tt))
-acts_fit c by text name line (Some game) said act of_text named false same =
-    (refl, ((act, of_text, (name, named_first said name, named)), (no_name (game_line (codes "show ") game) (show_reads game),
-    (no_name (game_line (codes "fen ") game) (fen_reads game), tt))))
+acts_fit c by text name line (Some game) said act of_text named false same = (
+  refl,
+  (
+    (act, of_text, (name, named_first said name, named)),
+    (
+      no_name (game_line (codes "show ") game) (show_reads game),
+      (no_name (game_line (codes "fen ") game) (fen_reads game), tt),
+    ),
+  ),
+)
 
 act_fits : (c : ℕ) (by text name line : List ℕ) (said : Option (List ℕ)) → is_act line ≡ true → line ≡ line_said text → IsNameOf by text name →
     AreFor (owed_lines (Asker c (ForAct by text)) (act_lines said name line (game_named text))) (sent_under said (act_lines said name line (game_named text)))
@@ -333,11 +344,11 @@ heard_waits players past line lines tells later before asked false is goes =
     let said = name_in past in
     let now = answer (known_in players past).begun line in
     λ taken.
-      let named : (known_in players past).misnamed ≡ false =
-      sym (ap (λ (b : Bool). if b then misnamed_next k.owed now k.misnamed else k.misnamed) is) ∙ taken in
-      subst (λ (b : Bool). Waits (if b then owed_answered k.owed now lines else k.owed)
-      ((if b then but_first sent else sent) ++ sent_under said lines) (if b then shown_next shown sent now else shown) (name_through said lines)) (sym is)
-      (waits_still k.owed sent shown said lines goes.0 (before named))
+    let named : (known_in players past).misnamed ≡ false =
+    sym (ap (λ (b : Bool). if b then misnamed_next k.owed now k.misnamed else k.misnamed) is) ∙ taken in
+    subst (λ (b : Bool). Waits (if b then owed_answered k.owed now lines else k.owed)
+    ((if b then but_first sent else sent) ++ sent_under said lines) (if b then shown_next shown sent now else shown) (name_through said lines)) (sym is)
+    (waits_still k.owed sent shown said lines goes.0 (before named))
 heard_waits players past line lines tells later before asked true is goes =
     let k = known_in players past in
     let sent = unanswered_in players past in
@@ -346,11 +357,11 @@ heard_waits players past line lines tells later before asked true is goes =
     let now = answer (known_in players past).begun line in
     let named : (known_in players past).misnamed ≡ false = was_named players past line is in
     λ taken.
-      let takes : misnamed_next (known_in players past).owed (answer (known_in players past).begun line) (known_in players past).misnamed ≡ false =
-      sym (ap (λ (b : Bool). if b then misnamed_next k.owed now k.misnamed else k.misnamed) is) ∙ taken in
-      subst (λ (b : Bool). Waits (if b then owed_answered k.owed now lines else k.owed)
-      ((if b then but_first sent else sent) ++ sent_under said lines) (if b then shown_next shown sent now else shown) (name_through said lines)) (sym is)
-      (next_waits players past k.owed sent shown said now k.misnamed lines later asked (before named) goes takes)
+    let takes : misnamed_next (known_in players past).owed (answer (known_in players past).begun line) (known_in players past).misnamed ≡ false =
+    sym (ap (λ (b : Bool). if b then misnamed_next k.owed now k.misnamed else k.misnamed) is) ∙ taken in
+    subst (λ (b : Bool). Waits (if b then owed_answered k.owed now lines else k.owed)
+    ((if b then but_first sent else sent) ++ sent_under said lines) (if b then shown_next shown sent now else shown) (name_through said lines)) (sym is)
+    (next_waits players past k.owed sent shown said now k.misnamed lines later asked (before named) goes takes)
 
 done_waits : (players : List Player) (past : List Step) (old : View) (event : DeskInput) (lines : List (List ℕ)) (tells : List MessageValue) (now : View) →
     Agrees players past old → InStep players past → IsDone (players_in players past) old event lines tells now →
@@ -432,8 +443,7 @@ pub run_named : (players : List Player) (is_paused : Bool) (steps : List Step) (
 run_named players is_paused [] now run = (λ taken. (tt, refl), tt)
 run_named players is_paused (s ∷ past) now run =
     let before = run_named players is_paused past run.0 run.1 in
-    let good = run_good players is_paused past run.0 run.1 in
-    (
+    let good = run_good players is_paused past run.0 run.1 in (
       done_waits players past run.0 s.event s.lines s.tells now good.agrees before.0 run.2.done,
       (event_named players past s.event before.0, before.1),
     )

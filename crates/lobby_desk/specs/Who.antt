@@ -14,7 +14,7 @@ use Rattle.lobby_roster.specs.declared.players.Player.{Player}
 use Rattle.lobby_desk.specs.declared.visitors.Visitor.{Visitor}
 use Rattle.lobby_desk.specs.declared.watching.Watch.{Watch}
 use Rattle.lobby_desk.specs.declared.desk.Desk.{Desk}
-use Rattle.lobby_words.specs.Words.{rest_of, as_name, actor, is_message, sort_of, u32_in}
+use Rattle.lobby_words.specs.Words.{rest_of, as_name, actor, is_message, sort_of, is_login_sort, u32_in}
 use Rattle.lobby_words.specs.Waiting.{opens_game}
 use Rattle.lobby_roster.specs.Players.{holder_of, known_name, renewed, is_token_of, login_text, players_text, present_names, who_text}
 use Rattle.lobby_words.specs.Plans.{refusal_text, plan_of, order_of}
@@ -208,11 +208,15 @@ abbrev pub crowds : Known → Option Identity → List ℕ → Bool
 crowds k None text = false
 crowds k (Some who) text = opens_game text && is_crowded k.waiting k.owed (actor who.name text)
 
+-- who has the token that a message shows; nobody where it shows none
+abbrev pub holder_shown : List Player → List ℕ → Option Identity
+holder_shown players text = if is_login_sort (sort_of text) then holder_of players (rest_of text) else None
+
 -- what the plan for a message of a connection rests on
 abbrev pub standing_of : Desk → ℕ → List ℕ → Standing
 standing_of desk c text = record {
   who = who_of desk c;
-  holder = holder_of desk.players.items (rest_of text);
+  holder = holder_shown desk.players.items text;
   named = known_name desk.players.items (as_name text);
   linked = known_name desk.players.items (rest_of text);
   is_here = desk.line.is_here;
@@ -232,7 +236,7 @@ order_asked desk c text at =
 pub record IsSaid (players : List Player) (old : View) (c : ℕ) (text : List ℕ) (lines : List (List ℕ)) (tells : List MessageValue) (new : View) : Type 0 where
   pub standing : Standing
   pub who : standing.who ≡ old.who c
-  pub holder : standing.holder ≡ holder_of players (rest_of text)
+  pub holder : standing.holder ≡ holder_shown players text
   pub other : standing.named ≡ known_name players (as_name text)
   pub link : standing.linked ≡ known_name players (rest_of text)
   pub here : standing.is_here ≡ old.here
