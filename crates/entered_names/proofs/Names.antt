@@ -1,7 +1,8 @@
 -- The name that the lobby is shown is the session's.
-use Rattle.std.proofs.Common.{ℕ, ◌≡◌, Bool, true, false, List, [], ◌∷◌, ◌++◌, Option, None, Some, codes, refl, sym, ap, ◌∙◌, subst}
+use Rattle.std.proofs.Common.{ℕ, ◌≡◌, Bool, true, false, List, [], ◌∷◌, ◌++◌, Option, None, Some, codes, decimal, refl, sym, ap, ◌∙◌, arith}
 use Rattle.std.specs.Prelude.{if◌then◌else◌, is_some}
 use Rattle.std.proofs.lemmas.Bool.{false≢true}
+use Rattle.std.proofs.lemmas.Fmt.{decimal_digit, decimal_step}
 use Rattle.chess_entry.specs.declared.commands.Act.{Act as Asked}
 use Rattle.chess_entry.specs.declared.commands.Act.TheVariants as acts
 use Rattle.chess_entry.specs.declared.refusals.Refusal.TheVariants.{BadLine, BadMoment}
@@ -10,7 +11,8 @@ use Rattle.chess_line.specs.declared.lines.Request.TheVariants.{Called, Act}
 use Rattle.chess_line.specs.Line.{act_fields, line_fields, IsLineOf}
 use Rattle.std.specs.List.{join_with_byte}
 use Rattle.chess_answer.specs.Acts.{named_text}
-use Rattle.chess_answer.specs.Refusals.{refusal_text}
+use Rattle.chess_answer.specs.Fields.{with_fields}
+use Rattle.chess_answer.specs.Refusals.{refusal_text, row_of, ply_fields}
 use Rattle.std.specs.Option.{MatchOption}
 use Rattle.chess_sessions.specs.Session.{Said as Answer}
 use Rattle.chess_sessions.specs.Turn.{IsReading}
@@ -55,10 +57,17 @@ name_rest name = refl
 -- ---- a line that says a name
 
 refused_line : (name : List ℕ) → takes_name name (ended (refusal_text BadLine) ++ []) ≡ false
-refused_line name = refl
+refused_line name =
+    ap (λ (d : List ℕ). takes_name name (ended (with_fields (codes "no") (d ∷ (row_of BadLine).name ∷ ply_fields BadLine)) ++ []))
+    (decimal_digit 1 (omega arith))
+
+late_number : decimal 23 ≡ 50 ∷ 51 ∷ []
+late_number = decimal_step 23 (omega arith) (omega arith) ∙ ap (λ (d : List ℕ). d ++ 51 ∷ []) (decimal_digit 2 (omega arith))
 
 refused_moment : (name : List ℕ) → takes_name name (ended (refusal_text BadMoment) ++ []) ≡ false
-refused_moment name = refl
+refused_moment name =
+    ap (λ (d : List ℕ). takes_name name (ended (with_fields (codes "no") (d ∷ (row_of BadMoment).name ∷ ply_fields BadMoment)) ++ []))
+    late_number
 
 named_if : (at : ℕ) (text name : List ℕ) (said : Answer) (b : Bool) → said ≡ alone (if b then refusal_text BadMoment else named_text name) →
     name ≡ rest_of text → takes_name (rest_of text) (text_of said) ≡ true → (if b then None else Some name) ≡ Some (rest_of text)

@@ -477,7 +477,10 @@ const MISNAMES: [&[u8]; 3] = [
 
 fn an_act_counts_only_under_its_name(rt: &impl Abort, lab: &mut Lab) {
     for answers in MISNAMES {
-        assert!(rt; lab.play(rt, &(OPENS, answers, How::Plainly), 40, 1).is_none());
+        assert!(rt;
+            lab.play(rt, &(OPENS, answers, How::Plainly), 40, 1)
+                .is_none()
+        );
         assert!(rt; lab.is_so(GONE, b"ann player ann\n\x81\x05lost\n\x81\x0cserver gone\n"));
         assert!(rt; lab.log.text.is_empty());
     }

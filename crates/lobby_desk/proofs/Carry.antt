@@ -1,5 +1,5 @@
 -- What a plan leaves and tells.
-use Rattle.std.proofs.Common.{ℕ, ◌≡◌, Bool, true, false, ◌&&◌, not, List, [], ◌∷◌, Option, None, Some, refl, sym, ap, subst}
+use Rattle.std.proofs.Common.{ℕ, ◌≡◌, Bool, true, false, ◌&&◌, not, List, [], ◌∷◌, Option, None, Some, refl, sym, ap, ◌∙◌, subst}
 use Rattle.std.specs.Prelude.{if◌then◌else◌, is_some}
 use Rattle.std.proofs.lemmas.Bool.{false≢true}
 use Rattle.lobby_words.specs.declared.words.Sort.{Sort}
@@ -415,3 +415,12 @@ is_order plans.LeaveLobby order is = absurd (false≢true (ap is_some is))
 is_order (plans.Watch game) order is = absurd (false≢true (ap is_some is))
 is_order (plans.Leave game) order is = absurd (false≢true (ap is_some is))
 is_order (plans.Line game) order is = absurd (false≢true (ap is_some is))
+
+-- the plan for a message that asks for no link has no order done
+none_ordered : (m : Bool) (sort : Sort) (s : Standing) → is_link_sort sort ≡ false → (plan : Plan) → OfOrder (Orders m sort s) plan →
+    order_of plan ≡ None
+none_ordered m sort s other (plans.Order order) h = absurd (false≢true (sym other ∙ h.sort_is))
+none_ordered m sort s other _ h = refl
+
+pub no_order : (m : Bool) (sort : Sort) (s : Standing) (game : Option ℕ) → is_link_sort sort ≡ false → order_of (plan_of m sort s game) ≡ None
+no_order m sort s game other = none_ordered m sort s other (plan_of m sort s game) (planned_orders m sort s game)

@@ -28,7 +28,7 @@ use Rattle.lobby_desk.specs.Watching.{watch_if, sit_if}
 use Rattle.lobby_desk.specs.Events.{DeskInput, Opened, Closed, Said, Hurried, Heard, ServerTurned, Renewed, Linked, MessageValue, ForItself, ForPositions, ForTable, ForGame, ForAct, Owed, Nobody, Naming, Asker, Dropper, Pairer, Followers, Behind, owed_last, owed_acted, owed_some, owed_lines, sort_asker, asker, followers_of, follower, Following, is_asked_behind, game_if, asked_after}
 use Rattle.lobby_desk.specs.Tellings.{Known, is_counted, open_now, watch_heard, watch_next, watches_now, table_heard, table_next, table_now, owed_answered, owed_now, known_now, presence, lost, AreToldAll, IsTold}
 use Rattle.lobby_desk.specs.Who.{View, BeginsView, IsSaid, IsHeard, IsDropped, IsPaired, IsSentFor, IsSentNext, IsSentHeard, IsDone, IsRenewed, IsLinked, IsKnown, who_noted, name_of, speaker}
-use Rattle.lobby_roster.specs.Players.{known_name, renewed}
+use Rattle.lobby_roster.specs.Players.{known_name, renewed, holder_of}
 use Rattle.lobby_desk.specs.History.{Step, comes, has_come, shown_by, player_said, player_after, players_in, player_in, is_drop, is_pairing, name_as, name_for, name_behind, name_through, name_before, name_in, ActsUnder, ActsRight, NoActs, NoDrops, sort_asks, IsOf, open_in, known_in, IsArbiter, AsksNow, HasAsked, HasPaired, IsDropOf, IsJoinOf, IsNoticeOf, IsRight, AreWhole, AllRight, AllTold, IsRun}
 use Rattle.lobby_words.proofs.Numbers.{number_small}
 use Rattle.lobby_roster.proofs.ByName.{named_is}
@@ -866,13 +866,21 @@ record DoneGood (players : List Player) (past : List Step) (event : DeskInput) (
   right : IsRight players past event lines
   whole : AreWhole lines
 
+-- a token is looked for where one is shown
+shown_if : (m b : Bool) (holder before : Option Identity) →
+    (if m && b then shown_by (if b then holder else None) before else before) ≡ (if m && b then shown_by holder before else before)
+shown_if true true holder before = refl
+shown_if true false holder before = refl
+shown_if false b holder before = refl
+
 said_who : (players : List Player) (old : View) (c : ℕ) (text : List ℕ) (lines : List (List ℕ)) (tells : List MessageValue) (new : View) →
     IsSaid players old c text lines tells new → (d : ℕ) → new.who d ≡ player_after players (Said c text) d (old.who d)
 said_who players old c text lines tells new h d =
     let plan : who_noted h.plan (old.who d) ≡ player_said players text (old.who d) =
     ap (λ (plan : Plan). who_noted plan (old.who d)) h.planned
     ∙ (planned_who (is_message text) (sort_of text) h.standing (u32_in (rest_of text)) (old.who d)
-    ∙ ap (λ (holder : Option Identity). if is_message text && is_login_sort (sort_of text) then shown_by holder (old.who d) else old.who d) h.holder) in
+    ∙ (ap (λ (holder : Option Identity). if is_message text && is_login_sort (sort_of text) then shown_by holder (old.who d) else old.who d) h.holder
+    ∙ shown_if (is_message text) (is_login_sort (sort_of text)) (holder_of players (rest_of text)) (old.who d))) in
     h.who_is d ∙ ap (λ (one : Option Identity). if c == d then one else old.who d) plan
 
 -- the game that an answer names is small

@@ -15,7 +15,7 @@ use Rattle.lobby_roster.specs.declared.players.Player.{Player}
 use Rattle.lobby_desk.specs.declared.visitors.Visitor.{Visitor}
 use Rattle.lobby_desk.specs.declared.watching.Watch.{Watch}
 use Rattle.lobby_desk.specs.declared.desk.Desk.{Desk}
-use Rattle.lobby_words.specs.Words.{rest_of, as_name, black_name, actor, is_message, sort_of, u32_in}
+use Rattle.lobby_words.specs.Words.{rest_of, as_name, black_name, actor, is_message, sort_of, u32_in, is_login_sort}
 use Rattle.lobby_words.specs.Waiting.{opens_game, joins_game}
 use Rattle.lobby_roster.specs.Players.{holder_of, known_name, renewed, is_token_of, login_text, players_text, present_names, who_text}
 use Rattle.lobby_words.specs.Plans.{refusal_text, plan_of, order_of}
@@ -218,11 +218,15 @@ abbrev pub bar_of : Known → Option Identity → List ℕ → Option Refusal
 bar_of k None text = None
 bar_of k (Some who) text = name_bar k who.is_arbiter (actor who.name text) text
 
+-- who has the token that a message shows; nobody where it shows none
+abbrev pub holder_shown : List Player → List ℕ → Option Identity
+holder_shown players text = if is_login_sort (sort_of text) then holder_of players (rest_of text) else None
+
 -- what the plan for a message of a connection rests on
 abbrev pub standing_of : Desk → ℕ → List ℕ → Standing
 standing_of desk c text = record {
   who = who_of desk c;
-  holder = holder_of desk.players.items (rest_of text);
+  holder = holder_shown desk.players.items text;
   named = known_name desk.players.items (as_name text);
   black = known_name desk.players.items (black_name text);
   linked = known_name desk.players.items (rest_of text);
@@ -243,7 +247,7 @@ order_asked desk c text at =
 pub record IsSaid (players : List Player) (old : View) (c : ℕ) (text : List ℕ) (lines : List (List ℕ)) (tells : List MessageValue) (new : View) : Type 0 where
   pub standing : Standing
   pub who : standing.who ≡ old.who c
-  pub holder : standing.holder ≡ holder_of players (rest_of text)
+  pub holder : standing.holder ≡ holder_shown players text
   pub other : standing.named ≡ known_name players (as_name text)
   pub black : standing.black ≡ known_name players (black_name text)
   pub link : standing.linked ≡ known_name players (rest_of text)

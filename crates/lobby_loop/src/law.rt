@@ -10,9 +10,9 @@ ghost use Rattle.lobby_loop.specs.Living.{Happening, IsLife, IsRightLife, Passin
 ghost use Rattle.lobby_loop.specs.Speaking.{Speaks};
 
 /// Whatever browsers and a server come, say and leave, by streams that give and take what they like: the desk has taken a run of
-/// steps, of which `lobby_desk::law_of_lines`, `law_of_tellings` and `law_of_logs` hold. The bytes that were written to the server
-/// since its connection began are a front of the bytes of the run's lines since then, and the lines that the desk heard since
-/// then are those in front of all bytes that came of it. No two browsers that came have one number at the desk, and it knows of
+/// steps, of which `lobby_desk::law_of_lines`, `law_of_names`, `law_of_tellings` and `law_of_logs` hold. The bytes that were
+/// written to the server since its connection began are a front of the bytes of the run's lines since then, and the lines that
+/// the desk heard since then are those in front of all bytes that came of it. No two browsers that came have one number at the desk, and it knows of
 /// no connection but theirs; it has, under a browser's number, each text that came of it, once and in their order, and nothing
 /// else; and of all that went out of the desk's hands while it was there a browser was to be told each message that is for its
 /// number, once and in their order, and nothing else; and the log has had all texts for it among what went out, likewise.

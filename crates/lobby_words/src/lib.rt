@@ -13,7 +13,9 @@ pub use answers::{game_told, has_empty_seat, is_accepted, is_over, is_table_act,
 pub use coming::Coming;
 pub use listing::{Seat, ends_wait, is_list, joins_game, opens_game, seat_of, seats_in, tells_end};
 pub use naming::{is_said, takes_name};
-pub use planning::{Identity, Order, Plan, Standing, order_of, plan_of};
+pub use planning::{
+    Identity, Order, Plan, Standing, asks_for_link, order_of, plan_of, shows_token,
+};
 pub use refusals::Refusal;
 pub use words::{
     Sort, actor, are_message_bytes, as_line, as_name, black_name, cut_word, is_pair, is_play_word,

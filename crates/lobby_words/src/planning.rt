@@ -57,7 +57,7 @@ pub enum Plan {
 pub struct Standing {
     /// For whom the connection acts.
     pub who: Option<Identity>,
-    /// Who has the token that stands behind the message's word.
+    /// Who has the token that the message shows.
     pub holder: Option<Identity>,
     /// The name that stands behind the message's word, where a player has it.
     pub named: Option<Name>,
@@ -73,6 +73,20 @@ pub struct Standing {
     pub bar: Option<Refusal>,
     /// Whether the message opens a game while entries are paused.
     pub is_paused: bool,
+}
+
+/// Whether a message shows a token.
+pub fn shows_token(text: &str) -> bool
+    ensures { result ≡ words.is_login_sort (words.sort_of text.now) }
+{
+    matches!(sort_of(text), Sort::Login)
+}
+
+/// Whether a message asks for a player's link.
+pub fn asks_for_link(text: &str) -> bool
+    ensures { result ≡ words.is_link_sort (words.sort_of text.now) }
+{
+    matches!(sort_of(text), Sort::Link | Sort::Close)
 }
 
 // What asks for the server.
