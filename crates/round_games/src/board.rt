@@ -134,15 +134,16 @@ impl Board {
         }
     }
 
-    // What is to be done about it, by these games or the seats of its own.
-    fn step_by(&self, stage: Option<&Stage>, games: &[u32], seats: Option<Seats>) -> Step {
-        step_of(&self.pairing.white, &self.game.black, stage, games, seats)
+    // What is to be done about it where its game was not opened, by these games.
+    fn step_by(&self, stage: Option<&Stage>, games: &[u32]) -> Step {
+        let (white, black) = (&self.pairing.white, &self.game.black);
+        step_of(white, black, stage, games, None)
     }
 
     // What is to be done about it where its game was not begun.
     fn unbegun(&self, link: &mut Link) -> Result<Seen> {
         Ok(Seen {
-            step: self.step_by(None, &[], None),
+            step: self.step_by(None, &[]),
             rows: look(self.alloc, link, false)?,
         })
     }
@@ -152,7 +153,7 @@ impl Board {
         let rows = look(self.alloc, link, true)?;
         let games = self.games(link, older, rows.as_slice())?;
         Ok(Seen {
-            step: self.step_by(Some(stage), games.as_slice(), None),
+            step: self.step_by(Some(stage), games.as_slice()),
             rows,
         })
     }
@@ -164,7 +165,8 @@ impl Board {
         if seats.is_none() && self.taken == Some(game) {
             return Ok(Step::Note(game));
         }
-        Ok(self.step_by(Some(stage), &[], seats))
+        let (white, black) = (&self.pairing.white, &self.game.black);
+        Ok(step_of(white, black, Some(stage), &[], seats))
     }
 
     // What is to be done about it now.
