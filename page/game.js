@@ -2,9 +2,7 @@
 
 import { Board } from './board.js';
 import { Clock } from './clock.js';
-import {
-  isOfSeveral, placementOf, readLine, readPgn, readRefusal, readShow, readStanding, readTimes, sideOf, squaresOf,
-} from './lines.js';
+import { placementOf, readLine, readPgn, readRefusal, readStanding, readTimes, sideOf, squaresOf } from './lines.js';
 import { byId, copy, make, save, say, setText } from './make.js';
 import { drawActions, drawFacts, drawMoves, drawOutcome, drawPlayers } from './sheet.js';
 import { sound } from './sound.js';
@@ -162,21 +160,11 @@ export class GameView {
     this.settleUnsure(this.standing);
   }
 
-  /** Once more in a while: of a game whose server is gone, behind a lobby that is there, nobody tells when it is back. */
+  /** Once more in a while: of a game that was not told, nobody says when it can be. */
   refreshLater() {
     clearTimeout(this.again);
     const number = this.number;
     this.again = setTimeout(() => this.number === number && this.refresh(), ASKS_AGAIN);
-  }
-
-  /** Of a game of several servers nobody tells that its server was gone, and what was played before that. */
-  async askAnew() {
-    const { number, standing } = this;
-    if (!isOfSeveral(number) || document.hidden || !this.running() || !this.app.reachable()) return;
-    const answer = await this.app.wire.say(`show ${number}`, true), show = readShow(answer[0]);
-    if (this.number !== number || this.standing !== standing) return;
-    const isSame = show && show.ply === standing.ply && show.offer === standing.offer && show.article === standing.article;
-    if (!isSame) this.refresh();
   }
 
   async askLine() {

@@ -37,11 +37,6 @@ export function isNoGame(line) {
   return /^no 3 /.test(line || '');
 }
 
-/** Whether a number is one of several servers' (docs/SERVERS.md, "Numbers"). */
-export function isOfSeveral(number) {
-  return number >= 10000000;
-}
-
 /** The rows behind `ok list K`. */
 export function readRows(lines) {
   return lines.map((line) => line.split(' ')).filter((f) => f.length === 5)

@@ -3,7 +3,7 @@
 import { ArbiterView } from './arbiter.js';
 import { GameView } from './game.js';
 import { HallView, wholeScreen } from './hall.js';
-import { isNoGame, isOfSeveral, readAct, readPlayers, readRefusal, readRows, readStanding } from './lines.js';
+import { isNoGame, readAct, readPlayers, readRefusal, readRows, readStanding } from './lines.js';
 import { byId, make, read, say, setText, write } from './make.js';
 import { setSound, wantsSound } from './sound.js';
 import { TableView } from './table.js';
@@ -229,7 +229,6 @@ class Page {
 
   /** Who is in sight, and plays no game here, asks for the table anew. */
   async askAnew() {
-    if (this.view === this.game) this.game.askAnew();
     if (!document.hidden && this.player && !this.isPlaying()) await this.askTable();
   }
 
@@ -279,12 +278,9 @@ class Page {
   findOpened() {
     const { known, note, colour } = this.lostOpen, me = this.me(), rows = [...this.table.rows.values()];
     const row = rows.find((one) => !known.has(one.number) && one[colour] === me);
-    const mayCome = [...known, ...rows.map((one) => one.number)].some(isOfSeveral);
-    this.lostOpen = !row && mayCome ? { ...this.lostOpen, note: () => {} } : null;
+    this.lostOpen = null;
     if (row) this.go(`/game/${row.number}`);
-    else if (!mayCome) note('The connection broke, and your game has not been opened so far. Look, and open it again.');
-    else note('The connection broke, and your game is not on the table so far. Its server may be away, so that it comes '
-      + 'later: look again in some minutes before you open another.');
+    else note('The connection broke, and your game has not been opened so far. Look, and open it again.');
   }
 
   // ---- the connection

@@ -61,11 +61,10 @@ def take_programs(folder, *more):
         if not found:
             sys.exit('there is no %s in %s' % (name, folder))
         os.environ[name.upper()] = os.path.realpath(found[0])
-    # (not each bench wants these)
-    for name in ('chess_archive', 'chess_switch'):
-        for path in (os.path.join(folder, name), os.path.join(folder, name.replace('_', '-'))):
-            if os.path.isfile(path):
-                os.environ[name.upper()] = os.path.realpath(path)
+    # (not each bench wants this)
+    for path in (os.path.join(folder, 'chess_archive'), os.path.join(folder, 'chess-archive')):
+        if os.path.isfile(path):
+            os.environ['CHESS_ARCHIVE'] = os.path.realpath(path)
 
 
 def build_shim(folder):

@@ -11,10 +11,7 @@ two stands a relay, so that a test can bring about what goes wrong:
     beside WHITE BLACK   a game is opened and joined on the server, past the lobby
     off G    a game that is over is taken off the table there, as by who keeps games
 
-`SeveralServers` are two servers, `chess_switch` before them, with a relay before the second, and a lobby before that.
-
-The programs are those that CHESS_SERVER, CHESS_LOBBY and CHESS_SWITCH name, or this repository's, which are built where they
-have to be."""
+The programs are those that CHESS_SERVER and CHESS_LOBBY name, or this repository's, which are built where they have to be."""
 
 import hashlib
 import os
@@ -161,10 +158,10 @@ class Relay:
 
 class Programs:
     """Server, relay and lobby, over a players' file with lines `NAME ROLE TOKEN FULL NAME`, or over the `club.players` that
-    is in the folder; `more` are options of the lobby, and `errors` is the file of its standard error."""
+    is in the folder; `more` are options of the lobby."""
 
-    def __init__(self, folder, players=None, has_relay=True, more=(), errors=subprocess.DEVNULL):
-        self.folder, self.port, self.more, self.errors = folder, 0, more, errors
+    def __init__(self, folder, players=None, has_relay=True, more=()):
+        self.folder, self.port, self.more = folder, 0, more
         self.club = os.path.join(folder, 'club.players')
         if players:
             self.add_players(players)
@@ -179,16 +176,12 @@ class Programs:
                 name, role, token, full = row.split(' ', 3)
                 club.write('%s %s %s %s\n' % (name, role, hashlib.sha256(token.encode()).hexdigest(), full))
 
-    def before(self):
-        """The port on which the lobby finds its server."""
-        return (self.relay or self.server).port
-
     def start(self):
         self.process = subprocess.Popen(
             [self.program, 'serve', '--players', self.club,
-             '--server', '127.0.0.1:%d' % self.before(),
+             '--server', '127.0.0.1:%d' % (self.relay or self.server).port,
              '--port', str(self.port), '--page', os.path.join(TOP, 'page'), *self.more],
-            stdout=subprocess.PIPE, stderr=self.errors, text=True)
+            stdout=subprocess.PIPE, stderr=subprocess.DEVNULL, text=True)
         self.address = self.process.stdout.readline().strip()
         self.port = int(self.address.rstrip('/').rsplit(':', 1)[1])
 
@@ -264,35 +257,3 @@ class Programs:
         if self.relay:
             self.relay.hang_up()
         self.server.kill()
-
-
-class SeveralServers(Programs):
-    """Two servers, the first with room for `room` games, behind `chess_switch`; faults are those of the second."""
-
-    def __init__(self, folder, players, room=1):
-        first, second = (os.path.join(folder, name) for name in ('one', 'two'))
-        for one in (first, second):
-            os.mkdir(one)
-        self.first = GameServer(first, room)
-        self.switch_program, self.switch_port = path_of('chess_switch'), 0
-        super().__init__(second, players)
-
-    def start(self):
-        self.switch = subprocess.Popen(
-            [self.switch_program, '--server', '127.0.0.1:%d' % self.first.port, '--server', '127.0.0.1:%d' % self.relay.port,
-             '--port', str(self.switch_port)], stdout=subprocess.PIPE, stderr=subprocess.DEVNULL, text=True)
-        self.switch_port = int(self.switch.stdout.readline().split()[1])
-        super().start()
-
-    def before(self):
-        return self.switch_port
-
-    def kill(self):
-        super().kill()
-        self.switch.send_signal(signal.SIGKILL)
-        self.switch.wait()
-        self.switch.stdout.close()
-
-    def stop(self):
-        super().stop()
-        self.first.kill()

@@ -1,5 +1,7 @@
 //! The games of an archive as CSV (RFC 4180), for a club's spreadsheet and database.
+use crate::cells::cell_text;
 use crate::compared::telling_parts;
+use crate::continued::{Halves, halves_of, pgn_continued};
 use crate::kept::Kept;
 use anyhow::{Result, anyhow, bail};
 use csv::{Terminator, Writer, WriterBuilder};
@@ -7,7 +9,7 @@ use pgn_tags::{is_move, value_of};
 use std::alloc::{AllocError, Global};
 
 // The names of the columns.
-const COLUMNS: [&str; 12] = [
+const COLUMNS: [&str; 13] = [
     "game",
     "event",
     "site",
@@ -20,15 +22,16 @@ const COLUMNS: [&str; 12] = [
     "plies",
     "fen",
     "continues",
+    "pgn",
 ];
 
-/// The tags whose values stand behind the game's number.
-pub const TAGS: [&str; 8] = [
+// The tags whose values stand behind the game's number.
+const TAGS: [&str; 8] = [
     "Event", "Site", "Date", "Round", "White", "Black", "Result", "Article",
 ];
 
-/// How many moves a PGN has.
-pub fn plies_of(alloc: Global, pgn: &str) -> Result<usize, AllocError> {
+// How many moves a PGN has.
+fn plies_of(alloc: Global, pgn: &str) -> Result<usize, AllocError> {
     let mut plies: usize = 0;
     for word in telling_parts(alloc, pgn)?.as_slice() {
         if is_move(word) {
@@ -57,10 +60,10 @@ fn names_of_columns(alloc: Global) -> Result<Vec<String>, AllocError> {
     Ok(names)
 }
 
-// The value of a tag; empty where a PGN lacks it.
+// The cell of a tag's value; empty where a PGN lacks it.
 fn field_of(alloc: Global, pgn: &str, tag: &str) -> Result<String, AllocError> {
     match value_of(alloc, pgn, tag)? {
-        Some(value) => Ok(value),
+        Some(value) => cell_text(alloc, value.as_str()),
         None => Ok(String::new(alloc)),
     }
 }
@@ -98,10 +101,25 @@ fn push_fields(
     push_field(fields, alloc, pgn, "Continues")
 }
 
+// The PGN of a game, as `export` writes it.
+fn pgn_of(alloc: Global, kept: &Kept, halves: &[Halves]) -> Result<String, AllocError> {
+    match pgn_continued(alloc, kept, halves)? {
+        Some(pgn) => Ok(pgn),
+        None => kept.pgn.clone(),
+    }
+}
+
 // Puts the row of a game behind the others.
-fn put_game(rows: &mut Writer<Vec<u8>>, alloc: Global, kept: &Kept) -> Result<()> {
+fn put_game(
+    rows: &mut Writer<Vec<u8>>,
+    alloc: Global,
+    kept: &Kept,
+    halves: &[Halves],
+) -> Result<()> {
     let mut fields = Vec::new(alloc);
     push_fields(&mut fields, alloc, kept.game, kept.pgn.as_str())?;
+    let pgn = pgn_of(alloc, kept, halves)?;
+    fields.push(cell_text(alloc, pgn.as_str())?)?;
     put(rows, alloc, fields.as_slice())
 }
 
@@ -109,15 +127,16 @@ fn put_game(rows: &mut Writer<Vec<u8>>, alloc: Global, kept: &Kept) -> Result<()
 fn put_games(rows: &mut Writer<Vec<u8>>, alloc: Global, games: &[Kept]) -> Result<()> {
     let names = names_of_columns(alloc)?;
     put(rows, alloc, names.as_slice())?;
+    let halves = halves_of(alloc, games)?;
     for kept in games {
-        put_game(rows, alloc, kept)?;
+        put_game(rows, alloc, kept, halves.as_slice())?;
     }
     Ok(())
 }
 
 /// A line for each of these games, in their order, behind one with the names of the columns: the game's number, the values of its
-/// tags, how many moves were made, the position from which it began where that is not the initial one, and the adjourned game that
-/// it continues.
+/// tags, how many moves were made, the position from which it began where that is not the initial one, the adjourned game that it
+/// continues, and its PGN. Each text stands as `cell_text` has it.
 pub fn rows_of_games(alloc: Global, games: &[Kept]) -> Result<Vec<u8>> {
     let mut rows = WriterBuilder::new()
         .terminator(Terminator::CRLF)

@@ -1,10 +1,8 @@
 //! The games of an archive, written to standard output.
 use crate::continued::{Halves, halves_of, pgn_continued};
-use crate::database::database_of_games;
 use crate::kept::Kept;
 use crate::spreadsheet::rows_of_games;
 use anyhow::Result;
-use sqlite_file::Database;
 use std::io::{self, Write};
 
 // Writes the PGN of a game.
@@ -32,19 +30,4 @@ pub fn write_rows<R: AllocGlobal + Print>(rt: &R, games: &[Kept]) -> Result<()> 
     let rows = rows_of_games(rt.alloc(), games)?;
     io::writer(rt).write_all(rows.as_slice())?;
     Ok(())
-}
-
-// Writes the pages of a database.
-fn write_pages<R: AllocGlobal + Print>(rt: &R, database: &Database) -> Result<()> {
-    let first = database.first_page()?;
-    io::writer(rt).write_all(first.as_slice())?;
-    io::writer(rt).write_all(database.later_pages())?;
-    Ok(())
-}
-
-/// Writes a database of the games, for SQLite, once all its pages are made. It fails where SQLite takes no such row, where
-/// memory is refused, or the output takes no more.
-pub fn write_database<R: AllocGlobal + Print>(rt: &R, games: &[Kept]) -> Result<()> {
-    let database = database_of_games(rt.alloc(), games)?;
-    write_pages(rt, &database)
 }

@@ -42,28 +42,6 @@ fn told(alloc: Global, link: &mut Link, game: u32) -> Result<Option<String>> {
     }
 }
 
-// Whether an answer about a game leaves open that it is on the table: it is there, or its server is away.
-fn may_be_there(first: &str) -> bool {
-    first == "lost" || first.starts_with("no 36 ") || first.starts_with("ok pgn ")
-}
-
-// Whether a game has left the table, as this answer tells.
-fn left_by(game: u32, first: &str) -> Result<bool> {
-    if first.starts_with("no 3 ") {
-        Ok(true)
-    } else if may_be_there(first) {
-        Ok(false)
-    } else {
-        Err(not_done("tell", game, first))
-    }
-}
-
-/// Whether a game that was on the table has left it. It has not where its server is away, as one of several may be.
-pub fn has_left(alloc: Global, link: &mut Link, game: u32) -> Result<bool> {
-    let answer = answer_of(alloc, link, game)?;
-    left_by(game, answer.first.as_str())
-}
-
 // How a game stands, as this answer tells.
 fn shown_by(game: u32, first: &str) -> Result<Option<Shown>> {
     if first.starts_with("ok show ") || first.starts_with("no 3 ") {

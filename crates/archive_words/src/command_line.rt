@@ -32,17 +32,15 @@ prints
 
 const HELP_OF_EXPORT: &str = "\
 It writes the PGN of each game of an archive, in the order in which they were kept; with
---csv a row for each, as CSV: its number, how many moves were made, and the values of its
-tags; with --sqlite a database with these rows and the PGNs in a table, for SQLite. The
-archive is only read, also while another keeps games in it.
+--csv a row for each, as CSV: its number, how many moves were made, the values of its tags,
+and its PGN. The archive is only read, also while another keeps games in it.
 
 Exit status: 0; 1 with what is wrong on standard error; 2 for words that the program does
 not know.
 
 Examples:
   chess-archive export --archive night.jsonl >night.pgn
-  chess-archive export --archive night.jsonl --csv >games.csv
-  chess-archive export --archive night.jsonl --sqlite >league.db";
+  chess-archive export --archive night.jsonl --csv >games.csv";
 
 const HELP_OF_LIVE: &str = "\
 It writes the games that are played at the game server at --server to a file, each with all
@@ -51,8 +49,7 @@ have left the table. The file is put in its place at once, and only where it has
 it may be fetched at any moment: pages that show games live take its address. With --log
 each move has its player's clock behind it where the lobby's log knows it.
 
-With --every it goes on until it is killed, and comes back to a server that was away. The
-games of one that is away behind a switch stay in the file as they were told last.
+With --every it goes on until it is killed, and comes back to a server that was away.
 
 Exit status: 0; 1 with what is wrong on standard error; 2 for words that the program does
 not know.
@@ -107,8 +104,6 @@ pub enum Form {
     Pgn,
     /// A row for each, as CSV.
     Csv,
-    /// A database of SQLite.
-    Sqlite,
 }
 
 /// What is written where others fetch it.
@@ -198,13 +193,7 @@ const PGN: OptionText = OptionText {
 
 const CSV: OptionText = OptionText {
     name: "csv",
-    help: "Writes a row a game as CSV, and no PGN",
-    ..PGN
-};
-
-const SQLITE: OptionText = OptionText {
-    name: "sqlite",
-    help: "Writes a database for SQLite, with a row a game and its PGN there",
+    help: "Writes a row a game as CSV, with its PGN last",
     ..PGN
 };
 
@@ -237,9 +226,9 @@ const KEEP: WordText = WordText {
 
 const EXPORT: WordText = WordText {
     name: "export",
-    about: "Writes the games of an archive as PGN, CSV or a database",
+    about: "Writes the games of an archive as PGN or CSV",
     help: HELP_OF_EXPORT,
-    options: &[ARCHIVE, PGN, CSV, SQLITE],
+    options: &[ARCHIVE, PGN, CSV],
 };
 
 const LIVE: WordText = WordText {
@@ -367,18 +356,16 @@ fn keeping_of<'a>(values: &ArgMatches<'a>) -> Option<Word<'a>> {
     }))
 }
 
-// The form that is asked for; none where two are.
+// The form that is asked for; none where both are.
 fn form_of(values: &ArgMatches<'_>) -> Option<Form> {
-    let forms = ["pgn", "csv", "sqlite"];
-    match forms.map(|form| values.get_flag(form)) {
-        [_, false, false] => Some(Form::Pgn),
-        [false, true, false] => Some(Form::Csv),
-        [false, false, true] => Some(Form::Sqlite),
-        _ => None,
+    match (values.get_flag("pgn"), values.get_flag("csv")) {
+        (_, false) => Some(Form::Pgn),
+        (false, true) => Some(Form::Csv),
+        (true, true) => None,
     }
 }
 
-// What `export` asks for; none where it asks for two forms.
+// What `export` asks for; none where it asks for both forms.
 fn exporting_of<'a>(values: &ArgMatches<'a>) -> Option<Word<'a>> {
     Some(Word::Export(Exporting {
         archive: values.get_str("archive")?,

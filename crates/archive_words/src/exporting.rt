@@ -2,7 +2,7 @@
 use crate::command_line::{Exporting, Form};
 use anyhow::Result;
 use archive_file::lines_of;
-use archive_games::{Kept, games_kept, write_database, write_games, write_rows};
+use archive_games::{Kept, games_kept, write_games, write_rows};
 use std::rt::Files;
 
 // Writes games in a form.
@@ -10,11 +10,10 @@ fn write<R: AllocGlobal + Print>(rt: &R, form: Form, games: &[Kept]) -> Result<(
     match form {
         Form::Pgn => write_games(rt, games),
         Form::Csv => write_rows(rt, games),
-        Form::Sqlite => write_database(rt, games),
     }
 }
 
-/// Writes the games of an archive: the PGN of each, a row for each, or a database of them. It fails where the file is no
+/// Writes the games of an archive: the PGN of each, or a row for each. It fails where the file is no
 /// archive, as `lines_of` does, where memory is refused, or the output takes no more.
 pub fn export<R: Files + AllocGlobal + Print>(rt: &R, exporting: &Exporting<'_>) -> Result<()> {
     let text = lines_of(rt, exporting.archive)?;

@@ -1,5 +1,5 @@
 //! The word that writes the games of a night where others fetch them.
-use crate::asking::{has_left, pgn_of};
+use crate::asking::pgn_of;
 use crate::command_line::Living;
 use crate::reading::found;
 use crate::rows::rows_of;
@@ -30,7 +30,7 @@ struct Writer<'a, R> {
     living: &'a Living<'a>,
     sources: Sources<'a, R>,
     link: Option<Link>,
-    // The games of the table as they were seen last, also of servers that are away.
+    // The games of the table as they were seen last.
     seen: Vec<Board>,
     // The games of the archive that are written, and how long it was when they were read.
     archived: Vec<Board>,
@@ -134,27 +134,10 @@ fn put<R: Files + AllocGlobal>(rt: &R, path: &str, text: &[u8]) -> Result<()> {
 }
 
 impl<R> Writer<'_, R> {
-    // Whether a game is written as the archive has it, where the table does not tell it.
-    fn has_kept(&self, game: u32) -> bool {
-        has_game(self.archived.as_slice(), game)
-    }
-
     // What the file is to have.
     fn text(&self, alloc: Global) -> Result<Vec<u8>, AllocError> {
         let boards = in_order(alloc, self.seen.as_slice(), self.archived.as_slice())?;
         text_of(alloc, boards.as_slice())
-    }
-
-    // Puts games that are away behind others, as they were seen last, but those that were kept.
-    fn push_away(&self, boards: &mut Vec<Board>, away: &[u32]) -> Result<()> {
-        for board in self.seen.as_slice() {
-            let game = board.game;
-            if away.contains(&game) && !self.has_kept(game) {
-                let pgn = board.pgn.clone()?;
-                boards.push(Board { game, pgn })?;
-            }
-        }
-        Ok(())
     }
 
     // Those games of the server's list that are played or over, but those that were kept.
@@ -177,19 +160,6 @@ impl<R> Writer<'_, R> {
         }
         Ok(())
     }
-
-    // Of the games that were seen and are not told now those that have not left the table: their server is away. (each is asked
-    // about, since a list has no word of a server that is away, nor of one that could not tell its games)
-    fn games_away(&self, boards: &[Board], alloc: Global, link: &mut Link) -> Result<Vec<u32>> {
-        let mut away = Vec::new(alloc);
-        for board in self.seen.as_slice() {
-            let is_told = has_game(boards, board.game) || self.has_kept(board.game);
-            if !is_told && !has_left(alloc, link, board.game)? {
-                away.push(board.game)?;
-            }
-        }
-        Ok(away)
-    }
 }
 
 impl<'a, R: Files + AllocGlobal + Eprint> Writer<'a, R> {
@@ -211,20 +181,13 @@ impl<'a, R: Files + AllocGlobal + Eprint> Writer<'a, R> {
 
     // Those games of the list as it is now that are played or over, but those that were kept, with the players and the log
     // as they are behind it.
-    fn push_list(&mut self, boards: &mut Vec<Board>, link: &mut Link) -> Result<()> {
+    fn push_table(&mut self, boards: &mut Vec<Board>, link: &mut Link) -> Result<()> {
         let alloc = self.rt.alloc();
         let list = link.list()?;
         let rows = rows_of(alloc, list.as_str())?;
         // (behind the list, so that they are all there who play its games)
         self.sources.renew(self.rt, rows.as_slice())?;
         self.push_rows(boards, alloc, link, rows.as_slice())
-    }
-
-    // The games of the server's table that are played or over, but those that were kept. What comes back are the games of
-    // servers that are away.
-    fn push_table(&mut self, boards: &mut Vec<Board>, link: &mut Link) -> Result<Vec<u32>> {
-        self.push_list(boards, link)?;
-        self.games_away(boards.as_slice(), self.rt.alloc(), link)
     }
 
     // Reads the archive anew where it is another.
@@ -247,24 +210,23 @@ where
     R: Files + Net<Stream = TcpStream> + AllocGlobal + Eprint,
 {
     // The table's games, asked by the connection that there was, or by a new one.
-    fn push_told(&mut self, boards: &mut Vec<Board>) -> Result<Vec<u32>> {
+    fn push_told(&mut self, boards: &mut Vec<Board>) -> Result<()> {
         let mut link = match self.link.take() {
             Some(link) => link,
             None => Link::open(self.rt, self.living.source.server)?,
         };
-        let away = self.push_table(boards, &mut link)?;
+        self.push_table(boards, &mut link)?;
         self.link = Some(link);
-        Ok(away)
+        Ok(())
     }
 
     // Looks at the table and at the archive.
     fn look(&mut self) -> Result<()> {
         self.read_archive()?;
         let mut boards = Vec::new(self.rt.alloc());
-        let away = self.push_told(&mut boards)?;
+        self.push_told(&mut boards)?;
         // (once more, as a game may have been kept and dropped meanwhile)
         self.read_archive()?;
-        self.push_away(&mut boards, away.as_slice())?;
         self.seen = boards;
         Ok(())
     }

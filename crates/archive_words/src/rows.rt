@@ -3,7 +3,6 @@ ghost use Rattle.std.specs.Prelude.{◌≡◌, IfOk};
 ghost use Rattle.archive_words.specs.Games.{games_over_in};
 
 use anyhow::{Result, bail};
-use lobby_words::server_of;
 use server_link::{Row, row_of};
 use std::alloc::{AllocError, Global};
 use text_parts::parts;
@@ -20,14 +19,9 @@ pub fn rows_of(alloc: Global, list: &str) -> Result<Vec<Row<'_>>> {
     Ok(rows)
 }
 
-/// The least number on the table of a game's server: later games of that server have greater ones. `None` where the table
-/// has no game of that server.
-pub fn first_beside(rows: &[Row<'_>], game: u32) -> Option<u32> {
-    let server = server_of(game);
-    rows.iter()
-        .map(|row| row.game)
-        .filter(|other| server_of(*other) == server)
-        .min()
+/// The least number on the table: later games have greater ones. `None` where the table has no game.
+pub fn first_on_table(rows: &[Row<'_>]) -> Option<u32> {
+    rows.iter().map(|row| row.game).min()
 }
 
 /// The games that are over, in the order of the list.

@@ -21,7 +21,7 @@ const PAUSE: u64 = 500;
 
 /// What became of the boards of a round.
 #[derive(Drop)]
-struct Rounds<'a> {
+struct Rounds {
     file: RoundFile,
     // The boards, by their numbers, of which the arbiter is asked.
     asks: Vec<u32>,
@@ -29,8 +29,6 @@ struct Rounds<'a> {
     done: Vec<u32>,
     // Whether nobody could be told.
     is_unheard: bool,
-    // The servers that are not waited for.
-    without: &'a [u32],
 }
 
 // The moment, in milliseconds from 1970 on.
@@ -41,7 +39,7 @@ fn moment<R: Clock>(rt: &R) -> Result<i64> {
     }
 }
 
-impl<'a> Rounds<'a> {
+impl Rounds {
     // Whether it cannot go on.
     fn has_failed(&self) -> bool {
         self.is_unheard || self.file.has_failed()
@@ -95,7 +93,7 @@ impl<'a> Rounds<'a> {
     ) -> Result<()> {
         let number = board.pairing.board;
         let became = board
-            .go_on(link, &mut self.file, self.without)
+            .go_on(link, &mut self.file)
             .context(format_args!("board {number}, by the server at {server}"))?;
         self.tell(rt, board, became)
     }
@@ -173,7 +171,7 @@ fn tell_failure<R: AllocGlobal + Eprint>(rt: &R, told: &mut String, error: Error
 // Goes once round the boards. Where the server is gone it is tried again.
 fn go_once<R>(
     rt: &R,
-    rounds: &mut Rounds<'_>,
+    rounds: &mut Rounds,
     server: SocketAddr,
     boards: &[Board],
     told: &mut String,
@@ -213,7 +211,7 @@ fn tell_waits<R: Eprint + Clock>(rt: &R, boards: &[Board]) -> Result<()> {
 }
 
 // Goes round the boards until each has its game or is the arbiter's.
-fn go_round<R>(rt: &R, rounds: &mut Rounds<'_>, server: SocketAddr, boards: &[Board]) -> Result<()>
+fn go_round<R>(rt: &R, rounds: &mut Rounds, server: SocketAddr, boards: &[Board]) -> Result<()>
 where
     R: Net<Stream = TcpStream> + AllocGlobal + Print + Eprint + Clock,
 {
@@ -257,7 +255,6 @@ fn check_pairings<R: Files + AllocGlobal>(
 
 // Puts what the arbiter said to the round's file. It fails where that is of other pairings.
 fn take_said(
-    alloc: Global,
     file: &mut RoundFile,
     starting: &Starting<'_>,
     pairings: &[Pairing],
@@ -268,7 +265,7 @@ fn take_said(
         starting.said.takes.as_slice(),
         starting.said.afters.as_slice(),
     );
-    take_words(alloc, file, boards, takes, afters)
+    take_words(file, boards, takes, afters)
 }
 
 // The round's file with what the arbiter said.
@@ -279,28 +276,22 @@ fn file_of<R: Files<File = File> + AllocGlobal>(
     boards: &[Board],
 ) -> Result<RoundFile> {
     let mut file = RoundFile::open(rt, starting.round.games)?;
-    take_said(rt.alloc(), &mut file, starting, pairings, boards)?;
+    take_said(&mut file, starting, pairings, boards)?;
     Ok(file)
 }
 
 // Nothing has become of boards yet.
-fn rounds_of<'a>(alloc: Global, file: RoundFile, without: &'a [u32]) -> Rounds<'a> {
+fn rounds_of(alloc: Global, file: RoundFile) -> Rounds {
     Rounds {
         file,
         asks: Vec::new(alloc),
         done: Vec::new(alloc),
         is_unheard: false,
-        without,
     }
 }
 
 // Goes round the boards to the end, and tells how many have their games.
-fn go_through<R>(
-    rt: &R,
-    rounds: &mut Rounds<'_>,
-    server: SocketAddr,
-    boards: &[Board],
-) -> Result<usize>
+fn go_through<R>(rt: &R, rounds: &mut Rounds, server: SocketAddr, boards: &[Board]) -> Result<usize>
 where
     R: Net<Stream = TcpStream> + AllocGlobal + Print + Eprint + Clock,
 {
@@ -319,7 +310,7 @@ fn open_games<R>(
 where
     R: Net<Stream = TcpStream> + AllocGlobal + Print + Eprint + Clock,
 {
-    let mut rounds = rounds_of(rt.alloc(), file, starting.said.without.as_slice());
+    let mut rounds = rounds_of(rt.alloc(), file);
     go_through(rt, &mut rounds, starting.server, boards)
 }
 

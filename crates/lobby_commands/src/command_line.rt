@@ -18,8 +18,7 @@ address, each with the port, and what --host names, with the port and without on
 With --log it puts each act that the server took into a file, with its answer, and how the
 game stands behind it, before anybody is told; the file is made where there is none.
 Besides the page there are /board/G for a screen that shows game G, /boards for one that
-shows all, and /health with figures as Prometheus reads them, with --journal also of the
-journal's commits and its last moment: the file is read alone. /live.pgn is the file of
+shows all, and /health with figures as Prometheus reads them. /live.pgn is the file of
 --live, read anew when it has changed.
 
 It goes on until it is ended: kill it, by any signal. Nothing is lost by that.
@@ -97,8 +96,6 @@ pub struct Serving<'a> {
     pub log: Option<&'a str>,
     /// The file of games that is served as `/live.pgn`.
     pub live: Option<&'a str>,
-    /// The journals of which figures are told, in the order of the servers.
-    pub journals: Vec<&'a str>,
 }
 
 /// Who is put into a players' file, and the address of the page for the link.
@@ -143,13 +140,6 @@ const LOG: OptionText = OptionText {
     name: "log",
     value: OptionValue::Text("FILE"),
     help: "The file of a log of all acts, none without it",
-    is_required: false,
-};
-
-const JOURNAL: OptionText = OptionText {
-    name: "journal",
-    value: OptionValue::Texts("FILE"),
-    help: "The server's journal, of which /health tells; once for each server behind a switch",
     is_required: false,
 };
 
@@ -199,9 +189,7 @@ const SERVE: WordText = WordText {
     name: "serve",
     about: "Serves the page and its players, over a game server",
     help: HELP_OF_SERVE,
-    options: &[
-        PLAYERS, SERVER, AT_PORT, ADDRESS, PAGE, HOST, LIVE, LOG, JOURNAL,
-    ],
+    options: &[PLAYERS, SERVER, AT_PORT, ADDRESS, PAGE, HOST, LIVE, LOG],
 };
 
 const PLAYER: WordText = WordText {
@@ -277,7 +265,6 @@ fn serving_of<'a>(alloc: Global, values: &ArgMatches<'a>) -> Result<Option<Word<
         live: values.get_str("live"),
         log: values.get_str("log"),
         hosts: Vec::from_slice(alloc, values.get_strs("host").unwrap_or(&[]))?,
-        journals: Vec::from_slice(alloc, values.get_strs("journal").unwrap_or(&[]))?,
     })))
 }
 

@@ -14,7 +14,7 @@ is_act_accepted answer = is_accepted answer || is_fallen answer
 
 -- Whether a refusal is of who plays in the game: its number is 5 to 24. By those below the line has no form, no name was said, there is
 -- no such game, or who asks does not play in it. 23, which says that the clock is past all moments, is said before these are looked
--- at; 36 is said by a switch, for a server that is away.
+-- at.
 abbrev pub is_of_seated : Option ℕ → Bool
 is_of_seated None = false
 is_of_seated (Some number) = nat_le 5 number && nat_le number 24

@@ -1,13 +1,12 @@
 //! What is told of a lobby to who looks after it, as Prometheus reads it.
+use crate::lines::{put_head, put_labelled, put_number, seconds};
+use crate::listing::Games;
 use crate::table::Table;
 use bytes::Bytes;
-use lobby_figures::{Games, Journals, put_head, put_labelled, put_number, seconds};
 use lobby_loop::{ACTS, BOUNDS, Counts, Lobby};
 use lobby_web::{File, Kind};
 use std::alloc::{AllocError, Global};
 use std::collections::BTreeMap;
-use std::fs::File as OpenFile;
-use std::rt::Files;
 
 /// The path at which it is served.
 const PATH: &[u8] = b"/health";
@@ -15,15 +14,20 @@ const PATH: &[u8] = b"/health";
 /// So many milliseconds lie at least between two texts.
 const REST: u64 = 1_000;
 
-// Whether the server is there, and who is.
-fn put_connections(text: &mut String, alloc: Global, lobby: &Lobby) -> Result<(), AllocError> {
+// Whether the server is up, and who is there.
+fn put_connections(
+    text: &mut String,
+    alloc: Global,
+    lobby: &Lobby,
+    table: &Table,
+) -> Result<(), AllocError> {
     put_number(
         text,
         alloc,
         "server_up",
         "gauge",
-        "Whether the lobby has its connection to the game server: 1, else 0.",
-        u64::from(lobby.has_server()),
+        "Whether the game server is connected and answers: 1, else 0.",
+        u64::from(table.is_up()),
     )?;
     put_number(
         text,
@@ -201,9 +205,15 @@ fn put_up(text: &mut String, alloc: Global, at: u64) -> Result<(), AllocError> {
 }
 
 // What the lobby counts, at a moment.
-fn put_counts(text: &mut String, alloc: Global, lobby: &Lobby, at: u64) -> Result<(), AllocError> {
+fn put_counts(
+    text: &mut String,
+    alloc: Global,
+    lobby: &Lobby,
+    table: &Table,
+    at: u64,
+) -> Result<(), AllocError> {
     put_up(text, alloc, at)?;
-    put_connections(text, alloc, lobby)?;
+    put_connections(text, alloc, lobby, table)?;
     let games = lobby.watched_games()?;
     put_watchers(text, alloc, games.as_slice())?;
     put_answers(text, alloc, lobby.counts())?;
@@ -220,30 +230,24 @@ fn file_of(alloc: Global, text: String) -> Result<File, AllocError> {
 
 /// The text that is served, and from when on another is made.
 #[derive(Drop)]
-pub struct Health<'a, R> {
+pub struct Health {
     alloc: Global,
-    journals: Journals<'a, R>,
     next_at: u64,
 }
 
-impl<'a, R: Files<File = OpenFile> + AllocGlobal + Eprint> Health<'a, R> {
-    /// None was made. Of these journals it is to tell besides.
-    pub fn new(rt: &'a R, journals: &[&'a str]) -> Result<Self, AllocError> {
-        Ok(Health {
-            alloc: rt.alloc(),
-            journals: Journals::new(rt, journals)?,
-            next_at: 0,
-        })
+impl Health {
+    /// None was made.
+    pub fn new(alloc: Global) -> Health {
+        Health { alloc, next_at: 0 }
     }
 
     // The text, at a moment.
-    fn text(&mut self, lobby: &Lobby, table: &Table, at: u64) -> Result<String, AllocError> {
+    fn text(&self, lobby: &Lobby, table: &Table, at: u64) -> Result<String, AllocError> {
         let mut text = String::new(self.alloc);
-        put_counts(&mut text, self.alloc, lobby, at)?;
+        put_counts(&mut text, self.alloc, lobby, table, at)?;
         if let Some(games) = table.games(at) {
             put_games(&mut text, self.alloc, games)?;
         }
-        self.journals.put(&mut text)?;
         Ok(text)
     }
 

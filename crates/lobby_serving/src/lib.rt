@@ -2,7 +2,9 @@
 #![tactic(auto)]
 
 mod health;
+mod lines;
 mod links;
+mod listing;
 mod live;
 mod log;
 mod mark;
@@ -11,4 +13,5 @@ mod players;
 mod serving;
 mod table;
 
+pub use listing::{Games, Listing, Told};
 pub use serving::serve;

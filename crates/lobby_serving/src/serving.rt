@@ -71,7 +71,7 @@ struct Beside<'a, R> {
     rt: &'a R,
     telling: Telling<'a, R>,
     table: Table,
-    health: Health<'a, R>,
+    health: Health,
     live: Option<Live<'a>>,
     links: FileLinks<'a, R>,
 }
@@ -81,9 +81,8 @@ where
     R: Files<File = File> + AllocGlobal + Clone + Drop + Clock + Eprint + Net + RandomSource,
 {
     // Nothing was looked at or told.
-    fn new(rt: &'a R, serving: &'a Serving<'a>, entries: PauseFile<'a, R>) -> Result<Self> {
-        let health = Health::new(rt, serving.journals.as_slice())?;
-        Ok(Beside {
+    fn new(rt: &'a R, serving: &'a Serving<'a>, entries: PauseFile<'a, R>) -> Self {
+        Beside {
             rt,
             telling: Telling {
                 rt,
@@ -93,13 +92,13 @@ where
                 next_at: 0,
             },
             table: Table::new(rt.alloc(), serving.server),
-            health,
+            health: Health::new(rt.alloc()),
             live: match serving.live {
                 Some(file) => Some(Live::new(file)),
                 None => None,
             },
             links: FileLinks::new(rt, serving.players, entries),
-        })
+        }
     }
 
     // Takes turns until something is at fault.
@@ -205,7 +204,7 @@ where
         log: &mut L,
     ) -> Result<()> {
         tell_address(self.rt, address)?;
-        let mut beside = Beside::new(self.rt, self.serving, entries)?;
+        let mut beside = Beside::new(self.rt, self.serving, entries);
         let served = beside.take_turns(players, lobby, log);
         drop(beside);
         served

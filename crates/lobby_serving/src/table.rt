@@ -1,5 +1,6 @@
-//! How many games the server has: it is asked by a connection of its own, while somebody asks for figures.
-use lobby_figures::{Games, Listing, Told};
+//! Whether the server answers, and how many games it has: it is asked by a connection of its own, once the lobby's is made and
+//! while somebody asks for figures.
+use crate::listing::{Games, Listing, Told};
 use lobby_loop::Lobby;
 use mio::net::TcpStream;
 use std::alloc::{AllocError, Global};
@@ -43,8 +44,10 @@ enum Seen {
     /// Not for now.
     Nothing,
     Games(Games),
-    /// There is no answer.
+    /// There are no games: the server says something else, or has closed the connection, as where it serves all that it may.
     Lost,
+    /// It took too long.
+    Silent,
 }
 
 // What a fault of a stream that does not wait says.
@@ -98,7 +101,7 @@ impl Call {
     // Goes on with the question.
     fn look(&mut self, at: u64) -> Result<Seen, AllocError> {
         if at >= self.until {
-            return Ok(Seen::Lost);
+            return Ok(Seen::Silent);
         }
         match self.say() {
             Seen::Nothing if self.is_said => self.hear(),
@@ -112,8 +115,9 @@ impl Call {
 pub struct Table {
     alloc: Global,
     server: SocketAddr,
-    // Whether it was there at the last look.
+    // Whether the lobby had its connection at the last look, and whether the last question that is over was not too slow.
     is_here: bool,
+    is_answering: bool,
     call: Option<Call>,
     next_at: u64,
     // How often figures had been asked for at the last look, and until when they are wanted since.
@@ -130,6 +134,7 @@ impl Table {
             alloc,
             server,
             is_here: false,
+            is_answering: false,
             call: None,
             next_at: 0,
             asked: 0,
@@ -179,6 +184,7 @@ impl Table {
             return;
         }
         self.call = None;
+        self.is_answering = !matches!(seen, Seen::Silent);
         if let Seen::Games(games) = seen {
             self.games = Some(games);
             self.fresh_until = at.saturating_add(FRESH);
@@ -188,24 +194,33 @@ impl Table {
     // What was told is told no more.
     fn forget(&mut self) {
         self.call = None;
+        self.is_answering = false;
         self.games = None;
         self.next_at = 0;
     }
 
-    /// Asks the server, where it is time and somebody wants it, or goes on with that. It waits for nothing.
+    /// Asks the server, where its connection is new, or it is time and somebody wants it, or goes on with that. It waits for
+    /// nothing.
     pub fn look(&mut self, net: &impl Net, lobby: &Lobby, at: u64) -> Result<(), AllocError> {
         self.note(lobby.counts().figures, at);
+        let was_here = self.is_here;
         self.is_here = lobby.has_server();
         if !self.is_here {
             self.forget();
             return Ok(());
         }
-        if self.is_due(at) {
+        if !was_here || self.is_due(at) {
             self.begin(net, at);
         }
         let seen = self.go_on(at)?;
         self.take(seen, at);
         Ok(())
+    }
+
+    /// Whether the server is up: the lobby has its connection, and the last question that is over was answered in time, or its
+    /// connection closed. A server that hangs does neither.
+    pub fn is_up(&self) -> bool {
+        self.is_here && self.is_answering
     }
 
     /// The games that the server told last; none where that is long ago, or it is not there.

@@ -2,5 +2,4 @@ pub mod Words
 pub mod Answers
 pub mod Plans
 pub mod Waiting
-pub mod Servers
 pub mod Naming

@@ -7,7 +7,6 @@ mod listing;
 mod naming;
 mod planning;
 mod refusals;
-mod servers;
 mod words;
 
 pub use answers::{game_told, has_empty_seat, is_accepted, is_over, is_table_act, seated};
@@ -16,7 +15,6 @@ pub use listing::{Waiting, ends_wait, is_list, opens_game, waiting_in, waiting_o
 pub use naming::is_said;
 pub use planning::{Identity, Order, Plan, Standing, order_of, plan_of};
 pub use refusals::Refusal;
-pub use servers::{GAMES_OF_A_SERVER, SERVERS_MOST, server_of};
 pub use words::{
     Sort, actor, are_message_bytes, as_line, as_name, cut_word, is_play_word, line_said,
     number_named, number_or_0,

@@ -1,5 +1,4 @@
-//! Tests of the files and texts of a night and of a lobby, and of the switch before its servers, by what their crates export
-//! alone: so none of these is proved twice.
+//! Tests of the files and texts of a night and of a lobby, by what their crates export alone: so none of these is proved twice.
 #![tactic(auto)]
 
 #[cfg(test)]
@@ -13,11 +12,7 @@ mod club_files;
 #[cfg(test)]
 mod cuts;
 #[cfg(test)]
-mod database;
-#[cfg(test)]
 mod dates;
-#[cfg(test)]
-mod figures;
 #[cfg(test)]
 mod headings;
 #[cfg(test)]
@@ -30,5 +25,3 @@ mod positions;
 mod report;
 #[cfg(test)]
 mod rounds;
-#[cfg(test)]
-mod switch;

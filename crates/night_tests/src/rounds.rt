@@ -2,7 +2,7 @@
 //! board.)
 use pairing_texts::{
     Fault, Outcome, Pairing, Row, RowFault, candidates, newest, note_of, note_text, read, results,
-    times_of, times_text, unheard, with_newest,
+    times_of, times_text,
 };
 use rec_codec::Name;
 use std::alloc::Global;
@@ -73,8 +73,8 @@ const NOTES: [(&str, bool); 9] = [
         true,
     ),
     (
-        "{\"board\":3,\"white\":\"ann\",\"black\":\"bob\",\"opening\":[20000003,16]}",
-        true,
+        "{\"board\":3,\"white\":\"ann\",\"black\":\"bob\",\"opening\":[17,16]}",
+        false,
     ),
     ("{\"board\":3}", false),
     (
@@ -129,32 +129,18 @@ fn rows() -> [Row; 5] {
         row(9, "ann", ""),
         row(10, "cid", "ann"),
         row(16, "ann", "bob"),
-        row(20_000_002, "ann", "cid"),
-        row(20_000_003, "ann", ""),
+        row(17, "ann", "cid"),
+        row(20, "ann", ""),
     ]
-}
-
-fn check_newest(rt: &impl Abort, alloc: Global, rows: &[Row]) {
-    let games = newest(alloc, rows).expect(rt, "memory");
-    assert!(rt; games.as_slice() == [20_000_003, 16].as_slice());
 }
 
 #[test]
 fn games_are_looked_at(rt: HostRuntime) {
     let ann = Name::try_new("ann").expect(&rt, "a name");
     let rows = rows();
-    check_newest(&rt, rt.alloc(), &rows);
-    let own = candidates(rt.alloc(), &[9], &ann, &rows).expect(&rt, "memory");
-    assert!(rt; own.as_slice() == [16, 20_000_002, 20_000_003].as_slice());
-}
-
-#[test]
-fn servers_have_games(rt: HostRuntime) {
-    let games = with_newest(rt.alloc(), &[20_000_003, 16], 20).expect(&rt, "memory");
-    assert!(rt; games.as_slice() == [20_000_003, 20].as_slice());
-    let noted = [20_000_003, 40_000_001];
-    let away = unheard(rt.alloc(), &[1, 2, 3], &noted, &[1, 2]).expect(&rt, "memory");
-    assert!(rt; away.as_slice() == [3, 4].as_slice());
+    assert!(rt; newest(&rows) == Some(20));
+    let own = candidates(rt.alloc(), Some(9), &ann, &rows).expect(&rt, "memory");
+    assert!(rt; own.as_slice() == [16, 17, 20].as_slice());
 }
 
 #[test]

@@ -14,8 +14,7 @@ It opens and joins the game of each board of --pairings on the game server at --
 the board's start, and notes in --round-file which game is which board's; it makes that file
 where there is none. It ends once each board has its game, and may be killed at any moment
 and given again: no board gets a second game, but in the cases of which docs/NIGHT.md tells.
-While the server is not there it waits for it, and so while one of a switch's servers is not,
-which may have the game of a board; by --without it does not wait for that one.
+While the server is not there it waits for it.
 
 Where it cannot know which game is a board's, or whether it has one, it says so, leaves that
 board alone, and ends with status 1. Look at the games then, and give it again with --take for the
@@ -83,15 +82,13 @@ pub struct Round<'a> {
     pub games: &'a str,
 }
 
-/// What the arbiter said of boards and servers.
+/// What the arbiter said of boards.
 #[derive(Drop)]
 pub struct Said {
     /// Boards, and the games that are theirs.
     pub takes: Vec<(u32, u32)>,
     /// Boards, and games up to which none is theirs.
     pub afters: Vec<(u32, u32)>,
-    /// Servers that are not waited for.
-    pub without: Vec<u32>,
 }
 
 /// The round whose games are opened.
@@ -160,15 +157,8 @@ const TAKE: OptionText = OptionText {
 
 const AFTER: OptionText = OptionText {
     name: "after",
-    help: "No game up to this one of its server is the board's; it may be given several times",
+    help: "No game up to this one is the board's; it may be given several times",
     ..TAKE
-};
-
-const WITHOUT: OptionText = OptionText {
-    name: "without",
-    value: OptionValue::Texts("SERVER"),
-    help: "This server of a switch is not waited for; it may be given several times",
-    is_required: false,
 };
 
 const SHORT: OptionText = OptionText {
@@ -274,7 +264,6 @@ const START: WordText = WordText {
         PLAYERS_OPENED,
         TAKE,
         AFTER,
-        WITHOUT,
         SHORT,
     ],
 };
@@ -434,22 +423,17 @@ where
     texts.iter().map(|text| read(*text)).collect(alloc)
 }
 
-// What the arbiter said; none where a board, a game or a server is none.
+// What the arbiter said; none where a board or a game is none.
 fn said_of(alloc: Global, values: &ArgMatches<'_>) -> Result<Option<Said>, AllocError> {
     let takes = all_of(alloc, values, "take", take_of)?;
     let afters = all_of(alloc, values, "after", take_of)?;
-    let without = all_of(alloc, values, "without", number_of)?;
-    let (Some(takes), Some(afters), Some(without)) = (takes, afters, without) else {
+    let (Some(takes), Some(afters)) = (takes, afters) else {
         return Ok(None);
     };
-    Ok(Some(Said {
-        takes,
-        afters,
-        without,
-    }))
+    Ok(Some(Said { takes, afters }))
 }
 
-// What `start` asks for; none where an address, a board, a game or a server is none.
+// What `start` asks for; none where an address, a board or a game is none.
 fn starting_of<'a>(alloc: Global, values: &ArgMatches<'a>) -> Result<Option<Word<'a>>, AllocError> {
     let (Some(round), Some(server)) = (round_of(values), server_address(values)) else {
         return Ok(None);

@@ -1,8 +1,9 @@
 -- A note that was written is read as it was.
 use Rattle.std.proofs.Common.{ℕ, ◌≡◌, ◌<◌, ◌^◌, ◌==◌, ◌&&◌, Bool, true, false, List, [], ◌∷◌, ◌++◌, length, codes, decimal, Option, Some, None, refl, sym, ap, ◌∙◌, arith, if◌then◌else◌}
 use Rattle.std.specs.Prelude.{nat_le}
-use Rattle.std.specs.List.{list_all}
-use Rattle.std.proofs.lemmas.Bool.{false≢true, and_parts, or_from}
+use Rattle.std.specs.List.{list_all, list_any}
+use Rattle.std.specs.Str.{bytes_eq}
+use Rattle.std.proofs.lemmas.Bool.{false≢true, and_parts, or_from, or_parts}
 use Rattle.std.proofs.lemmas.Bool.Decides.{Decides-eqb}
 use Rattle.std.proofs.lemmas.Slice.Eq.{bytes_eq-Decides}
 use Rattle.text_parts.proofs.Cuts.{Lacks, lacks_more, lacks_both, before_at, after_at}
@@ -11,8 +12,7 @@ use Rattle.lobby_words.specs.Words.{number_or_0}
 use Rattle.lobby_words.specs.Waiting.{is_name}
 use Rattle.pairing_texts.specs.Times.{front_of}
 use Rattle.pairing_texts.specs.Rows.{name_in}
-use Rattle.pairing_texts.specs.Notes.{NoteState, Reached, Opening, Opened, Joined, IsNote, IsReached, stage_word, value_text, numbers_text, quoted, member_text, note_text, value_of, unquoted, member_in, behind_one, behind_two, behind_three, board_in, white_in, black_in, last_value, stage_in, reached_in, likely_of, likely_note, where_spelled, note_in}
-use Rattle.pairing_texts.proofs.NumbersBack.{numbers_back, lacks_brace}
+use Rattle.pairing_texts.specs.Notes.{NoteState, Reached, Opening, Opened, Joined, IsNote, IsReached, stage_word, value_text, older_text, older_in, quoted, member_text, note_text, value_of, unquoted, member_in, behind_one, behind_two, behind_three, board_in, white_in, black_in, last_value, stage_in, reached_in, likely_of, likely_note, where_spelled, note_in}
 use Rattle.pairing_texts.proofs.Spelled.{lacks_below, lacks_above, number_back}
 
 -- a byte that stands in no name stands in none of these names
@@ -51,6 +51,21 @@ lacks_comma front name low is =
     lacks_both 44 front (58 ∷ quoted name) low
     (lacks_more 44 58 (quoted name) (λ e. omega (arith, e)) (lacks_more 44 34 (name ++ (34 ∷ [])) (λ e. omega (arith, e))
     (lacks_both 44 name (34 ∷ []) (name_lacks 44 name refl bytes) refl)))
+
+-- the game that is older: its number ends before the note's end, and is not `[]`
+lacks_brace : (older : Option ℕ) → IsReached (Opening older) → Lacks 125 (older_text older)
+lacks_brace None is = refl
+lacks_brace (Some game) is = lacks_above 125 game (omega arith) is
+
+no_brackets : (text : List ℕ) → Lacks 91 text → bytes_eq text (codes "[]") ≡ false
+no_brackets [] low = refl
+no_brackets (b ∷ text) low = rw (or_parts (b == 91) (list_any (λ x. x == 91) text) low).0 refl
+
+older_back : (older : Option ℕ) → IsReached (Opening older) → older_in (older_text older) ≡ older
+older_back None is = refl
+older_back (Some game) is =
+    ap (λ (b : Bool). if b then None else Some (number_or_0 (decimal game))) (no_brackets (decimal game) (lacks_above 91 game (omega arith) is))
+    ∙ ap (λ (n : ℕ). Some n) (number_back game is)
 
 abbrev board_front : List ℕ
 board_front = 123 ∷ quoted (codes "board")
@@ -94,7 +109,7 @@ word_by : (word rest : List ℕ) → Lacks 34 word → unquoted (34 ∷ (word ++
 word_by word rest low = ap (front_of 34) (after_at 34 [] (word ++ (34 ∷ rest)) refl) ∙ before_at 34 word rest low
 
 word_back : (stage : Reached) → unquoted (end_of stage) ≡ stage_word stage
-word_back (Opening games) = word_by (codes "opening") (58 ∷ (numbers_text games ++ (125 ∷ []))) refl
+word_back (Opening older) = word_by (codes "opening") (58 ∷ (older_text older ++ (125 ∷ []))) refl
 word_back (Opened game) = word_by (codes "opened") (58 ∷ (decimal game ++ (125 ∷ []))) refl
 word_back (Joined game) = word_by (codes "joined") (58 ∷ (decimal game ++ (125 ∷ []))) refl
 
@@ -103,12 +118,12 @@ end_by front value high low =
     ap (front_of 125) (after_at 58 front (value ++ (125 ∷ [])) low) ∙ before_at 125 value [] high
 
 value_back : (stage : Reached) → IsReached stage → front_of 125 (value_of (end_of stage)) ≡ value_text stage
-value_back (Opening games) is = end_by (quoted (codes "opening")) (numbers_text games) (lacks_brace games is) refl
+value_back (Opening older) is = end_by (quoted (codes "opening")) (older_text older) (lacks_brace older is) refl
 value_back (Opened game) is = end_by (quoted (codes "opened")) (decimal game) (lacks_above 125 game (omega arith) is) refl
 value_back (Joined game) is = end_by (quoted (codes "joined")) (decimal game) (lacks_above 125 game (omega arith) is) refl
 
 reached_back : (stage : Reached) → IsReached stage → reached_in (stage_word stage) (value_text stage) ≡ Some stage
-reached_back (Opening games) is = ap (λ (ns : List ℕ). Some (Opening ns)) (numbers_back games is)
+reached_back (Opening older) is = ap (λ (o : Option ℕ). Some (Opening o)) (older_back older is)
 reached_back (Opened game) is = ap (λ (n : ℕ). Some (Opened n)) (number_back game is)
 reached_back (Joined game) is = ap (λ (n : ℕ). Some (Joined n)) (number_back game is)
 

@@ -12,19 +12,19 @@ use Rattle.pairing_texts.specs.declared.steps.Seats.{Seats}
 use Rattle.pairing_texts.specs.declared.steps.Step.{Step}
 use Rattle.pairing_texts.specs.declared.steps.Step.TheVariants as steps
 use Rattle.pairing_texts.specs.declared.steps.Row.{Row}
-use Rattle.pairing_texts.specs.Newer.{is_newer, is_past}
+use Rattle.pairing_texts.specs.Newer.{is_newer, is_newest}
 use Rattle.pairing_texts.specs.Notes.{Reached, Opening, Opened, Joined}
-use Rattle.pairing_texts.specs.Steps.{sits, is_free_for, may_be, candidates_in, numbers_of, unheard, step_of_games, step_of_seats}
-use Rattle.pairing_texts.specs.Runs.{Board, Standing, RunStep, Looks, Acts, Dies, Passes, step_at, seen_of, older_in, noted, row_of, acted, happened, TellNewer, IsDone, has_game, Stays, IsAllowed, after_all, AreAllowed, IsBeginning, game_noted, HasOneGame}
-use Rattle.pairing_texts.proofs.WholeLooks.{whole}
+use Rattle.pairing_texts.specs.Steps.{sits, is_free_for, may_be, candidates_in, numbers_of, step_of_games, step_of_seats}
+use Rattle.pairing_texts.specs.Runs.{Board, Standing, RunStep, Looks, Acts, Dies, Passes, step_at, noted, row_of, acted, happened, TellNewer, IsNoNewer, IsDone, has_game, Stays, IsAllowed, after_all, AreAllowed, IsBeginning, game_noted, HasOneGame}
+use Rattle.std.specs.Prelude.{nat_lt}
 
 -- ---- the games that may be the board's
 
 -- the table has this game, which may be the board's
-abbrev is_there : Board → List ℕ → ℕ → Row → Bool
+abbrev is_there : Board → Option ℕ → ℕ → Row → Bool
 is_there b noted game row = (row.game == game) && (may_be noted b.white row && b.fits row.game)
 
-abbrev has_found : Board → List ℕ → ℕ → List Row → Bool
+abbrev has_found : Board → Option ℕ → ℕ → List Row → Bool
 has_found b noted game rows = list_any (is_there b noted game) rows
 
 -- one row more
@@ -36,19 +36,19 @@ one_more game n fits true false more rest e r = rw e (rw r (ap (λ (b : Bool). b
 one_more game n fits false f more rest e r = rw r (ap (λ (b : Bool). b || rest) (sym (and-false (n == game))))
 
 -- a game that may be the board's is among those that `start` finds
-found : (b : Board) (noted : List ℕ) (game : ℕ) (rows : List Row) →
+found : (b : Board) (noted : Option ℕ) (game : ℕ) (rows : List Row) →
     list_any (λ x. x == game) (filter b.fits (candidates_in noted b.white rows)) ≡ has_found b noted game rows
 found b noted game [] = refl
 found b noted game (row ∷ rows) =
     one_more game row.game b.fits (may_be noted b.white row) (b.fits row.game) (candidates_in noted b.white rows) (has_found b noted game rows) refl
     (found b noted game rows)
 
-not_none : (b : Board) (noted : List ℕ) (game : ℕ) (rows : List Row) → filter b.fits (candidates_in noted b.white rows) ≡ [] →
+not_none : (b : Board) (noted : Option ℕ) (game : ℕ) (rows : List Row) → filter b.fits (candidates_in noted b.white rows) ≡ [] →
     has_found b noted game rows ≡ true → ⊥
 not_none b noted game rows none there =
     false≢true (ap (list_any (λ x. x == game)) (sym none) ∙ (found b noted game rows ∙ there))
 
-the_one : (b : Board) (noted : List ℕ) (game one : ℕ) (rows : List Row) → filter b.fits (candidates_in noted b.white rows) ≡ one ∷ [] →
+the_one : (b : Board) (noted : Option ℕ) (game one : ℕ) (rows : List Row) → filter b.fits (candidates_in noted b.white rows) ≡ one ∷ [] →
     has_found b noted game rows ≡ true → game ≡ one
 the_one b noted game one rows alone there =
     let among : list_any (λ x. x == game) (one ∷ []) ≡ true = ap (list_any (λ x. x == game)) (sym alone) ∙ (found b noted game rows ∙ there) in
@@ -59,7 +59,7 @@ any_append p [] x h = or-false (p x) ∙ h
 any_append p (y ∷ ys) x h = or_right (p y) (list_any p (ys ++ x ∷ [])) (any_append p ys x h)
 
 -- a game that is newer than was noted, and has the board's times, may be the board's where White sits in it
-there_by : (b : Board) (noted : List ℕ) (game n : ℕ) (s : Bool) → is_newer noted game ≡ true → b.fits game ≡ true → ((n == game) && s) ≡ true →
+there_by : (b : Board) (noted : Option ℕ) (game n : ℕ) (s : Bool) → is_newer noted game ≡ true → b.fits game ≡ true → ((n == game) && s) ≡ true →
     ((n == game) && ((is_newer noted n && s) && b.fits n)) ≡ true
 there_by b noted game n s new fits h =
     subst (λ (m : ℕ). ((m == game) && ((is_newer noted m && s) && b.fits m)) ≡ true)
@@ -71,7 +71,7 @@ or_more : (a b c d : Bool) → (a ≡ true → c ≡ true) → (b ≡ true → d
 or_more true b c d f g h = ap (λ (x : Bool). x || d) (f refl)
 or_more false b c d f g h = or_right c d (g h)
 
-found_by : (b : Board) (noted : List ℕ) (game : ℕ) (rows : List Row) → is_newer noted game ≡ true → b.fits game ≡ true →
+found_by : (b : Board) (noted : Option ℕ) (game : ℕ) (rows : List Row) → is_newer noted game ≡ true → b.fits game ≡ true →
     has_game b.white game rows ≡ true → has_found b noted game rows ≡ true
 found_by b noted game [] new fits h = absurd (false≢true h)
 found_by b noted game (row ∷ rows) new fits h =
@@ -83,7 +83,7 @@ found_by b noted game (row ∷ rows) new fits h =
 abbrev IsNoneOr : List ℕ → ℕ → Type 0
 IsNoneOr opened game = (opened ≡ []) ⊎ (opened ≡ game ∷ [])
 
-record IsThere (b : Board) (noted : List ℕ) (rows : List Row) (opened : List ℕ) : Type 0 where
+record IsThere (b : Board) (noted : Option ℕ) (rows : List Row) (opened : List ℕ) : Type 0 where
   game : ℕ
   one : opened ≡ game ∷ []
   new : is_newer noted game ≡ true
@@ -92,12 +92,12 @@ record IsThere (b : Board) (noted : List ℕ) (rows : List Row) (opened : List �
 
 abbrev NoteHolds : Board → Option Reached → List ℕ → List Row → List ℕ → Type 0
 NoteHolds b None given rows opened = opened ≡ []
-NoteHolds b (Some (Opening noted)) given rows opened = TellNewer given noted × ((opened ≡ []) ⊎ IsThere b noted rows opened)
+NoteHolds b (Some (Opening noted)) given rows opened = IsNoNewer given noted × ((opened ≡ []) ⊎ IsThere b noted rows opened)
 NoteHolds b (Some (Opened game)) given rows opened = IsNoneOr opened game
 NoteHolds b (Some (Joined game)) given rows opened = IsNoneOr opened game
 
 record IsOpening (note : Option Reached) : Type 0 where
-  noted : List ℕ
+  noted : Option ℕ
   is : note ≡ Some (Opening noted)
 
 abbrev DoesHold : Option Step → Option Reached → List ℕ → List Row → List ℕ → Type 0
@@ -109,7 +109,6 @@ DoesHold (Some (steps.Join game)) note given seen opened = Unit {0}
 DoesHold (Some (steps.Note game)) note given seen opened = IsNoneOr opened game
 DoesHold (Some (steps.Has game)) note given seen opened = Unit {0}
 DoesHold (Some steps.Ask) note given seen opened = Unit {0}
-DoesHold (Some steps.LookAgain) note given seen opened = Unit {0}
 
 record IsSound (b : Board) (s : Standing) : Type 0 where
   given : TellNewer s.given (numbers_of s.rows)
@@ -119,10 +118,10 @@ record IsSound (b : Board) (s : Standing) : Type 0 where
 -- ---- it looks
 
 -- the game that was opened is among those that `start` finds
-is_found : (b : Board) (noted : List ℕ) (rows : List Row) (opened : List ℕ) (t : IsThere b noted rows opened) → has_found b noted t.game rows ≡ true
+is_found : (b : Board) (noted : Option ℕ) (rows : List Row) (opened : List ℕ) (t : IsThere b noted rows opened) → has_found b noted t.game rows ≡ true
 is_found b noted rows opened t = found_by b noted t.game rows t.new t.fits t.there
 
-games_hold : (b : Board) (noted given : List ℕ) (rows : List Row) (opened games : List ℕ) →
+games_hold : (b : Board) (noted : Option ℕ) (given : List ℕ) (rows : List Row) (opened games : List ℕ) →
     filter b.fits (candidates_in noted b.white rows) ≡ games → NoteHolds b (Some (Opening noted)) given rows opened →
     DoesHold (Some (step_of_games games)) (Some (Opening noted)) given rows opened
 games_hold b noted given rows opened [] e holds = (
@@ -149,49 +148,36 @@ seats_hold white black game note given rows opened None h = tt
 seats_hold white black game note given rows opened (Some seats) h =
     if_holds game note given rows opened (not (sits white seats.white)) (sits black seats.black) (is_free_for black seats.black) h
 
--- a look at which each server was heard
-whole_holds : (b : Board) (note : Option Reached) (given : List ℕ) (rows : List Row) (opened : List ℕ) (seats : Option Seats) →
+look_holds : (b : Board) (note : Option Reached) (given : List ℕ) (rows : List Row) (opened : List ℕ) (seats : Option Seats) →
     TellNewer given (numbers_of rows) → NoteHolds b note given rows opened →
-    DoesHold (Some (step_at b note [] rows seats)) note given rows opened
-whole_holds b None given rows opened seats tell holds = (refl, tell)
-whole_holds b (Some (Opening noted)) given rows opened seats tell holds =
+    DoesHold (Some (step_at b note rows seats)) note given rows opened
+look_holds b None given rows opened seats tell holds = (refl, tell)
+look_holds b (Some (Opening noted)) given rows opened seats tell holds =
     games_hold b noted given rows opened (filter b.fits (candidates_in noted b.white rows)) refl holds
-whole_holds b (Some (Opened game)) given rows opened seats tell holds =
+look_holds b (Some (Opened game)) given rows opened seats tell holds =
     seats_hold b.white b.black game (Some (Opened game)) given rows opened seats holds
-whole_holds b (Some (Joined game)) given rows opened seats tell holds = tt
-
--- another one
-part_holds : (b : Board) (note : Option Reached) (given : List ℕ) (rows seen : List Row) (opened : List ℕ) (seats : Option Seats) (server : ℕ)
-    (away : List ℕ) → NoteHolds b note given rows opened → DoesHold (Some (step_at b note (server ∷ away) seen seats)) note given seen opened
-part_holds b None given rows seen opened seats server away holds = tt
-part_holds b (Some (Opening noted)) given rows seen opened seats server away holds = tt
-part_holds b (Some (Opened game)) given rows seen opened seats server away holds =
-    seats_hold b.white b.black game (Some (Opened game)) given seen opened seats holds
-part_holds b (Some (Joined game)) given rows seen opened seats server away holds = tt
-
-look_holds : (b : Board) (note : Option Reached) (given : List ℕ) (rows seen : List Row) (opened : List ℕ) (seats : Option Seats) (away : List ℕ) →
-    (away ≡ [] → seen ≡ rows) → TellNewer given (numbers_of rows) → NoteHolds b note given rows opened →
-    DoesHold (Some (step_at b note away seen seats)) note given seen opened
-look_holds b note given rows seen opened seats [] is_whole tell holds =
-    subst (λ (rs : List Row). DoesHold (Some (step_at b note [] rs seats)) note given rs opened) (sym (is_whole refl))
-    (whole_holds b note given rows opened seats tell holds)
-look_holds b note given rows seen opened seats (server ∷ away) is_whole tell holds = part_holds b note given rows seen opened seats server away holds
+look_holds b (Some (Joined game)) given rows opened seats tell holds = tt
 
 -- ---- it does
 
 more_given : (given more these : List ℕ) → TellNewer given these → TellNewer (given ++ more) these
 more_given given more these tell n h =
-    tell n (and_parts (is_newer given n) (is_newer more n) (sym (list_all-append (λ one. is_past one n) given more) ∙ h)).0
+    tell n (and_parts (is_newest given n) (is_newest more n) (sym (list_all-append (λ one. nat_lt one n) given more) ∙ h)).0
+
+-- the same of one game
+more_past : (given more : List ℕ) (this : Option ℕ) → IsNoNewer given this → IsNoNewer (given ++ more) this
+more_past given more this tell n h =
+    tell n (and_parts (is_newest given n) (is_newest more n) (sym (list_all-append (λ one. nat_lt one n) given more) ∙ h)).0
 
 one_given : (given : List ℕ) (rows : List Row) (row : Row) → TellNewer given (numbers_of rows) →
     TellNewer (given ++ row.game ∷ []) (numbers_of (rows ++ row ∷ []))
 one_given given rows row tell n h =
-    let both = sym (list_all-append (λ one. is_past one n) given (row.game ∷ [])) ∙ h in
-    ap (λ ns. is_newer ns n) (map-append (λ (r : Row). r.game) rows (row ∷ []))
-    ∙ (list_all-append (λ one. is_past one n) (numbers_of rows) (row.game ∷ [])
-    ∙ and_from (is_newer (numbers_of rows) n) (is_newer (row.game ∷ []) n)
-    (tell n (and_parts (is_newer given n) (is_newer (row.game ∷ []) n) both).0)
-    (and_parts (is_newer given n) (is_newer (row.game ∷ []) n) both).1)
+    let both = sym (list_all-append (λ one. nat_lt one n) given (row.game ∷ [])) ∙ h in
+    ap (λ ns. is_newest ns n) (map-append (λ (r : Row). r.game) rows (row ∷ []))
+    ∙ (list_all-append (λ one. nat_lt one n) (numbers_of rows) (row.game ∷ [])
+    ∙ and_from (is_newest (numbers_of rows) n) (is_newest (row.game ∷ []) n)
+    (tell n (and_parts (is_newest given n) (is_newest (row.game ∷ []) n) both).0)
+    (and_parts (is_newest given n) (is_newest (row.game ∷ []) n) both).1)
 
 row_there : (white : List ℕ) (game : ℕ) → ((game == game) && bytes_eq white white) ≡ true
 row_there white game =
@@ -202,12 +188,12 @@ one_opened opened game none = ap (λ (xs : List ℕ). xs ++ game ∷ []) none
 
 -- the game is opened, and the note stays
 open_holds : (b : Board) (note : Option Reached) (given : List ℕ) (rows : List Row) (opened : List ℕ) (game : ℕ) (is : IsOpening note) →
-    opened ≡ [] → NoteHolds b note given rows opened → is_newer given game ≡ true → b.fits game ≡ true →
+    opened ≡ [] → NoteHolds b note given rows opened → is_newest given game ≡ true → b.fits game ≡ true →
     NoteHolds b note (given ++ game ∷ []) (rows ++ row_of b game ∷ []) (opened ++ game ∷ [])
 open_holds b note given rows opened game is none holds new fits =
     let at : NoteHolds b (Some (Opening is.noted)) given rows opened = subst (λ (n : Option Reached). NoteHolds b n given rows opened) is.is holds in
     subst (λ (n : Option Reached). NoteHolds b n (given ++ game ∷ []) (rows ++ row_of b game ∷ []) (opened ++ game ∷ [])) (sym is.is) (
-      more_given given (game ∷ []) is.noted at.0,
+      more_past given (game ∷ []) is.noted at.0,
       inr (record {
         game = game;
         one = one_opened opened game none;
@@ -221,7 +207,7 @@ none_opened : (b : Board) (note : Option Reached) (given : List ℕ) (rows : Lis
     NoteHolds b note given rows opened → opened ≡ []
 none_opened b note given rows opened none holds = subst (λ (n : Option Reached). NoteHolds b n given rows opened) none holds
 
-acted_sound : (b : Board) (s : Standing) (older : List ℕ) (game : ℕ) (is_noted : Bool) (does : Option Step) → IsSound b s →
+acted_sound : (b : Board) (s : Standing) (older : Option ℕ) (game : ℕ) (is_noted : Bool) (does : Option Step) → IsSound b s →
     DoesHold does s.note s.given s.seen s.opened → IsDone b older game does s → IsSound b (acted b older game is_noted does s)
 acted_sound b s older game is_noted None sound holds done = sound
 acted_sound b s older game is_noted (Some steps.Begin) sound holds done =
@@ -245,7 +231,6 @@ acted_sound b s older game is_noted (Some (steps.Take one)) sound holds done = r
 acted_sound b s older game is_noted (Some (steps.Join one)) sound holds done = record { given = sound.given; note = sound.note; does = tt }
 acted_sound b s older game is_noted (Some (steps.Note one)) sound holds done = record { given = sound.given; note = holds; does = tt }
 acted_sound b s older game is_noted (Some (steps.Has one)) sound holds done = record { given = sound.given; note = sound.note; does = tt }
-acted_sound b s older game is_noted (Some steps.LookAgain) sound holds done = record { given = sound.given; note = sound.note; does = tt }
 acted_sound b s older game is_noted (Some steps.Ask) sound holds done = record { given = sound.given; note = sound.note; does = tt }
 
 -- ---- the table changes
@@ -258,7 +243,7 @@ pass_note : (b : Board) (note : Option Reached) (given more : List ℕ) (old new
     NoteHolds b note given old opened → NoteHolds b note (given ++ more) new opened
 pass_note b None given more old new opened stays holds = holds
 pass_note b (Some (Opening noted)) given more old new opened stays holds = (
-  more_given given more noted holds.0,
+  more_past given more noted holds.0,
   elim holds.1 [
     | inl none ↦ inl none
     | inr there ↦ inr (record {
@@ -283,17 +268,14 @@ pass_does (Some (steps.Join game)) note given more seen opened holds = tt
 pass_does (Some (steps.Note game)) note given more seen opened holds = holds
 pass_does (Some (steps.Has game)) note given more seen opened holds = tt
 pass_does (Some steps.Ask) note given more seen opened holds = tt
-pass_does (Some steps.LookAgain) note given more seen opened holds = tt
 
 -- ---- all of it
 
 sound_more : (b : Board) (event : RunStep) (s : Standing) → IsSound b s → IsAllowed b event s → IsSound b (happened b event s)
-sound_more b (Looks servers heard seats) s sound allowed = record {
+sound_more b (Looks seats) s sound allowed = record {
   given = sound.given;
   note = sound.note;
-  does =
-      look_holds b s.note s.given s.rows (seen_of heard s.rows) s.opened seats (unheard servers (older_in s.note) heard)
-      (whole servers (older_in s.note) heard s.rows allowed) sound.given sound.note;
+  does = look_holds b s.note s.given s.rows s.opened seats sound.given sound.note;
 }
 sound_more b (Acts older game is_noted) s sound allowed = acted_sound b s older game is_noted s.does sound sound.does allowed
 sound_more b Dies s sound allowed = record { given = sound.given; note = sound.note; does = tt }

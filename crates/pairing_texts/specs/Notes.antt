@@ -1,7 +1,6 @@
 -- A note of the round's file, an object of JSON in a line: how far the game of a board is.
-use Rattle.std.specs.Prelude.{ℕ, ◌≡◌, ◌<◌, ◌^◌, ◌==◌, Bool, true, false, List, [], ◌∷◌, ◌++◌, codes, decimal, map, flat_map, Option, None, Some, if◌then◌else◌}
+use Rattle.std.specs.Prelude.{ℕ, ◌≡◌, ◌<◌, ◌^◌, ◌==◌, true, List, [], ◌∷◌, ◌++◌, codes, decimal, Option, None, Some, if◌then◌else◌}
 use Rattle.std.specs.Str.{bytes_eq}
-use Rattle.text_parts.specs.Parts.{parts_of}
 use Rattle.lobby_words.specs.Words.{number_or_0}
 use Rattle.lobby_words.specs.Waiting.{is_name}
 use Rattle.pairing_texts.specs.declared.notes.Note.{Note}
@@ -10,20 +9,21 @@ use Rattle.pairing_texts.specs.declared.notes.Stage.TheVariants as stages
 use Rattle.pairing_texts.specs.Times.{front_of, rest_of}
 use Rattle.pairing_texts.specs.Rows.{name_in}
 
--- how far the game of a board is: about to be opened, newer than these games; opened with this number; joined by Black
+-- how far the game of a board is: about to be opened, newer than this game, where there is one; opened with this number; joined by
+-- Black
 pub data Reached : Type 0 where
-  Opening : (games : List ℕ) → Reached
+  Opening : (older : Option ℕ) → Reached
   Opened : (game : ℕ) → Reached
   Joined : (game : ℕ) → Reached
 
 abbrev pub reached : Stage → Reached
-reached (stages.Opening games) = Opening games.items
+reached (stages.Opening older) = Opening older
 reached (stages.Opened game) = Opened game
 reached (stages.Joined game) = Joined game
 
 -- the board's game, where that was opened
 abbrev pub game_in : Reached → Option ℕ
-game_in (Opening games) = None
+game_in (Opening older) = None
 game_in (Opened game) = Some game
 game_in (Joined game) = Some game
 
@@ -38,22 +38,17 @@ abbrev pub note_state : Note → NoteState
 note_state n = record { board = n.board; white = n.white; black = n.black; stage = reached n.stage }
 
 abbrev pub stage_word : Reached → List ℕ
-stage_word (Opening games) = codes "opening"
+stage_word (Opening older) = codes "opening"
 stage_word (Opened game) = codes "opened"
 stage_word (Joined game) = codes "joined"
 
--- each behind a comma
-abbrev pub behind_commas : List ℕ → List ℕ
-behind_commas numbers = flat_map (λ n. codes "," ++ decimal n) numbers
-
--- an array of numbers; one alone stands without brackets
-abbrev pub numbers_text : List ℕ → List ℕ
-numbers_text [] = codes "[]"
-numbers_text (n ∷ []) = decimal n
-numbers_text (n ∷ m ∷ more) = codes "[" ++ (decimal n ++ (behind_commas (m ∷ more) ++ codes "]"))
+-- the game that is older; `[]` where there is none
+abbrev pub older_text : Option ℕ → List ℕ
+older_text None = codes "[]"
+older_text (Some game) = decimal game
 
 abbrev pub value_text : Reached → List ℕ
-value_text (Opening games) = numbers_text games
+value_text (Opening older) = older_text older
 value_text (Opened game) = decimal game
 value_text (Joined game) = decimal game
 
@@ -100,21 +95,13 @@ white_in line = name_in (unquoted (value_of (member_in (behind_one line))))
 abbrev pub black_in : List ℕ → Option (List ℕ)
 black_in line = name_in (unquoted (value_of (member_in (behind_two line))))
 
--- the numbers of an array, or a number alone
-abbrev pub is_array : List ℕ → Bool
-is_array [] = false
-is_array (b ∷ bs) = b == 91
-
-abbrev pub array_in : List ℕ → List ℕ
-array_in text = map number_or_0 (parts_of 44 (front_of 93 (rest_of 91 text)))
-
-abbrev pub numbers_in : List ℕ → List ℕ
-numbers_in text = if is_array text then array_in text else number_or_0 text ∷ []
+abbrev pub older_in : List ℕ → Option ℕ
+older_in text = if bytes_eq text (codes "[]") then None else Some (number_or_0 text)
 
 -- how far a game is by a word and what stands for it
 abbrev pub reached_in : List ℕ → List ℕ → Option Reached
 reached_in word value =
-    if bytes_eq word (codes "opening") then Some (Opening (numbers_in value))
+    if bytes_eq word (codes "opening") then Some (Opening (older_in value))
     else (if bytes_eq word (codes "opened") then Some (Opened (number_or_0 value))
     else (if bytes_eq word (codes "joined") then Some (Joined (number_or_0 value)) else None))
 
@@ -145,13 +132,10 @@ where_spelled line (Some note) = if bytes_eq (note_text note) line then Some not
 abbrev pub note_in : List ℕ → Option NoteState
 note_in line = where_spelled line (likely_note line)
 
--- numbers of games
-abbrev pub AreNumbers : List ℕ → Type 0
-AreNumbers [] = Unit {0}
-AreNumbers (n ∷ ns) = (n < 2 ^ 32) × AreNumbers ns
-
+-- its number is that of a game
 abbrev pub IsReached : Reached → Type 0
-IsReached (Opening games) = AreNumbers games
+IsReached (Opening None) = Unit {0}
+IsReached (Opening (Some game)) = game < 2 ^ 32
 IsReached (Opened game) = game < 2 ^ 32
 IsReached (Joined game) = game < 2 ^ 32
 

@@ -1,15 +1,14 @@
 -- What becomes of a board while `start` is killed at any moments and given again, its server goes on, and others open, join,
 -- end and drop games.
-use Rattle.std.specs.Prelude.{ℕ, ◌≡◌, ◌≤◌, ◌==◌, ◌&&◌, Bool, true, false, not, List, [], ◌∷◌, ◌++◌, length, filter, map, Option, None, Some, if◌then◌else◌}
-use Rattle.std.specs.List.{list_any, list_all}
+use Rattle.std.specs.Prelude.{ℕ, ◌≡◌, ◌≤◌, ◌==◌, ◌&&◌, Bool, true, false, not, List, [], ◌∷◌, ◌++◌, length, filter, Option, None, Some, if◌then◌else◌}
+use Rattle.std.specs.List.{list_any}
 use Rattle.pairing_texts.specs.declared.steps.Seats.{Seats}
 use Rattle.pairing_texts.specs.declared.steps.Step.{Step}
 use Rattle.pairing_texts.specs.declared.steps.Step.TheVariants as steps
 use Rattle.pairing_texts.specs.declared.steps.Row.{Row}
-use Rattle.lobby_words.specs.Servers.{server_of}
-use Rattle.pairing_texts.specs.Newer.{is_newer}
+use Rattle.pairing_texts.specs.Newer.{is_newer, is_newest}
 use Rattle.pairing_texts.specs.Notes.{Reached, Opening, Opened, Joined, game_in}
-use Rattle.pairing_texts.specs.Steps.{sits, candidates_in, numbers_of, unheard, step_of}
+use Rattle.pairing_texts.specs.Steps.{sits, candidates_in, numbers_of, step_of}
 
 -- A board: its players, and which games have its times and begin with the initial position. That is so of a game, or is not,
 -- all the time: a game has the times that it was opened with, and the board has those that it had at first.
@@ -18,7 +17,7 @@ pub record Board : Type 0 where
   pub black : List ℕ
   pub fits : ℕ → Bool
 
--- How it stands: the games on the table of all servers; the numbers of all games that were given so far; the board's last note; of
+-- How it stands: the games on the table; the numbers of all games that were given so far; the board's last note; of
 -- a `start` that runs what it saw of the table, and what it is about to do; and the games that `start` has opened for the board.
 pub record Standing : Type 0 where
   pub rows : List Row
@@ -28,45 +27,27 @@ pub record Standing : Type 0 where
   pub does : Option Step
   pub opened : List ℕ
 
--- What happens. `start` looks at the table, is told that it has these servers, hears these, and sees these seats of the game that
--- was noted; what it is about to do is done: it notes these games as the older ones, and a game that is opened gets this number,
--- which is noted, or it is killed before; it is killed; and the table is another, with more games given: players act, also for
--- `start`, which has Black join.
+-- What happens. `start` looks at the table, and sees these seats of the game that was noted; what it is about to do is done: it notes
+-- this game as the newest of the older ones, and a game that is opened gets this number, which is noted, or it is killed before; it
+-- is killed; and the table is another, with more games given: players act, also for `start`, which has Black join.
 pub data RunStep : Type 0 where
-  Looks : (servers : List ℕ) → (heard : List ℕ) → (seats : Option Seats) → RunStep
-  Acts : (older : List ℕ) → (game : ℕ) → (is_noted : Bool) → RunStep
+  Looks : (seats : Option Seats) → RunStep
+  Acts : (older : Option ℕ) → (game : ℕ) → (is_noted : Bool) → RunStep
   Dies : RunStep
   Passes : (rows : List Row) → (more : List ℕ) → RunStep
 
 -- the games that may be the board's and have its times, where it is about to be opened
 abbrev pub games_at : Board → Option Reached → List Row → List ℕ
 games_at b None rows = []
-games_at b (Some (Opening noted)) rows = filter b.fits (candidates_in noted b.white rows)
+games_at b (Some (Opening older)) rows = filter b.fits (candidates_in older b.white rows)
 games_at b (Some (Opened game)) rows = []
 games_at b (Some (Joined game)) rows = []
 
--- of the table the games of the servers that were heard
-abbrev pub is_of : List ℕ → Row → Bool
-is_of servers row = list_any (λ one. one == server_of row.game) servers
+abbrev pub step_at : Board → Option Reached → List Row → Option Seats → Step
+step_at b note seen seats = step_of b.white b.black note (games_at b note seen) seats
 
-abbrev pub seen_of : List ℕ → List Row → List Row
-seen_of heard rows = filter (λ row. is_of heard row) rows
-
--- the games that were noted as the older ones, where the board's is about to be opened
-abbrev pub older_in : Option Reached → List ℕ
-older_in None = []
-older_in (Some (Opening older)) = older
-older_in (Some (Opened game)) = []
-older_in (Some (Joined game)) = []
-
-abbrev pub step_at : Board → Option Reached → List ℕ → List Row → Option Seats → Step
-step_at b note away seen seats = step_of b.white b.black note away (games_at b note seen) seats
-
-abbrev pub looked : Board → List ℕ → List ℕ → Option Seats → Standing → Standing
-looked b servers heard seats s = record s {
-  seen = seen_of heard s.rows;
-  does = Some (step_at b s.note (unheard servers (older_in s.note) heard) (seen_of heard s.rows) seats);
-}
+abbrev pub looked : Board → Option Seats → Standing → Standing
+looked b seats s = record s { seen = s.rows; does = Some (step_at b s.note s.rows seats) }
 
 abbrev pub noted : Reached → Option Step → Standing → Standing
 noted note next s = record s { note = Some note; does = next }
@@ -84,7 +65,7 @@ with_opened_game b game s = record s {
 }
 
 -- what `start` is about to do is done; what was noted or opened it goes on with, without another look
-abbrev pub acted : Board → List ℕ → ℕ → Bool → Option Step → Standing → Standing
+abbrev pub acted : Board → Option ℕ → ℕ → Bool → Option Step → Standing → Standing
 acted b older game is_noted None s = s
 acted b older game is_noted (Some steps.Begin) s = noted (Opening older) (Some steps.Open) s
 acted b older game is_noted (Some steps.Open) s =
@@ -94,22 +75,25 @@ acted b older game is_noted (Some (steps.Join one)) s = record s { does = None }
 acted b older game is_noted (Some (steps.Note one)) s = noted (Joined one) None s
 acted b older game is_noted (Some (steps.Has one)) s = record s { does = None }
 acted b older game is_noted (Some steps.Ask) s = record s { does = None }
-acted b older game is_noted (Some steps.LookAgain) s = record s { does = None }
 
 abbrev pub happened : Board → RunStep → Standing → Standing
-happened b (Looks servers heard seats) s = looked b servers heard seats s
+happened b (Looks seats) s = looked b seats s
 happened b (Acts older game is_noted) s = acted b older game is_noted s.does s
 happened b Dies s = record s { does = None }
 happened b (Passes rows more) s = record s { rows = rows; given = s.given ++ more }
 
 -- what is newer than those games is newer than these
 abbrev pub TellNewer : List ℕ → List ℕ → Type 0
-TellNewer those these = (n : ℕ) → is_newer those n ≡ true → is_newer these n ≡ true
+TellNewer those these = (n : ℕ) → is_newest those n ≡ true → is_newest these n ≡ true
+
+-- this game is no newer than those: what is newer than them is newer than it
+abbrev pub IsNoNewer : List ℕ → Option ℕ → Type 0
+IsNoNewer those this = (n : ℕ) → is_newest those n ≡ true → is_newer this n ≡ true
 
 -- what `start` notes is no newer than the games that it saw, and what the server opens has a new number, and the board's times
-abbrev pub IsDone : Board → List ℕ → ℕ → Option Step → Standing → Type 0
-IsDone b older game (Some steps.Begin) s = TellNewer (numbers_of s.seen) older
-IsDone b older game (Some steps.Open) s = (is_newer s.given game ≡ true) × (b.fits game ≡ true)
+abbrev pub IsDone : Board → Option ℕ → ℕ → Option Step → Standing → Type 0
+IsDone b older game (Some steps.Begin) s = IsNoNewer (numbers_of s.seen) older
+IsDone b older game (Some steps.Open) s = (is_newest s.given game ≡ true) × (b.fits game ≡ true)
 IsDone b older game _ s = Unit {0}
 
 -- the table has this game, and White sits in it
@@ -118,17 +102,13 @@ has_game white game rows = list_any (λ row. (row.game == game) && sits white ro
 
 -- While it is noted that the board's game is about to be opened, the one that `start` opened for it stays on the table.
 abbrev pub Stays : Board → Option Reached → List ℕ → List Row → List Row → Type 0
-Stays b (Some (Opening noted)) opened old new =
+Stays b (Some (Opening older)) opened old new =
     (game : ℕ) → list_any (λ one. one == game) opened ≡ true → has_game b.white game old ≡ true → has_game b.white game new ≡ true
 Stays b _ opened old new = Unit {0}
 
--- Each game of the table is of a server that the table is told to have, or of one of which a game was noted as an older one.
-abbrev pub are_of : List ℕ → List ℕ → List Row → Bool
-are_of servers older rows = list_all (λ row. is_of (servers ++ map (λ game. server_of game) older) row) rows
-
 -- What may happen. The arbiter says nothing meanwhile.
 abbrev pub IsAllowed : Board → RunStep → Standing → Type 0
-IsAllowed b (Looks servers heard seats) s = are_of servers (older_in s.note) s.rows ≡ true
+IsAllowed b (Looks seats) s = Unit {0}
 IsAllowed b (Acts older game is_noted) s = IsDone b older game s.does s
 IsAllowed b Dies s = Unit {0}
 IsAllowed b (Passes rows more) s = TellNewer (s.given ++ more) (numbers_of rows) × Stays b s.note s.opened s.rows rows

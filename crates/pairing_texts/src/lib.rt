@@ -17,5 +17,5 @@ pub use notes::{Note, Stage, game_in, last_of, note_of, note_text};
 pub use outcomes::{Outcome, results};
 pub use reading::read;
 pub use rows::{Game, Pairing};
-pub use steps::{Row, Seats, Step, candidates, is_newer, newest, step_of, unheard, with_newest};
+pub use steps::{Row, Seats, Step, candidates, is_newer, newest, step_of};
 pub use times::{Period, Times, times_of, times_text};

@@ -1,8 +1,7 @@
 //! The game of one board: it is opened, noted, joined and noted.
-use crate::look::{Sight, look};
 use crate::round_file::RoundFile;
-use crate::table::{has_times, show_game};
-use anyhow::{Error, Result, anyhow};
+use crate::table::{has_times, look, show_game};
+use anyhow::Result;
 use pairing_texts::{
     Game, Note, Pairing, Row, Seats, Stage, Step, Times, candidates, newest, step_of, times_text,
 };
@@ -28,11 +27,11 @@ pub struct Board {
     pub taken: Option<u32>,
 }
 
-// What is to be done about a board, and what that was seen by.
+// What is to be done about a board, and the games that were looked at.
 #[derive(Drop)]
 struct Seen {
     step: Step,
-    sight: Sight,
+    rows: Vec<Row>,
 }
 
 // The game that an answer to `open` tells.
@@ -67,20 +66,6 @@ fn with_times(alloc: Global, link: &mut Link, games: &[u32], times: &str) -> Res
         }
     }
     Ok(with)
-}
-
-fn push_behind_space(text: &mut String, alloc: Global, number: u32) -> Result<(), AllocError> {
-    let number = format!(in alloc; " {number}")?;
-    text.push_str(number.as_str())
-}
-
-// The numbers, each behind a space.
-fn numbers_text(alloc: Global, numbers: &[u32]) -> Result<String, AllocError> {
-    let mut text = String::new(alloc);
-    for number in numbers {
-        push_behind_space(&mut text, alloc, *number)?;
-    }
-    Ok(text)
 }
 
 // What became of a board, where that is settled by what was to be done about it.
@@ -128,10 +113,10 @@ impl Board {
         Ok(())
     }
 
-    // The games that may be its and have its times, since it was noted that it is about to be opened, and is newer than these.
-    fn games(&self, link: &mut Link, noted: &[u32], rows: &[Row]) -> Result<Vec<u32>> {
+    // The games that may be its and have its times, since it was noted that it is about to be opened, and is newer than this one.
+    fn games(&self, link: &mut Link, older: Option<u32>, rows: &[Row]) -> Result<Vec<u32>> {
         let times = times_text(self.alloc, self.game.times)?;
-        let found = candidates(self.alloc, noted, &self.pairing.white, rows)?;
+        let found = candidates(self.alloc, older, &self.pairing.white, rows)?;
         with_times(self.alloc, link, found.as_slice(), times.as_str())
     }
 
@@ -149,39 +134,27 @@ impl Board {
         }
     }
 
-    // What is to be done about it where its game was not opened, by what was seen of the table and these games.
-    fn step_by(&self, stage: Option<&Stage>, away: &[u32], games: &[u32]) -> Step {
-        let (white, black) = (&self.pairing.white, &self.game.black);
-        step_of(white, black, stage, away, games, None)
+    // What is to be done about it, by these games or the seats of its own.
+    fn step_by(&self, stage: Option<&Stage>, games: &[u32], seats: Option<Seats>) -> Step {
+        step_of(&self.pairing.white, &self.game.black, stage, games, seats)
     }
 
-    // The same, where the games are still to be looked for.
-    fn step_seen(
-        &self,
-        link: &mut Link,
-        stage: Option<&Stage>,
-        noted: &[u32],
-        sight: &Sight,
-    ) -> Result<Step> {
-        let away = sight.away.as_slice();
-        if stage.is_none() || !away.is_empty() {
-            return Ok(self.step_by(stage, away, &[]));
-        }
-        let games = self.games(link, noted, sight.rows.as_slice())?;
-        Ok(self.step_by(stage, away, games.as_slice()))
+    // What is to be done about it where its game was not begun.
+    fn unbegun(&self, link: &mut Link) -> Result<Seen> {
+        Ok(Seen {
+            step: self.step_by(None, &[], None),
+            rows: look(self.alloc, link, false)?,
+        })
     }
 
-    // What is to be done about it where its game was not opened, by a look at the table without these servers.
-    fn look(
-        &self,
-        link: &mut Link,
-        stage: Option<&Stage>,
-        noted: &[u32],
-        without: &[u32],
-    ) -> Result<Seen> {
-        let sight = look(self.alloc, link, noted, without, stage.is_some())?;
-        let step = self.step_seen(link, stage, noted, &sight)?;
-        Ok(Seen { step, sight })
+    // What is to be done about it where it was noted that its game is about to be opened, and is newer than this one.
+    fn begun(&self, link: &mut Link, stage: &Stage, older: Option<u32>) -> Result<Seen> {
+        let rows = look(self.alloc, link, true)?;
+        let games = self.games(link, older, rows.as_slice())?;
+        Ok(Seen {
+            step: self.step_by(Some(stage), games.as_slice(), None),
+            rows,
+        })
     }
 
     // What is to be done about it where this game was noted, by who sits in it.
@@ -191,30 +164,22 @@ impl Board {
         if seats.is_none() && self.taken == Some(game) {
             return Ok(Step::Note(game));
         }
-        let (white, black) = (&self.pairing.white, &self.game.black);
-        Ok(step_of(white, black, Some(stage), &[], &[], seats))
+        Ok(self.step_by(Some(stage), &[], seats))
     }
 
     // What is to be done about it now.
-    fn seen(
-        &self,
-        link: &mut Link,
-        file: &RoundFile,
-        without: &[u32],
-        opened: Option<u32>,
-    ) -> Result<Seen> {
-        let stage = file.stage_of(self.pairing.board);
+    fn seen(&self, link: &mut Link, file: &RoundFile, opened: Option<u32>) -> Result<Seen> {
+        let Some(stage) = file.stage_of(self.pairing.board) else {
+            return self.unbegun(link);
+        };
         let step = match stage {
-            None => return self.look(link, None, &[], without),
-            Some(Stage::Opening(noted)) => {
-                return self.look(link, stage, noted.as_slice(), without);
-            }
-            Some(Stage::Joined(game)) => Step::Has(*game),
-            Some(noted @ Stage::Opened(game)) => self.step(link, noted, *game, opened)?,
+            Stage::Opening(older) => return self.begun(link, stage, *older),
+            Stage::Joined(game) => Step::Has(*game),
+            Stage::Opened(game) => self.step(link, stage, *game, opened)?,
         };
         Ok(Seen {
             step,
-            sight: Sight::none(self.alloc),
+            rows: Vec::new(self.alloc),
         })
     }
 
@@ -226,16 +191,8 @@ impl Board {
         rows: &[Row],
         opened: &mut Option<u32>,
     ) -> Result<()> {
-        let older = newest(self.alloc, rows)?;
-        file.put(self.note(Stage::Opening(older)))?;
+        file.put(self.note(Stage::Opening(newest(rows))))?;
         self.open(link, file, opened)
-    }
-
-    // That servers were not heard, one of which may have its game.
-    fn not_heard(&self, away: &[u32]) -> Result<Error> {
-        let white = self.pairing.white.as_str();
-        let servers = numbers_text(self.alloc, away)?;
-        Ok(anyhow!("these servers are away and may have games of {white}:{servers}"))
     }
 
     // Does what was seen to be done. `opened` is its game where White has just opened it.
@@ -247,7 +204,7 @@ impl Board {
         opened: &mut Option<u32>,
     ) -> Result<()> {
         match seen.step {
-            Step::Begin => self.begin(link, file, seen.sight.rows.as_slice(), opened),
+            Step::Begin => self.begin(link, file, seen.rows.as_slice(), opened),
             Step::Open => self.open(link, file, opened),
             Step::Take(game) => file.put(self.note(Stage::Opened(game))),
             Step::Join(game) => {
@@ -255,7 +212,6 @@ impl Board {
                 self.join(link, game)
             }
             Step::Note(game) => file.put(self.note(Stage::Joined(game))),
-            Step::LookAgain => Err(self.not_heard(seen.sight.away.as_slice())?),
             Step::Has(_) | Step::Ask => Ok(()),
         }
     }
@@ -265,20 +221,19 @@ impl Board {
         &self,
         link: &mut Link,
         file: &mut RoundFile,
-        without: &[u32],
         opened: &mut Option<u32>,
     ) -> Result<Option<Became>> {
-        let seen = self.seen(link, file, without, *opened)?;
+        let seen = self.seen(link, file, *opened)?;
         self.act(link, file, &seen, opened)?;
         Ok(became_by(seen.step))
     }
 
-    /// Goes on with its game until Black has joined it, or until it is the arbiter's to say which it is; these servers are not
-    /// waited for. Wherever it fails or the process is killed, it may be called again.
-    pub fn go_on(&self, link: &mut Link, file: &mut RoundFile, without: &[u32]) -> Result<Became> {
+    /// Goes on with its game until Black has joined it, or until it is the arbiter's to say which it is. Wherever
+    /// it fails or the process is killed, it may be called again.
+    pub fn go_on(&self, link: &mut Link, file: &mut RoundFile) -> Result<Became> {
         let mut opened = None;
         for _ in 0..8 {
-            if let Some(became) = self.do_step(link, file, without, &mut opened)? {
+            if let Some(became) = self.do_step(link, file, &mut opened)? {
                 return Ok(became);
             }
         }

@@ -4,7 +4,6 @@
 mod board;
 mod checks;
 mod files;
-mod look;
 mod round_file;
 mod said;
 mod table;

@@ -2,8 +2,7 @@
 use crate::board::Board;
 use crate::round_file::RoundFile;
 use anyhow::Result;
-use pairing_texts::{Stage, is_newer, with_newest};
-use std::alloc::Global;
+use pairing_texts::{Stage, is_newer};
 
 // The pairing of a board.
 fn board_of(boards: &[Board], number: u32) -> Result<Board> {
@@ -15,11 +14,11 @@ fn board_of(boards: &[Board], number: u32) -> Result<Board> {
     anyhow::bail!("board {number} has no game to be opened")
 }
 
-// Whether no game up to this one of its server is a board's by its notes.
+// Whether no game up to this one is a board's by its notes.
 fn is_after(file: &RoundFile, board: u32, game: u32) -> bool {
     match file.stage_of(board) {
-        Some(Stage::Opening(older)) => !is_newer(older.as_slice(), game),
-        Some(Stage::Opened(noted)) | Some(Stage::Joined(noted)) => is_newer(&[game], *noted),
+        Some(Stage::Opening(older)) => !is_newer(*older, game),
+        Some(Stage::Opened(noted)) | Some(Stage::Joined(noted)) => is_newer(Some(game), *noted),
         None => false,
     }
 }
@@ -33,25 +32,17 @@ fn take_game(file: &mut RoundFile, boards: &[Board], number: u32, game: u32) -> 
     file.put(board.note(Stage::Opened(game)))
 }
 
-// Notes that no game up to this one of its server is a board's, where that was not noted before.
-fn take_after(
-    alloc: Global,
-    file: &mut RoundFile,
-    boards: &[Board],
-    number: u32,
-    game: u32,
-) -> Result<()> {
+// Notes that no game up to this one is a board's, where that was not noted before.
+fn take_after(file: &mut RoundFile, boards: &[Board], number: u32, game: u32) -> Result<()> {
     let board = board_of(boards, number)?;
     if is_after(file, number, game) {
         return Ok(());
     }
-    let older = with_newest(alloc, file.older_of(number), game)?;
-    file.put(board.note(Stage::Opening(older)))
+    file.put(board.note(Stage::Opening(Some(game))))
 }
 
 /// Notes what the arbiter said of boards: the games that are theirs, and games up to which none is theirs.
 pub fn take_words(
-    alloc: Global,
     file: &mut RoundFile,
     boards: &[Board],
     takes: &[(u32, u32)],
@@ -61,7 +52,7 @@ pub fn take_words(
         take_game(file, boards, *number, *game)?;
     }
     for (number, game) in afters {
-        take_after(alloc, file, boards, *number, *game)?;
+        take_after(file, boards, *number, *game)?;
     }
     Ok(())
 }

@@ -23,6 +23,7 @@ fn row_in(line: &str) -> Result<Row> {
     }
 }
 
+// Puts the games of these lines behind others.
 fn put_rows(rows: &mut Vec<Row>, lines: &[&str]) -> Result<()> {
     for line in lines {
         let row = row_in(line)?;
@@ -31,12 +32,27 @@ fn put_rows(rows: &mut Vec<Row>, lines: &[&str]) -> Result<()> {
     Ok(())
 }
 
-/// The games of the server's list.
-pub fn rows_in(alloc: Global, list: &str) -> Result<Vec<Row>> {
+// The games of the server's list.
+fn rows_in(alloc: Global, list: &str) -> Result<Vec<Row>> {
     let lines = parts(alloc, list, '\n')?;
     let mut rows = Vec::new(alloc);
     put_rows(&mut rows, lines.as_slice())?;
     Ok(rows)
+}
+
+fn list(alloc: Global, link: &mut Link) -> Result<Vec<Row>> {
+    link.say("list")?;
+    let list = link.hear_list()?;
+    rows_in(alloc, list.as_str())
+}
+
+/// The games of the table. Where the look `settles`, what an earlier connection sent is among them: a server has taken that before
+/// its second answer on this one.
+pub fn look(alloc: Global, link: &mut Link, settles: bool) -> Result<Vec<Row>> {
+    if settles {
+        list(alloc, link)?;
+    }
+    list(alloc, link)
 }
 
 /// How a game stands: who sits in it, how many moves were made, the result and the article.

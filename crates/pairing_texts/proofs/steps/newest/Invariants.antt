@@ -1,12 +1,8 @@
-use Rattle.std.proofs.Common.{ℕ, ◌≡◌, ◌≤◌, ◌&&◌, length, take}
-use Rattle.pairing_texts.specs.Newer.{is_newer}
+use Rattle.std.proofs.Common.{ℕ, ◌≡◌, ◌&&◌, drop}
+use Rattle.pairing_texts.specs.Newer.{is_newer, is_newest}
 use Rattle.pairing_texts.specs.Steps.{numbers_of}
 use Rattle.pairing_texts.proofs.steps.newest.Given as goal
 
-abbrev pub invariant-loop-left : goal.invariant-loop-left
-invariant-loop-left l =
-    (l.left ≤ length l.rows)
-    × ((n : ℕ) → (is_newer (numbers_of (take l.left l.rows)) n && is_newer l.games.items n) ≡ is_newer (numbers_of l.rows) n)
-
-abbrev pub decreases-loop-left : goal.decreases-loop-left
-decreases-loop-left l = l.left
+abbrev pub invariant-loop-row : goal.invariant-loop-row
+invariant-loop-row l =
+    (n : ℕ) → (is_newer l.newest n && is_newest (numbers_of (drop l.row-index l.rows)) n) ≡ is_newest (numbers_of l.rows) n

@@ -1,3 +1,0 @@
-pub mod Figures
-pub mod Faults
-pub mod Contents

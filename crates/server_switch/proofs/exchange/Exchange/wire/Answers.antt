@@ -1,9 +1,0 @@
-use Rattle.std.proofs.Common.{ap, ◌∙◌}
-use Rattle.server_switch.specs.Exchanges.{wire_of}
-use Rattle.server_switch.proofs.exchange.Exchange.wire.Goals as goal
-
-pub returns-in-Some : goal.returns-in-Some
-returns-in-Some c = c.as_slice-wire.ensures.value ∙ ap wire_of (rw c.in-Some.is at c.line_at.ensures)
-
-pub returns-in-None : goal.returns-in-None
-returns-in-None c = ap wire_of (rw c.in-None.is at c.line_at.ensures)

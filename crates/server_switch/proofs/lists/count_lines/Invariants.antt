@@ -1,6 +1,0 @@
-use Rattle.std.proofs.Common.{◌≡◌, ◌==◌, take}
-use Rattle.std.specs.List.{count_by}
-use Rattle.server_switch.proofs.lists.count_lines.Given as goal
-
-abbrev pub invariant-loop-byte : goal.invariant-loop-byte
-invariant-loop-byte l = l.count ≡ count_by (λ b. b == 10) (take l.byte-index l.byte-items)

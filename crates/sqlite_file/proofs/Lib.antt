@@ -1,4 +1,0 @@
-pub mod Numbers
-pub mod Chains
-pub mod Pages
-pub mod Headers

@@ -1,5 +1,0 @@
-pub mod Varint
-pub mod Record
-pub mod Cell
-pub mod Page
-pub mod Header
