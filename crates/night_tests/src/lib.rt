@@ -5,6 +5,7 @@
 mod acts;
 #[cfg(test)]
 mod archive;
+mod beside;
 #[cfg(test)]
 mod clerk;
 #[cfg(test)]

@@ -1,8 +1,9 @@
 //! A connection to the lobby, by which an arbiter has boards paired.
+use crate::table::Table;
 use anyhow::{Context, Error, Result, anyhow, bail};
 use http::Request;
 use http::header::{HeaderValue, ORIGIN};
-use server_link::Link;
+use server_link::Answer;
 use std::alloc::Global;
 use std::io::ErrorKind;
 use std::net::{Net, SocketAddr, TcpStream};
@@ -25,22 +26,6 @@ const TRIES: u32 = 200;
 pub struct LobbyLink<'a, R> {
     rt: &'a R,
     socket: WebSocket<TcpStream, RandomKeys<R>>,
-}
-
-/// Who pairs: a lobby, by an arbiter's connection.
-pub trait Pairer {
-    /// The first line of the answer to a message.
-    fn ask(&mut self, line: &str) -> Result<String>;
-
-    /// Waits until what was said over an earlier connection is with the server, or never will be.
-    fn settle(&mut self) -> Result<()>;
-}
-
-/// The ways to the table: the server, which tells of it, and the lobby, which pairs.
-#[derive(Drop)]
-pub struct Ways<P> {
-    pub server: Link,
-    pub lobby: P,
 }
 
 // What is told of a fault of the connection.
@@ -88,13 +73,13 @@ fn is_answer(text: &str) -> bool {
         .any(|front| text.starts_with(*front))
 }
 
-// The first line of a message.
-fn first_line(alloc: Global, text: &str) -> Result<String> {
-    let first = match text.split_once('\n') {
-        Some((first, _)) => first,
-        None => text,
-    };
-    Ok(String::from_str(alloc, first)?)
+// The answer that a message has: its first line, and the lines behind it.
+fn answer_in(alloc: Global, text: &str) -> Result<Answer> {
+    let (first, behind) = text.split_once('\n').unwrap_or((text, ""));
+    Ok(Answer {
+        first: String::from_str(alloc, first)?,
+        behind: String::from_str(alloc, behind)?,
+    })
 }
 
 impl<'a, R> LobbyLink<'a, R>
@@ -118,21 +103,34 @@ where
         LobbyLink::connect(rt, address).context(format_args!("the lobby at {address}"))
     }
 
-    // The first line of the next answer. What comes besides is told to who watches, and is passed over.
-    fn hear(&mut self) -> Result<String> {
-        for _ in 0..u64::MAX {
-            match self.socket.read().map_err(told)? {
-                Message::Text(text) if is_answer(text.as_str()) => {
-                    return first_line(self.rt.alloc(), text.as_str());
-                }
-                Message::Close(_) => break,
-                _ => {}
-            }
+    // What a message says: the answer to what was said, or nothing. That the lobby's server is gone is a fault: what was sent to it
+    // may be taken later, behind what is said once it is back.
+    fn take(&self, message: &Message) -> Result<Option<Answer>> {
+        let Message::Text(text) = message else {
+            return Ok(None);
+        };
+        let text = text.as_str();
+        if text.starts_with("server gone") {
+            bail!("the lobby's server is gone");
         }
-        bail!("the lobby is gone")
+        if is_answer(text) {
+            return Ok(Some(answer_in(self.rt.alloc(), text)?));
+        }
+        Ok(None)
     }
 
-    fn say_and_hear(&mut self, line: &str) -> Result<String> {
+    // The next answer.
+    fn hear(&mut self) -> Result<Answer> {
+        for _ in 0..u64::MAX {
+            let message = self.socket.read().map_err(told)?;
+            if let Some(answer) = self.take(&message)? {
+                return Ok(answer);
+            }
+        }
+        bail!("the lobby does not answer")
+    }
+
+    fn say_and_hear(&mut self, line: &str) -> Result<Answer> {
         let message = Message::text(self.rt.alloc(), line)?;
         self.socket.send(message).map_err(told)?;
         self.hear()
@@ -141,7 +139,8 @@ where
     /// Whether a token is an arbiter's: what is asked from now on is asked by that arbiter.
     pub fn log_in(&mut self, token: &str) -> Result<bool> {
         let line = format!(in self.rt.alloc(); "login {token}")?;
-        let first = self.ask(line.as_str())?;
+        let answer = self.ask(line.as_str(), "ok login all ")?;
+        let first = answer.first.as_str();
         if first.starts_with("no 32 ") {
             return Ok(false);
         }
@@ -149,36 +148,25 @@ where
             bail!("the lobby answers {first:?} to a login");
         };
         Ok(match rest.split_once(' ') {
-            Some((_, role)) => role == "arbiter" || role.starts_with("arbiter "),
+            Some((_, role)) => role.starts_with("arbiter"),
             None => false,
         })
     }
 }
 
-impl<R> Pairer for LobbyLink<'_, R>
+impl<R> Table for LobbyLink<'_, R>
 where
     R: Net<Stream = TcpStream> + RandomSource + AllocGlobal + Clock + Clone + Drop,
 {
-    // (one that came too fast is said again)
-    fn ask(&mut self, line: &str) -> Result<String> {
+    // (a message has all lines of an answer; one that came too fast is said again)
+    fn ask(&mut self, line: &str, _front: &str) -> Result<Answer> {
         for _ in 0..TRIES {
-            let first = self.say_and_hear(line)?;
-            if !first.starts_with("no 34 ") {
-                return Ok(first);
+            let answer = self.say_and_hear(line)?;
+            if !answer.first.starts_with("no 34 ") {
+                return Ok(answer);
             }
             thread::sleep(self.rt, Duration::from_millis(PAUSE));
         }
         bail!("the lobby takes no more messages")
-    }
-
-    // (the lobby takes what it has of another connection before its second answer over this one)
-    fn settle(&mut self) -> Result<()> {
-        for _ in 0..2 {
-            let first = self.ask("list")?;
-            if !first.starts_with("ok list ") {
-                bail!("the lobby answers {first:?} to \"list\"");
-            }
-        }
-        Ok(())
     }
 }
