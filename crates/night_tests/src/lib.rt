@@ -5,6 +5,7 @@
 mod acts;
 #[cfg(test)]
 mod archive;
+#[cfg(test)]
 mod beside;
 #[cfg(test)]
 mod clerk;
