@@ -66,7 +66,8 @@ class Relay:
 
     def __init__(self, server):
         self.server, self.fault, self.delay = server, None, 0
-        self.pair = None
+        # (the lobby also asks the server for its games, by connections of its own)
+        self.pairs = []
         self.listen(0)
 
     def listen(self, port):
@@ -87,27 +88,29 @@ class Relay:
                 continue
             for one in (lobby, server):
                 one.setsockopt(socket.IPPROTO_TCP, socket.TCP_NODELAY, 1)
-            self.pair = (lobby, server)
+            self.pairs.append((lobby, server))
             late = queue.Queue()
             for target, given in ((self.lines_on, (lobby, server)), (self.answers_on, (server, late)),
-                                  (self.late_on, (late, lobby))):
+                                  (self.late_on, (late, lobby, server))):
                 threading.Thread(target=target, args=given, daemon=True).start()
 
-    def cut(self):
-        for one in self.pair or ():
+    def cut(self, pair):
+        for one in pair:
             try:
                 one.shutdown(socket.SHUT_RDWR)
             except OSError:
                 pass
             one.close()
-        self.pair = None
+        if pair in self.pairs:
+            self.pairs.remove(pair)
 
     def hang_up(self):
         """Nobody is there any more."""
         # (a thread in `accept` holds a socket that is only closed)
         self.door.shutdown(socket.SHUT_RDWR)
         self.door.close()
-        self.cut()
+        for pair in list(self.pairs):
+            self.cut(pair)
 
     def lines_on(self, lobby, server):
         try:
@@ -132,7 +135,7 @@ class Relay:
                 server.sendall(line)
         except OSError:
             pass
-        self.cut()
+        self.cut((lobby, server))
 
     def answers_on(self, server, late):
         self.muted = False
@@ -144,13 +147,13 @@ class Relay:
             pass
         late.put((0, b''))
 
-    def late_on(self, late, lobby):
+    def late_on(self, late, lobby, server):
         try:
             while True:
                 moment, some = late.get()
                 time.sleep(max(0, moment - time.monotonic()))
                 if not some:
-                    return self.cut()
+                    return self.cut((lobby, server))
                 lobby.sendall(some)
         except OSError:
             pass

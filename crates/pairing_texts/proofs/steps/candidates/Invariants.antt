@@ -4,4 +4,4 @@ use Rattle.pairing_texts.proofs.steps.candidates.Given as goal
 
 abbrev pub invariant-loop-row : goal.invariant-loop-row
 invariant-loop-row l =
-    l.games.items ++ candidates_in l.noted l.white (drop l.row-index l.rows) ≡ candidates_in l.noted l.white l.rows
+    l.games.items ++ candidates_in l.older l.white (drop l.row-index l.rows) ≡ candidates_in l.older l.white l.rows
