@@ -11,3 +11,4 @@ pub mod Steps
 pub mod Runs
 pub mod Counted
 pub mod Logged
+pub mod Paired

@@ -4,8 +4,8 @@ use Rattle.std.specs.List.{count_by}
 use Rattle.std.specs.Str.{bytes_eq}
 use Rattle.lobby_words.specs.declared.listing.Waiting.{Waiting}
 use Rattle.lobby_words.specs.Waiting.{opens_game, ends_wait, is_list, waiting_in, waiting_of}
-use Rattle.lobby_words.specs.Words.{actor}
-use Rattle.lobby_desk.specs.Events.{Owed, Asker, ForAct}
+use Rattle.lobby_words.specs.Words.{as_name, actor}
+use Rattle.lobby_desk.specs.Events.{Owed, Asker, Pairer, ForAct}
 
 -- Those that wait after an act of this player in a game: that game too, where it was opened, for him or for who is named; not that
 -- game, where it was joined or dropped.
@@ -23,6 +23,10 @@ abbrev pub waiting_told : List ℕ → List ℕ → Option ℕ → List Waiting 
 waiting_told by text None waiting = waiting
 waiting_told by text (Some game) waiting = waiting_acted by text game waiting
 
+-- the same, where a pairing has opened a game for White
+abbrev pub waiting_opened : List ℕ → Option ℕ → List Waiting → List Waiting
+waiting_opened text game waiting = behind waiting (waiting_of game (as_name text))
+
 -- the answer to `list` tells all that wait
 abbrev pub waiting_listed : List ℕ → List Waiting → List Waiting
 waiting_listed answer waiting = if is_list answer then waiting_in answer else waiting
@@ -30,9 +34,10 @@ waiting_listed answer waiting = if is_list answer then waiting_in answer else wa
 -- whether an answer is owed to an `open` for this player
 abbrev pub is_opening : List ℕ → Owed → Bool
 is_opening name (Asker c (ForAct by text)) = bytes_eq (actor by text) name && opens_game text
+is_opening name (Pairer c by black text) = bytes_eq (as_name text) name
 is_opening name _ = false
 
--- Whether 16 games of a player wait; those count whose opening is not answered.
+-- Whether 4 games of a player wait; those count whose opening is not answered.
 abbrev pub is_crowded : List Waiting → List Owed → List ℕ → Bool
 is_crowded waiting owed name =
-    nat_le 16 (count_by (λ (w : Waiting). bytes_eq w.by name) waiting + count_by (is_opening name) owed)
+    nat_le 4 (count_by (λ (w : Waiting). bytes_eq w.by name) waiting + count_by (is_opening name) owed)

@@ -6,6 +6,7 @@ use Rattle.std.specs.String.{string_bytes}
 use Rattle.rec_codec.specs.Name.{IsName}
 use Rattle.lobby_words.specs.declared.planning.Plan.{Plan}
 use Rattle.lobby_words.specs.declared.planning.Plan.TheVariants as plans
+use Rattle.lobby_words.specs.declared.refusals.Refusal.{Refusal}
 use Rattle.lobby_words.specs.declared.refusals.Refusal.TheVariants as refusals
 use Rattle.lobby_words.specs.declared.planning.Order.{Order}
 use Rattle.lobby_words.specs.declared.planning.Standing.{Standing}
@@ -14,19 +15,20 @@ use Rattle.lobby_roster.specs.declared.players.Player.{Player}
 use Rattle.lobby_desk.specs.declared.visitors.Visitor.{Visitor}
 use Rattle.lobby_desk.specs.declared.watching.Watch.{Watch}
 use Rattle.lobby_desk.specs.declared.desk.Desk.{Desk}
-use Rattle.lobby_words.specs.Words.{rest_of, as_name, actor, is_message, sort_of, u32_in}
-use Rattle.lobby_words.specs.Waiting.{opens_game}
+use Rattle.lobby_words.specs.Words.{rest_of, as_name, black_name, actor, is_message, sort_of, u32_in}
+use Rattle.lobby_words.specs.Waiting.{opens_game, joins_game}
 use Rattle.lobby_roster.specs.Players.{holder_of, known_name, renewed, is_token_of, login_text, players_text, present_names, who_text}
 use Rattle.lobby_words.specs.Plans.{refusal_text, plan_of, order_of}
-use Rattle.lobby_desk.specs.Lines.{bytes_of, lines_of, act_lines, said_after, notice_lines, IsNamed}
+use Rattle.lobby_desk.specs.Lines.{bytes_of, lines_of, act_lines, join_line, said_after, notice_lines, IsNamed}
 use Rattle.lobby_words.specs.Answers.{IsSeated, IsFirstSeated, IsSeatless, has_empty_seat, act_game, is_whole, answer}
 use Rattle.lobby_desk.specs.Watching.{games_of, unwatched, risen, is_full}
 use Rattle.lobby_desk.specs.Refusals.{game_named}
 use Rattle.lobby_desk.specs.Waiting.{is_crowded}
+use Rattle.lobby_desk.specs.Pairings.{open_bar, join_bar}
 use Rattle.lobby_desk.specs.Pace.{is_too_fast}
 pub use Rattle.lobby_desk.specs.Watching.{at_table}
-use Rattle.lobby_desk.specs.Events.{DeskInput, Opened, Closed, Said, Hurried, Heard, ServerTurned, Renewed, Linked, MessageValue, to_one, ForAct, Owed, Asker, Dropper, owed_of, owed_lines, plan_asker, follower, following, asked_after, follows_heard, told_as}
-use Rattle.lobby_desk.specs.Tellings.{Known, open_now, watch_heard, watch_next, table_heard, table_next, watches_now, table_now, waiting_heard, waiting_next, waiting_now, refused_heard, refused_next, refused_now, follows_next, follows_now, owed_now, left_now, begun_now, last_now, owed_answered, owes, presence, IsTold, IsToldFor, IsToldNext}
+use Rattle.lobby_desk.specs.Events.{DeskInput, Opened, Closed, Said, Hurried, Heard, ServerTurned, Renewed, Linked, MessageValue, to_one, ForAct, Owed, Asker, Dropper, Pairer, owed_of, owed_lines, plan_asker, follower, following, asked_after, follows_heard, told_as}
+use Rattle.lobby_desk.specs.Tellings.{Known, open_now, watch_heard, watch_next, table_heard, table_next, watches_now, table_now, waiting_heard, waiting_next, waiting_now, pairings_heard, pairings_next, pairings_now, refused_heard, refused_next, refused_now, follows_next, follows_now, owed_now, left_now, begun_now, last_now, owed_answered, owes, presence, IsTold, IsToldFor, IsToldNext}
 
 -- the player for whom a connection acts
 abbrev pub who_in : BTreeMap ℕ Visitor → ℕ → Option Identity
@@ -154,6 +156,7 @@ known desk = record {
   watches = desk.watches.items;
   table = desk.table.items;
   waiting = desk.line.waiting.items;
+  pairings = desk.line.pairings.items;
   refused = desk.line.refused.items;
   follows = following desk.line.acted;
 }
@@ -190,6 +193,7 @@ pub record BeginsView (is_paused : Bool) (now : View) : Type 0 where
   pub watches : now.known.watches ≡ []
   pub table : now.known.table ≡ []
   pub waiting : now.known.waiting ≡ []
+  pub pairings : now.known.pairings ≡ []
   pub refused : now.known.refused ≡ []
   pub follows : now.known.follows ≡ None
 
@@ -201,10 +205,16 @@ abbrev pub said_event : Bool → ℕ → List ℕ → DeskInput
 said_event true c text = Hurried c
 said_event false c text = Said c text
 
--- whether a message opens a game, and no game more of the player for whom it does may wait for a second player
-abbrev pub crowds : Known → Option Identity → List ℕ → Bool
-crowds k None text = false
-crowds k (Some who) text = opens_game text && is_crowded k.waiting k.owed (actor who.name text)
+-- Why a message does not open a game, or does not join one, by the games that are known, where it would under this name: no game more
+-- of this player may wait for a second one; or no such game waits for him.
+abbrev pub name_bar : Known → List ℕ → List ℕ → Option Refusal
+name_bar k name text =
+    if opens_game text then open_bar (is_crowded k.waiting k.owed name)
+    else (if joins_game text then join_bar k.waiting k.pairings name (game_named text) else None)
+
+abbrev pub bar_of : Known → Option Identity → List ℕ → Option Refusal
+bar_of k None text = None
+bar_of k (Some who) text = name_bar k (actor who.name text) text
 
 -- what the plan for a message of a connection rests on
 abbrev pub standing_of : Desk → ℕ → List ℕ → Standing
@@ -212,10 +222,11 @@ standing_of desk c text = record {
   who = who_of desk c;
   holder = holder_of desk.players.items (rest_of text);
   named = known_name desk.players.items (as_name text);
+  black = known_name desk.players.items (black_name text);
   linked = known_name desk.players.items (rest_of text);
   is_here = desk.line.is_here;
   is_full = is_full desk.watches.items c (u32_in (rest_of text));
-  is_crowded = crowds (known desk) (who_of desk c) text;
+  bar = bar_of (known desk) (who_of desk c) text;
   is_paused = opens_game text && desk.is_paused;
 }
 
@@ -232,10 +243,11 @@ pub record IsSaid (players : List Player) (old : View) (c : ℕ) (text : List �
   pub who : standing.who ≡ old.who c
   pub holder : standing.holder ≡ holder_of players (rest_of text)
   pub other : standing.named ≡ known_name players (as_name text)
+  pub black : standing.black ≡ known_name players (black_name text)
   pub link : standing.linked ≡ known_name players (rest_of text)
   pub here : standing.is_here ≡ old.here
   pub full : standing.is_full ≡ is_full old.known.watches c (u32_in (rest_of text))
-  pub crowded : standing.is_crowded ≡ crowds old.known (old.who c) text
+  pub bar : standing.bar ≡ bar_of old.known (old.who c) text
   pub paused : standing.is_paused ≡ (opens_game text && old.paused)
   pub plan : Plan
   pub planned : plan ≡ plan_of (is_message text) (sort_of text) standing (u32_in (rest_of text))
@@ -264,11 +276,19 @@ pub record IsNotDropped (said : Option (List ℕ)) (now text : List ℕ) (lines 
   pub said_is : later ≡ said
   pub not_waiting : IsSeatless now (rest_of text) ⊎ (has_empty_seat now ≡ false)
 
+-- What goes out for the answer to the opening of a pairing: where it names the game, Black joins it.
+abbrev pub IsPaired : Option ℕ → Option (List ℕ) → List ℕ → List (List ℕ) → Option (List ℕ) → Type 0
+IsPaired None said black lines later = (lines ≡ []) × (later ≡ said)
+IsPaired (Some game) said black lines later =
+    (lines ≡ act_lines said black (join_line game) None) × (later ≡ Some black) × IsName black
+
 -- What goes out for an answer, by whose it is, and the name that was said last then. For the answer to an act it is asked how the
--- game stands that it names, if that was not asked right behind the act; a drop goes out for the answer that it waits for, where a seat is empty; else nothing does.
+-- game stands that it names, if that was not asked right behind the act; a drop goes out for the answer that it waits for, where a seat
+-- is empty, and the join of a pairing for the answer that opens its game; else nothing does.
 abbrev pub IsSentFor : Owed → Option (List ℕ) → List ℕ → List (List ℕ) → Option (List ℕ) → Type 0
 IsSentFor (Asker c (ForAct by text)) said now lines later = (lines ≡ notice_lines (asked_after text (act_game now))) × (later ≡ said)
 IsSentFor (Dropper c by text) said now lines later = IsNotDropped said now text lines later ⊎ IsDropped said now text lines later
+IsSentFor (Pairer c by black text) said now lines later = IsPaired (act_game now) said black lines later
 IsSentFor _ said now lines later = (lines ≡ []) × (later ≡ said)
 
 abbrev pub IsSentNext : List Owed → Option (List ℕ) → List ℕ → List (List ℕ) → Option (List ℕ) → Type 0
@@ -365,6 +385,7 @@ pub record IsKnown (event : DeskInput) (by : List ℕ) (lines : List (List ℕ))
   pub watches : new.watches ≡ watches_now event is_open old
   pub table : new.table ≡ table_now event is_open old
   pub waiting : new.waiting ≡ waiting_now event old
+  pub pairings : new.pairings ≡ pairings_now event old
   pub refused : new.refused ≡ refused_now event old
   pub follows : new.follows ≡ follows_now event old
 
@@ -403,6 +424,7 @@ pub record Carried (old : Desk) (from : ℕ) (text : List ℕ) (plan : Plan) (un
   pub watches : new.watches.items ≡ plan_watches plan from old.watches.items
   pub table : new.table.items ≡ plan_table plan from old.table.items
   pub waiting : new.line.waiting ≡ old.line.waiting
+  pub pairings : new.line.pairings ≡ old.line.pairings
   pub refused : new.line.refused ≡ old.line.refused
   pub follows : new.line.acted ≡ old.line.acted
   pub coming : new.line.coming ≡ old.line.coming
@@ -432,6 +454,7 @@ pub record AnswersTo (o : Owed) (now : List ℕ) (old : Desk) (before after : Li
   pub watches : new.watches.items ≡ watch_heard (open_of old) (string_bytes old.line.last) o old.watches.items
   pub table : new.table.items ≡ table_heard (open_of old) o old.table.items
   pub waiting : new.line.waiting.items ≡ waiting_heard o now old.line.waiting.items
+  pub pairings : new.line.pairings.items ≡ pairings_heard o now old.line.pairings.items
   pub refused : new.line.refused.items ≡ refused_heard o now old.line.refused.items
   pub follows : following new.line.acted ≡ follows_heard o now (following old.line.acted)
   pub rests : IsElseSame old new
@@ -448,6 +471,7 @@ pub record Answered (now : List ℕ) (old : Desk) (before after : List ℕ) (tol
   pub watches : new.watches.items ≡ watch_next (open_of old) (string_bytes old.line.last) (known old).owed old.watches.items
   pub table : new.table.items ≡ table_next (open_of old) (known old).owed old.table.items
   pub waiting : new.line.waiting.items ≡ waiting_next (known old).owed now old.line.waiting.items
+  pub pairings : new.line.pairings.items ≡ pairings_next (known old).owed now old.line.pairings.items
   pub refused : new.line.refused.items ≡ refused_next (known old).owed now old.line.refused.items
   pub follows : following new.line.acted ≡ follows_next (known old).owed now (following old.line.acted)
   pub rests : IsElseSame old new

@@ -7,14 +7,16 @@ ghost use Rattle.lobby_words.specs.declared.listing.Waiting.{Waiting};
 ghost use Rattle.lobby_words.specs.Waiting.{opens_game};
 ghost use Rattle.lobby_words.specs.Words.{actor};
 ghost use Rattle.lobby_desk.specs.Events.{owed_of};
-ghost use Rattle.lobby_desk.specs.Waiting.{behind, is_opening, is_crowded, waiting_acted, waiting_told, waiting_listed};
+ghost use Rattle.lobby_desk.specs.Waiting.{behind, is_opening, is_crowded, waiting_acted, waiting_told, waiting_opened, waiting_listed};
 
 use crate::server_line::{Acting, Due, ServerLine};
-use lobby_words::{Waiting, actor, ends_wait, is_list, opens_game, waiting_in, waiting_of};
+use lobby_words::{
+    Waiting, actor, as_name, ends_wait, is_list, opens_game, waiting_in, waiting_of,
+};
 use std::alloc::{AllocError, Global};
 
 // The most games of one player that wait.
-const WAIT_ROOM: usize = 16;
+const WAIT_ROOM: usize = 4;
 
 // Whether a game waits with this player in it.
 fn is_by(one: &Waiting, name: &str) -> bool
@@ -51,6 +53,7 @@ fn is_opening(due: &Due, name: &str) -> bool
 {
     match due {
         Due::Act(act) => opens_by(act, name),
+        Due::Pair(act, _) => as_name(act.text.as_str()) == name,
         _ => false,
     }
 }
@@ -70,7 +73,7 @@ fn openings(dues: &[Due], name: &str) -> usize
 
 // Whether three numbers are as many as may be.
 fn are_many(a: usize, b: usize, c: usize) -> bool
-    ensures { result ≡ nat_le 16 (a + (b + c)) }
+    ensures { result ≡ nat_le 4 (a + (b + c)) }
 {
     let left = WAIT_ROOM
         .saturating_sub(a)
@@ -130,6 +133,17 @@ fn note_game(waiting: &mut Vec<Waiting>, act: &Acting, game: u32) -> Result<(), 
     } else {
         Ok(())
     }
+}
+
+/// Notes the opening of a pairing, where a game was opened.
+pub fn note_opened(
+    waiting: &mut Vec<Waiting>,
+    text: &str,
+    game: Option<u32>,
+) -> Result<(), AllocError>
+    ensures { OnOk result (waiting.new.items ≡ waiting_opened text.now game waiting.old.items) }
+{
+    add_waiting(waiting, waiting_of(game, as_name(text)))
 }
 
 /// Notes an act, where it was done in a game.

@@ -7,12 +7,18 @@ use Rattle.rec_codec.specs.Name.{is_name_byte}
 use Rattle.lobby_words.specs.declared.listing.Waiting.{Waiting}
 use Rattle.lobby_words.specs.Words.{word_of, rest_of, line_said, u32_in}
 
--- whether a message opens a game, and whether it is one by which a game waits no more
+-- Whether a message opens a game, whether it joins one, and whether it is one by which a game waits no more: of a pairing that is its
+-- second act.
 abbrev pub opens_game : List ℕ → Bool
 opens_game text = bytes_eq (word_of (line_said text)) (codes "open")
 
+abbrev pub joins_game : List ℕ → Bool
+joins_game text = bytes_eq (word_of (line_said text)) (codes "join")
+
 abbrev pub ends_wait : List ℕ → Bool
-ends_wait text = bytes_eq (word_of (line_said text)) (codes "join") || bytes_eq (word_of (line_said text)) (codes "drop")
+ends_wait text =
+    bytes_eq (word_of (line_said text)) (codes "join") || bytes_eq (word_of (line_said text)) (codes "drop")
+    || bytes_eq (word_of (line_said text)) (codes "pair")
 
 -- whether a text is a name (`IsName`)
 abbrev pub is_name : List ℕ → Bool

@@ -1,7 +1,7 @@
 //! The games that wait for a second player, as the server's answers tell.
 ghost use Rattle.std.specs.Prelude.{◌≡◌, ◌++◌, ◌∷◌, [], IfOk, OnOk};
 ghost use Rattle.std.specs.List.{filter_map};
-ghost use Rattle.lobby_words.specs.Waiting.{opens_game, ends_wait, waiting_of, waiting_row, is_list, waiting_in};
+ghost use Rattle.lobby_words.specs.Waiting.{opens_game, joins_game, ends_wait, waiting_of, waiting_row, is_list, waiting_in};
 
 use crate::words::{cut_word, line_said, number_named};
 use rec_codec::Name;
@@ -23,14 +23,23 @@ pub fn opens_game(text: &str) -> bool
     word == "open"
 }
 
-/// Whether a message is one by which a game waits no more.
+/// Whether a message joins a game.
+pub fn joins_game(text: &str) -> bool
+    ensures { result ≡ joins_game text.now }
+{
+    let (word, _) = cut_word(line_said(text));
+    word == "join"
+}
+
+/// Whether a message is one by which a game waits no more; of a pairing that is its second act.
 pub fn ends_wait(text: &str) -> bool
     ensures { result ≡ ends_wait text.now }
 {
     let (word, _) = cut_word(line_said(text));
     let is_join = word == "join";
     let is_drop = word == "drop";
-    is_join | is_drop
+    let is_pair = word == "pair";
+    is_join | is_drop | is_pair
 }
 
 #[tactic(auto, using(crate::proofs::Names::name_is, crate::proofs::Names::name_is_not))]

@@ -15,9 +15,9 @@ returns c =
     let waits = count_by (λ (w : Waiting). bytes_eq w.by name) c.args.self.now.waiting.items in
     let first = count_by (λ (due : Due). is_opening name (owed_of due)) c.as_slices.result.0.now in
     c.are_many.ensures
-    ∙ (ap (λ (n : ℕ). nat_le 16 (n + (c.openings.result + c.openings-2.result))) (c.waiting_by.ensures
+    ∙ (ap (λ (n : ℕ). nat_le 4 (n + (c.openings.result + c.openings-2.result))) (c.waiting_by.ensures
     ∙ ap (count_by (λ (w : Waiting). bytes_eq w.by name)) c.as_slice.ensures.value)
-    ∙ (ap (λ (n : ℕ). nat_le 16 (waits + (n + c.openings-2.result))) c.openings.ensures
-    ∙ (ap (λ (n : ℕ). nat_le 16 (waits + (first + n))) c.openings-2.ensures
-    ∙ ap (λ (n : ℕ). nat_le 16 (waits + n))
+    ∙ (ap (λ (n : ℕ). nat_le 4 (waits + (n + c.openings-2.result))) c.openings.ensures
+    ∙ (ap (λ (n : ℕ). nat_le 4 (waits + (first + n))) c.openings-2.ensures
+    ∙ ap (λ (n : ℕ). nat_le 4 (waits + n))
     (openings_both name c.args.self.now.queue.items c.as_slices.result.0.now c.as_slices.result.1.now c.as_slices.ensures.items))))
