@@ -230,7 +230,7 @@ where
 
 // What a lobby without a log lacks.
 const NO_LOG: &str =
-    "there is no --log: who said what, also for another, is recorded nowhere, and no clock can be looked up";
+    "there is no --log: who said what is recorded nowhere, so nobody acts as an arbiter";
 
 /// Serves browsers, and first prints the page's address. It ends where something is at fault: at the start the players' file, the
 /// page, the log or the address, then a turn.
@@ -247,7 +247,7 @@ where
         + RandomSource,
 {
     let server = Server { rt, serving };
-    let mut players = Players::new(rt, serving.players);
+    let mut players = Players::new(rt, serving.players, serving.log.is_some());
     let known = players.read()?;
     let Some(file) = serving.log else {
         eprintln!(rt; "{NO_LOG}")?;

@@ -101,8 +101,9 @@ impl Board {
         file.put(self.note(Stage::Joined(game)))
     }
 
-    // Has Black join a game in which White is alone.
+    // Has Black join a game in which White is alone. (A lobby passes on only a join of a game that it has told.)
     fn join<T: Table>(&self, lobby: &mut T, game: u32) -> Result<()> {
+        look(self.alloc, lobby, false)?;
         let black = self.game.black.as_str();
         let line = format!(in self.alloc; "as {black} join {game}")?;
         let answer = lobby.ask(line.as_str(), "ok join all ")?;
