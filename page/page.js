@@ -402,11 +402,20 @@ class Page {
     if (!open) {
       count();
       this.counting = setInterval(count, 500);
+      this.askWhy();
     }
     byId('no-server').hidden = !(open && server === 'gone');
     document.body.classList.toggle('offline', !open || server === 'gone');
     if (this.view && this.view.render) this.view.render();
     this.renderWho();
+  }
+
+  /** What stands in the lobby's place may tell why, as that the disk is full. */
+  async askWhy() {
+    const said = await fetch('/', { cache: 'no-store' }).catch(() => null);
+    const isText = said && said.status === 503 && (said.headers.get('content-type') || '').startsWith('text/plain');
+    const why = isText ? (await said.text().catch(() => '')).trim() : '';
+    if (why && !this.wire.state.open) setText(byId('lost-words'), `${why} Trying again`);
   }
 
   // ---- who is here

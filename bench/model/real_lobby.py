@@ -161,10 +161,12 @@ class Relay:
 
 class Programs:
     """Server, relay and lobby, over a players' file with lines `NAME ROLE TOKEN FULL NAME`, or over the `club.players` that
-    is in the folder; `more` are options of the lobby."""
+    is in the folder; `more` are options of the lobby, `errors` is where its standard error goes. It keeps a log, without
+    which nobody is an arbiter, where `has_log`."""
 
-    def __init__(self, folder, players=None, has_relay=True, more=()):
-        self.folder, self.port, self.more = folder, 0, more
+    def __init__(self, folder, players=None, has_relay=True, more=(), has_log=True, errors=subprocess.DEVNULL):
+        self.folder, self.port, self.errors = folder, 0, errors
+        self.more = more if '--log' in more or not has_log else (*more, '--log', os.path.join(folder, 'lobby.log'))
         self.club = os.path.join(folder, 'club.players')
         if players:
             self.add_players(players)
@@ -184,7 +186,7 @@ class Programs:
             [self.program, 'serve', '--players', self.club,
              '--server', '127.0.0.1:%d' % (self.relay or self.server).port,
              '--port', str(self.port), '--page', os.path.join(TOP, 'page'), *self.more],
-            stdout=subprocess.PIPE, stderr=subprocess.DEVNULL, text=True)
+            stdout=subprocess.PIPE, stderr=self.errors, text=True)
         self.address = self.process.stdout.readline().strip()
         self.port = int(self.address.rstrip('/').rsplit(':', 1)[1])
 

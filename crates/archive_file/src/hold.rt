@@ -25,7 +25,7 @@ impl Hold {
     /// Holds an archive. It fails where another does.
     pub fn of<R: Files<File = File> + AllocGlobal>(rt: &R, archive: &str) -> Result<Hold> {
         let path = format!(in rt.alloc(); "{archive}.lock")?;
-        match DiskFile::open(rt, path.as_str()) {
+        match DiskFile::open_beside(rt, path.as_str()) {
             Ok(file) => Ok(Hold { file }),
             Err(error) => Err(not_held(archive, path.as_str(), error)),
         }

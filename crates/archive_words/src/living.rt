@@ -7,9 +7,11 @@ use crate::sources::Sources;
 use crate::telling::{Work, go_on};
 use anyhow::{Context, Result};
 use archive_file::{game_of, lines_of, pgn_of as pgn_in};
+use night_files::{EVERYBODYS_MODE, new_file};
 use server_link::{Link, Row};
 use std::alloc::{AllocError, Global};
 use std::fs;
+use std::io::{self, Write};
 use std::net::{Net, TcpStream};
 use std::rt::{Clock, Files};
 use text_parts::parts;
@@ -117,10 +119,16 @@ fn boards_of(alloc: Global, text: &str, date: Option<&str>) -> Result<Vec<Board>
     Ok(boards)
 }
 
+// Makes a file of a text.
+fn write_new<R: Files>(rt: &R, path: &str, text: &[u8]) -> io::Result<()> {
+    let mut file = new_file(rt, path, EVERYBODYS_MODE)?;
+    file.write_all(text)
+}
+
 // Puts a text in a file's place, at once.
 fn put<R: Files + AllocGlobal>(rt: &R, path: &str, text: &[u8]) -> Result<()> {
     let new = format!(in rt.alloc(); "{path}.new")?;
-    fs::write(rt, new.as_str(), text).context(format_args!("writing {new}"))?;
+    write_new(rt, new.as_str(), text).context(format_args!("writing {new}"))?;
     fs::rename(rt, new.as_str(), path).context(format_args!("writing {path}"))?;
     Ok(())
 }

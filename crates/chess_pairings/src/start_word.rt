@@ -5,23 +5,31 @@ use lobby_players::players_of;
 use pairing_commands::Starting;
 use pairing_texts::Pairing;
 use round_games::{
-    Became, Board, RoundFile, boards_of, check_notes, check_players, check_times, pairings_of,
-    take_words,
+    Became, Board, LobbyLink, RoundFile, boards_of, check_notes, check_players, check_times,
+    pairings_of, take_words, token_of,
 };
-use server_link::Link;
 use std::alloc::Global;
 use std::fs::File;
 use std::net::{Net, SocketAddr, TcpStream};
+use std::random::RandomSource;
 use std::rt::{Clock, Files};
 use std::thread;
 use std::time::{Duration, SystemTime};
 
-// How often it is looked for the server, and for boards whose start has come: the milliseconds between.
+// How often it is looked for the lobby, and for boards whose start has come: the milliseconds between.
 const PAUSE: u64 = 500;
+
+/// The lobby, and an arbiter's token.
+#[derive(Clone, Copy)]
+struct Arbiter<'a> {
+    lobby: SocketAddr,
+    token: &'a str,
+}
 
 /// What became of the boards of a round.
 #[derive(Drop)]
-struct Rounds {
+struct Rounds<'a> {
+    arbiter: Arbiter<'a>,
     file: RoundFile,
     // The boards, by their numbers, of which the arbiter is asked.
     asks: Vec<u32>,
@@ -29,6 +37,8 @@ struct Rounds {
     done: Vec<u32>,
     // Whether nobody could be told.
     is_unheard: bool,
+    // Whether the lobby takes the token for no arbiter's.
+    is_barred: bool,
 }
 
 // The moment, in milliseconds from 1970 on.
@@ -39,10 +49,10 @@ fn moment<R: Clock>(rt: &R) -> Result<i64> {
     }
 }
 
-impl Rounds {
+impl<'a> Rounds<'a> {
     // Whether it cannot go on.
     fn has_failed(&self) -> bool {
-        self.is_unheard || self.file.has_failed()
+        self.is_unheard || self.is_barred || self.file.has_failed()
     }
 
     // Tells that a board has its game.
@@ -83,54 +93,84 @@ impl Rounds {
         !is_late || self.asks.contains(&number) || self.done.contains(&number)
     }
 
+    // Connects to the lobby as the arbiter. Where the token is no arbiter's, it cannot go on.
+    fn link<'b, R>(&mut self, rt: &'b R) -> Result<LobbyLink<'b, R>>
+    where
+        R: Net<Stream = TcpStream> + RandomSource + AllocGlobal + Clock + Clone + Drop,
+    {
+        let lobby = self.arbiter.lobby;
+        let mut link = LobbyLink::open(rt, lobby)?;
+        if !link.log_in(self.arbiter.token)? {
+            self.is_barred = true;
+            anyhow::bail!("the lobby at {lobby} knows no arbiter with this token");
+        }
+        Ok(link)
+    }
+
     // Goes on with a board over a connection.
-    fn go_on_over<R: Print + Eprint>(
-        &mut self,
-        rt: &R,
-        server: SocketAddr,
-        link: &mut Link,
-        board: &Board,
-    ) -> Result<()> {
-        let number = board.pairing.board;
+    fn go_on_over<R>(&mut self, rt: &R, link: &mut LobbyLink<'_, R>, board: &Board) -> Result<()>
+    where
+        R: Net<Stream = TcpStream>
+            + RandomSource
+            + AllocGlobal
+            + Clock
+            + Clone
+            + Drop
+            + Print
+            + Eprint,
+    {
+        let (number, lobby) = (board.pairing.board, self.arbiter.lobby);
         let became = board
             .go_on(link, &mut self.file)
-            .context(format_args!("board {number}, by the server at {server}"))?;
+            .context(format_args!("board {number}, by the lobby at {lobby}"))?;
         self.tell(rt, board, became)
     }
 
     // Goes on with a board over a connection, which is made where there is none, and is given up where it fails.
-    fn go_on_with<R>(
+    fn go_on_with<'b, R>(
         &mut self,
-        rt: &R,
-        server: SocketAddr,
-        link: &mut Option<Link>,
+        rt: &'b R,
+        link: &mut Option<LobbyLink<'b, R>>,
         board: &Board,
     ) -> Result<()>
     where
-        R: Net<Stream = TcpStream> + AllocGlobal + Print + Eprint,
+        R: Net<Stream = TcpStream>
+            + RandomSource
+            + AllocGlobal
+            + Clock
+            + Clone
+            + Drop
+            + Print
+            + Eprint,
     {
         let mut held = match link.take() {
             Some(held) => held,
-            None => Link::open(rt, server)?,
+            None => self.link(rt)?,
         };
-        self.go_on_over(rt, server, &mut held, board)?;
+        self.go_on_over(rt, &mut held, board)?;
         *link = Some(held);
         Ok(())
     }
 
     // The same, where a failure after which boards may be gone on with is kept, if it is the first.
-    fn go_on_at<R>(
+    fn go_on_at<'b, R>(
         &mut self,
-        rt: &R,
-        server: SocketAddr,
-        link: &mut Option<Link>,
+        rt: &'b R,
+        link: &mut Option<LobbyLink<'b, R>>,
         board: &Board,
         first: &mut Result<()>,
     ) -> Result<()>
     where
-        R: Net<Stream = TcpStream> + AllocGlobal + Print + Eprint,
+        R: Net<Stream = TcpStream>
+            + RandomSource
+            + AllocGlobal
+            + Clock
+            + Clone
+            + Drop
+            + Print
+            + Eprint,
     {
-        let done = self.go_on_with(rt, server, link, board);
+        let done = self.go_on_with(rt, link, board);
         if self.has_failed() {
             return done;
         }
@@ -142,16 +182,23 @@ impl Rounds {
 
     // Goes on with each board whose start has come. It tells the first of the failures, after which a board may be gone on
     // with again.
-    fn go_on<R>(&mut self, rt: &R, server: SocketAddr, boards: &[Board]) -> Result<()>
+    fn go_on<R>(&mut self, rt: &R, boards: &[Board]) -> Result<()>
     where
-        R: Net<Stream = TcpStream> + AllocGlobal + Print + Eprint + Clock,
+        R: Net<Stream = TcpStream>
+            + RandomSource
+            + AllocGlobal
+            + Clock
+            + Clone
+            + Drop
+            + Print
+            + Eprint,
     {
         let now = moment(rt)?;
         let mut link = None;
         let mut first = Ok(());
         for board in boards {
             if !self.rests(board, now) {
-                self.go_on_at(rt, server, &mut link, board, &mut first)?;
+                self.go_on_at(rt, &mut link, board, &mut first)?;
             }
         }
         first
@@ -168,18 +215,12 @@ fn tell_failure<R: AllocGlobal + Eprint>(rt: &R, told: &mut String, error: Error
     Ok(())
 }
 
-// Goes once round the boards. Where the server is gone it is tried again.
-fn go_once<R>(
-    rt: &R,
-    rounds: &mut Rounds,
-    server: SocketAddr,
-    boards: &[Board],
-    told: &mut String,
-) -> Result<()>
+// Goes once round the boards. Where the lobby or its server is gone it is tried again.
+fn go_once<R>(rt: &R, rounds: &mut Rounds<'_>, boards: &[Board], told: &mut String) -> Result<()>
 where
-    R: Net<Stream = TcpStream> + AllocGlobal + Print + Eprint + Clock,
+    R: Net<Stream = TcpStream> + RandomSource + AllocGlobal + Clock + Clone + Drop + Print + Eprint,
 {
-    match rounds.go_on(rt, server, boards) {
+    match rounds.go_on(rt, boards) {
         Ok(()) => {
             told.clear();
             Ok(())
@@ -211,13 +252,13 @@ fn tell_waits<R: Eprint + Clock>(rt: &R, boards: &[Board]) -> Result<()> {
 }
 
 // Goes round the boards until each has its game or is the arbiter's.
-fn go_round<R>(rt: &R, rounds: &mut Rounds, server: SocketAddr, boards: &[Board]) -> Result<()>
+fn go_round<R>(rt: &R, rounds: &mut Rounds<'_>, boards: &[Board]) -> Result<()>
 where
-    R: Net<Stream = TcpStream> + AllocGlobal + Print + Eprint + Clock,
+    R: Net<Stream = TcpStream> + RandomSource + AllocGlobal + Clock + Clone + Drop + Print + Eprint,
 {
     let mut told = String::new(rt.alloc());
     for _ in 0..u64::MAX {
-        go_once(rt, rounds, server, boards, &mut told)?;
+        go_once(rt, rounds, boards, &mut told)?;
         if rounds.asks.len().saturating_add(rounds.done.len()) >= boards.len() {
             return Ok(());
         }
@@ -281,22 +322,24 @@ fn file_of<R: Files<File = File> + AllocGlobal>(
 }
 
 // Nothing has become of boards yet.
-fn rounds_of(alloc: Global, file: RoundFile) -> Rounds {
+fn rounds_of<'a>(alloc: Global, arbiter: Arbiter<'a>, file: RoundFile) -> Rounds<'a> {
     Rounds {
+        arbiter,
         file,
         asks: Vec::new(alloc),
         done: Vec::new(alloc),
         is_unheard: false,
+        is_barred: false,
     }
 }
 
 // Goes round the boards to the end, and tells how many have their games.
-fn go_through<R>(rt: &R, rounds: &mut Rounds, server: SocketAddr, boards: &[Board]) -> Result<usize>
+fn go_through<R>(rt: &R, rounds: &mut Rounds<'_>, boards: &[Board]) -> Result<usize>
 where
-    R: Net<Stream = TcpStream> + AllocGlobal + Print + Eprint + Clock,
+    R: Net<Stream = TcpStream> + RandomSource + AllocGlobal + Clock + Clone + Drop + Print + Eprint,
 {
     tell_waits(rt, boards)?;
-    go_round(rt, rounds, server, boards)?;
+    go_round(rt, rounds, boards)?;
     Ok(rounds.done.len())
 }
 
@@ -308,10 +351,23 @@ fn open_games<R>(
     boards: &[Board],
 ) -> Result<usize>
 where
-    R: Net<Stream = TcpStream> + AllocGlobal + Print + Eprint + Clock,
+    R: Files
+        + Net<Stream = TcpStream>
+        + RandomSource
+        + AllocGlobal
+        + Clock
+        + Clone
+        + Drop
+        + Print
+        + Eprint,
 {
-    let mut rounds = rounds_of(rt.alloc(), file);
-    go_through(rt, &mut rounds, starting.server, boards)
+    let token = token_of(rt, starting.token_file)?;
+    let arbiter = Arbiter {
+        lobby: starting.lobby,
+        token: token.as_str(),
+    };
+    let mut rounds = rounds_of(rt.alloc(), arbiter, file);
+    go_through(rt, &mut rounds, boards)
 }
 
 // Tells how many boards have their games. It fails where not all have.
@@ -326,7 +382,15 @@ fn tell_end<R: Print>(rt: &R, boards: usize, games: usize) -> Result<()> {
 // The games of boards are opened, by what the round's file has.
 fn start_boards<R>(rt: &R, starting: &Starting<'_>, pairings: &[Pairing]) -> Result<()>
 where
-    R: Files<File = File> + Net<Stream = TcpStream> + AllocGlobal + Print + Eprint + Clock,
+    R: Files<File = File>
+        + Net<Stream = TcpStream>
+        + RandomSource
+        + AllocGlobal
+        + Clock
+        + Clone
+        + Drop
+        + Print
+        + Eprint,
 {
     let boards = boards_of(rt.alloc(), pairings, starting.said.takes.as_slice())?;
     let file = file_of(rt, starting, pairings, boards.as_slice())?;
@@ -337,7 +401,15 @@ where
 /// Opens the game of each board at its start, and notes which it is.
 pub fn start<R>(rt: &R, starting: &Starting<'_>) -> Result<()>
 where
-    R: Files<File = File> + Net<Stream = TcpStream> + AllocGlobal + Print + Eprint + Clock,
+    R: Files<File = File>
+        + Net<Stream = TcpStream>
+        + RandomSource
+        + AllocGlobal
+        + Clock
+        + Clone
+        + Drop
+        + Print
+        + Eprint,
 {
     let pairings = pairings_of(rt, starting.round.pairings)?;
     check_pairings(rt, starting, pairings.as_slice())?;

@@ -14,16 +14,19 @@ const REST: u64 = 1_000;
 pub struct Players<'a, R> {
     rt: &'a R,
     file: &'a str,
+    // Whether a log has who said what: else nobody is an arbiter.
+    has_log: bool,
     seen: Option<Mark>,
     next_at: u64,
 }
 
 impl<'a, R: Files + AllocGlobal + Eprint> Players<'a, R> {
-    /// The file, as it stands.
-    pub fn new(rt: &'a R, file: &'a str) -> Self {
+    /// The file, as it stands. Without a log an arbiter's acts would be nobody's: so it has no arbiter then.
+    pub fn new(rt: &'a R, file: &'a str, has_log: bool) -> Self {
         Players {
             rt,
             file,
+            has_log,
             seen: mark_of(rt, file),
             next_at: 0,
         }
@@ -34,7 +37,11 @@ impl<'a, R: Files + AllocGlobal + Eprint> Players<'a, R> {
         if self.seen.is_none() {
             bail!("{} is not there, or is no regular file", self.file);
         }
-        players_of(self.rt, self.file)
+        let mut players = players_of(self.rt, self.file)?;
+        for player in players.iter_mut() {
+            player.is_arbiter = player.is_arbiter && self.has_log;
+        }
+        Ok(players)
     }
 
     /// Looks at the file, where the last look was a second ago. Where it has changed the lobby has its players from now on; where it

@@ -228,6 +228,10 @@ where
     }
 }
 
+// What a lobby without a log lacks.
+const NO_LOG: &str =
+    "there is no --log: who said what is recorded nowhere, so nobody acts as an arbiter";
+
 /// Serves browsers, and first prints the page's address. It ends where something is at fault: at the start the players' file, the
 /// page, the log or the address, then a turn.
 pub fn serve<R>(rt: &R, serving: &Serving<'_>) -> Result<()>
@@ -243,9 +247,10 @@ where
         + RandomSource,
 {
     let server = Server { rt, serving };
-    let mut players = Players::new(rt, serving.players);
+    let mut players = Players::new(rt, serving.players, serving.log.is_some());
     let known = players.read()?;
     let Some(file) = serving.log else {
+        eprintln!(rt; "{NO_LOG}")?;
         return server.serve_with(&mut players, known, &mut NoActLog);
     };
     let mut log = FileLog::open(rt, file).context(format_args!("opening {file}"))?;

@@ -6,6 +6,8 @@ mod acts;
 #[cfg(test)]
 mod archive;
 #[cfg(test)]
+mod beside;
+#[cfg(test)]
 mod clerk;
 #[cfg(test)]
 mod club_files;

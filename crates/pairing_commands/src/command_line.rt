@@ -3,18 +3,18 @@ use crate::days::is_day;
 use clap::{ArgMatches, Command, Error};
 use command_words::{
     OptionText, OptionValue, PLAYERS, SERVER, WordText, command_line, read_by, read_or_told,
-    server_address,
 };
 use std::alloc::{AllocError, Global};
 use std::net::SocketAddr;
 use trf_texts::Tournament;
 
 const HELP_OF_START: &str = "\
-It opens and joins the game of each board of --pairings on the game server at --server, at
-the board's start, and notes in --round-file which game is which board's; it makes that file
-where there is none. It ends once each board has its game, and may be killed at any moment
-and given again: no board gets a second game, but in the cases of which docs/NIGHT.md tells.
-While the server is not there it waits for it.
+It has the lobby at --lobby pair each board of --pairings, at the board's start, as the arbiter
+whose token or link --token-file has, a file that its owner alone may read; and notes in
+--round-file which game is which board's; it makes that file where there is none. It ends once
+each board has its game, and may be killed at any moment and given again: no board gets a second
+game, but in the cases of which docs/NIGHT.md tells. While the lobby or its server is not there
+it waits for it.
 
 Where it cannot know which game is a board's, or whether it has one, it says so, leaves that
 board alone, and ends with status 1. Look at the games then, and give it again with --take for the
@@ -28,7 +28,8 @@ Exit status: 0; 1 with what is wrong on standard error; 2 for words that the pro
 not know.
 
 Example:
-  chess-pairings start --pairings round1.csv --round-file round1.games --server 127.0.0.1:5001
+  chess-pairings start --pairings round1.csv --round-file round1.games \\
+      --lobby 127.0.0.1:8080 --token-file arbiter.link
 prints
   board 1: game 17, ann against bob
   boards 2, games 2";
@@ -95,7 +96,9 @@ pub struct Said {
 #[derive(Drop)]
 pub struct Starting<'a> {
     pub round: Round<'a>,
-    pub server: SocketAddr,
+    pub lobby: SocketAddr,
+    /// The file of an arbiter's token.
+    pub token_file: &'a str,
     /// The players' file, in which all players are to be.
     pub players: Option<&'a str>,
     pub said: Said,
@@ -139,6 +142,20 @@ const ROUND_FILE: OptionText = OptionText {
     name: "round-file",
     value: OptionValue::Text("FILE"),
     help: "Which game is which board's",
+    is_required: true,
+};
+
+const LOBBY: OptionText = OptionText {
+    name: "lobby",
+    value: OptionValue::Text("A:P"),
+    help: "Where the lobby listens, which pairs the boards",
+    is_required: true,
+};
+
+const TOKEN_FILE: OptionText = OptionText {
+    name: "token-file",
+    value: OptionValue::Text("FILE"),
+    help: "An arbiter's token or link, in a file that its owner alone may read",
     is_required: true,
 };
 
@@ -260,7 +277,8 @@ const START: WordText = WordText {
     options: &[
         PAIRINGS,
         ROUND_FILE,
-        SERVER,
+        LOBBY,
+        TOKEN_FILE,
         PLAYERS_OPENED,
         TAKE,
         AFTER,
@@ -433,9 +451,18 @@ fn said_of(alloc: Global, values: &ArgMatches<'_>) -> Result<Option<Said>, Alloc
     Ok(Some(Said { takes, afters }))
 }
 
+// Where the lobby listens; none where that is no address.
+fn lobby_address(values: &ArgMatches<'_>) -> Option<SocketAddr> {
+    values.get_str("lobby")?.parse::<SocketAddr>().ok()
+}
+
 // What `start` asks for; none where an address, a board or a game is none.
 fn starting_of<'a>(alloc: Global, values: &ArgMatches<'a>) -> Result<Option<Word<'a>>, AllocError> {
-    let (Some(round), Some(server)) = (round_of(values), server_address(values)) else {
+    let (Some(round), Some(lobby), Some(token_file)) = (
+        round_of(values),
+        lobby_address(values),
+        values.get_str("token-file"),
+    ) else {
         return Ok(None);
     };
     let Some(said) = said_of(alloc, values)? else {
@@ -443,7 +470,8 @@ fn starting_of<'a>(alloc: Global, values: &ArgMatches<'a>) -> Result<Option<Word
     };
     Ok(Some(Word::Start(Starting {
         round,
-        server,
+        lobby,
+        token_file,
         players: values.get_str("players"),
         said,
         is_short: values.get_flag("short"),

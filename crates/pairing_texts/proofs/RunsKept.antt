@@ -103,7 +103,7 @@ record IsOpening (note : Option Reached) : Type 0 where
 abbrev DoesHold : Option Step → Option Reached → List ℕ → List Row → List ℕ → Type 0
 DoesHold None note given seen opened = Unit {0}
 DoesHold (Some steps.Begin) note given seen opened = (note ≡ None) × TellNewer given (numbers_of seen)
-DoesHold (Some steps.Open) note given seen opened = IsOpening note × (opened ≡ [])
+DoesHold (Some steps.Pair) note given seen opened = IsOpening note × (opened ≡ [])
 DoesHold (Some (steps.Take game)) note given seen opened = IsNoneOr opened game
 DoesHold (Some (steps.Join game)) note given seen opened = Unit {0}
 DoesHold (Some (steps.Note game)) note given seen opened = IsNoneOr opened game
@@ -217,12 +217,12 @@ acted_sound b s older game is_noted (Some steps.Begin) sound holds done =
       note = (λ n h. done n (holds.1 n h), inl none);
       does = (record { noted = older; is = refl }, none);
     }
-acted_sound b s older game true (Some steps.Open) sound holds done = record {
+acted_sound b s older game true (Some steps.Pair) sound holds done = record {
   given = one_given s.given s.rows (row_of b game) sound.given;
   note = inr (one_opened s.opened game holds.1);
   does = tt;
 }
-acted_sound b s older game false (Some steps.Open) sound holds done = record {
+acted_sound b s older game false (Some steps.Pair) sound holds done = record {
   given = one_given s.given s.rows (row_of b game) sound.given;
   note = open_holds b s.note s.given s.rows s.opened game holds.0 holds.1 sound.note done.0 done.1;
   does = tt;
@@ -262,7 +262,7 @@ pass_does : (does : Option Step) (note : Option Reached) (given more : List ℕ)
     DoesHold does note given seen opened → DoesHold does note (given ++ more) seen opened
 pass_does None note given more seen opened holds = tt
 pass_does (Some steps.Begin) note given more seen opened holds = (holds.0, more_given given more (numbers_of seen) holds.1)
-pass_does (Some steps.Open) note given more seen opened holds = holds
+pass_does (Some steps.Pair) note given more seen opened holds = holds
 pass_does (Some (steps.Take game)) note given more seen opened holds = holds
 pass_does (Some (steps.Join game)) note given more seen opened holds = tt
 pass_does (Some (steps.Note game)) note given more seen opened holds = holds

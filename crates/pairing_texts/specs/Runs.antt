@@ -28,8 +28,8 @@ pub record Standing : Type 0 where
   pub opened : List ℕ
 
 -- What happens. `start` looks at the table, and sees these seats of the game that was noted; what it is about to do is done: it notes
--- this game as the newest of the older ones, and a game that is opened gets this number, which is noted, or it is killed before; it
--- is killed; and the table is another, with more games given: players act, also for `start`, which has Black join.
+-- this game as the newest of the older ones, and a game that is paired gets this number, which is noted, or it is killed before; it
+-- is killed; and the table is another, with more games given: players act, and the lobby has Black join what it opens for a pair.
 pub data RunStep : Type 0 where
   Looks : (seats : Option Seats) → RunStep
   Acts : (older : Option ℕ) → (game : ℕ) → (is_noted : Bool) → RunStep
@@ -64,12 +64,12 @@ with_opened_game b game s = record s {
   opened = s.opened ++ (game ∷ []);
 }
 
--- what `start` is about to do is done; what was noted or opened it goes on with, without another look
+-- what `start` is about to do is done; what was noted it goes on with, without another look
 abbrev pub acted : Board → Option ℕ → ℕ → Bool → Option Step → Standing → Standing
 acted b older game is_noted None s = s
-acted b older game is_noted (Some steps.Begin) s = noted (Opening older) (Some steps.Open) s
-acted b older game is_noted (Some steps.Open) s =
-    if is_noted then noted (Opened game) (Some (steps.Join game)) (with_opened_game b game s) else with_opened_game b game s
+acted b older game is_noted (Some steps.Begin) s = noted (Opening older) (Some steps.Pair) s
+acted b older game is_noted (Some steps.Pair) s =
+    if is_noted then noted (Joined game) None (with_opened_game b game s) else with_opened_game b game s
 acted b older game is_noted (Some (steps.Take one)) s = noted (Opened one) None s
 acted b older game is_noted (Some (steps.Join one)) s = record s { does = None }
 acted b older game is_noted (Some (steps.Note one)) s = noted (Joined one) None s
@@ -93,7 +93,7 @@ IsNoNewer those this = (n : ℕ) → is_newest those n ≡ true → is_newer thi
 -- what `start` notes is no newer than the games that it saw, and what the server opens has a new number, and the board's times
 abbrev pub IsDone : Board → Option ℕ → ℕ → Option Step → Standing → Type 0
 IsDone b older game (Some steps.Begin) s = IsNoNewer (numbers_of s.seen) older
-IsDone b older game (Some steps.Open) s = (is_newest s.given game ≡ true) × (b.fits game ≡ true)
+IsDone b older game (Some steps.Pair) s = (is_newest s.given game ≡ true) × (b.fits game ≡ true)
 IsDone b older game _ s = Unit {0}
 
 -- the table has this game, and White sits in it

@@ -31,10 +31,10 @@ candidates_in older white rows = flat_map (game_where older white) rows
 abbrev pub numbers_of : List Row → List ℕ
 numbers_of rows = map (λ row. row.game) rows
 
--- Of games that may be the board's and have its times: it is opened where there is none, the one is its, and of several
+-- Of games that may be the board's and have its times: it is paired where there is none, the one is its, and of several
 -- nobody knows which.
 abbrev pub step_of_games : List ℕ → Step
-step_of_games [] = steps.Open
+step_of_games [] = steps.Pair
 step_of_games (game ∷ []) = steps.Take game
 step_of_games (game ∷ other ∷ games) = steps.Ask
 

@@ -16,12 +16,12 @@ pub fn law_of_notes()
     ensures { (n : NoteState) → IsNote n → note_in (note_text n) ≡ Some n }
 {}
 
-/// Whenever `start` is killed and given again, and whatever others do, `start` opens one game at most for a board, and where
-/// a game is noted as the board's, no other. The premises, all in `specs/Runs`:
+/// Whenever `start` is killed and given again, and whatever others do, `start` has one game at most opened for a board, and
+/// where a game is noted as the board's, no other. The premises, all in `specs/Runs`:
 ///
 /// - At first nothing is noted, no `start` runs, and none has opened a game for the board (`IsBeginning`).
 /// - The board's players and times stay the same, and so do a game's times and first position (`Board`). The arbiter says nothing.
-/// - One `start` runs at a time, and what it sends to open a game is taken before anything else happens, or never (`Acts`).
+/// - One `start` runs at a time, and what it says to have a game paired is done before anything else happens, or never (`Acts`).
 /// - A look has all games of the table (`looked`).
 /// - What is noted as older is no newer than the games that were seen: what is newer than these is newer than it (`IsDone`).
 /// - A game that `start` opens has the board's times and the initial position, and is newer than all before it (`IsDone`); and the

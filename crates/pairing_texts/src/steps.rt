@@ -26,13 +26,13 @@ pub struct Seats {
 /// What is to be done about a board.
 #[derive(Clone, Copy)]
 pub enum Step {
-    /// It is to be noted that its game is about to be opened, and which is the newest of the older ones, and then White is to open it.
+    /// It is to be noted that its game is about to be opened, and which is the newest of the older ones, and then it is to be paired.
     Begin,
-    /// White is to open its game.
-    Open,
+    /// It is to be paired: the lobby opens its game under White's name and joins it under Black's.
+    Pair,
     /// This is its game, which is to be noted.
     Take(u32),
-    /// Black is to join its game.
+    /// Black is to join its game, in which the lobby left White alone, since it or its server ended in between.
     Join(u32),
     /// Black has joined its game, which is to be noted.
     Note(u32),
@@ -126,7 +126,7 @@ fn step_of_games(games: &[u32]) -> Step
     ensures { result ≡ spec.step_of_games games.now }
 {
     match games {
-        [] => Step::Open,
+        [] => Step::Pair,
         [game] => Step::Take(*game),
         _ => Step::Ask,
     }

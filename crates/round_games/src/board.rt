@@ -1,11 +1,10 @@
-//! The game of one board: it is opened, noted, joined and noted.
+//! The game of one board: it is paired and noted.
 use crate::round_file::RoundFile;
-use crate::table::{has_times, look, show_game};
+use crate::table::{Table, has_times, look, show_game};
 use anyhow::Result;
 use pairing_texts::{
     Game, Note, Pairing, Row, Seats, Stage, Step, Times, candidates, newest, step_of, times_text,
 };
-use server_link::Link;
 use std::alloc::{AllocError, Global};
 
 /// What became of a board.
@@ -34,34 +33,39 @@ struct Seen {
     rows: Vec<Row>,
 }
 
-// The game that an answer to `open` tells.
-fn opened_in(white: &str, first: &str) -> Result<u32> {
-    let Some(game) = first.strip_prefix("ok open ") else {
-        anyhow::bail!("the server opens no game for {white}: {first}");
+// The game that an answer to `pair` tells.
+fn paired_in(white: &str, first: &str) -> Result<u32> {
+    let Some(game) = first.strip_prefix("ok pair ") else {
+        anyhow::bail!("the lobby opens no game for {white}: {first}");
     };
     let Ok(game) = game.parse::<u32>() else {
-        anyhow::bail!("the server does not tell the game: {first}");
+        anyhow::bail!("the lobby does not tell the game: {first}");
     };
     Ok(game)
 }
 
-// The line that opens a game of these times.
-fn opening_of(alloc: Global, times: Times) -> Result<String, AllocError> {
+// The message that pairs two players for a game of these times.
+fn pairing_of(alloc: Global, white: &str, black: &str, times: Times) -> Result<String, AllocError> {
     let (initial, increment) = (times.initial, times.increment);
     match times.period {
-        None => format!(in alloc; "open white {initial} {increment}"),
+        None => format!(in alloc; "pair {white} {black} {initial} {increment}"),
         Some(period) => {
             let (moves, seconds) = (period.moves, period.seconds);
-            format!(in alloc; "open white {moves}/{initial}:{seconds} {increment}")
+            format!(in alloc; "pair {white} {black} {moves}/{initial}:{seconds} {increment}")
         }
     }
 }
 
 // Of these games those that have these times.
-fn with_times(alloc: Global, link: &mut Link, games: &[u32], times: &str) -> Result<Vec<u32>> {
+fn with_times<T: Table>(
+    alloc: Global,
+    table: &mut T,
+    games: &[u32],
+    times: &str,
+) -> Result<Vec<u32>> {
     let mut with = Vec::new(alloc);
     for game in games {
-        if has_times(alloc, link, *game, times)? {
+        if has_times(alloc, table, *game, times)? {
             with.push(*game)?;
         }
     }
@@ -88,47 +92,38 @@ impl Board {
         }
     }
 
-    // Has its game opened, under White's name.
-    fn ask_open(&self, link: &mut Link) -> Result<u32> {
-        let white = self.pairing.white.as_str();
-        let line = opening_of(self.alloc, self.game.times)?;
-        link.take_name(white)?;
-        let answer = link.ask(line.as_str(), "ok open all ")?;
-        opened_in(white, answer.first.as_str())
+    // Pairs it. The answer, as that a game was opened, may be lost: what was noted before tells which games may be it.
+    fn pair<T: Table>(&self, lobby: &mut T, file: &mut RoundFile) -> Result<()> {
+        let (white, black) = (self.pairing.white.as_str(), self.game.black.as_str());
+        let line = pairing_of(self.alloc, white, black, self.game.times)?;
+        let answer = lobby.ask(line.as_str(), "ok pair all ")?;
+        let game = paired_in(white, answer.first.as_str())?;
+        file.put(self.note(Stage::Joined(game)))
     }
 
-    // Opens its game. The answer, as that a game was opened, may be lost: what was noted before tells which games may be it.
-    fn open(&self, link: &mut Link, file: &mut RoundFile, opened: &mut Option<u32>) -> Result<()> {
-        let game = self.ask_open(link)?;
-        file.put(self.note(Stage::Opened(game)))?;
-        *opened = Some(game);
-        Ok(())
-    }
-
-    // Joins its game, under Black's name. Whether it was joined is looked up.
-    fn join(&self, link: &mut Link, game: u32) -> Result<()> {
-        link.take_name(self.game.black.as_str())?;
-        let line = format!(in self.alloc; "join {game}")?;
-        link.is_done(line.as_str())?;
+    // Has Black join a game in which White is alone. (A lobby passes on only a join of a game that it has told.)
+    fn join<T: Table>(&self, lobby: &mut T, game: u32) -> Result<()> {
+        look(self.alloc, lobby, false)?;
+        let black = self.game.black.as_str();
+        let line = format!(in self.alloc; "as {black} join {game}")?;
+        let answer = lobby.ask(line.as_str(), "ok join all ")?;
+        let first = answer.first.as_str();
+        if !first.starts_with("ok ") {
+            anyhow::bail!("the lobby does not have {black} join game {game}: {first}");
+        }
         Ok(())
     }
 
     // The games that may be its and have its times, since it was noted that it is about to be opened, and is newer than this one.
-    fn games(&self, link: &mut Link, older: Option<u32>, rows: &[Row]) -> Result<Vec<u32>> {
+    fn games<T: Table>(&self, lobby: &mut T, older: Option<u32>, rows: &[Row]) -> Result<Vec<u32>> {
         let times = times_text(self.alloc, self.game.times)?;
         let found = candidates(self.alloc, older, &self.pairing.white, rows)?;
-        with_times(self.alloc, link, found.as_slice(), times.as_str())
+        with_times(self.alloc, lobby, found.as_slice(), times.as_str())
     }
 
-    // Who sits in its game; none where that is not on the table. In one that White has just opened Black's seat is empty.
-    fn seats(&self, link: &mut Link, game: u32, opened: Option<u32>) -> Result<Option<Seats>> {
-        if opened == Some(game) {
-            return Ok(Some(Seats {
-                white: Some(self.pairing.white),
-                black: None,
-            }));
-        }
-        match show_game(self.alloc, link, game)? {
+    // Who sits in its game; none where that is not on the table.
+    fn seats<T: Table>(&self, lobby: &mut T, game: u32) -> Result<Option<Seats>> {
+        match show_game(self.alloc, lobby, game)? {
             Some(shown) => Ok(Some(shown.seats)),
             None => Ok(None),
         }
@@ -141,17 +136,17 @@ impl Board {
     }
 
     // What is to be done about it where its game was not begun.
-    fn unbegun(&self, link: &mut Link) -> Result<Seen> {
+    fn unbegun<T: Table>(&self, lobby: &mut T) -> Result<Seen> {
         Ok(Seen {
             step: self.step_by(None, &[]),
-            rows: look(self.alloc, link, false)?,
+            rows: look(self.alloc, lobby, false)?,
         })
     }
 
     // What is to be done about it where it was noted that its game is about to be opened, and is newer than this one.
-    fn begun(&self, link: &mut Link, stage: &Stage, older: Option<u32>) -> Result<Seen> {
-        let rows = look(self.alloc, link, true)?;
-        let games = self.games(link, older, rows.as_slice())?;
+    fn begun<T: Table>(&self, lobby: &mut T, stage: &Stage, older: Option<u32>) -> Result<Seen> {
+        let rows = look(self.alloc, lobby, true)?;
+        let games = self.games(lobby, older, rows.as_slice())?;
         Ok(Seen {
             step: self.step_by(Some(stage), games.as_slice()),
             rows,
@@ -159,8 +154,8 @@ impl Board {
     }
 
     // What is to be done about it where this game was noted, by who sits in it.
-    fn step(&self, link: &mut Link, stage: &Stage, game: u32, opened: Option<u32>) -> Result<Step> {
-        let seats = self.seats(link, game, opened)?;
+    fn step<T: Table>(&self, lobby: &mut T, stage: &Stage, game: u32) -> Result<Step> {
+        let seats = self.seats(lobby, game)?;
         // (of a game that has left the table the arbiter's word is all there is)
         if seats.is_none() && self.taken == Some(game) {
             return Ok(Step::Note(game));
@@ -170,14 +165,14 @@ impl Board {
     }
 
     // What is to be done about it now.
-    fn seen(&self, link: &mut Link, file: &RoundFile, opened: Option<u32>) -> Result<Seen> {
+    fn seen<T: Table>(&self, lobby: &mut T, file: &RoundFile) -> Result<Seen> {
         let Some(stage) = file.stage_of(self.pairing.board) else {
-            return self.unbegun(link);
+            return self.unbegun(lobby);
         };
         let step = match stage {
-            Stage::Opening(older) => return self.begun(link, stage, *older),
+            Stage::Opening(older) => return self.begun(lobby, stage, *older),
             Stage::Joined(game) => Step::Has(*game),
-            Stage::Opened(game) => self.step(link, stage, *game, opened)?,
+            Stage::Opened(game) => self.step(lobby, stage, *game)?,
         };
         Ok(Seen {
             step,
@@ -185,57 +180,36 @@ impl Board {
         })
     }
 
-    // Notes that its game is about to be opened, and is newer than these of the table, and opens it.
-    fn begin(
-        &self,
-        link: &mut Link,
-        file: &mut RoundFile,
-        rows: &[Row],
-        opened: &mut Option<u32>,
-    ) -> Result<()> {
+    // Notes that its game is about to be opened, and is newer than these of the table, and pairs it.
+    fn begin<T: Table>(&self, lobby: &mut T, file: &mut RoundFile, rows: &[Row]) -> Result<()> {
         file.put(self.note(Stage::Opening(newest(rows))))?;
-        self.open(link, file, opened)
+        self.pair(lobby, file)
     }
 
-    // Does what was seen to be done. `opened` is its game where White has just opened it.
-    fn act(
-        &self,
-        link: &mut Link,
-        file: &mut RoundFile,
-        seen: &Seen,
-        opened: &mut Option<u32>,
-    ) -> Result<()> {
+    // Does what was seen to be done.
+    fn act<T: Table>(&self, lobby: &mut T, file: &mut RoundFile, seen: &Seen) -> Result<()> {
         match seen.step {
-            Step::Begin => self.begin(link, file, seen.rows.as_slice(), opened),
-            Step::Open => self.open(link, file, opened),
+            Step::Begin => self.begin(lobby, file, seen.rows.as_slice()),
+            Step::Pair => self.pair(lobby, file),
             Step::Take(game) => file.put(self.note(Stage::Opened(game))),
-            Step::Join(game) => {
-                *opened = None;
-                self.join(link, game)
-            }
+            Step::Join(game) => self.join(lobby, game),
             Step::Note(game) => file.put(self.note(Stage::Joined(game))),
             Step::Has(_) | Step::Ask => Ok(()),
         }
     }
 
     // Looks what is to be done about it now, does that, and tells what became of it, where that is settled.
-    fn do_step(
-        &self,
-        link: &mut Link,
-        file: &mut RoundFile,
-        opened: &mut Option<u32>,
-    ) -> Result<Option<Became>> {
-        let seen = self.seen(link, file, *opened)?;
-        self.act(link, file, &seen, opened)?;
+    fn do_step<T: Table>(&self, lobby: &mut T, file: &mut RoundFile) -> Result<Option<Became>> {
+        let seen = self.seen(lobby, file)?;
+        self.act(lobby, file, &seen)?;
         Ok(became_by(seen.step))
     }
 
     /// Goes on with its game until Black has joined it, or until it is the arbiter's to say which it is. Wherever
     /// it fails or the process is killed, it may be called again.
-    pub fn go_on(&self, link: &mut Link, file: &mut RoundFile) -> Result<Became> {
-        let mut opened = None;
+    pub fn go_on<T: Table>(&self, lobby: &mut T, file: &mut RoundFile) -> Result<Became> {
         for _ in 0..8 {
-            if let Some(became) = self.do_step(link, file, &mut opened)? {
+            if let Some(became) = self.do_step(lobby, file)? {
                 return Ok(became);
             }
         }

@@ -1,10 +1,22 @@
-//! What the server tells of its table.
+//! What is told of the table.
 use anyhow::Result;
 use pairing_texts::{Row, Seats};
 use rec_codec::Name;
 use server_link::{Answer, Link, refused, row_of};
 use std::alloc::{AllocError, Global};
 use text_parts::parts;
+
+/// Who is asked of the table: the server, or the lobby before it.
+pub trait Table {
+    /// The answer to a line. Where it begins with `front`, lines follow, and a number behind that says how many.
+    fn ask(&mut self, line: &str, front: &str) -> Result<Answer>;
+}
+
+impl Table for Link {
+    fn ask(&mut self, line: &str, front: &str) -> Result<Answer> {
+        Link::ask(self, line, front)
+    }
+}
 
 // Who sits in a seat that is told as a name or `-`.
 fn seat_of(text: &str) -> Option<Name> {
@@ -19,7 +31,7 @@ fn row_in(line: &str) -> Result<Row> {
             white: seat_of(row.white),
             black: seat_of(row.black),
         }),
-        None => anyhow::bail!("the server's list has a row of another form: {line:?}"),
+        None => anyhow::bail!("the list has a row of another form: {line:?}"),
     }
 }
 
@@ -40,19 +52,21 @@ fn rows_in(alloc: Global, list: &str) -> Result<Vec<Row>> {
     Ok(rows)
 }
 
-fn list(alloc: Global, link: &mut Link) -> Result<Vec<Row>> {
-    link.say("list")?;
-    let list = link.hear_list()?;
-    rows_in(alloc, list.as_str())
+fn list<T: Table>(alloc: Global, table: &mut T) -> Result<Vec<Row>> {
+    let answer = table.ask("list", "ok list ")?;
+    if !answer.first.starts_with("ok list ") {
+        return Err(refused("list", answer.first.as_str()));
+    }
+    rows_in(alloc, answer.behind.as_str())
 }
 
-/// The games of the table. Where the look `settles`, what an earlier connection sent is among them: a server has taken that before
-/// its second answer on this one.
-pub fn look(alloc: Global, link: &mut Link, settles: bool) -> Result<Vec<Row>> {
+/// The games of the table. Where the look `settles`, what an earlier connection sent is among them: who is asked has taken that
+/// before its second answer on this one.
+pub fn look<T: Table>(alloc: Global, table: &mut T, settles: bool) -> Result<Vec<Row>> {
     if settles {
-        list(alloc, link)?;
+        list(alloc, table)?;
     }
-    list(alloc, link)
+    list(alloc, table)
 }
 
 /// How a game stands: who sits in it, how many moves were made, the result and the article.
@@ -125,9 +139,9 @@ fn shown_in(alloc: Global, line: &str, first: &str) -> Result<Option<Shown>> {
 }
 
 /// How a game stands; none where it is not on the table.
-pub fn show_game(alloc: Global, link: &mut Link, game: u32) -> Result<Option<Shown>> {
+pub fn show_game<T: Table>(alloc: Global, table: &mut T, game: u32) -> Result<Option<Shown>> {
     let line = format!(in alloc; "show {game}")?;
-    let answer = link.ask(line.as_str(), "ok show all ")?;
+    let answer = table.ask(line.as_str(), "ok show all ")?;
     shown_in(alloc, line.as_str(), answer.first.as_str())
 }
 
@@ -170,9 +184,9 @@ fn has_times_in(
 
 /// Whether a game has these times, as the tag TimeControl tells them, and begins with the initial position. One that has left
 /// the table has not.
-pub fn has_times(alloc: Global, link: &mut Link, game: u32, times: &str) -> Result<bool> {
+pub fn has_times<T: Table>(alloc: Global, table: &mut T, game: u32, times: &str) -> Result<bool> {
     let line = format!(in alloc; "pgn {game}")?;
     let front = format!(in alloc; "ok pgn {game} ")?;
-    let answer = link.ask(line.as_str(), front.as_str())?;
+    let answer = table.ask(line.as_str(), front.as_str())?;
     has_times_in(alloc, line.as_str(), front.as_str(), &answer, times)
 }

@@ -128,16 +128,6 @@ impl Link {
         Ok(answer.behind)
     }
 
-    /// What is asked from now on is asked under this name. It fails where the server does not take it.
-    pub fn take_name(&mut self, name: &str) -> Result<()> {
-        let line = format!(in self.alloc; "name {name}")?;
-        let answer = self.ask(line.as_str(), "ok name ")?;
-        if !answer.first.starts_with("ok name ") {
-            return Err(refused(line.as_str(), answer.first.as_str()));
-        }
-        Ok(())
-    }
-
     /// Asks a line, of which the answer is one line; whether it begins with `ok`.
     pub fn is_done(&mut self, line: &str) -> Result<bool> {
         let answer = self.ask(line, "ok")?;
