@@ -8,10 +8,11 @@ use round_games::{
     Became, Board, RoundFile, boards_of, check_notes, check_players, check_times, pairings_of,
     take_words,
 };
+use server_calls::ServerAddress;
 use server_link::Link;
 use std::alloc::Global;
 use std::fs::File;
-use std::net::{Net, SocketAddr, TcpStream};
+use std::net::{Net, TcpStream};
 use std::rt::{Clock, Files};
 use std::thread;
 use std::time::{Duration, SystemTime};
@@ -89,7 +90,7 @@ impl<'a> Rounds<'a> {
     fn go_on_over<R: Print + Eprint>(
         &mut self,
         rt: &R,
-        server: SocketAddr,
+        server: ServerAddress,
         link: &mut Link,
         board: &Board,
     ) -> Result<()> {
@@ -104,7 +105,7 @@ impl<'a> Rounds<'a> {
     fn go_on_with<R>(
         &mut self,
         rt: &R,
-        server: SocketAddr,
+        server: ServerAddress,
         link: &mut Option<Link>,
         board: &Board,
     ) -> Result<()>
@@ -124,7 +125,7 @@ impl<'a> Rounds<'a> {
     fn go_on_at<R>(
         &mut self,
         rt: &R,
-        server: SocketAddr,
+        server: ServerAddress,
         link: &mut Option<Link>,
         board: &Board,
         first: &mut Result<()>,
@@ -144,7 +145,7 @@ impl<'a> Rounds<'a> {
 
     // Goes on with each board whose start has come. It tells the first of the failures, after which a board may be gone on
     // with again.
-    fn go_on<R>(&mut self, rt: &R, server: SocketAddr, boards: &[Board]) -> Result<()>
+    fn go_on<R>(&mut self, rt: &R, server: ServerAddress, boards: &[Board]) -> Result<()>
     where
         R: Net<Stream = TcpStream> + AllocGlobal + Print + Eprint + Clock,
     {
@@ -174,7 +175,7 @@ fn tell_failure<R: AllocGlobal + Eprint>(rt: &R, told: &mut String, error: Error
 fn go_once<R>(
     rt: &R,
     rounds: &mut Rounds<'_>,
-    server: SocketAddr,
+    server: ServerAddress,
     boards: &[Board],
     told: &mut String,
 ) -> Result<()>
@@ -213,7 +214,7 @@ fn tell_waits<R: Eprint + Clock>(rt: &R, boards: &[Board]) -> Result<()> {
 }
 
 // Goes round the boards until each has its game or is the arbiter's.
-fn go_round<R>(rt: &R, rounds: &mut Rounds<'_>, server: SocketAddr, boards: &[Board]) -> Result<()>
+fn go_round<R>(rt: &R, rounds: &mut Rounds<'_>, server: ServerAddress, boards: &[Board]) -> Result<()>
 where
     R: Net<Stream = TcpStream> + AllocGlobal + Print + Eprint + Clock,
 {
@@ -298,7 +299,7 @@ fn rounds_of<'a>(alloc: Global, file: RoundFile, without: &'a [u32]) -> Rounds<'
 fn go_through<R>(
     rt: &R,
     rounds: &mut Rounds<'_>,
-    server: SocketAddr,
+    server: ServerAddress,
     boards: &[Board],
 ) -> Result<usize>
 where

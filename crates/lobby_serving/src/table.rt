@@ -1,10 +1,10 @@
 //! How many games the server has: it is asked by a connection of its own, while somebody asks for figures.
 use lobby_figures::{Games, Listing, Told};
 use lobby_loop::Lobby;
-use mio::net::TcpStream;
+use server_calls::{ServerAddress, begin};
 use std::alloc::{AllocError, Global};
 use std::io::{ErrorKind, Read, Write};
-use std::net::{Net, SocketAddr};
+use std::net::Net;
 
 /// What is asked, with its end.
 const LIST: &[u8] = b"list\n";
@@ -31,7 +31,7 @@ const READS: u32 = 16;
 /// A question on its way.
 #[derive(Drop)]
 struct Call {
-    stream: TcpStream,
+    stream: server_calls::Call,
     is_said: bool,
     listing: Listing,
     until: u64,
@@ -111,7 +111,7 @@ impl Call {
 #[derive(Drop)]
 pub struct Table {
     alloc: Global,
-    server: SocketAddr,
+    server: ServerAddress,
     // Whether it was there at the last look.
     is_here: bool,
     call: Option<Call>,
@@ -125,7 +125,7 @@ pub struct Table {
 
 impl Table {
     /// Nothing was asked.
-    pub fn new(alloc: Global, server: SocketAddr) -> Table {
+    pub fn new(alloc: Global, server: ServerAddress) -> Table {
         Table {
             alloc,
             server,
@@ -155,7 +155,7 @@ impl Table {
     // Begins a question.
     fn begin(&mut self, net: &impl Net, at: u64) {
         self.next_at = at.saturating_add(EVERY);
-        if let Ok(stream) = TcpStream::connect(net, self.server) {
+        if let Ok(stream) = begin(net, &self.server) {
             self.call = Some(Call {
                 stream,
                 is_said: false,

@@ -5,8 +5,8 @@ use command_words::{
     OptionText, OptionValue, PLAYERS, SERVER, WordText, command_line, read_by, read_or_told,
     server_address,
 };
+use server_calls::ServerAddress;
 use std::alloc::{AllocError, Global};
-use std::net::SocketAddr;
 use trf_texts::Tournament;
 
 const HELP_OF_START: &str = "\
@@ -98,7 +98,7 @@ pub struct Said {
 #[derive(Drop)]
 pub struct Starting<'a> {
     pub round: Round<'a>,
-    pub server: SocketAddr,
+    pub server: ServerAddress,
     /// The players' file, in which all players are to be.
     pub players: Option<&'a str>,
     pub said: Said,
@@ -110,7 +110,7 @@ pub struct Starting<'a> {
 #[derive(Clone, Copy)]
 pub struct Source<'a> {
     pub archive: Option<&'a str>,
-    pub server: Option<SocketAddr>,
+    pub server: Option<ServerAddress>,
 }
 
 /// The round whose results are written.
@@ -388,7 +388,7 @@ fn round_of<'a>(values: &ArgMatches<'a>) -> Option<Round<'a>> {
 fn source_of<'a>(values: &ArgMatches<'a>) -> Option<Source<'a>> {
     let archive = values.get_str("archive");
     let server = match values.get_str("server") {
-        Some(text) => Some(text.parse::<SocketAddr>().ok()?),
+        Some(text) => Some(ServerAddress::named(text)?),
         None => None,
     };
     if archive.is_none() && server.is_none() {

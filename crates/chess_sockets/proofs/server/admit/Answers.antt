@@ -24,6 +24,7 @@ returns-clause-welcomes g c =
           wait = c.new.ensures.wait;
           incoming = c.new.ensures.nothing.0;
           outgoing = c.new.ensures.nothing.1;
+          first = c.new.ensures.first;
           sound = c.new.ensures.sound;
         },
       );
