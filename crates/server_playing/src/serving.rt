@@ -8,16 +8,15 @@ use chess_run::Moments;
 use chess_sockets::{Server, Turned};
 use chess_store::Store;
 use sector_dev::Device;
-use server_telling::{Teller, TellingDevice, TurnedAway};
 use server_calls::LocalListener;
+use server_telling::{Teller, TellingDevice, TurnedAway};
 use server_work::{Fault, Place, Serving, found_in, open_file, open_on, printed, told};
 use std::alloc::Global;
-use std::fs;
 use std::fs::File;
-use std::io;
 use std::net::{Net, TcpListener, TcpStream};
 use std::rt::{Clock, Files};
 use std::time::Instant;
+use std::{fs, io};
 
 // Takes the turns of a server: so many, or as many as 64 bits count.
 fn take_turns<R: Clock + Eprint, D: Device>(
