@@ -277,7 +277,10 @@ const LINES_IN_PORTIONS: [Row; 5] = [
 const OTHER_PROTOCOLS: [Row; 4] = [
     (
         (
-            &[Gives::Text("POST / HTTP/1.1\r\n\r\nname a\n"), Gives::Nothing],
+            &[
+                Gives::Text("POST / HTTP/1.1\r\n\r\nname a\n"),
+                Gives::Nothing,
+            ],
             &Takes::All,
             NAMED,
         ),
