@@ -5,6 +5,7 @@ use command_words::{
     OptionText, OptionValue, SERVER, WordText, command_line, read_by, read_or_told, server_address,
 };
 use pgn_tags::is_date;
+use server_calls::ServerAddress;
 use std::alloc::{AllocError, Global};
 use std::net::SocketAddr;
 
@@ -71,7 +72,7 @@ pub enum Word<'a> {
 /// Whose games are told, what their PGNs are made with, and how often.
 #[derive(Clone, Copy)]
 pub struct Source<'a> {
-    pub server: SocketAddr,
+    pub server: ServerAddress,
     pub players: Option<&'a str>,
     pub log: Option<&'a str>,
     /// What the tags are to say; of White and Black nothing yet.

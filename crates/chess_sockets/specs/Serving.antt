@@ -76,13 +76,14 @@ abbrev pub open_in : {S : Type 0} → Sessions → List (Client S) → List (Cli
 open_in sessions clients = filter (λ client. is_some (session_at sessions client.sid)) clients
 
 -- A client begins at this moment: its stream is as it is made of a connection, nothing of it is held back, nothing waits for
--- it, it has not waited, it may send more, and no trouble has come about.
+-- it, it has not waited, its session was given nothing yet, it may send more, and no trouble has come about.
 pub record Begins {C S : Type 0} (IsMade : C → S → Type 0) (client : Client S) (at : ℕ) : Type 0 where
   pub connection : C
   pub made : IsMade connection client.wire.stream
   pub moment : client.heard_at ≡ at
   pub lasts : client.has_ended ≡ false
   pub wait : client.waited ≡ 0
+  pub first : client.has_spoken ≡ false
   pub incoming : held client.incoming ≡ []
   pub outgoing : waiting client.outgoing ≡ []
   pub sound : IsSound client

@@ -10,12 +10,13 @@ ghost use Rattle.chess_sockets.specs.Turns.{EndsServing, IsRefusal, IsTurnRefusa
 use chess_hub::{Hub, HubFault};
 use client_streams::{Client, Reading, hand_out_all, take_in_all};
 use sector_dev::Device;
-use server_calls::{AcceptOutcome, Listens, LocalListener, Watch, may_wait, next_connection};
+use server_calls::{
+    AcceptOutcome, Connection, Listens, LocalListener, Watch, descriptor, may_wait, next_connection,
+};
 use std::alloc::Global;
 use std::io;
 use std::io::{Read, Write};
-use std::net::{Net, TcpListener, TcpStream};
-use std::os::fd::AsRawFd;
+use std::net::Net;
 
 /// Whether a turn found something to do.
 #[derive(Clone, Copy, PartialEq, Eq)]
@@ -35,12 +36,11 @@ enum Rested {
     Woken,
 }
 
-/// Serves clients on a port of this machine, over streams that are made of their connections.
+/// Serves the clients of a listener, over streams that are made of their connections.
 #[derive(Drop)]
-pub struct Server<D: Device, S = TcpStream> {
+pub struct Server<D: Device, S = Connection> {
     alloc: Global,
     listener: LocalListener,
-    port: u16,
     hub: Hub<D>,
     clients: Vec<Client<S>>,
     watch: Watch,
@@ -76,12 +76,12 @@ fn told_as(has_worked: bool) -> Turned
 
 // Begins a session for a connection, and tells whether it did: the connection is dropped where the hub is busy or memory is
 // refused.
-fn admit<S: Read + Write + From<TcpStream> + Drop, D: Device>(
+fn admit<S: Read + Write + From<Connection> + Drop, D: Device>(
     alloc: Global,
     clients: &mut Vec<Client<S>>,
     hub: &mut Hub<D>,
     watch: &mut Watch,
-    stream: TcpStream,
+    connection: Connection,
     at: u64,
 ) -> bool
     ensures welcomes { Welcomes S.from_gives at clients.old.items clients.new.items
@@ -102,8 +102,8 @@ fn admit<S: Read + Write + From<TcpStream> + Drop, D: Device>(
         Err(_) => return false,
     };
     // One that the system refuses to watch is served too: each rest then ends as though something had come.
-    let _ = watch.add(stream.as_raw_fd());
-    clients.push_reserved(Client::new(alloc, S::from(stream), sid, at));
+    let _ = watch.add(descriptor(&connection));
+    clients.push_reserved(Client::new(alloc, S::from(connection), sid, at));
     true
 }
 
@@ -144,14 +144,14 @@ pub fn serve_clients<S: Read + Write, D: Device>(
     Ok(has_read | has_written)
 }
 
-impl<D: Device, S: Read + Write + From<TcpStream> + Drop> Server<D, S> {
-    /// Listens on a port of 127.0.0.1; of port 0 the system chooses one. The system's error where it cannot be bound or
-    /// watched; the hub is then given up. A client from which nothing came for `silence` milliseconds, and for which
-    /// nothing waits, is closed; without that none is closed for silence.
-    pub fn bind<R: Net<Listener = TcpListener, Stream = TcpStream>>(
-        net: &R,
+impl<D: Device, S: Read + Write + From<Connection> + Drop> Server<D, S> {
+    /// Serves who connects to this listener. The system's error where that cannot be watched; the hub is then given up. A
+    /// client from which nothing came for `silence` milliseconds, and for which nothing waits, is closed; without that none
+    /// is closed for silence.
+    pub fn new(
+        net: &impl Net,
         alloc: Global,
-        port: u16,
+        listener: LocalListener,
         silence: Option<u64>,
         hub: Hub<D>,
     ) -> io::Result<Server<D, S>>
@@ -162,14 +162,11 @@ impl<D: Device, S: Read + Write + From<TcpStream> + Drop> Server<D, S> {
         ensures silence { IfOk result (λ server. server.silence ≡ silence) }
         ensures away { IfOk result (λ server. server.turned_away ≡ 0) }
     {
-        let listener = LocalListener::bind(net, port)?;
         let mut watch = Watch::new(net, alloc)?;
-        let port = listener.port()?;
         watch.add(listener.socket())?;
         Ok(Server {
             alloc,
             listener,
-            port,
             hub,
             clients: Vec::new(alloc),
             watch,
@@ -179,14 +176,7 @@ impl<D: Device, S: Read + Write + From<TcpStream> + Drop> Server<D, S> {
         })
     }
 
-    /// The port that it listens on.
-    pub fn port(&self) -> u16
-        ensures { result ≡ self.now.port }
-    {
-        self.port
-    }
-
-    /// How many connections were dropped since it was bound, for want of a place or of memory; at most 2^64 - 1.
+    /// How many connections were dropped since it began, for want of a place or of memory; at most 2^64 - 1.
     pub fn turned_away(&self) -> u64
         ensures { result ≡ self.now.turned_away }
     {
@@ -213,7 +203,6 @@ impl<D: Device, S: Read + Write + From<TcpStream> + Drop> Server<D, S> {
             (state_of self.new.hub.sessions self.new.hub.store.table) }
         ensures store { self.new.hub.store ≡ self.old.hub.store }
         ensures refusals { self.new.hub.refusals ≡ self.old.hub.refusals }
-        ensures port { self.new.port ≡ self.old.port }
         ensures silence { self.new.silence ≡ self.old.silence }
         ensures waits { self.new.watch.calm_waits ≡ self.old.watch.calm_waits }
         ensures blind { self.old.watch.is_blind ≡ true → self.new.watch.is_blind ≡ true }
@@ -247,7 +236,6 @@ impl<D: Device, S: Read + Write + From<TcpStream> + Drop> Server<D, S> {
         ensures rested { self.new.rested ≡ self.old.rested }
         ensures listener { self.new.listener ≡ self.old.listener }
         ensures turned_away { self.new.turned_away ≡ self.old.turned_away }
-        ensures port { self.new.port ≡ self.old.port }
         ensures silence { self.new.silence ≡ self.old.silence }
         ensures waits { self.new.watch.calm_waits ≡ self.old.watch.calm_waits }
         ensures blind { self.old.watch.is_blind ≡ true → self.new.watch.is_blind ≡ true }
@@ -297,7 +285,6 @@ impl<D: Device, S: Read + Write + From<TcpStream> + Drop> Server<D, S> {
             self.old.hub.store.journal.header.seq self.old.hub.store.table.entries) at self.old.clients.items
             self.new.clients.items (state_of self.old.hub.sessions self.old.hub.store.table)
             (state_of self.new.hub.sessions self.new.hub.store.table)) }
-        ensures port { self.new.port ≡ self.old.port }
         ensures silence { self.new.silence ≡ self.old.silence }
         ensures waits { self.new.watch.calm_waits ≡ self.old.watch.calm_waits }
         ensures blind { self.old.watch.is_blind ≡ true → self.new.watch.is_blind ≡ true }
@@ -333,7 +320,6 @@ impl<D: Device, S: Read + Write + From<TcpStream> + Drop> Server<D, S> {
             × (self.new.watch.is_blind ≡ true) }
         ensures woken { self.old.rested ≡ Rested.Woken → self.new.rested ≡ Rested.Woken }
         ensures turned_away { self.new.turned_away ≡ self.old.turned_away }
-        ensures port { self.new.port ≡ self.old.port }
         ensures silence { self.new.silence ≡ self.old.silence }
     {
         let is_calm = self.watch.rest();

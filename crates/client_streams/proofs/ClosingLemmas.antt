@@ -9,7 +9,7 @@ use Rattle.client_streams.specs.declared.closing.Closing.{Closing}
 use Rattle.client_streams.specs.declared.closing.Closing.TheVariants as closings
 use Rattle.client_streams.specs.declared.outgoing.Sent.{Sent}
 use Rattle.client_streams.specs.declared.outgoing.Sent.TheVariants as sents
-use Rattle.client_streams.specs.Closings.{HasFailed, WasRefused, ByReason, IsTrouble, IsOver, HasEnded, HasLeft}
+use Rattle.client_streams.specs.Closings.{HasFailed, WasRefused, IsForeign, ByReason, IsTrouble, IsOver, HasEnded, HasLeft}
 use Rattle.client_streams.specs.Incoming.{held}
 
 -- it holds whatever is answered
@@ -20,12 +20,18 @@ on_err (Err e) P holds = holds
 -- it is closed for a fault, and the connection has failed
 pub has_failed : {S : Type 0} (after : Client S) → after.closing ≡ Some closings.Fault → HasFailed after → IsTrouble after
 has_failed after told failed =
-    subst (λ (r : Option Closing). ByReason r (HasFailed after) (WasRefused after) ⊥ ⊥ ⊥) (sym told) failed
+    subst (λ (r : Option Closing). ByReason r (HasFailed after) (WasRefused after) (IsForeign after) ⊥ ⊥ ⊥) (sym told) failed
+
+-- and it is closed for another protocol
+pub is_foreign : {S : Type 0} (after : Client S) → after.closing ≡ Some closings.OtherProtocol → IsForeign after →
+    IsTrouble after
+is_foreign after told foreign =
+    subst (λ (r : Option Closing). ByReason r (HasFailed after) (WasRefused after) (IsForeign after) ⊥ ⊥ ⊥) (sym told) foreign
 
 module _ {S : Type 0} (after : Client S) (closing : Closing) (told : after.closing ≡ Some closing) (left : List ℕ) where
   abbrev Has : Option Closing → Option SessionState → Type 0
   Has reason session =
-      ByReason reason (HasFailed after) (WasRefused after) ⊥ (HasEnded after session left) (HasLeft session left)
+      ByReason reason (HasFailed after) (WasRefused after) ⊥ ⊥ (HasEnded after session left) (HasLeft session left)
 
   pub because : (session : Option SessionState) (other : Closing) → closing ≡ other → Has (Some other) session
       → IsOver after session left

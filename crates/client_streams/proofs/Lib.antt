@@ -1,4 +1,5 @@
 pub mod PortionLemmas
+pub mod ProtocolLemmas
 pub mod SendLemmas
 pub mod ClientLemmas
 pub mod TakingLemmas

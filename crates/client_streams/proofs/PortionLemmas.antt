@@ -22,7 +22,7 @@ ended-more (first ∷ parts) part = ap (λ l. first ++ 10 ∷ l) (ended-more par
 pub no_lines : AreLines 0 []
 no_lines = record { parts = []; cut = refl; lines = All-nil HasNoFeed; cheap = All-nil IsCheap; number = refl }
 
-line-taken : (bytes : List ℕ) (at : ℕ) → at < length bytes → get_or bytes at 0 ≡ 10 →
+pub line-taken : (bytes : List ℕ) (at : ℕ) → at < length bytes → get_or bytes at 0 ≡ 10 →
     take (at + 1) bytes ≡ take at bytes ++ 10 ∷ []
 line-taken bytes at lt feed = take_more bytes at 0 lt ∙ ap (λ x. take at bytes ++ x ∷ []) feed
 

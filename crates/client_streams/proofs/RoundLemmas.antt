@@ -13,16 +13,17 @@ use Rattle.chess_answer.specs.declared.reads.Reply.{Reply}
 use Rattle.chess_sessions.specs.declared.sessions.Sessions.{Sessions}
 use Rattle.chess_sessions.specs.Session.{Said, said, SessionState, session_at, Changes, IsUnchanged, due, first_due, given_one, farewell, is_done}
 use Rattle.client_streams.specs.declared.client.Client.{Client}
-use Rattle.client_streams.specs.Clients.{OthersStay, IsSilent, IsHeardAt, IsEndSeen, IsHeldUp, HasWaitedOn, GivesOn, TakesIn, HandsOut, bytes_of_all, to_go}
+use Rattle.client_streams.specs.Clients.{Standing, standing, OthersStay, IsSilent, IsHeardAt, IsEndSeen, IsHeldUp, HasWaitedOn, HasSpokenOn, GivesOn, TakesIn, HandsOut, bytes_of_all, to_go}
 use Rattle.client_streams.specs.declared.closing.Closing.{Closing}
 use Rattle.client_streams.specs.declared.closing.Closing.TheVariants.{Silence}
-use Rattle.client_streams.specs.Closings.{HasFailed, WasRefused, ByReason, IsReason, IsOver}
+use Rattle.client_streams.specs.Closings.{HasFailed, WasRefused, IsForeign, ByReason, IsReason, IsOver}
+use Rattle.client_streams.specs.Protocols.{AreOfAnotherProtocol}
 use Rattle.client_streams.specs.Incoming.{held}
 use Rattle.client_streams.specs.Sending.{waiting, HandsOn}
 use Rattle.client_streams.specs.Portions.{is_dear, IsDearLine, AreMost}
 use Rattle.client_streams.proofs.PortionLemmas.{none-dear}
 use Rattle.client_streams.proofs.HeardLemmas.{heard_as_before, end_as_before}
-use Rattle.client_streams.proofs.TakingLemmas.{takes-kept, takes-in, some_at, up_unfinished, waits-still, waits-for, gives-none-up, gives-closed}
+use Rattle.client_streams.proofs.TakingLemmas.{takes-kept, takes-in, some_at, up_unfinished, waits-still, waits-for, spoken-still, gives-none-up, gives-closed}
 use Rattle.client_streams.specs.Rounds.{Intake, intake, Holds, AreEach, PassesClosed, IsSent, IsRead, AreGivenTo, AreGiven, IsGivenOut, IsHandedOut, IsWritten}
 use Rattle.client_streams.proofs.ClientLemmas.{session_state}
 
@@ -58,7 +59,7 @@ changes_after a b c sid now h k = record {
 
 -- what was read and sent
 pub record Sends (room left longest : ℕ) (before after : Option (List ℕ)) (unsent holds keeps : List ℕ)
-    (waited waits sid : ℕ) (old new : Sessions) : Type 0 where
+    (stood stands : Standing) (sid : ℕ) (old new : Sessions) : Type 0 where
   pub taken : List ℕ
   pub consumed : Consumes before after taken
   pub unfinished : taken ≢ [] → IsUnfinished holds
@@ -66,10 +67,12 @@ pub record Sends (room left longest : ℕ) (before after : Option (List ℕ)) (u
   pub order : holds ++ taken ≡ fed ++ keeps
   pub many : fed ≢ [] → AreMost fed keeps
   pub fewer : left ≤ room
-  pub dear : IsDearLine fed → (left + 1 ≤ room) × (longest ≤ waited)
+  pub dear : IsDearLine fed → (left + 1 ≤ room) × (longest ≤ stood.waited)
   pub spent : (left ≡ room) ⊎ (is_dear fed ≡ true) ⊎ (session_at new sid ≡ None)
   pub wait : HasWaitedOn (IfSome (session_at old sid) (λ s. IsHeldUp unsent keeps s (session_at new sid))) room longest fed
-      keeps waited waits
+      keeps stood.waited stands.waited
+  pub first : HasSpokenOn (holds ++ taken) fed stood.has_spoken stands.has_spoken
+  pub closes : stood.has_spoken ≡ false → taken ≢ [] → AreOfAnotherProtocol (holds ++ taken) → session_at new sid ≡ None
   pub sent : IsSent sid fed old new
 
 spent_by : {A : Type 0} {left room : ℕ} {much : Type 0} (m n : Option A) → n ≡ m →
@@ -86,9 +89,9 @@ up_at : {unsent keeps : List ℕ} (s : SessionState) (m n r : Option SessionStat
 up_at {unsent = unsent} {keeps = keeps} s m n r e f up =
     some_at (λ t. IsHeldUp unsent keeps t n) (Some s) m e (subst (λ (o : Option SessionState). IsHeldUp unsent keeps s o) (sym f) up)
 
-sent_by : {room left longest waited waits : ℕ} {unsent holds keeps : List ℕ} (sid : ℕ) (old new : Sessions)
+sent_by : {room left longest : ℕ} {stood stands : Standing} {unsent holds keeps : List ℕ} (sid : ℕ) (old new : Sessions)
     (s : SessionState) (n : Option SessionState) → session_at old sid ≡ Some s → session_at new sid ≡ n →
-    (gives : GivesOn room left longest unsent holds keeps waited waits s n) → OthersStay old new sid →
+    (gives : GivesOn room left longest unsent holds keeps stood stands s n) → OthersStay old new sid →
     IsSent sid gives.fed old new
 sent_by sid old new s None e f gives others = inr (inr (inl (gives.gone refl, record { changed = f; others = others })))
 sent_by sid old new s (Some r) e f gives others = elim gives.heard [
@@ -109,14 +112,14 @@ sent_by sid old new s (Some r) e f gives others = elim gives.heard [
   )))
 ]
 
-pub sends : {waited waits : ℕ} (room left longest : ℕ) (before after : Option (List ℕ)) (unsent holds keeps : List ℕ)
+pub sends : (stood stands : Standing) (room left longest : ℕ) (before after : Option (List ℕ)) (unsent holds keeps : List ℕ)
     (sid : ℕ) (old new : Sessions) (m n : Option SessionState) → session_at old sid ≡ m → session_at new sid ≡ n →
-    IsSome m → IfSome m (λ s. TakesIn room left longest before after unsent holds keeps waited waits s n) →
-    OthersStay old new sid → Sends room left longest before after unsent holds keeps waited waits sid old new
-sends room left longest before after unsent holds keeps sid old new None n e f is_open takes others =
+    IsSome m → IfSome m (λ s. TakesIn room left longest before after unsent holds keeps stood stands s n) →
+    OthersStay old new sid → Sends room left longest before after unsent holds keeps stood stands sid old new
+sends stood stands room left longest before after unsent holds keeps sid old new None n e f is_open takes others =
     absurd (let bad : false ≡ true = is_open in false≢true bad)
-sends {waited = waited} {waits = waits} room left longest before after unsent holds keeps sid old new (Some s) n e f is_open
-    takes others = record {
+sends stood stands room left longest before after unsent holds keeps sid old new (Some s) n e f is_open takes others =
+    record {
       taken = takes.taken;
       consumed = takes.consumed;
       unfinished = takes.unfinished;
@@ -126,8 +129,10 @@ sends {waited = waited} {waits = waits} room left longest before after unsent ho
       fewer = takes.gives.fewer;
       dear = takes.gives.dear;
       spent = spent_by n (session_at new sid) f takes.gives.spent;
-      wait = waits-for room longest takes.gives.fed keeps waited waits
+      wait = waits-for room longest takes.gives.fed keeps stood.waited stands.waited
           (up_at s (session_at old sid) (session_at new sid) n e f) takes.gives.wait;
+      first = takes.gives.first;
+      closes = λ quiet some other. f ∙ takes.closes quiet some other;
       sent = sent_by sid old new s n e f takes.gives others;
     }
 
@@ -194,10 +199,11 @@ pub silent_reason : {S : Type 0} (silence : Option ℕ) (client after : Client S
     after.closing ≡ Some Silence → after.heard_at ≡ client.heard_at → after.sid ≡ client.sid →
     held after.incoming ≡ held client.incoming → waiting after.outgoing ≡ waiting client.outgoing →
     IsSomeAnd silence (IsSilent client sessions at) →
-    IsReason after (IsSomeAnd silence (IsSilent after sessions at)) ⊥ ⊥
+    IsReason after (IsForeign after) (IsSomeAnd silence (IsSilent after sessions at)) ⊥ ⊥
 silent_reason None client after sessions at told heard sid holds waits silent = absurd silent
 silent_reason (Some most) client after sessions at told heard sid holds waits silent =
-    subst (λ (c : Option Closing). ByReason c (HasFailed after) (WasRefused after) (IsSilent after sessions at most) ⊥ ⊥)
+    subst (λ (c : Option Closing). ByReason c (HasFailed after) (WasRefused after) (IsForeign after)
+    (IsSilent after sessions at most) ⊥ ⊥)
     (sym told) (record {
       long = subst (λ (n : ℕ). n + most ≤ at) (sym heard) silent.long;
       written = waits ∙ silent.written;
@@ -207,18 +213,18 @@ silent_reason (Some most) client after sessions at told heard sid holds waits si
     })
 
 -- said of sessions that are as they were
-reason_again : {S : Type 0} (silence : Option ℕ) (client : Client S) (a b : Sessions) (at : ℕ) (failed refused : Type 0)
-    (closing : Option Closing) → IsUnchanged a b →
-    ByReason closing failed refused (IsSomeAnd silence (IsSilent client b at)) ⊥ ⊥ →
-    ByReason closing failed refused (IsSomeAnd silence (IsSilent client a at)) ⊥ ⊥
-reason_again silence client a b at failed refused (Some Silence) h is = silent_again silence client a b at h is
-reason_again silence client a b at failed refused closing h is = is
+reason_again : {S : Type 0} (silence : Option ℕ) (client : Client S) (a b : Sessions) (at : ℕ)
+    (failed refused foreign : Type 0) (closing : Option Closing) → IsUnchanged a b →
+    ByReason closing failed refused foreign (IsSomeAnd silence (IsSilent client b at)) ⊥ ⊥ →
+    ByReason closing failed refused foreign (IsSomeAnd silence (IsSilent client a at)) ⊥ ⊥
+reason_again silence client a b at failed refused foreign (Some Silence) h is = silent_again silence client a b at h is
+reason_again silence client a b at failed refused foreign closing h is = is
 
--- the connection has failed, or memory was refused
-pub reason_of_trouble : (failed refused silent : Type 0) (closing : Option Closing) → ByReason closing failed refused ⊥ ⊥ ⊥ →
-    ByReason closing failed refused silent ⊥ ⊥
-reason_of_trouble failed refused silent (Some Silence) is = absurd is
-reason_of_trouble failed refused silent closing is = is
+-- the connection has failed, memory was refused, or it begins as another protocol does
+pub reason_of_trouble : (failed refused foreign silent : Type 0) (closing : Option Closing) →
+    ByReason closing failed refused foreign ⊥ ⊥ ⊥ → ByReason closing failed refused foreign silent ⊥ ⊥
+reason_of_trouble failed refused foreign silent (Some Silence) is = absurd is
+reason_of_trouble failed refused foreign silent closing is = is
 
 -- a session that is as it was is not closed
 pub not_now : {P : Type 0} (m n : Option SessionState) → n ≡ m → IsSome m → n ≡ None → P
@@ -239,7 +245,7 @@ module _ {S : Type 0} (remaining : S → Option (List ℕ)) (silence : Option �
   abbrev pub HasReason : Client S → Client S → Sessions → Sessions → Type 0
   HasReason client after old new =
       IsSome (session_at old client.sid) → session_at new client.sid ≡ None
-      → IsReason after (IsSomeAnd silence (IsSilent after old at)) ⊥ ⊥
+      → IsReason after (IsForeign after) (IsSomeAnd silence (IsSilent after old at)) ⊥ ⊥
 
   pub passed_over : (client : Client S) (s : Intake) → IsHeldUpBetween client client s.sessions s.sessions →
       IsRead remaining silence at longest client client s s
@@ -259,6 +265,8 @@ module _ {S : Type 0} (remaining : S → Option (List ℕ)) (silence : Option �
     spent = inl refl;
     wait = waits-still (IsHeldUpBetween client client s.sessions s.sessions) s.room longest (held client.incoming)
         client.waited client.waited up refl;
+    first = spoken-still (held client.incoming ++ []) client.has_spoken client.has_spoken refl;
+    foreign = λ quiet some. absurd (some refl);
     unread = λ waits. (refl, refl, unchanged-refl s.sessions);
     heard = heard_as_before (remaining client.wire.stream) at client.heard_at;
     ended = end_as_before (remaining client.wire.stream) client.has_ended;
@@ -275,7 +283,7 @@ module _ {S : Type 0} (remaining : S → Option (List ℕ)) (silence : Option �
       PassesClosed client after old.sessions new.sessions → HasReason client after old.sessions new.sessions →
       (session_at new.sessions client.sid ≡ None → (new.room ≡ old.room) ⊎ WasRefused after) →
       Sends old.room new.room longest (remaining client.wire.stream) (remaining after.wire.stream)
-      (waiting client.outgoing) (held client.incoming) (held after.incoming) client.waited after.waited client.sid
+      (waiting client.outgoing) (held client.incoming) (held after.incoming) (standing client) (standing after) client.sid
       old.sessions new.sessions → IsRead remaining silence at longest client after old new
   is_read client after old new sid outgoing unread heard ended closed reason refused sends = record {
     sid = sid;
@@ -299,6 +307,8 @@ module _ {S : Type 0} (remaining : S → Option (List ℕ)) (silence : Option �
       ]
     ];
     wait = sends.wait;
+    first = sends.first;
+    foreign = sends.closes;
     unread = unread;
     heard = heard;
     ended = ended;
@@ -312,10 +322,10 @@ module _ {S : Type 0} (remaining : S → Option (List ℕ)) (silence : Option �
       IsHeardAt (remaining client.wire.stream) (remaining after.wire.stream) at client.heard_at after.heard_at →
       IsEndSeen (remaining after.wire.stream) client.has_ended after.has_ended →
       Keeps (remaining client.wire.stream) (remaining after.wire.stream) → held after.incoming ≡ held client.incoming →
-      IsUnfinished (held after.incoming) → after.waited ≡ client.waited → IsSome (session_at old client.sid) →
+      IsUnfinished (held after.incoming) → standing after ≡ standing client → IsSome (session_at old client.sid) →
       OnTrue done (waiting client.outgoing ≡ []) →
       (waiting client.outgoing ≢ [] → after.wire.stream ≡ client.wire.stream) → OnTrue done (Changes old new client.sid None) →
-      OnTrue done (IsReason after (IsSomeAnd silence (IsSilent after old at)) ⊥ ⊥) →
+      OnTrue done (IsReason after (IsForeign after) (IsSomeAnd silence (IsSilent after old at)) ⊥ ⊥) →
       OnFalse done (IsUnchanged old new) →
       IsRead remaining silence at longest client after (intake old room) (intake new room)
   read_nothing client after room old new true sid outgoing heard ended kept same none still is_open silent stream closed reason stays =
@@ -325,12 +335,13 @@ module _ {S : Type 0} (remaining : S → Option (List ℕ)) (silence : Option �
       is_read client after (intake old room) (intake new room) sid outgoing
       (λ waits. absurd (waits silent)) heard ended (not_closed (session_at old client.sid) _ is_open) (λ was none. reason)
       (λ none. inl refl)
-      (sends room room longest (remaining client.wire.stream) (remaining after.wire.stream) unsent (held client.incoming)
+      (sends (standing client) (standing after) room room longest (remaining client.wire.stream) (remaining after.wire.stream) unsent (held client.incoming)
       (held after.incoming) client.sid old new m n refl refl is_open
-      (takes-in client.waited after.waited room room longest m n (remaining client.wire.stream)
+      (takes-in (standing client) (standing after) room room longest m n (remaining client.wire.stream)
       (remaining after.wire.stream) unsent (held client.incoming) (held after.incoming) (held after.incoming)
       (takes-kept (remaining client.wire.stream) (remaining after.wire.stream) (held client.incoming) (held after.incoming) kept same)
-      (gives-closed room room longest m n unsent (held after.incoming) (omega arith) closed.changed still)) closed.others)
+      (gives-closed (standing client) (standing after) room room longest m n unsent (held after.incoming) (omega arith)
+      closed.changed still) (λ quiet other. inl same)) closed.others)
   read_nothing client after room old new false sid outgoing heard ended kept same none still is_open silent stream closed reason stays =
       let m = session_at old client.sid in
       let n = session_at new client.sid in
@@ -338,13 +349,13 @@ module _ {S : Type 0} (remaining : S → Option (List ℕ)) (silence : Option �
       is_read client after (intake old room) (intake new room) sid outgoing
       (λ waits. (stream waits, same, stays)) heard ended (not_closed (session_at old client.sid) _ is_open)
       (not_now (session_at old client.sid) (session_at new client.sid) (stays client.sid)) (λ none. inl refl)
-      (sends room room longest (remaining client.wire.stream) (remaining after.wire.stream) unsent (held client.incoming)
+      (sends (standing client) (standing after) room room longest (remaining client.wire.stream) (remaining after.wire.stream) unsent (held client.incoming)
       (held after.incoming) client.sid old new m n refl refl is_open
-      (takes-in client.waited after.waited room room longest m n (remaining client.wire.stream)
+      (takes-in (standing client) (standing after) room room longest m n (remaining client.wire.stream)
       (remaining after.wire.stream) unsent (held client.incoming) (held after.incoming) (held after.incoming)
       (takes-kept (remaining client.wire.stream) (remaining after.wire.stream) (held client.incoming) (held after.incoming) kept same)
-      (gives-none-up room longest m n unsent (held after.incoming) (stays client.sid)
-      (up_unfinished unsent (held after.incoming) m n none) still))
+      (gives-none-up (standing client) (standing after) room longest m n unsent (held after.incoming) (stays client.sid)
+      (up_unfinished unsent (held after.incoming) m n none) still) (λ quiet other. inl same))
       (λ other differs. stays other))
 
   pub read_after : (client after : Client S) (a b c : Intake) → Holds a b →
@@ -371,13 +382,16 @@ module _ {S : Type 0} (remaining : S → Option (List ℕ)) (silence : Option �
         (waits-for b.room longest read.fed (held after.incoming) client.waited after.waited
         (some_at (λ s. IsHeldUp (waiting client.outgoing) (held after.incoming) s (session_at c.sessions client.sid))
         (session_at b.sessions client.sid) (session_at a.sessions client.sid) (sym (h.0 client.sid))) read.wait);
+    first = read.first;
+    foreign = read.foreign;
     unread = λ waits.
         let same = read.unread waits in
         (same.0, same.1, unchanged-trans a.sessions b.sessions c.sessions h.0 same.2);
     heard = read.heard;
     ended = read.ended;
     closed = closed_after client after a.sessions b.sessions c.sessions h.0 read.closed;
-    reason = λ is_open none. reason_again silence after a.sessions b.sessions at (HasFailed after) (WasRefused after) after.closing h.0
+    reason = λ is_open none. reason_again silence after a.sessions b.sessions at (HasFailed after) (WasRefused after) (IsForeign after)
+        after.closing h.0
         (read.reason (subst (λ (o : Option SessionState). IsSome o) (sym (h.0 client.sid)) is_open) none);
   }
 
@@ -591,6 +605,7 @@ module _ {S : Type 0} (contents : S → Option (List ℕ)) where
     heard = refl;
     ended = refl;
     wait = refl;
+    spoken = refl;
     given = goes_on client.sid t t (given_none_yet client.sid t t (unchanged-refl t));
     hands = hands_none (contents client.wire.stream) (to_go (session_at t client.sid) (waiting client.outgoing));
     closed = λ none. (refl, unchanged-refl t);
@@ -605,6 +620,7 @@ module _ {S : Type 0} (contents : S → Option (List ℕ)) where
     heard = written.heard;
     ended = written.ended;
     wait = written.wait;
+    spoken = written.spoken;
     given = record {
       between = written.given.between;
       given = given_later client.sid a b written.given.between h written.given.given;

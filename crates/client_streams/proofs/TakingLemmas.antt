@@ -1,13 +1,14 @@
 -- What comes from a peer is held back, and goes to its session.
-use Rattle.std.proofs.Common.{◌≡◌, ◌≢◌, ◌∙◌, ◌≤◌, ◌<◌, ◌+◌, ◌⊎◌, ℕ, true, false, List, [], ◌∷◌, ◌++◌, Option, None, Some, IfSome, length, drop, refl, sym, subst, ap, inl, inr, append-nil, arith}
-use Rattle.std.specs.Prelude.{◌-◌, ◌^◌, min, IsSome, IsSomeAnd}
+use Rattle.std.proofs.Common.{◌≡◌, ◌≢◌, ◌∙◌, ◌≤◌, ◌<◌, ◌+◌, ◌⊎◌, ℕ, Bool, true, false, List, [], ◌∷◌, ◌++◌, Option, None, Some, IfSome, length, drop, refl, sym, subst, ap, inl, inr, append-nil, length-append, arith}
+use Rattle.std.specs.Prelude.{◌-◌, ◌^◌, ◌||◌, min, IsSome, IsSomeAnd}
 use Rattle.std.proofs.lemmas.Bool.{cases_Bool, false≢true}
 use Rattle.std.specs.Io.KnownBytes.{Keeps}
 use Rattle.std.proofs.KnownBytes.{Consumes-nil, Consumes-kept}
 use Rattle.std.proofs.Math.Seq.{drop-append_seam}
 use Rattle.chess_sessions.specs.Session.{SessionState}
 use Rattle.session_lines.specs.Lines.{IsUnfinished}
-use Rattle.client_streams.specs.Clients.{HasHeard, IsHeldUp, HasWaitedOn, GivesOn, TakesIn}
+use Rattle.client_streams.specs.Clients.{Standing, HasHeard, IsHeldUp, HasWaitedOn, HasSpokenOn, GivesOn, TakesIn}
+use Rattle.client_streams.specs.Protocols.{AreOfAnotherProtocol}
 use Rattle.client_streams.specs.Portions.{is_dear, IsDearLine, AreMost}
 use Rattle.client_streams.specs.Pieces.{Takes}
 use Rattle.client_streams.proofs.PortionLemmas.{none-dear, dear-longer}
@@ -126,15 +127,47 @@ waits-for room longest fed keeps waited waits to wait = record {
   ];
 }
 
+-- ---- whether it has spoken
+
+-- it is given something where it is given some bytes
+pub some_given : (fed : List ℕ) → fed ≢ [] → 0 < length fed
+some_given [] some = absurd (some refl)
+some_given (b ∷ fed) some = omega arith
+
+pub none_given : (fed : List ℕ) → fed ≡ [] → length fed ≤ 0
+none_given fed none = omega (arith, ap (λ (l : List ℕ). length l) none)
+
+-- given nothing, as before
+pub spoken-still : (holds : List ℕ) (old new : Bool) → new ≡ old → HasSpokenOn holds [] old new
+spoken-still holds old new same = record {
+  given = λ some. absurd (some refl);
+  kept = λ none. same;
+  foreign = λ quiet other. refl;
+}
+
+-- given the front of what begins as this protocol may
+pub spoken-now : (holds fed : List ℕ) (old new any : Bool) → (old ≡ false → AreOfAnotherProtocol holds → ⊥) →
+    new ≡ (old || any) → (fed ≢ [] → any ≡ true) → (fed ≡ [] → any ≡ false) → HasSpokenOn holds fed old new
+spoken-now holds fed true new any own is some none = record {
+  given = λ given. is;
+  kept = λ kept. is;
+  foreign = λ quiet other. absurd (own quiet other);
+}
+spoken-now holds fed false new any own is some none = record {
+  given = λ given. is ∙ some given;
+  kept = λ kept. is ∙ none kept;
+  foreign = λ quiet other. absurd (own quiet other);
+}
+
 -- ---- what the session is given
 
 -- the session is given nothing
-pub gives-nothing : (waited waits room left longest : ℕ) (m n : Option SessionState) (unsent holds : List ℕ) →
-    left ≡ room → n ≡ m →
-    IfSome m (λ s. HasWaitedOn (IsHeldUp unsent holds s n) room longest [] holds waited waits) →
-    IfSome m (λ s. GivesOn room left longest unsent holds holds waited waits s n)
-gives-nothing waited waits room left longest None n unsent holds still same wait = tt
-gives-nothing waited waits room left longest (Some s) n unsent holds still same wait = record {
+pub gives-nothing : (stood stands : Standing) (room left longest : ℕ) (m n : Option SessionState) (unsent holds : List ℕ) →
+    left ≡ room → n ≡ m → stands.has_spoken ≡ stood.has_spoken →
+    IfSome m (λ s. HasWaitedOn (IsHeldUp unsent holds s n) room longest [] holds stood.waited stands.waited) →
+    IfSome m (λ s. GivesOn room left longest unsent holds holds stood stands s n)
+gives-nothing stood stands room left longest None n unsent holds still same quiet wait = tt
+gives-nothing stood stands room left longest (Some s) n unsent holds still same quiet wait = record {
   fed = [];
   order = refl;
   heard = subst (λ (o : Option SessionState). IfSome o (HasHeard s [])) (sym same) (inr (inl (refl, refl)));
@@ -144,34 +177,35 @@ gives-nothing waited waits room left longest (Some s) n unsent holds still same 
   dear = none-dear;
   spent = inl still;
   wait = wait;
+  first = spoken-still holds stood.has_spoken stands.has_spoken quiet;
 }
 
 -- nor waits for more turns, since it is held up
-pub gives-none-up : {waited waits : ℕ} (room longest : ℕ) (m n : Option SessionState) (unsent holds : List ℕ) → n ≡ m →
-    IfSome m (λ s. IsHeldUp unsent holds s n) → waits ≡ waited →
-    IfSome m (λ s. GivesOn room room longest unsent holds holds waited waits s n)
-gives-none-up room longest None n unsent holds same up still = tt
-gives-none-up {waited = waited} {waits = waits} room longest (Some s) n unsent holds same up still =
-    gives-nothing waited waits room room longest (Some s) n unsent holds refl same
-    (waits-still (IsHeldUp unsent holds s n) room longest holds waited waits up still)
+pub gives-none-up : (stood stands : Standing) (room longest : ℕ) (m n : Option SessionState) (unsent holds : List ℕ) →
+    n ≡ m → IfSome m (λ s. IsHeldUp unsent holds s n) → stands ≡ stood →
+    IfSome m (λ s. GivesOn room room longest unsent holds holds stood stands s n)
+gives-none-up stood stands room longest None n unsent holds same up still = tt
+gives-none-up stood stands room longest (Some s) n unsent holds same up still =
+    gives-nothing stood stands room room longest (Some s) n unsent holds refl same (ap (λ t. t.has_spoken) still)
+    (waits-still (IsHeldUp unsent holds s n) room longest holds stood.waited stands.waited up (ap (λ t. t.waited) still))
 
 -- but waits for one more
-pub gives-none-yet : {waited waits : ℕ} (room left longest : ℕ) (m : Option SessionState)
+pub gives-none-yet : (stood stands : Standing) (room left longest : ℕ) (m : Option SessionState)
     (unsent holds portion rest : List ℕ) → left ≡ room → holds ≡ portion ++ rest → (is_dear portion ≡ false → ⊥) →
-    waits ≡ min (waited + 1) (2 ^ 32 - 1) → (room ≡ 0) ⊎ (waited < longest) →
-    IfSome m (λ s. GivesOn room left longest unsent holds holds waited waits s m)
-gives-none-yet room left longest None unsent holds portion rest still order dear is behind = tt
-gives-none-yet {waited = waited} {waits = waits} room left longest (Some s) unsent holds portion rest still order dear is
-    behind =
-    gives-nothing waited waits room left longest (Some s) (Some s) unsent holds still refl
-    (waits-longer (IsHeldUp unsent holds s (Some s)) room longest holds portion rest waited waits order dear is behind)
+    stands.waited ≡ min (stood.waited + 1) (2 ^ 32 - 1) → stands.has_spoken ≡ stood.has_spoken →
+    (room ≡ 0) ⊎ (stood.waited < longest) → IfSome m (λ s. GivesOn room left longest unsent holds holds stood stands s m)
+gives-none-yet stood stands room left longest None unsent holds portion rest still order dear is quiet behind = tt
+gives-none-yet stood stands room left longest (Some s) unsent holds portion rest still order dear is quiet behind =
+    gives-nothing stood stands room left longest (Some s) (Some s) unsent holds still refl quiet
+    (waits-longer (IsHeldUp unsent holds s (Some s)) room longest holds portion rest stood.waited stands.waited order dear is
+    behind)
 
 -- it is closed
-pub gives-closed : {waited waits : ℕ} (room left longest : ℕ) (m n : Option SessionState) (unsent holds : List ℕ) →
-    left ≤ room → n ≡ None → waits ≡ waited →
-    IfSome m (λ s. GivesOn room left longest unsent holds holds waited waits s n)
-gives-closed room left longest None n unsent holds le closed still = tt
-gives-closed {waited = waited} {waits = waits} room left longest (Some s) n unsent holds le closed still = record {
+pub gives-closed : (stood stands : Standing) (room left longest : ℕ) (m n : Option SessionState) (unsent holds : List ℕ) →
+    left ≤ room → n ≡ None → stands ≡ stood →
+    IfSome m (λ s. GivesOn room left longest unsent holds holds stood stands s n)
+gives-closed stood stands room left longest None n unsent holds le closed still = tt
+gives-closed stood stands room left longest (Some s) n unsent holds le closed still = record {
   fed = [];
   order = refl;
   heard = subst (λ (o : Option SessionState). IfSome o (HasHeard s [])) (sym closed) tt;
@@ -180,20 +214,24 @@ gives-closed {waited = waited} {waits = waits} room left longest (Some s) n unse
   fewer = le;
   dear = none-dear;
   spent = inr (inr closed);
-  wait = waits-still (IsHeldUp unsent holds s n) room longest holds waited waits (inr (inr (inl closed))) still;
+  wait = waits-still (IsHeldUp unsent holds s n) room longest holds stood.waited stands.waited (inr (inr (inl closed)))
+      (ap (λ t. t.waited) still);
+  first = spoken-still holds stood.has_spoken stands.has_spoken (ap (λ t. t.has_spoken) still);
 }
 
 -- it is given this
-pub gives-fed : (waited waits room left longest : ℕ) (m n : Option SessionState)
+pub gives-fed : (stood stands : Standing) (room left longest : ℕ) (m n : Option SessionState)
     (unsent holds fed keeps : List ℕ) → holds ≡ fed ++ keeps → AreMost fed keeps → left ≤ room →
-    (IsDearLine fed → (left + 1 ≤ room) × (longest ≤ waited)) → (left ≡ room) ⊎ (is_dear fed ≡ true) →
+    (IsDearLine fed → (left + 1 ≤ room) × (longest ≤ stood.waited)) → (left ≡ room) ⊎ (is_dear fed ≡ true) →
     IfSome m (λ s. IsSomeAnd n (HasHeard s fed)) → keeps ≡ drop (length fed) holds → (fed ≡ [] → IsUnfinished holds) →
-    waits ≡ 0 → IfSome m (λ s. GivesOn room left longest unsent holds keeps waited waits s n)
-gives-fed waited waits room left longest None n unsent holds fed keeps order most le dear spent heard behind some is = tt
-gives-fed waited waits room left longest (Some s) None unsent holds fed keeps order most le dear spent heard behind some is =
+    stands.waited ≡ 0 → HasSpokenOn holds fed stood.has_spoken stands.has_spoken →
+    IfSome m (λ s. GivesOn room left longest unsent holds keeps stood stands s n)
+gives-fed stood stands room left longest None n unsent holds fed keeps order most le dear spent heard behind some is first = tt
+gives-fed stood stands room left longest (Some s) None unsent holds fed keeps order most le dear spent heard behind some is
+    first =
     absurd heard
-gives-fed waited waits room left longest (Some s) (Some r) unsent holds fed keeps order most le dear spent
-    heard behind some is = record {
+gives-fed stood stands room left longest (Some s) (Some r) unsent holds fed keeps order most le dear spent
+    heard behind some is first = record {
       fed = fed;
       order = order;
       heard = heard;
@@ -205,7 +243,9 @@ gives-fed waited waits room left longest (Some s) (Some r) unsent holds fed keep
         | inl still ↦ inl still
         | inr much ↦ inr (inl much)
       ];
-      wait = waits-no-more (IsHeldUp unsent keeps s (Some r)) room longest holds fed keeps waited waits behind some is;
+      wait = waits-no-more (IsHeldUp unsent keeps s (Some r)) room longest holds fed keeps stood.waited stands.waited behind
+          some is;
+      first = first;
     }
 
 -- what is left once the front was given up
@@ -220,28 +260,41 @@ pub most-left : (holds fed rest keeps : List ℕ) → holds ≡ fed ++ rest → 
 most-left holds fed rest keeps cut left most =
     subst (λ (l : List ℕ). AreMost fed l) (sym (is-rest holds fed rest keeps cut left)) most
 
--- what came is held back, and then the session is given what stands in front
-pub takes-in : (waited waits room left longest : ℕ) (m n : Option SessionState) (before after : Option (List ℕ))
+-- nothing came where what is held back is as before
+taken_none : (holds taken : List ℕ) → holds ++ taken ≡ holds → taken ≡ []
+taken_none holds taken same = no_bytes taken (length taken) refl
+    (omega (arith, simp length-append at (ap (λ (l : List ℕ). length l) same)))
+
+-- what came is held back, and then the session is given what stands in front, or closed where that begins as another
+-- protocol does
+pub takes-in : (stood stands : Standing) (room left longest : ℕ) (m n : Option SessionState) (before after : Option (List ℕ))
     (unsent holds between keeps : List ℕ) → Takes before after holds between →
-    IfSome m (λ s. GivesOn room left longest unsent between keeps waited waits s n) →
-    IfSome m (λ s. TakesIn room left longest before after unsent holds keeps waited waits s n)
-takes-in waited waits room left longest None n before after unsent holds between keeps takes gives = tt
-takes-in waited waits room left longest (Some s) n before after unsent holds between keeps takes gives = record {
+    IfSome m (λ s. GivesOn room left longest unsent between keeps stood stands s n) →
+    (stood.has_spoken ≡ false → AreOfAnotherProtocol between → (between ≡ holds) ⊎ (n ≡ None)) →
+    IfSome m (λ s. TakesIn room left longest before after unsent holds keeps stood stands s n)
+takes-in stood stands room left longest None n before after unsent holds between keeps takes gives closes = tt
+takes-in stood stands room left longest (Some s) n before after unsent holds between keeps takes gives closes = record {
   taken = takes.taken;
   consumed = takes.consumed;
   unfinished = takes.unfinished;
-  gives = subst (λ l. GivesOn room left longest unsent l keeps waited waits s n) takes.order gives;
+  gives = subst (λ l. GivesOn room left longest unsent l keeps stood stands s n) takes.order gives;
+  closes = λ quiet some other.
+      elim (closes quiet (subst (λ (l : List ℕ). AreOfAnotherProtocol l) (sym takes.order) other)) [
+        | inl same ↦ absurd (some (taken_none holds takes.taken (sym takes.order ∙ same)))
+        | inr none ↦ none
+      ];
 }
 
--- and nothing goes on where no line is held back then
-pub takes-in-unfinished : {waited waits : ℕ} (room longest : ℕ) (m : Option SessionState)
+-- and nothing goes on where nothing came and no line is held back
+pub takes-in-unfinished : (stood stands : Standing) (room longest : ℕ) (m : Option SessionState)
     (before after : Option (List ℕ)) (unsent holds keeps : List ℕ) → Takes before after holds keeps →
-    IsUnfinished keeps → waits ≡ waited →
-    IfSome m (λ s. TakesIn room room longest before after unsent holds keeps waited waits s m)
-takes-in-unfinished {waited = waited} {waits = waits} room longest m before after unsent holds keeps takes unfinished
-    still =
-    takes-in waited waits room room longest m m before after unsent holds keeps keeps takes
-    (gives-none-up room longest m m unsent keeps refl (up_unfinished unsent keeps m m unfinished) still)
+    keeps ≡ holds → IsUnfinished holds → stands ≡ stood →
+    IfSome m (λ s. TakesIn room room longest before after unsent holds keeps stood stands s m)
+takes-in-unfinished stood stands room longest m before after unsent holds keeps takes same unfinished still =
+    takes-in stood stands room room longest m m before after unsent holds keeps keeps takes
+    (gives-none-up stood stands room longest m m unsent keeps refl
+    (up_unfinished unsent keeps m m (subst (λ (l : List ℕ). IsUnfinished l) (sym same) unfinished)) still)
+    (λ quiet other. inl same)
 
 -- who has heard something is not closed
 pub heard_open : {Q : Type 0} (m n : Option SessionState) (fed : List ℕ) → IsSome m →

@@ -8,6 +8,7 @@ use Rattle.chess_sessions.specs.declared.sessions.Sessions.{Sessions}
 use Rattle.chess_sessions.specs.Session.{Said, SessionState, session_at, due}
 use Rattle.client_streams.specs.declared.client.Client.{Client}
 use Rattle.client_streams.specs.Portions.{is_dear, IsDearLine, IsPortion, AreMost}
+use Rattle.client_streams.specs.Protocols.{AreOfAnotherProtocol}
 use Rattle.client_streams.specs.Incoming.{held}
 use Rattle.client_streams.specs.Sending.{waiting, HandsOn}
 
@@ -22,6 +23,15 @@ IsOpen sessions sid = IsSome (session_at sessions sid)
 -- No other session is touched.
 abbrev pub OthersStay : Sessions → Sessions → ℕ → Type 0
 OthersStay old new sid = (other : ℕ) → other ≢ sid → session_at new other ≡ session_at old other
+
+-- What is known of a client from one turn to the next: for how many turns on end it has waited with a line that asks for
+-- much, and whether its session was given anything yet.
+pub record Standing : Type 0 where
+  pub waited : ℕ
+  pub has_spoken : Bool
+
+abbrev pub standing : {S : Type 0} → Client S → Standing
+standing client = record { waited = client.waited; has_spoken = client.has_spoken }
 
 -- Nothing came of a client for so long, by this moment, and nothing waits for it: nothing to be written, no byte of its
 -- session and nothing that this is due, and no line that is held back.
@@ -79,10 +89,17 @@ pub record HasWaitedOn (HeldUp : Type 0) (room longest : ℕ) (fed keeps : List 
   pub kept : fed ≡ [] → HeldUp × (new ≡ old) ⊎ (new ≡ 0) × IsUnfinished keeps
       ⊎ (new ≡ min (old + 1) (2 ^ 32 - 1)) × (is_dear keeps ≡ true) × ((room ≡ 0) ⊎ (old < longest))
 
+-- A client has spoken once its session is given anything. While it has not, nothing goes on of what begins as another
+-- protocol does.
+pub record HasSpokenOn (holds fed : List ℕ) (old new : Bool) : Type 0 where
+  pub given : fed ≢ [] → new ≡ true
+  pub kept : fed ≡ [] → new ≡ old
+  pub foreign : old ≡ false → AreOfAnotherProtocol holds → fed ≡ []
+
 -- The session is given what stands in front of what is held back for it, as much as may be at once; a line that asks for
 -- much takes of the room that the turn has for such lines, and nothing else does, and it is given only where nobody has
 -- waited longer. It is closed only where it is given nothing.
-pub record GivesOn (room left longest : ℕ) (unsent holds keeps : List ℕ) (waited waits : ℕ) (old : SessionState)
+pub record GivesOn (room left longest : ℕ) (unsent holds keeps : List ℕ) (stood stands : Standing) (old : SessionState)
     (new : Option SessionState) : Type 0 where
   pub fed : List ℕ
   pub order : holds ≡ fed ++ keeps
@@ -90,18 +107,20 @@ pub record GivesOn (room left longest : ℕ) (unsent holds keeps : List ℕ) (wa
   pub gone : new ≡ None → fed ≡ []
   pub many : fed ≢ [] → AreMost fed keeps
   pub fewer : left ≤ room
-  pub dear : IsDearLine fed → (left + 1 ≤ room) × (longest ≤ waited)
+  pub dear : IsDearLine fed → (left + 1 ≤ room) × (longest ≤ stood.waited)
   pub spent : (left ≡ room) ⊎ (is_dear fed ≡ true) ⊎ (new ≡ None)
-  pub wait : HasWaitedOn (IsHeldUp unsent keeps old new) room longest fed keeps waited waits
+  pub wait : HasWaitedOn (IsHeldUp unsent keeps old new) room longest fed keeps stood.waited stands.waited
+  pub first : HasSpokenOn holds fed stood.has_spoken stands.has_spoken
 
 -- Bytes came from the peer, none where a line is held back, and the session is given what stands in front of all that is
--- held back.
+-- held back. It is closed where by these a client that has not spoken begins as another protocol does.
 pub record TakesIn (room left longest : ℕ) (before after : Option (List ℕ)) (unsent holds keeps : List ℕ)
-    (waited waits : ℕ) (old : SessionState) (new : Option SessionState) : Type 0 where
+    (stood stands : Standing) (old : SessionState) (new : Option SessionState) : Type 0 where
   pub taken : List ℕ
   pub consumed : Consumes before after taken
   pub unfinished : taken ≢ [] → IsUnfinished holds
-  pub gives : GivesOn room left longest unsent (holds ++ taken) keeps waited waits old new
+  pub gives : GivesOn room left longest unsent (holds ++ taken) keeps stood stands old new
+  pub closes : stood.has_spoken ≡ false → taken ≢ [] → AreOfAnotherProtocol (holds ++ taken) → new ≡ None
 
 -- ---- what goes
 

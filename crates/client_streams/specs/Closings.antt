@@ -4,8 +4,9 @@ use Rattle.session_lines.specs.Lines.{IsUnfinished}
 use Rattle.chess_sessions.specs.Session.{SessionState, due}
 use Rattle.client_streams.specs.declared.client.Client.{Client}
 use Rattle.client_streams.specs.declared.closing.Closing.{Closing}
-use Rattle.client_streams.specs.declared.closing.Closing.TheVariants.{Fault, NoMemory, Silence, End, Farewell}
+use Rattle.client_streams.specs.declared.closing.Closing.TheVariants.{Fault, NoMemory, OtherProtocol, Silence, End, Farewell}
 use Rattle.client_streams.specs.Incoming.{held}
+use Rattle.client_streams.specs.Protocols.{AreOfAnotherProtocol}
 
 -- A read of the connection has failed, or a write.
 abbrev pub HasFailed : {S : Type 0} → Client S → Type 0
@@ -15,28 +16,34 @@ HasFailed client = client.wire.has_failed ≡ true
 abbrev pub WasRefused : {S : Type 0} → Client S → Type 0
 WasRefused client = (client.memory.was_refused ≡ true) ⊎ (client.outgoing.was_refused ≡ true)
 
--- Neither has come about.
+-- What is held back for a session that was given nothing yet begins as another protocol does.
+abbrev pub IsForeign : {S : Type 0} → Client S → Type 0
+IsForeign client = (client.has_spoken ≡ false) × AreOfAnotherProtocol (held client.incoming)
+
+-- Neither has the connection failed nor was memory refused.
 abbrev pub IsSound : {S : Type 0} → Client S → Type 0
 IsSound client = (client.wire.has_failed ≡ false) × (client.memory.was_refused ≡ false)
     × (client.outgoing.was_refused ≡ false)
 
 -- A reason is told, and it holds.
-abbrev pub ByReason : Option Closing → Type 0 → Type 0 → Type 0 → Type 0 → Type 0 → Type 0
-ByReason None failed refused silent ended left = ⊥
-ByReason (Some Fault) failed refused silent ended left = failed
-ByReason (Some NoMemory) failed refused silent ended left = refused
-ByReason (Some Silence) failed refused silent ended left = silent
-ByReason (Some End) failed refused silent ended left = ended
-ByReason (Some Farewell) failed refused silent ended left = left
+abbrev pub ByReason : Option Closing → Type 0 → Type 0 → Type 0 → Type 0 → Type 0 → Type 0 → Type 0
+ByReason None failed refused foreign silent ended left = ⊥
+ByReason (Some Fault) failed refused foreign silent ended left = failed
+ByReason (Some NoMemory) failed refused foreign silent ended left = refused
+ByReason (Some OtherProtocol) failed refused foreign silent ended left = foreign
+ByReason (Some Silence) failed refused foreign silent ended left = silent
+ByReason (Some End) failed refused foreign silent ended left = ended
+ByReason (Some Farewell) failed refused foreign silent ended left = left
 
--- A client's reason is that its connection has failed, or that memory was refused for it; or it is silent, or has ended, or
--- has left, where this means that.
-abbrev pub IsReason : {S : Type 0} → Client S → Type 0 → Type 0 → Type 0 → Type 0
-IsReason client silent ended left = ByReason client.closing (HasFailed client) (WasRefused client) silent ended left
+-- A client's reason is that its connection has failed, or that memory was refused for it; or it is foreign, or silent, or
+-- has ended, or has left, where this means that.
+abbrev pub IsReason : {S : Type 0} → Client S → Type 0 → Type 0 → Type 0 → Type 0 → Type 0
+IsReason client foreign silent ended left =
+    ByReason client.closing (HasFailed client) (WasRefused client) foreign silent ended left
 
--- The connection has failed, or memory was refused.
+-- The connection has failed, or memory was refused, or the peer speaks another protocol.
 abbrev pub IsTrouble : {S : Type 0} → Client S → Type 0
-IsTrouble client = IsReason client ⊥ ⊥ ⊥
+IsTrouble client = IsReason client (IsForeign client) ⊥ ⊥ ⊥
 
 -- The session was given all that is due to it, and of what was to go nothing is left behind the write.
 pub record HasAll (session : Option SessionState) (left : List ℕ) : Type 0 where
@@ -58,4 +65,4 @@ pub record HasLeft (session : Option SessionState) (left : List ℕ) : Type 0 wh
 -- Why a session is closed behind a write: the connection has failed, or memory was refused; or its peer has ended, or it has
 -- left.
 abbrev pub IsOver : {S : Type 0} → Client S → Option SessionState → List ℕ → Type 0
-IsOver client session left = IsReason client ⊥ (HasEnded client session left) (HasLeft session left)
+IsOver client session left = IsReason client ⊥ ⊥ (HasEnded client session left) (HasLeft session left)

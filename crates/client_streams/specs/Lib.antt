@@ -1,5 +1,6 @@
 pub mod Pieces
 pub mod Portions
+pub mod Protocols
 pub mod Incoming
 pub mod Sending
 pub mod Clients

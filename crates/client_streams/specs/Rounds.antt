@@ -7,8 +7,9 @@ use Rattle.session_lines.specs.Heard.{heard_more}
 use Rattle.chess_sessions.specs.declared.sessions.Sessions.{Sessions}
 use Rattle.chess_sessions.specs.Session.{Said, SessionState, session_at, Changes, IsUnchanged, due, first_due, given_one}
 use Rattle.client_streams.specs.declared.client.Client.{Client}
-use Rattle.client_streams.specs.Clients.{IsSilent, IsLongest, IsHeardAt, IsEndSeen, IsHeldUp, HasWaitedOn, HandsOut, to_go}
-use Rattle.client_streams.specs.Closings.{WasRefused, IsReason, IsOver}
+use Rattle.client_streams.specs.Clients.{IsSilent, IsLongest, IsHeardAt, IsEndSeen, IsHeldUp, HasWaitedOn, HasSpokenOn, HandsOut, to_go}
+use Rattle.client_streams.specs.Closings.{WasRefused, IsForeign, IsReason, IsOver}
+use Rattle.client_streams.specs.Protocols.{AreOfAnotherProtocol}
 use Rattle.client_streams.specs.Portions.{is_dear, IsDearLine, IsPortion, AreMost}
 use Rattle.client_streams.specs.Incoming.{held}
 use Rattle.client_streams.specs.Sending.{waiting}
@@ -59,8 +60,10 @@ Holds old new = IsUnchanged old.sessions new.sessions × (new.room ≡ old.room)
 -- be at once, and nothing else. None is read where a line is held back, and no more is held back than a piece. A line that
 -- asks for much is given only where there is room, which nothing else takes but one that memory was refused for, and to
 -- who has waited longest; the turns are counted that one waits for it. Of a client for which answers wait nothing is read,
--- and nothing that it sent goes on. A session is closed for a reason: the connection has failed, memory was refused, or it
--- has been silent for as long as it may.
+-- and nothing that it sent goes on. Of one whose session was given nothing yet nothing goes on either where it begins as
+-- another protocol does, and its session is closed in the turn that shows it. A session is closed for a reason: the
+-- connection has failed, memory was refused, the client begins as another protocol does, or it has been silent for as long
+-- as it may.
 pub record IsRead {S : Type 0} (remaining : S → Option (List ℕ)) (silence : Option ℕ) (at longest : ℕ)
     (client after : Client S) (old new : Intake) : Type 0 where
   pub sid : after.sid ≡ client.sid
@@ -80,13 +83,16 @@ pub record IsRead {S : Type 0} (remaining : S → Option (List ℕ)) (silence : 
   pub wait : HasWaitedOn (IfSome (session_at old.sessions client.sid) (λ s. IsHeldUp (waiting client.outgoing)
       (held after.incoming) s (session_at new.sessions client.sid))) old.room longest fed (held after.incoming)
       client.waited after.waited
+  pub first : HasSpokenOn (held client.incoming ++ taken) fed client.has_spoken after.has_spoken
+  pub foreign : client.has_spoken ≡ false → taken ≢ [] → AreOfAnotherProtocol (held client.incoming ++ taken)
+      → session_at new.sessions client.sid ≡ None
   pub unread : waiting client.outgoing ≢ [] → (after.wire.stream ≡ client.wire.stream)
       × (held after.incoming ≡ held client.incoming) × IsUnchanged old.sessions new.sessions
   pub heard : IsHeardAt (remaining client.wire.stream) (remaining after.wire.stream) at client.heard_at after.heard_at
   pub ended : IsEndSeen (remaining after.wire.stream) client.has_ended after.has_ended
   pub closed : PassesClosed client after old.sessions new.sessions
   pub reason : IsSome (session_at old.sessions client.sid) → session_at new.sessions client.sid ≡ None
-      → IsReason after (IsSomeAnd silence (IsSilent after old.sessions at)) ⊥ ⊥
+      → IsReason after (IsForeign after) (IsSomeAnd silence (IsSilent after old.sessions at)) ⊥ ⊥
 
 -- Each client is read for. A turn has room for one line that asks for much, which goes to who has waited longest.
 abbrev pub AreRead : {S : Type 0} → (S → Option (List ℕ)) → Option ℕ → ℕ → List (Client S) → List (Client S) → Sessions
@@ -141,6 +147,7 @@ pub record IsWritten {S : Type 0} (contents : S → Option (List ℕ)) (client a
   pub heard : after.heard_at ≡ client.heard_at
   pub ended : after.has_ended ≡ client.has_ended
   pub wait : after.waited ≡ client.waited
+  pub spoken : after.has_spoken ≡ client.has_spoken
   pub given : IsGivenOut client.sid old new
   pub hands : HandsOut (contents client.wire.stream) (contents after.wire.stream)
       (to_go (session_at old client.sid) (waiting client.outgoing))

@@ -2,8 +2,8 @@
 ghost use Rattle.std.specs.Prelude.{◌≡◌, ◌≢◌, ◌≤◌, ◌++◌, ◌+◌, ◌-◌, ◌↔◌, ◌⊎◌, true, false, [], Some, None, IsTrue, IfSome, IfOk, OnOk, OnErr};
 ghost use Rattle.std.specs.Io.KnownBytes.{Keeps};
 ghost use Rattle.chess_sessions.specs.Session.{said, session_at, due, Changes};
-ghost use Rattle.client_streams.specs.Clients.{IsOpen, OthersStay, IsSilent, IsHeardAt, IsEndSeen, GivesOn, TakesIn, HandsOut, bytes_of, to_go};
-ghost use Rattle.client_streams.specs.Closings.{IsSound, IsTrouble, WasRefused};
+ghost use Rattle.client_streams.specs.Clients.{standing, IsOpen, OthersStay, IsSilent, IsHeardAt, IsEndSeen, GivesOn, TakesIn, HandsOut, bytes_of, to_go};
+ghost use Rattle.client_streams.specs.Closings.{IsSound, IsForeign, IsTrouble, WasRefused};
 ghost use Rattle.session_lines.specs.Lines.{IsUnfinished};
 ghost use Rattle.client_streams.specs.Incoming.{held};
 ghost use Rattle.client_streams.specs.Pieces.{Takes};
@@ -40,6 +40,8 @@ pub struct Client<S> {
     heard_at: u64,
     /// For so many turns on end it had a line that asks for much, and there was no room for it.
     waited: u32,
+    /// Whether its session was given anything yet.
+    has_spoken: bool,
     /// For so many turns more it is heard after its farewell.
     patience: u8,
     /// Why its session was closed.
@@ -58,6 +60,7 @@ impl<S> Client<S> {
         ensures sound { IsSound result }
         ensures heard { result.heard_at ≡ at }
         ensures wait { result.waited ≡ 0 }
+        ensures first { result.has_spoken ≡ false }
         ensures lasts { result.has_ended ≡ false }
         ensures nothing { (held result.incoming ≡ []) × (waiting result.outgoing ≡ []) }
     {
@@ -71,6 +74,7 @@ impl<S> Client<S> {
             is_quiet: false,
             heard_at: at,
             waited: 0,
+            has_spoken: false,
             patience: PATIENCE,
             closing: None,
         }
@@ -111,6 +115,13 @@ impl<S> Client<S> {
         self.waited
     }
 
+    // Whether its session was given nothing yet, and what is held back for it begins as another protocol does.
+    fn is_foreign(&self) -> bool
+        ensures { IsTrue result ↔ IsForeign self.now }
+    {
+        !self.has_spoken && self.incoming.is_of_another_protocol()
+    }
+
     /// Closes its session, for this reason.
     pub(crate) fn close(&mut self, sessions: &mut Sessions, closing: Closing)
         ensures closed { Changes sessions.old sessions.new self.old.sid None }
@@ -119,7 +130,7 @@ impl<S> Client<S> {
         ensures peer { (self.new.sid ≡ self.old.sid) × (self.new.has_ended ≡ self.old.has_ended)
             × (self.new.is_quiet ≡ self.old.is_quiet) × (held self.new.incoming ≡ held self.old.incoming)
             × (waiting self.new.outgoing ≡ waiting self.old.outgoing) × (self.new.wire.stream ≡ self.old.wire.stream)
-            × (self.new.heard_at ≡ self.old.heard_at) × (self.new.waited ≡ self.old.waited) }
+            × (self.new.heard_at ≡ self.old.heard_at) × (standing self.new ≡ standing self.old) }
     {
         sessions.close(self.sid);
         self.closing = Some(closing);
@@ -229,9 +240,9 @@ impl<S: Read + Write> Client<S> {
             × Keeps (S.remaining self.old.wire.stream) (S.remaining self.new.wire.stream)
             × (held self.new.incoming ≡ held self.old.incoming) }
         ensures peer { (self.new.sid ≡ self.old.sid) × (waiting self.new.outgoing ≡ waiting self.old.outgoing)
-            × (self.new.waited ≡ self.old.waited) }
-        ensures nothing { result ≡ Came.Nothing → IsUnfinished (held self.new.incoming) }
-        ensures end { result ≡ Came.End → IsUnfinished (held self.new.incoming) }
+            × (standing self.new ≡ standing self.old) }
+        ensures nothing { result ≡ Came.Nothing → held self.new.incoming ≡ held self.old.incoming }
+        ensures end { result ≡ Came.End → held self.new.incoming ≡ held self.old.incoming }
         ensures failed { result ≡ Came.Fault → self.new.wire.has_failed ≡ true }
     {
         self.is_quiet = false;
@@ -249,12 +260,13 @@ impl<S: Read + Write> Client<S> {
     }
 
     // Gives the session a portion of what is held back for it, unless something of it waits, or a line asks for much and the
-    // turn has no room for it. Where memory is refused the session is closed.
+    // turn has no room for it. Where memory is refused the session is closed, and so is, with nothing given to it, that of a
+    // peer that begins as another protocol does.
     fn hand_on(&mut self, sessions: &mut Sessions, room: &mut Room)
         requires { IsOpen sessions.old self.old.sid }
         ensures gives { IfSome (session_at sessions.old self.old.sid) (λ s. GivesOn room.old.lines room.new.lines
             room.old.longest (waiting self.old.outgoing) (held self.old.incoming) (held self.new.incoming)
-            self.old.waited self.new.waited s (session_at sessions.new self.old.sid)) }
+            (standing self.old) (standing self.new) s (session_at sessions.new self.old.sid)) }
         ensures longest { room.new.longest ≡ room.old.longest }
         ensures peer { (self.new.sid ≡ self.old.sid) × (waiting self.new.outgoing ≡ waiting self.old.outgoing) }
         ensures quiet { self.new.is_quiet ≡ self.old.is_quiet }
@@ -262,9 +274,15 @@ impl<S: Read + Write> Client<S> {
         ensures ended { self.new.has_ended ≡ self.old.has_ended }
         ensures stream { self.new.wire.stream ≡ self.old.wire.stream }
         ensures reason { session_at sessions.new self.old.sid ≡ None → IsTrouble self.new }
-        ensures refused { session_at sessions.new self.old.sid ≡ None → WasRefused self.new }
+        ensures refused { session_at sessions.new self.old.sid ≡ None
+            → (room.new.lines ≡ room.old.lines) ⊎ WasRefused self.new }
+        ensures foreign { IsForeign self.old → session_at sessions.new self.old.sid ≡ None }
         ensures others { OthersStay sessions.old sessions.new self.old.sid }
     {
+        if self.is_foreign() {
+            self.close(sessions, Closing::OtherProtocol);
+            return;
+        }
         if sessions.waiting(self.sid) > 0 {
             return;
         }
@@ -276,6 +294,7 @@ impl<S: Read + Write> Client<S> {
         let count = portion.len();
         if self.memory.feed(sessions, self.sid, portion) {
             self.waited = 0;
+            self.has_spoken |= count > 0;
             self.incoming.give_up(count);
         } else {
             self.closing = Some(Closing::NoMemory);
@@ -285,8 +304,9 @@ impl<S: Read + Write> Client<S> {
     #[tactic(auto, using(crate::proofs::HeardLemmas::heard_as_before))]
     /// Reads at most one piece for the session, unless a line of it is held back or the peer doesn't take its answers; and
     /// gives the session a portion, once the lines before are answered and the answers are written: one line that asks for
-    /// much, where the turn has room for it, or up to 16 that don't. The session is closed after a fault, and where memory is
-    /// refused for it. It tells whether there may be more to do.
+    /// much, where the turn has room for it, or up to 16 that don't. The session is closed after a fault, where memory is
+    /// refused for it, and, with nothing given to it, where the peer begins as HTTP or TLS does. It tells whether there may
+    /// be more to do.
     pub(crate) fn take_in(
         &mut self,
         sessions: &mut Sessions,
@@ -297,8 +317,8 @@ impl<S: Read + Write> Client<S> {
         requires { IsOpen sessions.old self.old.sid }
         ensures taken { IfSome (session_at sessions.old self.old.sid) (λ s. TakesIn room.old.lines room.new.lines
             room.old.longest (S.remaining self.old.wire.stream) (S.remaining self.new.wire.stream)
-            (waiting self.old.outgoing) (held self.old.incoming) (held self.new.incoming) self.old.waited
-            self.new.waited s (session_at sessions.new self.old.sid)) }
+            (waiting self.old.outgoing) (held self.old.incoming) (held self.new.incoming) (standing self.old)
+            (standing self.new) s (session_at sessions.new self.old.sid)) }
         ensures longest { room.new.longest ≡ room.old.longest }
         ensures peer { (self.new.sid ≡ self.old.sid) × (waiting self.new.outgoing ≡ waiting self.old.outgoing) }
         ensures heard { IsHeardAt (S.remaining self.old.wire.stream) (S.remaining self.new.wire.stream) at self.old.heard_at
@@ -308,7 +328,7 @@ impl<S: Read + Write> Client<S> {
         ensures quiet { self.new.is_quiet ≡ true → (result ≡ false)
             × Keeps (S.remaining self.old.wire.stream) (S.remaining self.new.wire.stream)
             × (held self.new.incoming ≡ held self.old.incoming) × (sessions.new ≡ sessions.old)
-            × (room.new.lines ≡ room.old.lines) × (self.new.waited ≡ self.old.waited)
+            × (room.new.lines ≡ room.old.lines) × (standing self.new ≡ standing self.old)
             × IsUnfinished (held self.new.incoming) }
         // Of who doesn't take its answers nothing is read, and nothing that it sent goes on.
         ensures unread { waiting self.old.outgoing ≢ [] → (self.new.wire.stream ≡ self.old.wire.stream)
@@ -354,7 +374,7 @@ impl<S: Read + Write> Client<S> {
         ensures given { AreGiven self.old.sid sessions.old sessions.new }
         ensures peer { (self.new.sid ≡ self.old.sid) × (self.new.has_ended ≡ self.old.has_ended)
             × (self.new.is_quiet ≡ self.old.is_quiet) × (held self.new.incoming ≡ held self.old.incoming)
-            × (self.new.heard_at ≡ self.old.heard_at) × (self.new.waited ≡ self.old.waited) }
+            × (self.new.heard_at ≡ self.old.heard_at) × (standing self.new ≡ standing self.old) }
         ensures others { OthersStay sessions.old sessions.new self.old.sid }
     {
         let sent = self.outgoing.write_to(&mut self.wire);
@@ -388,7 +408,7 @@ impl<S: Read + Write> Client<S> {
         ensures peer { (self.new.sid ≡ self.old.sid) × (self.new.has_ended ≡ self.old.has_ended)
             × (self.new.is_quiet ≡ self.old.is_quiet) × (held self.new.incoming ≡ held self.old.incoming)
             × (waiting self.new.outgoing ≡ waiting self.old.outgoing) × (self.new.wire.stream ≡ self.old.wire.stream)
-            × (self.new.heard_at ≡ self.old.heard_at) × (self.new.waited ≡ self.old.waited) }
+            × (self.new.heard_at ≡ self.old.heard_at) × (standing self.new ≡ standing self.old) }
     {
         match wrote.sent {
             Sent::Fault => true,
@@ -433,7 +453,7 @@ impl<S: Read + Write> Client<S> {
         ensures given { IsHandedOut S.contents self.old self.new sessions.old sessions.new }
         ensures peer { (self.new.sid ≡ self.old.sid) × (self.new.has_ended ≡ self.old.has_ended)
             × (self.new.is_quiet ≡ self.old.is_quiet) × (held self.new.incoming ≡ held self.old.incoming)
-            × (self.new.heard_at ≡ self.old.heard_at) × (self.new.waited ≡ self.old.waited) }
+            × (self.new.heard_at ≡ self.old.heard_at) × (standing self.new ≡ standing self.old) }
         ensures others { OthersStay sessions.old sessions.new self.old.sid }
     {
         let was_stuck = !self.outgoing.is_empty();

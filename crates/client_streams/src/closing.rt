@@ -7,6 +7,8 @@ pub enum Closing {
     Fault,
     /// Memory was refused for it.
     NoMemory,
+    /// The peer began as HTTP or TLS does.
+    OtherProtocol,
     /// Nothing came for as long as it may be silent, and nothing waited for it.
     Silence,
     /// The peer sends no more, and its whole lines are answered.

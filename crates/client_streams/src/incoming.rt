@@ -2,11 +2,13 @@
 ghost use Rattle.std.specs.Prelude.{ℕ, ◌≡◌, ◌≤◌, ◌↔◌, ◌⊎◌, true, [], IsTrue, length, take, drop};
 ghost use Rattle.session_lines.specs.Lines.{HasNoFeed, IsUnfinished};
 ghost use Rattle.client_streams.specs.Portions.{is_dear, AreLines, AreFewLines, BeginDear, IsPortionOf};
+ghost use Rattle.client_streams.specs.Protocols.{IsRequest, AreOfAnotherProtocol};
 ghost use Rattle.std.specs.Io.KnownBytes.{Keeps, IsAtEnd};
 ghost use Rattle.client_streams.specs.Pieces.{Brings, Takes};
 
 use crate::wire::Wire;
 use arrayvec::ArrayVec;
+use memchr::memmem;
 use session_lines::{Came, LINE_ROOM, first_feed};
 use std::io::Read;
 
@@ -29,6 +31,30 @@ pub fn is_dear(line: &[u8]) -> bool
     ensures { result ≡ is_dear line.now }
 {
     line.starts_with(b"list") || line.starts_with(b"pgn ")
+}
+
+/// What a record of TLS that opens a connection begins with: a handshake's.
+const TLS_HANDSHAKE: u8 = 22;
+
+// Whether a line is a request of HTTP.
+fn is_request(line: &[u8]) -> bool
+    ensures { IsTrue result ↔ IsRequest line.now }
+{
+    memmem::find(line, b" HTTP/").is_some()
+}
+
+// Whether bytes begin with a handshake of TLS, or a line that is a request of HTTP.
+fn are_of_another_protocol(bytes: &[u8]) -> bool
+    ensures { IsTrue result ↔ AreOfAnotherProtocol bytes.now }
+{
+    if bytes.starts_with(&[TLS_HANDSHAKE]) {
+        return true;
+    }
+    match first_feed(bytes) {
+        Some(at) if at > LINE_ROOM => false,
+        Some(at) => is_request(&bytes[..at]),
+        None => false,
+    }
 }
 
 // Where the last of so many lines ends that are whole and ask for little, of which the first ends here.
@@ -71,6 +97,13 @@ impl Incoming {
         ensures { IsTrue result ↔ IsUnfinished (held self.now) }
     {
         self.bytes.len() <= LINE_ROOM && first_feed(self.bytes.as_slice()).is_none()
+    }
+
+    /// Whether what is held back begins as HTTP or TLS does: with a whole line that is a request, or with a handshake's byte.
+    pub fn is_of_another_protocol(&self) -> bool
+        ensures { IsTrue result ↔ AreOfAnotherProtocol (held self.now) }
+    {
+        are_of_another_protocol(self.bytes.as_slice())
     }
 
     /// The most of what is held back that a session may be given at once: one line that asks for much, or up to 16 that

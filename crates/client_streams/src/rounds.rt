@@ -3,7 +3,7 @@ ghost use Rattle.std.specs.Prelude.{◌≡◌, ◌≤◌, ◌<◌, ◌↔◌, �
 ghost use Rattle.std.specs.Bool.{OnTrue, OnFalse};
 ghost use Rattle.chess_sessions.specs.Session.{Changes, IsUnchanged};
 ghost use Rattle.session_lines.specs.Lines.{IsUnfinished};
-ghost use Rattle.client_streams.specs.Clients.{IsOpen, IsSilent, IsLongest};
+ghost use Rattle.client_streams.specs.Clients.{standing, IsOpen, IsSilent, IsLongest};
 ghost use Rattle.client_streams.specs.Incoming.{held};
 ghost use Rattle.client_streams.specs.Sending.{waiting};
 ghost use Rattle.client_streams.specs.Rounds.{intake, AreRead, IsRead, AreWritten, IsWritten};
@@ -49,7 +49,7 @@ fn close_silent<S>(client: &mut Client<S>, sessions: &mut Sessions, reading: Rea
     ensures peer { (client.new.sid ≡ client.old.sid) × (held client.new.incoming ≡ held client.old.incoming)
         × (waiting client.new.outgoing ≡ waiting client.old.outgoing) × (client.new.wire.stream ≡ client.old.wire.stream)
         × (client.new.heard_at ≡ client.old.heard_at) × (client.new.has_ended ≡ client.old.has_ended)
-        × (client.new.waited ≡ client.old.waited) }
+        × (standing client.new ≡ standing client.old) }
 {
     if !is_over_silent(client, sessions, reading) {
         return false;

@@ -272,7 +272,53 @@ const LINES_IN_PORTIONS: [Row; 5] = [
     ),
 ];
 
-static ALL: [&[Row]; 9] = [
+// A request of HTTP, whole and in pieces, and a handshake of TLS are closed unanswered; a request behind another line is a
+// line.
+const OTHER_PROTOCOLS: [Row; 4] = [
+    (
+        (
+            &[
+                Gives::Text("POST / HTTP/1.1\r\n\r\nname a\n"),
+                Gives::Nothing,
+            ],
+            &Takes::All,
+            NAMED,
+        ),
+        (3, 1, false, None),
+        (false, Some(0), 1),
+    ),
+    (
+        (
+            &[
+                Gives::Text("POST / HT"),
+                Gives::Text("TP/1.1"),
+                Gives::Text("\nname a\n"),
+                Gives::Nothing,
+            ],
+            &Takes::All,
+            NAMED,
+        ),
+        (5, 1, false, None),
+        (false, Some(0), 3),
+    ),
+    (
+        (&[Gives::Text("\x16"), Gives::Nothing], &Takes::All, NAMED),
+        (3, 1, false, None),
+        (false, Some(0), 1),
+    ),
+    (
+        (
+            &[Gives::Text("x\nPOST / HTTP/1.1\n"), Gives::Nothing],
+            &Takes::All,
+            BAD_LINE,
+        ),
+        (3, 1, false, None),
+        (true, Some(2), 3),
+    ),
+];
+
+static ALL: [&[Row]; 10] = [
+    &OTHER_PROTOCOLS,
     &ANSWERS_IN_PIECES,
     &BROKEN_CONNECTIONS,
     &LINES_BEFORE_AN_END,

@@ -1,10 +1,11 @@
 //! Addresses that options give.
 use clap::ArgMatches;
-use std::net::{IpAddr, Ipv4Addr, SocketAddr};
+use server_calls::ServerAddress;
+use std::net::{IpAddr, Ipv4Addr};
 
 /// Where the game server listens, by `--server`; none where that is no address.
-pub fn server_address(values: &ArgMatches<'_>) -> Option<SocketAddr> {
-    values.get_str("server")?.parse().ok()
+pub fn server_address(values: &ArgMatches<'_>) -> Option<ServerAddress> {
+    ServerAddress::named(values.get_str("server")?)
 }
 
 /// The address of this machine, by `--address`, 127.0.0.1 without it; none where that is no address.

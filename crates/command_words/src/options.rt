@@ -29,11 +29,11 @@ pub struct OptionText {
     pub is_required: bool,
 }
 
-/// `--server A:P`, of a program that plays on a game server.
+/// `--server A:P`, or the path of a socket in place of `A:P`, of a program that plays on a game server.
 pub const SERVER: OptionText = OptionText {
     name: "server",
     value: OptionValue::Text("A:P"),
-    help: "Where the game server listens",
+    help: "Where the game server listens: an address and a port, or with a / in it a socket's path",
     is_required: true,
 };
 

@@ -18,6 +18,7 @@ use memory_players::store_in_memory;
 use player_lines::clients::Clients;
 use player_lines::{Fault, SMALL};
 use sector_dev::MemoryDevice;
+use server_calls::LocalListener;
 use std::mem;
 
 /// The first turns' moment.
@@ -32,11 +33,15 @@ const IDLE_TURNS: u32 = 5;
 /// Within so many turns, and a rest after each that finds nothing to do, a client has its answer.
 const ANSWER_TURNS: u32 = 1_000;
 
-// A server over a new store in memory.
-fn start(rt: &HostRuntime, silence: Option<u64>) -> Option<Server<MemoryDevice>> {
+// A server on this listener, over a new store in memory.
+fn start(
+    rt: &HostRuntime,
+    listener: LocalListener,
+    silence: Option<u64>,
+) -> Option<Server<MemoryDevice>> {
     let alloc = rt.alloc();
     let store = store_in_memory(alloc, &SMALL).ok()?;
-    Server::bind(rt, alloc, 0, silence, Hub::new(alloc, store)).ok()
+    Server::new(rt, alloc, listener, silence, Hub::new(alloc, store)).ok()
 }
 
 /// A server, its clients, and the moment of its turns.
@@ -51,8 +56,9 @@ pub struct SocketPlayer<'a> {
 impl<'a> SocketPlayer<'a> {
     /// A server without clients; with `silence` it closes who is silent for so many milliseconds.
     pub fn begin(rt: &'a HostRuntime, silence: Option<u64>) -> Option<SocketPlayer<'a>> {
-        let server = start(rt, silence)?;
-        let clients = Clients::new(rt.alloc(), server.port());
+        let listener = LocalListener::bind(rt, 0).ok()?;
+        let clients = Clients::new(rt.alloc(), listener.port().ok()?);
+        let server = start(rt, listener, silence)?;
         Some(SocketPlayer {
             rt,
             server,

@@ -4,6 +4,7 @@ use command_words::{
     ADDRESS, OptionText, OptionValue, PLAYERS, SERVER, WordText, command_line, own_address,
     read_by, read_or_fault, server_address,
 };
+use server_calls::ServerAddress;
 use std::alloc::{AllocError, Global};
 use std::net::SocketAddr;
 
@@ -88,7 +89,7 @@ pub struct Evidence<'a> {
 #[derive(Drop)]
 pub struct Serving<'a> {
     pub players: &'a str,
-    pub server: SocketAddr,
+    pub server: ServerAddress,
     pub address: SocketAddr,
     pub page: &'a str,
     /// The names of hosts that are taken besides.

@@ -3,9 +3,10 @@ ghost use Rattle.std.specs.Prelude.{List};
 ghost use Rattle.lobby_loop.specs.Turning.{Admits, AreAdmitted};
 
 use crate::hall::Hall;
-use mio::net::{TcpListener, TcpStream};
-use mio::{Interest, Registry, Token};
-use server_calls::{ACCEPT_TRIES, AcceptFault, accept_fault};
+use either::Left;
+use mio::net::TcpListener;
+use mio::{Registry, Token};
+use server_calls::{ACCEPT_TRIES, AcceptFault, Call, accept_fault, watch_call};
 use std::io;
 use std::net::{Net, SocketAddr};
 
@@ -48,22 +49,21 @@ pub struct LobbyAcceptor<'a> {
 }
 
 impl Acceptor for LobbyAcceptor<'_> {
-    type Stream = TcpStream;
+    type Stream = Call;
 
-    fn accept_one(&mut self) -> Result<TcpStream, AcceptFault> {
+    fn accept_one(&mut self) -> Result<Call, AcceptFault> {
         let stream = match self.listener.accept() {
             Ok((stream, _)) => stream,
             Err(error) => return Err(accept_fault(error.kind())),
         };
         match stream.set_nodelay(true) {
-            Ok(()) => Ok(stream),
+            Ok(()) => Ok(Left(stream)),
             Err(_) => Err(AcceptFault::Lost),
         }
     }
 
-    fn watch(&mut self, stream: &mut TcpStream, key: usize) -> bool {
-        let interest = Interest::READABLE | Interest::WRITABLE;
-        self.registry.register(stream, Token(key), interest).is_ok()
+    fn watch(&mut self, stream: &mut Call, key: usize) -> bool {
+        watch_call(self.registry, stream, Token(key)).is_ok()
     }
 }
 

@@ -1,6 +1,8 @@
 //! The sockets of a lobby, and what wakes it.
 ghost use Rattle.std.specs.Prelude.{◌≡◌, List, None, Some, IfOk, OnOk, OnErr, is_some};
 ghost use Rattle.mio.specs.declared.net.stream.TcpStream.{TcpStream};
+ghost use Rattle.mio.specs.declared.net.uds.stream.UnixStream.{UnixStream};
+ghost use Rattle.either.specs.declared.Either.{Either};
 ghost use Rattle.lobby_desk.specs.Who.{watched_games};
 ghost use Rattle.lobby_loop.specs.Turning.{BeginsHall, AreAdmitted, IsReached, IsLobbyTurn, texts_put, unknown};
 ghost use Rattle.lobby_loop.specs.Living.{IsWoken, Files, KeepsFiles, Renews};
@@ -12,13 +14,12 @@ use crate::listener::{LobbyAcceptor, LobbyListener, Welcomed, welcome};
 use lobby_guests::{Counts, KeepsLinks};
 use lobby_roster::Player;
 use lobby_web::{File, Site};
-use mio::net::TcpStream;
 use mio::{Events, Interest, Poll, Token};
-use server_calls::{RETRY, call, is_made};
+use server_calls::{Call, RETRY, ServerAddress, call, is_made};
 use std::alloc::{AllocError, Global};
 use std::hash::RandomState;
 use std::io;
-use std::net::{Net, SocketAddr};
+use std::net::Net;
 use std::time::Duration;
 
 /// What came of a turn.
@@ -51,12 +52,12 @@ pub struct Lobby {
     // Whether a connection may wait there, and from when on it is asked.
     has_more: bool,
     ask_at: u64,
-    server: SocketAddr,
+    server: ServerAddress,
     // A connection to the server that is being made.
-    call: Option<TcpStream>,
+    call: Option<Call>,
     call_until: u64,
     call_at: u64,
-    hall: Hall<TcpStream>,
+    hall: Hall<Call>,
     poll: Poll,
     events: Events,
 }
@@ -83,7 +84,7 @@ fn watch_listener(
 }
 
 // The socket of this name may be ready. It tells whether that is the listener's.
-fn wake_socket(hall: &mut Hall<TcpStream>, key: usize) -> bool
+fn wake_socket(hall: &mut Hall<Call>, key: usize) -> bool
     ensures { IsWoken hall.old hall.new }
 {
     match key {
@@ -100,7 +101,7 @@ fn wake_socket(hall: &mut Hall<TcpStream>, key: usize) -> bool
 }
 
 // The sockets of these events may be ready. It tells whether the listener's is among them.
-fn wake_each(events: &Events, hall: &mut Hall<TcpStream>) -> bool
+fn wake_each(events: &Events, hall: &mut Hall<Call>) -> bool
     ensures { IsWoken hall.old hall.new }
 {
     let mut has_listener = false;
@@ -128,7 +129,7 @@ impl Lobby {
         alloc: Global,
         keys: RandomState,
         mut listener: LobbyListener,
-        server: SocketAddr,
+        server: ServerAddress,
         site: Site,
         players: Vec<Player>,
         is_paused: bool,
@@ -203,7 +204,7 @@ impl Lobby {
 
     // Accepts who waits at the listener, and tells whether more may.
     fn welcome(&mut self, at: u64) -> bool
-        ensures { (streams : List TcpStream) × AreAdmitted streams self.old.hall self.new.hall }
+        ensures { (streams : List (Either TcpStream UnixStream)) × AreAdmitted streams self.old.hall self.new.hall }
     {
         if !self.has_more || at < self.ask_at {
             return false;
@@ -231,11 +232,11 @@ impl Lobby {
     {
         self.call_at = at.saturating_add(RETRY);
         self.call_until = at.saturating_add(PATIENCE);
-        self.call = call(net, self.poll.registry(), self.server, Token(SERVER));
+        self.call = call(net, self.poll.registry(), &self.server, Token(SERVER));
     }
 
     // Goes on with the connection to the server that is being made.
-    fn end_call(&mut self, call: TcpStream, at: u64) -> Result<bool, AllocError>
+    fn end_call(&mut self, call: Call, at: u64) -> Result<bool, AllocError>
         requires { self.old.hall.server ≡ None }
         ensures { OnOk result (IsReached self.old.hall self.new.hall) }
     {

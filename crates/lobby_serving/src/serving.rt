@@ -11,7 +11,7 @@ use lobby_commands::Serving;
 use lobby_loop::{ActLog, Lobby, LobbyListener, NoActLog, Turned};
 use lobby_players::PauseFile;
 use lobby_roster::Player;
-use server_calls::Moments;
+use server_calls::{Moments, ServerAddress};
 use std::fs::File;
 use std::hash::RandomState;
 use std::net::{Net, SocketAddr};
@@ -22,7 +22,7 @@ use std::rt::{Clock, Files};
 #[derive(Drop)]
 struct Telling<'a, R> {
     rt: &'a R,
-    server: SocketAddr,
+    server: ServerAddress,
     is_here: bool,
     turned_away: u64,
     next_at: u64,

@@ -2,10 +2,10 @@
 //! while somebody asks for figures.
 use crate::listing::{Games, Listing, Told};
 use lobby_loop::Lobby;
-use mio::net::TcpStream;
+use server_calls::{ServerAddress, begin};
 use std::alloc::{AllocError, Global};
 use std::io::{ErrorKind, Read, Write};
-use std::net::{Net, SocketAddr};
+use std::net::Net;
 
 /// What is asked, with its end.
 const LIST: &[u8] = b"list\n";
@@ -32,7 +32,7 @@ const READS: u32 = 16;
 /// A question on its way.
 #[derive(Drop)]
 struct Call {
-    stream: TcpStream,
+    stream: server_calls::Call,
     is_said: bool,
     listing: Listing,
     until: u64,
@@ -114,7 +114,7 @@ impl Call {
 #[derive(Drop)]
 pub struct Table {
     alloc: Global,
-    server: SocketAddr,
+    server: ServerAddress,
     // Whether the lobby had its connection at the last look, and whether the last question that is over was not too slow.
     is_here: bool,
     is_answering: bool,
@@ -129,7 +129,7 @@ pub struct Table {
 
 impl Table {
     /// Nothing was asked.
-    pub fn new(alloc: Global, server: SocketAddr) -> Table {
+    pub fn new(alloc: Global, server: ServerAddress) -> Table {
         Table {
             alloc,
             server,
@@ -160,7 +160,7 @@ impl Table {
     // Begins a question.
     fn begin(&mut self, net: &impl Net, at: u64) {
         self.next_at = at.saturating_add(EVERY);
-        if let Ok(stream) = TcpStream::connect(net, self.server) {
+        if let Ok(stream) = begin(net, &self.server) {
             self.call = Some(Call {
                 stream,
                 is_said: false,

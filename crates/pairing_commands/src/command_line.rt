@@ -4,6 +4,7 @@ use clap::{ArgMatches, Command, Error};
 use command_words::{
     OptionText, OptionValue, PLAYERS, SERVER, WordText, command_line, read_by, read_or_told,
 };
+use server_calls::ServerAddress;
 use std::alloc::{AllocError, Global};
 use std::net::SocketAddr;
 use trf_texts::Tournament;
@@ -110,7 +111,7 @@ pub struct Starting<'a> {
 #[derive(Clone, Copy)]
 pub struct Source<'a> {
     pub archive: Option<&'a str>,
-    pub server: Option<SocketAddr>,
+    pub server: Option<ServerAddress>,
 }
 
 /// The round whose results are written.
@@ -395,7 +396,7 @@ fn round_of<'a>(values: &ArgMatches<'a>) -> Option<Round<'a>> {
 fn source_of<'a>(values: &ArgMatches<'a>) -> Option<Source<'a>> {
     let archive = values.get_str("archive");
     let server = match values.get_str("server") {
-        Some(text) => Some(text.parse::<SocketAddr>().ok()?),
+        Some(text) => Some(ServerAddress::named(text)?),
         None => None,
     };
     if archive.is_none() && server.is_none() {

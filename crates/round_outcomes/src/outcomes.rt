@@ -8,9 +8,10 @@ use pairing_texts::{Note, Pairing, Seats, game_in, last_of};
 use pgn_tags::{is_move, is_tag, value_in, without_escapes};
 use rec_codec::Name;
 use round_games::{Shown, show_game};
+use server_calls::ServerAddress;
 use server_link::Link;
 use std::alloc::{AllocError, Global};
-use std::net::{Net, SocketAddr, TcpStream};
+use std::net::{Net, TcpStream};
 use std::rt::Files;
 use text_parts::parts;
 
@@ -212,7 +213,7 @@ fn archive_of<R: Files + AllocGlobal>(rt: &R, file: Option<&str>) -> Result<Vec<
 // The connection to the server, where one is named.
 fn link_of<R: Net<Stream = TcpStream> + AllocGlobal>(
     rt: &R,
-    server: Option<SocketAddr>,
+    server: Option<ServerAddress>,
 ) -> Result<Option<Link>> {
     match server {
         None => Ok(None),

@@ -4,10 +4,25 @@ ghost use Rattle.server_calls.specs.Accepting.{IsLost};
 ghost use Rattle.server_calls.specs.Listeners.{IsAsked};
 
 use crate::accepting::{AcceptFault, accept_fault};
+use crate::owned::listen_owned;
+use either::{Either, Left, Right};
 use std::io;
 use std::io::ErrorKind;
 use std::net::{Ipv4Addr, Net, TcpListener, TcpStream};
 use std::os::fd::{AsRawFd, RawFd};
+use std::os::unix::net::{UnixListener, UnixStream};
+use std::rt::Files;
+
+/// A connection over a port, or over a Unix socket.
+pub type Connection = Either<TcpStream, UnixStream>;
+
+/// The descriptor of a connection.
+pub fn descriptor(connection: &Connection) -> RawFd {
+    match connection {
+        Left(stream) => stream.as_raw_fd(),
+        Right(stream) => stream.as_raw_fd(),
+    }
+}
 
 /// What came of a try to accept a connection.
 #[derive(Clone, Copy, PartialEq, Eq)]
@@ -94,10 +109,10 @@ pub fn next_connection<L: Listens>(listener: &mut L) -> Option<L::Stream>
     listener.accept_one()
 }
 
-/// A listener on a port of this machine.
+/// A listener on a port of this machine, or by a Unix socket.
 #[derive(Drop)]
 pub struct LocalListener {
-    listener: TcpListener,
+    listener: Either<TcpListener, UnixListener>,
     outcome: AcceptOutcome,
     /// So many connections it has given.
     given: u64,
@@ -113,28 +128,61 @@ impl LocalListener {
     ) -> io::Result<LocalListener> {
         let listener = TcpListener::bind(net, (Ipv4Addr::LOCALHOST, port))?;
         listener.set_nonblocking(true)?;
-        Ok(LocalListener {
+        Ok(LocalListener::of(Left(listener)))
+    }
+
+    /// Listens by a Unix socket at this path, to which nobody but the owner connects, at no moment. A socket by which nobody
+    /// listens is replaced. It fails where somebody does, where anything else stands there, which is left as it is, and where
+    /// the system refuses it. A connection may wait.
+    pub fn bind_path<R: Files + Net>(rt: &R, path: &str) -> io::Result<LocalListener> {
+        let listener = listen_owned(rt, path)?;
+        listener.set_nonblocking(true)?;
+        Ok(LocalListener::of(Right(listener)))
+    }
+
+    // It has given none, and one may wait.
+    fn of(listener: Either<TcpListener, UnixListener>) -> LocalListener {
+        LocalListener {
             listener,
             outcome: AcceptOutcome::Lost,
             given: 0,
             tries: 0,
-        })
+        }
     }
 
-    /// The port.
+    /// The port; 0 where it listens by a Unix socket.
     pub fn port(&self) -> io::Result<u16> {
-        let address = self.listener.local_addr()?;
-        Ok(address.port())
+        match &self.listener {
+            Left(listener) => Ok(listener.local_addr()?.port()),
+            Right(_) => Ok(0),
+        }
     }
 
     /// The listener's socket.
     pub fn socket(&self) -> RawFd {
-        self.listener.as_raw_fd()
+        match &self.listener {
+            Left(listener) => listener.as_raw_fd(),
+            Right(listener) => listener.as_raw_fd(),
+        }
+    }
+
+    // Accepts a connection, if one is there.
+    fn accept(&self) -> io::Result<Connection> {
+        match &self.listener {
+            Left(listener) => {
+                let (stream, _) = listener.accept()?;
+                Ok(Left(stream))
+            }
+            Right(listener) => {
+                let (stream, _) = listener.accept()?;
+                Ok(Right(stream))
+            }
+        }
     }
 
     // What it comes to that a connection was accepted: it is given; or its socket takes no option, and it counts as lost,
     // so that the next is tried.
-    fn settle(&mut self, prepared: io::Result<TcpStream>) -> Option<TcpStream>
+    fn settle(&mut self, prepared: io::Result<Connection>) -> Option<Connection>
         requires { self.old.given < 2 ^ 64 - 1 }
         ensures given { IfOk prepared (λ stream. (result ≡ Some stream) × (self.new.outcome ≡ AcceptOutcome.Connection)
             × (self.new.given ≡ self.old.given + 1)) }
@@ -157,14 +205,19 @@ impl LocalListener {
 }
 
 // A connection that is not waited for: answers are short, and a client waits for them.
-fn prepared(stream: TcpStream) -> io::Result<TcpStream> {
-    stream.set_nonblocking(true)?;
-    stream.set_nodelay(true)?;
-    Ok(stream)
+fn prepared(connection: Connection) -> io::Result<Connection> {
+    match &connection {
+        Left(stream) => {
+            stream.set_nonblocking(true)?;
+            stream.set_nodelay(true)?;
+        }
+        Right(stream) => stream.set_nonblocking(true)?,
+    }
+    Ok(connection)
 }
 
 impl Listens for LocalListener {
-    type Stream = TcpStream;
+    type Stream = Connection;
 
     ghost last_outcome = { λ listener. listener.outcome };
 
@@ -172,15 +225,15 @@ impl Listens for LocalListener {
 
     ghost tried_so_far = { λ listener. listener.tries };
 
-    fn accept_one(&mut self) -> Option<TcpStream> {
+    fn accept_one(&mut self) -> Option<Connection> {
         self.tries = self.tries.saturating_add(1);
         // So many never come.
         if self.given == u64::MAX {
             self.outcome = AcceptOutcome::Refused;
             return None;
         }
-        match self.listener.accept() {
-            Ok((stream, _)) => self.settle(prepared(stream)),
+        match self.accept() {
+            Ok(connection) => self.settle(prepared(connection)),
             Err(fault) => {
                 self.outcome = outcome_of(fault.kind());
                 None

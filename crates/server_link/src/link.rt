@@ -1,8 +1,11 @@
 //! A connection to the server.
 use anyhow::{Context, Error, Result, anyhow};
+use either::{Left, Right};
+use server_calls::{Connection, ServerAddress};
 use std::alloc::Global;
 use std::io::{self, BufRead, BufReader, ErrorKind, Write};
-use std::net::{Net, SocketAddr, TcpStream};
+use std::net::{Net, TcpStream};
+use std::os::unix::net::UnixStream;
 use std::time::Duration;
 
 /// So many seconds the server may take to answer, or a connection to be made.
@@ -12,7 +15,7 @@ const PATIENCE: u64 = 10;
 #[derive(Drop)]
 pub struct Link {
     alloc: Global,
-    stream: BufReader<TcpStream>,
+    stream: BufReader<Connection>,
 }
 
 /// An answer: its first line, and the lines behind it.
@@ -50,12 +53,31 @@ pub fn refused(line: &str, first: &str) -> Error {
     }
 }
 
+// A connection to the server, of which no read or write takes longer than the server may.
+fn connected<R: Net<Stream = TcpStream>>(rt: &R, server: &ServerAddress) -> io::Result<Connection> {
+    let patience = Duration::from_secs(PATIENCE);
+    match server {
+        ServerAddress::Port(address) => {
+            let stream = TcpStream::connect_timeout(rt, address, patience)?;
+            stream.set_read_timeout(Some(patience))?;
+            stream.set_write_timeout(Some(patience))?;
+            Ok(Left(stream))
+        }
+        ServerAddress::Socket(path) => {
+            let stream = UnixStream::connect(rt, path.as_str())?;
+            stream.set_read_timeout(Some(patience))?;
+            stream.set_write_timeout(Some(patience))?;
+            Ok(Right(stream))
+        }
+    }
+}
+
 impl Link {
     /// Connects to the server. It fails where the server does not answer within ten seconds, as each call below does; the
     /// error of this one names the server.
     pub fn open<R: Net<Stream = TcpStream> + AllocGlobal>(
         rt: &R,
-        server: SocketAddr,
+        server: ServerAddress,
     ) -> Result<Link> {
         Link::connect(rt, server).context(format_args!("the server at {server}"))
     }
@@ -63,15 +85,12 @@ impl Link {
     // Connects to the server, whichever it is.
     fn connect<R: Net<Stream = TcpStream> + AllocGlobal>(
         rt: &R,
-        server: SocketAddr,
+        server: ServerAddress,
     ) -> Result<Link> {
-        let patience = Duration::from_secs(PATIENCE);
-        let stream = TcpStream::connect_timeout(rt, &server, patience).map_err(told)?;
-        stream.set_read_timeout(Some(patience))?;
-        stream.set_write_timeout(Some(patience))?;
+        let connection = connected(rt, &server).map_err(told)?;
         Ok(Link {
             alloc: rt.alloc(),
-            stream: BufReader::new(rt.alloc(), stream)?,
+            stream: BufReader::new(rt.alloc(), connection)?,
         })
     }
 

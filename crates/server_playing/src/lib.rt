@@ -9,4 +9,4 @@ mod serving;
 pub use clock::SteadyClock;
 pub use drilling::tell_drill;
 pub use running::run_journal;
-pub use serving::{serve, serve_store};
+pub use serving::{Door, serve, serve_store};

@@ -2,6 +2,7 @@
 //! a time, which the journal puts before it.
 ghost use Rattle.std.specs.Prelude.{ℕ, ◌≡◌, ◌<◌, ◌≤◌, ◌+◌, ◌-◌, None, Some, IsSome, IfSome, IfNone};
 
+use std::fmt::Display;
 use std::io;
 use std::io::ErrorKind;
 
@@ -130,10 +131,10 @@ impl<'a, R: Eprint> Teller<'a, R> {
         }
     }
 
-    /// What the system said of a port.
-    pub fn port_failed(&self, port: u16, error: &io::Error) {
+    /// What the system said of a place that was to be listened on.
+    pub fn place_failed<P: Display>(&self, place: &P, error: &io::Error) {
         if !self.is_quiet {
-            let _ = eprintln!(self.rt; "port {port}: it cannot be listened on: {error}");
+            let _ = eprintln!(self.rt; "{place}: it cannot be listened on: {error}");
         }
     }
 
@@ -146,8 +147,8 @@ impl<'a, R: Eprint> Teller<'a, R> {
         }
     }
 
-    /// What is served, and, where the clock is behind the last entry, by how much.
-    pub fn serves(&self, port: u16, found: Found, now: u64) {
+    /// What is served and where, and, where the clock is behind the last entry, by how much.
+    pub fn serves<P: Display>(&self, place: &P, found: Found, now: u64) {
         if self.is_quiet {
             return;
         }
@@ -159,7 +160,7 @@ impl<'a, R: Eprint> Teller<'a, R> {
             took,
         } = found;
         let _ = eprintln!(self.rt;
-            "serving on port {port}: {games} of at most {most} games, {entries} entries, opened in {took} ms"
+            "serving on {place}: {games} of at most {most} games, {entries} entries, opened in {took} ms"
         );
         let late = behind(now, moment);
         if late > 0 {

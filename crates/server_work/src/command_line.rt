@@ -116,9 +116,15 @@ prints
   ok open 1";
 
 const HELP_OF_SERVE: &str = "\
-It listens on 127.0.0.1, prints port P with the port that it listens on, and serves
-each connection as a session over the journal, with the lines and answers of run: 64
-at a time. A further connection is closed at once.
+With --port it listens on 127.0.0.1, and prints port P with the port that it listens on;
+with --socket by a Unix socket at PATH, which the owner alone may connect to, and prints
+socket PATH. One of the two is given. It serves each connection as a session over the
+journal, with the lines and answers of run: 64 at a time. A further connection is closed
+at once, and so is one that begins as HTTP or TLS does, with no answer.
+
+A port is open to every program and every user of this machine. A socket that nobody
+listens by is replaced, and is taken away at the end; one that somebody listens by, and
+whatever else stands at PATH, is left as it is.
 
 It goes on until it is ended: kill it, by any signal. What was answered by ok or
 fallen lasts, but for names. With --turns it ends after so many turns: a turn accepts
@@ -144,8 +150,8 @@ Limits: P 0 to 65535, where 0 leaves the choice to the system; N and S 1 to 4294
 
 Exit status: 0 after N turns; 1 with fault NAME on standard error: File (the file
 isn't there, or another program has it open), NotOurs (no journal stands in it),
-Damaged, TooSmall, Socket (the port cannot be bound), Device (a read, a write or a
-sync of the file failed), Failed (a call after that), Worn, NoMemory, Write; 2 for
+Damaged, TooSmall, Socket (the port or socket cannot be bound), Device (a read, a write
+or a sync of the file failed), Failed (a call after that), Worn, NoMemory, Write; 2 for
 words that the program does not know.
 
 Example:
@@ -223,7 +229,14 @@ const PORT: OptionText = OptionText {
     name: "port",
     value: OptionValue::Number("P", 0, 65_535),
     help: "The port on 127.0.0.1, 0 to 65535; 0 leaves the choice to the system",
-    is_required: true,
+    is_required: false,
+};
+
+const SOCKET: OptionText = OptionText {
+    name: "socket",
+    value: OptionValue::Text("PATH"),
+    help: "The Unix socket to listen by, in place of a port",
+    is_required: false,
 };
 
 const TURNS: OptionText = OptionText {
@@ -277,9 +290,9 @@ const RUN: WordText = WordText {
 
 const SERVE: WordText = WordText {
     name: "serve",
-    about: "Serves players on a port, over the games of a journal",
+    about: "Serves players on a port or by a socket, over the games of a journal",
     help: HELP_OF_SERVE,
-    options: &[JOURNAL, PORT, TURNS, IDLE, QUIET],
+    options: &[JOURNAL, PORT, SOCKET, TURNS, IDLE, QUIET],
 };
 
 const DRILL: WordText = WordText {

@@ -15,4 +15,4 @@ pub use ends::{End, Fault, end_of_words, end_of_work, fault_name, status};
 pub use memory::play_board;
 pub use opening::{open_file, open_on, opened};
 pub use telling::{found_in, printed, told};
-pub use words::{Copying, Formatting, JournalLimits, Serving, Word, read_words};
+pub use words::{Copying, Formatting, JournalLimits, Place, Serving, Word, read_words};

@@ -8,6 +8,7 @@ use clap::{ArgMatches, Command, Error};
 use command_words::read_by;
 use rec_codec::{Limits, Version};
 use std::alloc::Global;
+use std::fmt;
 
 /// What the program is to do.
 #[derive(Clone, Copy)]
@@ -18,7 +19,7 @@ pub enum Word<'a> {
     Format(Formatting<'a>),
     /// To answer the lines of standard input on standard output, over the games of a journal's file.
     Run(&'a str),
-    /// To serve players on a port.
+    /// To serve players.
     Serve(Serving<'a>),
     /// To play the crashes of one batch in memory.
     Drill,
@@ -52,11 +53,29 @@ pub struct Copying<'a> {
     pub copy: &'a str,
 }
 
-/// A journal's file, the port on which its games are played, and how.
+/// Where a server listens.
+#[derive(Clone, Copy)]
+pub enum Place<'a> {
+    /// On a port of 127.0.0.1; of 0 the system chooses one.
+    Port(u16),
+    /// By a Unix socket with this path.
+    Socket(&'a str),
+}
+
+impl fmt::Display for Place<'_> {
+    fn fmt<W: fmt::Write>(&self, f: &mut fmt::Formatter<W>) -> fmt::Result {
+        match self {
+            Place::Port(port) => write!(f, "port {port}"),
+            Place::Socket(path) => write!(f, "socket {path}"),
+        }
+    }
+}
+
+/// A journal's file, where its games are played, and how.
 #[derive(Clone, Copy)]
 pub struct Serving<'a> {
     pub journal: &'a str,
-    pub port: u16,
+    pub place: Place<'a>,
     /// After how many turns the serving ends, if it is to end.
     pub turns: Option<u32>,
     /// For how many milliseconds a client may be silent.
@@ -77,7 +96,10 @@ fn word_given<'a>(
 ) -> Result<Word<'a>, Error> {
     match matches.subcommand().and_then(word_of) {
         Some(word) => Ok(word),
-        None => Err(command.error(ErrorKind::MissingSubcommand, "a word is missing")?),
+        None => {
+            let (kind, text) = fault_of(matches);
+            Err(command.error(kind, text)?)
+        }
     }
 }
 
@@ -126,11 +148,35 @@ fn copying_of<'a>(values: &ArgMatches<'a>) -> Option<Copying<'a>> {
 fn serving_of<'a>(values: &ArgMatches<'a>) -> Option<Serving<'a>> {
     Some(Serving {
         journal: values.get_str("journal")?,
-        port: values.get_one("port")?,
+        place: place_of(values)?,
         turns: values.get_one("turns"),
         silence: silence_of(values),
         is_quiet: values.get_flag("quiet"),
     })
+}
+
+// The one of the port and the socket that is given; `None` where neither is, or both are.
+fn place_of<'a>(values: &ArgMatches<'a>) -> Option<Place<'a>> {
+    match (values.get_one("port"), values.get_str("socket")) {
+        (Some(port), None) => Some(Place::Port(port)),
+        (None, Some(path)) => Some(Place::Socket(path)),
+        _ => None,
+    }
+}
+
+// What is wrong where a word asks for nothing.
+fn fault_of(matches: &ArgMatches<'_>) -> (ErrorKind, &'static str) {
+    match matches.subcommand() {
+        Some(("serve", values)) if values.get_str("socket").is_some() => (
+            ErrorKind::ArgumentConflict,
+            "--port and --socket cannot be used with one another",
+        ),
+        Some(("serve", _)) => (
+            ErrorKind::MissingRequiredArgument,
+            "serve needs --port or --socket",
+        ),
+        _ => (ErrorKind::MissingSubcommand, "a word is missing"),
+    }
 }
 
 fn silence_of(values: &ArgMatches<'_>) -> Option<u64> {

@@ -1,7 +1,7 @@
 //! The words of the command line.
 use clap::error::ErrorKind;
 use command_words::VERSION;
-use server_work::{Formatting, Word, read_words};
+use server_work::{Formatting, Place, Word, read_words};
 use std::alloc::Global;
 use std::process::Abort;
 
@@ -19,7 +19,16 @@ fn words_of(rt: &impl Abort, alloc: Global, line: &str) -> Vec<String> {
 /// silence, or plies.
 type Said = (u8, bool, u16, Option<u32>, Option<u64>);
 
-// What a word asks for. `None` where it names another journal than j, or another copy than k.
+// The port of a place, 0 of the socket s; `None` of another socket.
+fn port_of(place: Place<'_>) -> Option<u16> {
+    match place {
+        Place::Port(port) => Some(port),
+        Place::Socket("s") => Some(0),
+        Place::Socket(_) => None,
+    }
+}
+
+// What a word asks for. `None` where it names another journal than j, another copy than k, or another socket than s.
 fn said_by(word: &Word<'_>) -> Option<Said> {
     let (journal, copy, said) = match word {
         Word::Board => ("j", "k", (0, false, 0, None, None)),
@@ -39,7 +48,7 @@ fn said_by(word: &Word<'_>) -> Option<Said> {
             let said = (
                 6,
                 serving.is_quiet,
-                serving.port,
+                port_of(serving.place)?,
                 serving.turns,
                 serving.silence,
             );
@@ -64,7 +73,7 @@ fn read(rt: &impl Abort, alloc: Global, line: &str) -> Result<Option<Said>, Erro
 }
 
 // Command lines, and what each asks for, or why it is refused.
-static LINES: [(&str, Result<Option<Said>, ErrorKind>); 23] = [
+static LINES: [(&str, Result<Option<Said>, ErrorKind>); 25] = [
     ("chess_server board", Ok(Some((0, false, 0, None, None)))),
     ("chess_server drill", Ok(Some((1, false, 0, None, None)))),
     (
@@ -98,6 +107,14 @@ static LINES: [(&str, Result<Option<Said>, ErrorKind>); 23] = [
     (
         "chess_server serve --journal j --port 7 --idle 2 --quiet",
         Ok(Some((6, true, 7, None, Some(2_000)))),
+    ),
+    (
+        "chess_server serve --journal j --socket s",
+        Ok(Some((6, false, 0, None, None))),
+    ),
+    (
+        "chess_server serve --journal j --port 7 --socket s",
+        Err(ErrorKind::ArgumentConflict),
     ),
     ("chess_server lead", Err(ErrorKind::InvalidSubcommand)),
     ("chess_server ", Err(ErrorKind::InvalidSubcommand)),

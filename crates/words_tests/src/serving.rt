@@ -1,9 +1,9 @@
 //! That what is asked for reaches the server, over loopback.
 use rec_codec::Limits;
 use sector_dev::MemoryDevice;
-use server_playing::serve_store;
+use server_playing::{Door, serve_store};
 use server_telling::Teller;
-use server_work::Serving;
+use server_work::{Place, Serving};
 use std::alloc::Global;
 use std::cell::Cell;
 use std::fmt::Display;
@@ -108,13 +108,14 @@ fn served(stop: &impl Abort, rt: &HostRuntime, silence: Option<u64>) -> (bool, b
     let teller = Teller::new(&machine, true);
     let serving = Serving {
         journal: "",
-        port: 0,
+        place: Place::Port(0),
         turns: Some(TURNS),
         silence,
         is_quiet: true,
     };
+    let door = Door::on_port(&machine, 0).expect(stop, "a port");
     let begun = Instant::now(rt).expect(stop, "a clock");
-    assert!(stop; serve_store(&machine, alloc, &teller, &serving, store, 0).is_ok());
+    assert!(stop; serve_store(&machine, alloc, &teller, door, &serving, store, 0).is_ok());
     let took = begun.elapsed(rt).expect(stop, "a clock");
     (machine.has_end.get(), took >= Duration::from_millis(200))
 }

@@ -17,13 +17,14 @@ returns-clause-welcomes g c =
         one_step (state_of old.sessions old.store.table) (state_of new.sessions new.store.table) (Connected client.sid)
             (rw c.new.ensures.sid (c.in-Ok-connect.ensures.new, c.in-Ok-connect.ensures.opened, ap (λ s. s.table) c.connect.ensures.store)),
         record {
-          connection = c.args.stream;
-          made = subst (λ s. g.S.From.from_gives c.args.stream s) (sym c.new.ensures.stream) c.from.ensures;
+          connection = c.args.connection;
+          made = subst (λ s. g.S.From.from_gives c.args.connection s) (sym c.new.ensures.stream) c.from.ensures;
           moment = c.new.ensures.heard;
           lasts = c.new.ensures.lasts;
           wait = c.new.ensures.wait;
           incoming = c.new.ensures.nothing.0;
           outgoing = c.new.ensures.nothing.1;
+          first = c.new.ensures.first;
           sound = c.new.ensures.sound;
         },
       );

@@ -6,8 +6,8 @@ use Rattle.std.specs.Prelude.{IsSome, IsSomeAnd}
 use Rattle.std.specs.Io.KnownBytes.{Keeps}
 use Rattle.std.specs.Bool.{OnTrue}
 use Rattle.chess_sessions.specs.Session.{session_at, Changes}
-use Rattle.client_streams.specs.Clients.{IsSilent, IsHeldUp}
-use Rattle.client_streams.specs.Closings.{HasFailed, WasRefused, IsReason}
+use Rattle.client_streams.specs.Clients.{standing, IsSilent, IsHeldUp}
+use Rattle.client_streams.specs.Closings.{HasFailed, WasRefused, IsForeign, IsReason}
 use Rattle.client_streams.specs.Incoming.{held}
 use Rattle.client_streams.specs.Sending.{waiting}
 use Rattle.client_streams.proofs.TakingLemmas.{some_closed, up_unfinished}
@@ -67,7 +67,7 @@ returns-then-is_quiet-clause-read g c =
     (λ waits. stream ∙ (c.take_in-any.ensures.unread waits).0)
     (subst (λ s. OnTrue done (Changes s new client.sid None)) stays
     (subst (λ n. OnTrue done (Changes between new n None)) peer.0 c.close_silent.ensures.closed))
-    (subst (λ s. OnTrue done (IsReason last (IsSomeAnd silence (IsSilent last s at)) ⊥ ⊥)) stays
+    (subst (λ s. OnTrue done (IsReason last (IsForeign last) (IsSomeAnd silence (IsSilent last s at)) ⊥ ⊥)) stays
     (both_true done (λ is told. silent_reason silence after last between at told heard_at sid holds waits_on
     (c.close_silent.ensures.silent.0 is)) c.close_silent.ensures.told))
     (on_false done (λ e. unchanged_by old new (e ∙ stays)) c.close_silent.ensures.stays))
@@ -91,9 +91,9 @@ returns-clause-read g c =
     let same = c.take_in-any.ensures.unread waits in
     (same.0, same.1, unchanged_by old new same.2)) c.take_in-any.ensures.heard c.take_in-any.ensures.ended
     (not_closed before _ open_now)
-    (λ was none. reason_of_trouble (HasFailed after) (WasRefused after)
+    (λ was none. reason_of_trouble (HasFailed after) (WasRefused after) (IsForeign after)
     (IsSomeAnd c.args.reading.silence (IsSilent after old c.args.reading.at)) after.closing
     (c.take_in-any.ensures.reason none)) c.take_in-any.ensures.refused
-    (sends room left longest (rest client.wire.stream) (rest after.wire.stream) (waiting client.outgoing)
+    (sends (standing client) (standing after) room left longest (rest client.wire.stream) (rest after.wire.stream) (waiting client.outgoing)
     (held client.incoming) (held after.incoming) client.sid old new before (session_at new client.sid) refl refl open_now c.take_in-any.ensures.taken
     c.take_in-any.ensures.others)

@@ -1,5 +1,5 @@
 -- What the session is given goes to the connection.
-use Rattle.std.proofs.Common.{subst}
+use Rattle.std.proofs.Common.{ap, subst}
 use Rattle.std.specs.Prelude.{IsSome}
 use Rattle.chess_sessions.specs.Session.{session_at}
 use Rattle.client_streams.proofs.RoundLemmas.{not_closed, skipped}
@@ -18,7 +18,8 @@ returns g c =
       incoming = c.hand_out.ensures.peer.3;
       heard = c.hand_out.ensures.peer.4;
       ended = c.hand_out.ensures.peer.1;
-      wait = c.hand_out.ensures.peer.5;
+      wait = ap (λ s. s.waited) c.hand_out.ensures.peer.5;
+      spoken = ap (λ s. s.has_spoken) c.hand_out.ensures.peer.5;
       given = c.hand_out.ensures.given.given;
       reason = λ was none. c.hand_out.ensures.given.reason none;
       hands = c.hand_out.ensures.given.hands;

@@ -1,8 +1,8 @@
 -- What came is held back, and then the session is given what stands in front.
-use Rattle.std.proofs.Common.{◌≡◌, ◌∙◌, ℕ, List, Option, None, IfSome, inr, ap, refl, subst, sym, arith}
+use Rattle.std.proofs.Common.{◌≡◌, ◌∙◌, ◌⊎◌, ℕ, List, Option, None, IfSome, inl, inr, ap, refl, subst, sym, arith}
 use Rattle.std.proofs.lemmas.Bool.{false≢true}
 use Rattle.chess_sessions.specs.Session.{Changes, session_at}
-use Rattle.client_streams.specs.Clients.{GivesOn, TakesIn}
+use Rattle.client_streams.specs.Clients.{Standing, standing, GivesOn, TakesIn}
 use Rattle.client_streams.specs.Closings.{WasRefused, IsTrouble}
 use Rattle.client_streams.specs.Incoming.{held}
 use Rattle.client_streams.specs.Sending.{waiting}
@@ -20,10 +20,11 @@ returns-then-not-is_empty-clause-taken g c =
     let bytes = g.S.Read.remaining client.wire.stream in
     let holds = held client.incoming in
     let unsent = waiting client.outgoing in
-    takes-in client.waited client.waited room.lines room.lines room.longest m m bytes bytes unsent holds holds holds
+    takes-in (standing client) (standing client) room.lines room.lines room.longest m m bytes bytes unsent holds holds holds
     (takes-nothing bytes holds)
-    (gives-none-up room.lines room.longest m m unsent holds refl
+    (gives-none-up (standing client) (standing client) room.lines room.longest m m unsent holds refl
     (up_unsent unsent holds m m (λ none. false≢true (sym c.if-not-is_empty.true ∙ c.is_empty.ensures.1 none))) refl)
+    (λ quiet other. inl refl)
 
 pub returns-then-not-is_unfinished-clause-taken : goal.returns-then-not-is_unfinished-clause-taken
 returns-then-not-is_unfinished-clause-taken g c =
@@ -36,21 +37,21 @@ returns-then-not-is_unfinished-clause-taken g c =
     let unsent = waiting client.outgoing in
     subst (λ (b : Option (List ℕ)). IfSome (session_at old client.sid) (λ s. TakesIn room.lines
     c.hand_on.new.room.lines room.longest (rest client.wire.stream) b unsent (held client.incoming) (held after.incoming)
-    client.waited after.waited s (session_at new client.sid))) (sym (ap rest c.hand_on.ensures.stream))
-    (takes-in client.waited after.waited room.lines c.hand_on.new.room.lines room.longest (session_at old client.sid)
+    (standing client) (standing after) s (session_at new client.sid))) (sym (ap rest c.hand_on.ensures.stream))
+    (takes-in (standing client) (standing after) room.lines c.hand_on.new.room.lines room.longest (session_at old client.sid)
     (session_at new client.sid) (rest client.wire.stream) (rest client.wire.stream) unsent (held client.incoming)
     (held client.incoming) (held after.incoming) (takes-nothing (rest client.wire.stream) (held client.incoming))
-    c.hand_on.ensures.gives)
+    c.hand_on.ensures.gives (λ quiet other. inl refl))
 
 pub returns-in-Nothing-clause-taken : goal.returns-in-Nothing-clause-taken
 returns-in-Nothing-clause-taken g c =
-    takes-in-unfinished _ _ _ _ _ _ _ _ c.read_more.ensures.takes (c.read_more.ensures.nothing c.in-Nothing.is)
-    c.read_more.ensures.peer.2
+    takes-in-unfinished _ _ _ _ _ _ _ _ _ _ c.read_more.ensures.takes (c.read_more.ensures.nothing c.in-Nothing.is)
+    (c.is_unfinished.ensures.0 c.if-not-is_unfinished.false) c.read_more.ensures.peer.2
 
 pub returns-in-End-clause-taken : goal.returns-in-End-clause-taken
 returns-in-End-clause-taken g c =
-    takes-in-unfinished _ _ _ _ _ _ _ _ c.read_more.ensures.takes (c.read_more.ensures.end c.in-End.is)
-    c.read_more.ensures.peer.2
+    takes-in-unfinished _ _ _ _ _ _ _ _ _ _ c.read_more.ensures.takes (c.read_more.ensures.end c.in-End.is)
+    (c.is_unfinished.ensures.0 c.if-not-is_unfinished.false) c.read_more.ensures.peer.2
 
 pub returns-in-Fault-clause-taken : goal.returns-in-Fault-clause-taken
 returns-in-Fault-clause-taken g c =
@@ -66,17 +67,18 @@ returns-in-Fault-clause-taken g c =
     let closed = subst (λ (n : ℕ). Changes old new n None) c.read_more.ensures.peer.0 c.close.ensures.closed in
     let (sid, ended, quiet, holds, waits, stream, heard_at, wait) = c.close.ensures.peer in
     subst (λ (b : Option (List ℕ)). IfSome (session_at old client.sid) (λ s. TakesIn room room longest
-    (rest client.wire.stream) b unsent (held client.incoming) (held after.incoming) client.waited after.waited s
+    (rest client.wire.stream) b unsent (held client.incoming) (held after.incoming) (standing client) (standing after) s
     (session_at new client.sid)))
     (sym (ap rest stream))
     (subst (λ (l : List ℕ). IfSome (session_at old client.sid) (λ s. TakesIn room room longest (rest client.wire.stream)
-    (rest between.wire.stream) unsent (held client.incoming) l client.waited after.waited s (session_at new client.sid)))
+    (rest between.wire.stream) unsent (held client.incoming) l (standing client) (standing after) s
+    (session_at new client.sid)))
     (sym holds)
-    (takes-in client.waited after.waited room room longest (session_at old client.sid) (session_at new client.sid)
+    (takes-in (standing client) (standing after) room room longest (session_at old client.sid) (session_at new client.sid)
     (rest client.wire.stream) (rest between.wire.stream) unsent (held client.incoming) (held between.incoming)
     (held between.incoming) c.read_more.ensures.takes
-    (gives-closed room room longest (session_at old client.sid) (session_at new client.sid) unsent (held between.incoming)
-    (omega arith) closed.changed (wait ∙ c.read_more.ensures.peer.2))))
+    (gives-closed (standing client) (standing after) room room longest (session_at old client.sid) (session_at new client.sid) unsent (held between.incoming)
+    (omega arith) closed.changed (wait ∙ c.read_more.ensures.peer.2)) (λ quiet other. inr closed.changed)))
 
 pub returns-in-Fault-clause-heard : goal.returns-in-Fault-clause-heard
 returns-in-Fault-clause-heard g c =
@@ -102,19 +104,21 @@ returns-in-Bytes-clause-taken g c =
     let unsent = waiting client.outgoing in
     let (same, waits, still) = c.read_more.ensures.peer in
     let gives = subst (λ (n : ℕ). IfSome (session_at old n) (λ s. GivesOn room left longest unsent (held between.incoming)
-    (held after.incoming) client.waited after.waited s (session_at new n))) same
-    (subst (λ (w : ℕ). IfSome (session_at old between.sid) (λ s. GivesOn room left longest unsent (held between.incoming)
-    (held after.incoming) w after.waited s (session_at new between.sid))) still
+    (held after.incoming) (standing client) (standing after) s (session_at new n))) same
+    (subst (λ (w : Standing). IfSome (session_at old between.sid) (λ s. GivesOn room left longest unsent (held between.incoming)
+    (held after.incoming) w (standing after) s (session_at new between.sid))) still
     (subst (λ (u : List ℕ). IfSome (session_at old between.sid) (λ s. GivesOn room left longest u (held between.incoming)
-    (held after.incoming) between.waited after.waited s (session_at new between.sid))) waits
+    (held after.incoming) (standing between) (standing after) s (session_at new between.sid))) waits
     c.hand_on-in-Bytes.ensures.gives)) in
     subst (λ (b : Option (List ℕ)). IfSome (session_at old client.sid) (λ s. TakesIn room left longest
-    (rest client.wire.stream) b unsent (held client.incoming) (held after.incoming) client.waited after.waited s
+    (rest client.wire.stream) b unsent (held client.incoming) (held after.incoming) (standing client) (standing after) s
     (session_at new client.sid)))
     (sym (ap rest c.hand_on-in-Bytes.ensures.stream))
-    (takes-in client.waited after.waited room left longest (session_at old client.sid) (session_at new client.sid)
+    (takes-in (standing client) (standing after) room left longest (session_at old client.sid) (session_at new client.sid)
     (rest client.wire.stream) (rest between.wire.stream) unsent (held client.incoming) (held between.incoming)
-    (held after.incoming) c.read_more.ensures.takes gives)
+    (held after.incoming) c.read_more.ensures.takes gives
+    (λ quiet other. inr (subst (λ (n : ℕ). session_at new n ≡ None) same
+    (c.hand_on-in-Bytes.ensures.foreign (ap (λ t. t.has_spoken) still ∙ quiet, other)))))
 
 pub returns-then-not-is_unfinished-clause-heard : goal.returns-then-not-is_unfinished-clause-heard
 returns-then-not-is_unfinished-clause-heard g c =
@@ -186,8 +190,9 @@ returns-in-Bytes-clause-reason g c =
 -- who takes room and is closed was refused memory
 
 pub returns-then-not-is_unfinished-clause-refused : goal.returns-then-not-is_unfinished-clause-refused
-returns-then-not-is_unfinished-clause-refused g c = λ none. inr (c.hand_on.ensures.refused none)
+returns-then-not-is_unfinished-clause-refused g c = c.hand_on.ensures.refused
 
 pub returns-in-Bytes-clause-refused : goal.returns-in-Bytes-clause-refused
-returns-in-Bytes-clause-refused g c = λ none. inr (subst (λ (n : ℕ). session_at c.hand_on-in-Bytes.new.sessions n ≡ None
-    → WasRefused c.hand_on-in-Bytes.new.self) c.read_more.ensures.peer.0 c.hand_on-in-Bytes.ensures.refused none)
+returns-in-Bytes-clause-refused g c = subst (λ (n : ℕ). session_at c.hand_on-in-Bytes.new.sessions n ≡ None
+    → (c.hand_on-in-Bytes.new.room.lines ≡ c.args.room.now.lines) ⊎ WasRefused c.hand_on-in-Bytes.new.self)
+    c.read_more.ensures.peer.0 c.hand_on-in-Bytes.ensures.refused
