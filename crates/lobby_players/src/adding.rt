@@ -12,7 +12,7 @@ use crate::faults::{AddFault, PlayersFault};
 use crate::line::is_full_name;
 use crate::lines::{is_alike, word};
 use crate::reading::{has_name, read_text, text_of};
-use crate::token::token_text;
+use crate::token::{forget, token_text};
 use lobby_roster::Player;
 use rec_codec::Name;
 use sha2::{Digest, Sha256};
@@ -171,7 +171,9 @@ pub fn added(
     if is_named_alike(players.as_slice(), &name) {
         return Err(AddFault::NameAlike);
     }
-    let sum = Sha256::digest(token_text(alloc, token)?.as_str());
+    let shown = token_text(alloc, token)?;
+    let sum = Sha256::digest(shown.as_str());
+    forget(shown);
     if is_taken(players.as_slice(), &name, &sum) {
         return Err(AddFault::TokenTaken);
     }

@@ -39,5 +39,6 @@ pub fn link_text(alloc: Global, page: &str, token: &[u8; 16]) -> Result<String, 
     let mut text = String::from_str(alloc, page)?;
     text.push('#')?;
     text.push_str(shown.as_str())?;
+    forget(shown);
     Ok(text)
 }

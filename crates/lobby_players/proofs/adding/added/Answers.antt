@@ -25,7 +25,7 @@ returns-then-is_taken-clause-fault c =
     let entries = entries_of c.in-Ok-read_text.players.items in
     let who = c.args.who.now.name.now in
     let digest = sha256 (encode_lower c.args.token.now) in
-    let summed = c.digest-sum.ensures ∙ ap sha256 (c.as_str.ensures.value ∙ c.in_ok-token_text.ensures) in
+    let summed = c.digest-sum.ensures ∙ ap sha256 (c.as_str.ensures.value ∙ c.in_ok-shown.ensures) in
     record {
       entries = entries;
       before = subst (λ (t : List ℕ). IsFileOf t entries) c.in-Ok.ensures.text c.in-Ok-read_text.ensures.players;
@@ -39,7 +39,7 @@ returns-clause-added c =
     let who = c.args.who.now.name.now in
     let e = entry_added c.args.who.now c.args.token.now in
     let digest = sha256 (encode_lower c.args.token.now) in
-    let summed = c.digest-sum.ensures ∙ ap sha256 (c.as_str.ensures.value ∙ c.in_ok-token_text.ensures) in
+    let summed = c.digest-sum.ensures ∙ ap sha256 (c.as_str.ensures.value ∙ c.in_ok-shown.ensures) in
     file_added c.args.text.now entries e _ _
     (subst (λ (t : List ℕ). IsFileOf t entries) c.in-Ok.ensures.text c.in-Ok-read_text.ensures.players)
     (subst IsName c.in-Some.ensures.some.0 c.in-Some.ensures.some.1)
