@@ -10,12 +10,14 @@ import { TableView } from './table.js';
 import { Wire } from './wire.js';
 import { BAD_TOKEN, refusalWords } from './words.js';
 
-const TOKEN = /^[A-Za-z0-9_-]{16,128}$/;
+const TOKEN = /^[0-9a-f]{32}$/;
 const MOST_WATCHED = 14, LEAVE_AFTER = 3000;      // the lobby lets a connection watch 16 games
 const ASKS_ANEW = 15000;           // for games that were opened on the server past the lobby: nobody tells of them
 const ASKS_AGAIN = 3000;           // for the table, where it was not told
-const TAKEN_AWAY = 'Your personal link holds no more: an arbiter has made another one, or closed it. You are watching. To play '
-  + 'on, open your new link, or ask your arbiter for it.';
+const TRIES_LINK = 20000;          // whether the link is known again
+const TAKEN_AWAY = 'Your personal link does not hold at the moment: an arbiter has made another one or closed it, or the '
+  + 'list of players is being changed. You are watching. This page keeps the link, and tries it again. To play on with a '
+  + 'new one, open it, or ask your arbiter for it.';
 const session = () => sessionStorage, local = () => localStorage;
 
 class Page {
@@ -28,6 +30,8 @@ class Page {
     write(session, 'token', this.token || null);
     this.begun = new Set();            // one's own games that had begun, or of which it was said
     this.fromLink = false;
+    this.before = '';                  // the token in whose place the one of a link was taken
+    this.signed = { token: '', name: '' };      // who has signed in here last, by which token
     this.takeLink(window.personalLink);
     delete window.personalLink;
     const address = new URL('ws', location.href.split('#')[0]);
@@ -46,6 +50,7 @@ class Page {
     this.route();
     this.changed();
     setInterval(() => this.askAnew(), ASKS_ANEW);
+    setInterval(() => this.tryLink(), TRIES_LINK);
   }
 
   listen() {
@@ -58,6 +63,7 @@ class Page {
     byId('keep-it').addEventListener('click', () => this.keep(true));
     byId('keep-not').addEventListener('click', () => this.keep(false));
     byId('sign-out').addEventListener('click', () => this.signOut());
+    byId('forget-link').addEventListener('click', () => this.signOut());
     this.tabs = window.BroadcastChannel ? new BroadcastChannel('signed-out') : { postMessage: () => {} };
     this.tabs.onmessage = (event) => event.data === this.token && this.signOut();
     byId('projector').addEventListener('click', () => this.go(`/hall/${this.game.number}`));
@@ -309,29 +315,27 @@ class Page {
     if (token !== this.token) return;
     if (found) {
       this.player = { name: found[1], role: found[2], full: found[3] || found[1] };
-      if (this.fromLink && read(local, 'token') !== token) write(local, 'token', null);
+      this.signed = { token, name: this.player.name };
+      this.before = '';
+      this.keepNewer(token);
       byId('linked').hidden = !this.fromLink || read(local, 'token') === token;
       this.fromLink = false;
       this.tell('');
     } else if (refusal && refusal.number === BAD_TOKEN) {
-      this.tell(refusalWords(refusal));
-      this.refused(token);
+      await this.unknown(token, this.signed.token === token ? TAKEN_AWAY : refusalWords(refusal));
       return;
     }
     this.renderWho();
     if (this.view) this.view.render && this.view.render();
   }
 
-  /** The lobby takes this connection for nobody's, though it had signed in: an arbiter has made another link, or closed
-   * this one. */
+  /** The lobby takes this connection for nobody's, though it had signed in. */
   async unnamed() {
     if (!this.player || this.asksAgain) return;
     this.asksAgain = true;
     await this.login();
     this.asksAgain = false;
-    if (this.player) return;
-    this.tell(TAKEN_AWAY);
-    if (this.view.render) this.view.render();
+    if (!this.player && this.view.render) this.view.render();
   }
 
   /** One's own link is another one now: kept where the one before it was. */
@@ -343,16 +347,37 @@ class Page {
     this.login();
   }
 
-  /** A token that is not known goes; one that was kept before it is tried instead. */
-  refused(token) {
+  /** A player has one link at a time: where another of the same player's was kept, it holds no more, and this one is. */
+  keepNewer(token) {
     const kept = read(local, 'token');
-    this.forget();
-    if (kept && kept !== token) {
-      this.token = kept;
-      write(session, 'token', kept);
-      this.login();
+    if (kept === token) write(local, 'token-of', this.player.name);
+    else if (kept && read(local, 'token-of') === this.player.name) write(local, 'token', token);
+  }
+
+  /** The lobby does not know the token. It says so too while its file of players is not whole: so the token stays, and is
+   * tried again. But in the place of one that was just opened stands the one before it, and in that of an older one the
+   * player's own that is kept. */
+  async unknown(token, words) {
+    const kept = read(local, 'token-of') === this.signed.name ? read(local, 'token') : '';
+    const opened = this.fromLink, other = opened ? this.before : kept;
+    this.player = null;
+    this.before = '';
+    if (other && other !== token) {
+      this.fromLink = false;
+      this.token = other;
+      write(session, 'token', other);
+      await this.login();
+      if (this.player && !opened) return;
     }
+    this.tell(words);
     this.renderWho();
+  }
+
+  /** Whether the link is known again. */
+  async tryLink() {
+    if (!this.token || this.player || !this.wire.state.open) return;
+    await this.login();
+    if (this.player) await this.askPlayers();
   }
 
   notice(lines) {
@@ -423,6 +448,7 @@ class Page {
   /** Takes the token of a personal link, and keeps it in this tab. */
   takeLink(text) {
     if (!text || !TOKEN.test(text)) return false;
+    if (text !== this.token) this.before = this.token;
     this.token = text;
     this.player = null;
     this.fromLink = true;
@@ -434,22 +460,28 @@ class Page {
   /** Whether this browser keeps the token, too; this tab has it as long as it is open. */
   keep(lasting) {
     byId('linked').hidden = true;
-    write(local, 'token', lasting ? this.token : null);
+    if (lasting || read(local, 'token') === this.token) this.keepHere(lasting);
     this.renderWho();
+  }
+
+  keepHere(lasting) {
+    write(local, 'token', lasting ? this.token : null);
+    write(local, 'token-of', lasting && this.player ? this.player.name : null);
   }
 
   forget() {
     write(session, 'token', null);
-    if (read(local, 'token') === this.token) write(local, 'token', null);
+    if (read(local, 'token') === this.token) this.keepHere(false);
     this.token = '';
     this.player = null;
     byId('linked').hidden = true;
   }
 
-  /** Here, and in every tab that acts for the same player. */
+  /** Here, and in every tab that acts for the same player; what was said of the link goes too. */
   signOut() {
     if (this.token) this.tabs.postMessage(this.token);
     this.forget();
+    this.tell('');
     byId('who').open = false;
     this.wire.renew();
     this.renderWho();
@@ -461,6 +493,7 @@ class Page {
     byId('to-arbiter').hidden = !this.isArbiter();
     byId('signed-in').hidden = !player;
     byId('signed-out').hidden = Boolean(player);
+    byId('forget-link').hidden = !this.token;
     byId('keep').checked = Boolean(this.token) && read(local, 'token') === this.token;
     if (player) setText(byId('who-words'), `${player.full} (${player.name}), ${player.role}`);
   }

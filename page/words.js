@@ -27,7 +27,7 @@ const REFUSALS = {
   23: 'The server’s clock is out of range. Tell your arbiter.',
   24: 'From that position the game would be over at once.',
   31: 'You are watching. To play, open your personal link.',
-  32: 'This personal link is not known here. Ask your arbiter for a new one.',
+  32: 'This personal link is not known here, at least not now. Ask your arbiter for a new one.',
   33: 'Only an arbiter may do that.',
   34: 'That was too much within a second. Nothing was sent; try again.',
   35: 'Four of your games wait for an opponent already. Wait until one is joined, or ask an arbiter to take one off.',

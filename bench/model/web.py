@@ -3,6 +3,7 @@ asyncio program (Browser), one request (fetch), and the figures of /health."""
 
 import asyncio
 import base64
+import hashlib
 import os
 import re
 import socket
@@ -13,6 +14,11 @@ TEXT, CLOSE, PING, PONG = 1, 8, 9, 10
 
 class Gone(Exception):
     """The connection is gone, or the lobby's to the server."""
+
+
+def token_of(name):
+    """The token that a player of a bench has."""
+    return hashlib.sha256(('token of ' + name).encode()).hexdigest()[:32]
 
 
 def handshake(host):
@@ -85,7 +91,7 @@ class Line:
 
 class Seat:
     """A player's connection to a lobby, by blocking calls, who comes back where it is gone. With a name it has the token
-    `token-of-NAME`. `port_of` answers the lobby's port."""
+    `token_of(NAME)`. `port_of` answers the lobby's port."""
 
     patience, timeout = 60, 5       # seconds: for coming back, and for one message
     stays = False                   # whether it waits for its answer also where the lobby loses the server
@@ -100,7 +106,7 @@ class Seat:
             try:
                 self.shake_hands()
                 self.wait_for_the_server()
-                if not self.name or self.say('login token-of-' + self.name).startswith('ok login '):
+                if not self.name or self.say('login ' + token_of(self.name)).startswith('ok login '):
                     return
             except (OSError, Gone):
                 pass

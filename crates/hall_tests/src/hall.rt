@@ -85,19 +85,19 @@ impl Write for Peer {
     }
 }
 
-// The SHA-256 of `t`.
+// The SHA-256 of ann's token, which is `aaaaaaaaaaaaaaaaaaaaaaaaaaaaaaaa`.
 const SUM: [u8; 32] = [
-    227, 185, 138, 77, 163, 26, 18, 125, 75, 222, 110, 67, 3, 63, 102, 186, 39, 76, 171, 14, 183,
-    235, 28, 112, 236, 65, 64, 43, 246, 39, 61, 216,
+    59, 163, 245, 244, 59, 146, 96, 38, 131, 193, 154, 238, 98, 162, 3, 66, 176, 132, 221, 89, 113,
+    221, 211, 56, 8, 216, 26, 50, 136, 121, 165, 71,
 ];
 
-// The SHA-256 of `e`.
+// The SHA-256 of eve's token, which is `eeeeeeeeeeeeeeeeeeeeeeeeeeeeeeee`.
 const ARBITERS_SUM: [u8; 32] = [
-    63, 121, 187, 123, 67, 91, 5, 50, 22, 81, 218, 239, 211, 116, 205, 198, 129, 220, 6, 250, 166,
-    94, 55, 78, 56, 51, 123, 136, 202, 4, 109, 234,
+    223, 180, 23, 69, 77, 116, 50, 113, 94, 207, 170, 51, 216, 154, 189, 171, 164, 69, 124, 59, 44,
+    189, 133, 164, 162, 6, 32, 208, 205, 128, 109, 166,
 ];
 
-// A player ann, whose token has this sum, and an arbiter eve, whose token is `e`.
+// A player ann, whose token has this sum, and an arbiter eve.
 fn players(rt: &impl Abort, alloc: Global, sum: [u8; 32]) -> Vec<Player> {
     let mut players = Vec::new(alloc);
     for (name, sum, is_arbiter) in [("ann", sum, false), ("eve", ARBITERS_SUM, true)] {
@@ -135,24 +135,20 @@ impl ActLog for Kept {
 #[derive(Drop)]
 struct Once {
     alloc: Global,
-    found: Vec<Player>,
     is_done: bool,
     is_paused: bool,
 }
 
-// The file of ann, whose token is `t`, and of eve, whose token is `e`.
+// The file of ann and eve.
 const FILE: &[u8] =
-    b"ann player e3b98a4da31a127d4bde6e43033f66ba274cab0eb7eb1c70ec41402bf6273dd8 ann\neve arbiter 3f79bb7b435b05321651daefd374cdc681dc06faa65e374e38337b88ca046dea eve\n";
+    b"ann player 3ba3f5f43b92602683c19aee62a20342b084dd5971ddd33808d81a328879a547 ann\neve arbiter dfb417454d7432715ecfaa33d89abdaba4457c3b2cbd85a4a20620d0cd806da6 eve\n";
 
 impl KeepsLinks for Once {
-    ghost found = { λ once. once.found.items };
-
-    fn change(&mut self, order: &Order) -> Option<Linked> {
+    fn change(&mut self, order: &Order, players: &[Player]) -> Option<Linked> {
         if self.is_done || order.closes {
             return None;
         }
-        let new = relinked(self.alloc, FILE, &order.name, &[7; 16]).ok()?;
-        self.found = new.before;
+        let new = relinked(self.alloc, players, FILE, &order.name, &[7; 16]).ok()?;
         self.is_done = true;
         Some(new.linked)
     }
@@ -289,7 +285,8 @@ const FLOOD: &[u8] =
 \x81\x8b\0\0\0\0leave lobby\x81\x8b\0\0\0\0leave lobby";
 
 // A browser that shows ann's token, and some turns later opens a game.
-const LATE: &[u8] = b"UP~\x81\x87\0\0\0\0login t~~~~~~~~~\x81\x90\0\0\0\0open white 300 2";
+const LATE: &[u8] =
+    b"UP~\x81\xa6\0\0\0\0login aaaaaaaaaaaaaaaaaaaaaaaaaaaaaaaa~~~~~~~~~\x81\x90\0\0\0\0open white 300 2";
 
 static CASES: [Case; 13] = [
     // three messages, of which the first is not answered
@@ -387,7 +384,7 @@ static ACTS: [Case; 7] = [
     // an arbiter asks for a link of nobody's and twice for one of ann's: it is told once it is made
     (
         (
-            b"UP~\x81\x87\0\0\0\0login e\x81\x88\0\0\0\0link bob\x81\x88\0\0\0\0link ann~\x81\x88\0\0\0\0link ann\x81\x83\0\0\0\0who",
+            b"UP~\x81\xa6\0\0\0\0login eeeeeeeeeeeeeeeeeeeeeeeeeeeeeeee\x81\x88\0\0\0\0link bob\x81\x88\0\0\0\0link ann~\x81\x88\0\0\0\0link ann\x81\x83\0\0\0\0who",
             b"",
             How::Plainly,
         ),
@@ -398,7 +395,7 @@ static ACTS: [Case; 7] = [
     // an arbiter pauses entries
     (
         (
-            b"UP~\x81\x87\0\0\0\0login e\x81\x8d\0\0\0\0pause entries",
+            b"UP~\x81\xa6\0\0\0\0login eeeeeeeeeeeeeeeeeeeeeeeeeeeeeeee\x81\x8d\0\0\0\0pause entries",
             b"",
             How::Plainly,
         ),
@@ -420,7 +417,7 @@ static ACTS: [Case; 7] = [
     // where the log fails, nobody is told of the act
     (
         (
-            b"UP~\x81\x87\0\0\0\0login t\x81\x90\0\0\0\0open white 300 2",
+            b"UP~\x81\xa6\0\0\0\0login aaaaaaaaaaaaaaaaaaaaaaaaaaaaaaaa\x81\x90\0\0\0\0open white 300 2",
             b"~~~~~~~~ok name ann\nok open 1\n~~ok show 1 ann - 0 w 300000 300000 - * -\nok fen 1 FEN\n",
             How::Unlogged,
         ),
@@ -431,7 +428,7 @@ static ACTS: [Case; 7] = [
     // an act is logged and told
     (
         (
-            b"UP~\x81\x87\0\0\0\0login t\x81\x90\0\0\0\0open white 300 2",
+            b"UP~\x81\xa6\0\0\0\0login aaaaaaaaaaaaaaaaaaaaaaaaaaaaaaaa\x81\x90\0\0\0\0open white 300 2",
             b"~~~~~~~~ok name ann\nok open 1\n~~ok show 1 ann - 0 w 300000 300000 - * -\nok fen 1 FEN\n",
             How::Plainly,
         ),
@@ -517,9 +514,14 @@ fn what_was_said_is_counted(rt: &impl Abort, lab: &mut Lab) {
 }
 
 // Ann, who leaves, and eve, who asks then who is there.
-const LEAVES: Script = (b"UP~\x81\x87\0\0\0\0login t~~END", b"", How::Plainly);
+const LEAVES: Script = (
+    b"UP~\x81\xa6\0\0\0\0login aaaaaaaaaaaaaaaaaaaaaaaaaaaaaaaa~~END",
+    b"",
+    How::Plainly,
+);
 
-const ASKS_WHO: &[u8] = b"UP~\x81\x87\0\0\0\0login e~~~~~~~\x81\x83\0\0\0\0who";
+const ASKS_WHO: &[u8] =
+    b"UP~\x81\xa6\0\0\0\0login eeeeeeeeeeeeeeeeeeeeeeeeeeeeeeee~~~~~~~\x81\x83\0\0\0\0who";
 
 fn who_left_is_there_no_more(rt: &impl Abort, lab: &mut Lab) {
     lab.begin(rt, &LEAVES);
@@ -579,7 +581,7 @@ fn who_has_another_link_acts_no_more(rt: &impl Abort, lab: &mut Lab) {
 
 // An arbiter who acts, and pauses entries some turns later.
 const PAUSE_LATER: &[u8] =
-    b"UP~\x81\x87\0\0\0\0login e\x81\x90\0\0\0\0open white 300 2~~~~~~~~~\x81\x8d\0\0\0\0pause entries";
+    b"UP~\x81\xa6\0\0\0\0login eeeeeeeeeeeeeeeeeeeeeeeeeeeeeeee\x81\x90\0\0\0\0open white 300 2~~~~~~~~~\x81\x8d\0\0\0\0pause entries";
 
 // A server that accepts the act, the sooner the more of this is cut off.
 const ACCEPTS: &[u8] = b"~~~~~~~~~~~~~~~~ok name eve\nok open 1\n";
@@ -609,7 +611,6 @@ fn halls(rt: HostRuntime) {
         },
         links: Once {
             alloc,
-            found: Vec::new(alloc),
             is_done: false,
             is_paused: false,
         },

@@ -42,8 +42,10 @@ It puts a player into the players' file, which it makes where there is none, and
 player's personal link. Who opens it plays as this player: give it to nobody else. The file
 keeps no more than a sum (SHA-256) of the link's token.
 
-A player who is in the file already gets a new link, and the old one holds no more. A lobby
-that serves has read the file again a second or two later.
+A player who is in the file already gets a new link, and the old one holds no more: standard
+error says whether the player is new or renewed, and who has a full name like this one. A
+name that differs from another player's in small and capital letters alone is refused. A
+lobby that serves has read the file again a second or two later.
 
 Exit status: 0; 1 with what is wrong on standard error; 2 for words that the program does
 not know.
@@ -161,7 +163,7 @@ const FULL_NAME: OptionText = OptionText {
 const URL: OptionText = OptionText {
     name: "url",
     value: OptionValue::Text("URL"),
-    help: "The page's address, http://127.0.0.1:8080/ without it",
+    help: "The page's address, of http or https and without #, http://127.0.0.1:8080/ without it",
     is_required: false,
 };
 
@@ -228,12 +230,15 @@ pub fn read_words<'a>(alloc: Global, words: &'a [String]) -> Result<Word<'a>, Er
     read_by(alloc, command(alloc)?, words, word_given)
 }
 
+const FAULT: &str =
+    "an address is none: that of a page begins with http:// or https://, and has no # and no space";
+
 fn word_given<'a>(
     alloc: Global,
     command: &mut Command<'a>,
     matches: &ArgMatches<'a>,
 ) -> Result<Word<'a>, Error> {
-    read_or_fault(command, word_of(alloc, matches)?, "an address is none")
+    read_or_fault(command, word_of(alloc, matches)?, FAULT)
 }
 
 // What the words ask for; none where an address is none.
@@ -269,13 +274,43 @@ fn serving_of<'a>(alloc: Global, values: &ArgMatches<'a>) -> Result<Option<Word<
     })))
 }
 
+// What stands behind the scheme of an address; none where that is neither http nor https.
+fn behind_scheme(address: &str) -> Option<&str> {
+    match address.strip_prefix("http://") {
+        Some(rest) => Some(rest),
+        None => address.strip_prefix("https://"),
+    }
+}
+
+// Whether a byte may stand in a page's address, behind which a link has `#` and the token.
+fn is_address_byte(byte: u8) -> bool {
+    byte.is_ascii_graphic() && byte != b'#'
+}
+
+// Whether a page has the address: http or https, a host, and no `#`, space, or letter beyond ASCII.
+fn is_page_address(address: &str) -> bool {
+    match behind_scheme(address) {
+        None => false,
+        Some(rest) => {
+            !rest.is_empty()
+                && !rest.starts_with('/')
+                && rest.as_bytes().iter().all(|byte| is_address_byte(*byte))
+        }
+    }
+}
+
+// Who is put into the file; none where the page's address is none.
 fn adding_of<'a>(values: &ArgMatches<'a>) -> Option<Word<'a>> {
+    let page = values.get_str("url").unwrap_or("http://127.0.0.1:8080/");
+    if !is_page_address(page) {
+        return None;
+    }
     Some(Word::Player(Adding {
         name: values.get_str("name")?,
         full_name: values.get_str("full-name")?,
         is_arbiter: values.get_flag("arbiter"),
         players: values.get_str("players")?,
-        page: values.get_str("url").unwrap_or("http://127.0.0.1:8080/"),
+        page,
     }))
 }
 

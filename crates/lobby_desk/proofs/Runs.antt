@@ -1138,7 +1138,7 @@ done_good players past old (Renewed later) lines tells now agrees step =
 done_good players past old (Linked c text later token) lines tells now agrees step =
     let orders = linked_orders (players_in players past) old c text later token lines now step in
     none_done players past (Linked c text later token) lines now
-    (λ none. (none, subst IsArbiter (step.who ∙ agrees.who c) orders.arbiter, orders.message, orders.sort_is, step.holds))
+    (λ none. (none, subst IsArbiter (step.who ∙ agrees.who c) orders.arbiter, orders.message, orders.sort_is, step.relinks))
     step.renews.none (step.renews.said_is ∙ agrees.said)
     (λ d. renewed_who players past old later lines now agrees step.renews d)
 done_good players past old (ServerTurned is_here) lines tells now agrees step =

@@ -17,7 +17,7 @@ use Rattle.lobby_desk.specs.declared.watching.Watch.{Watch}
 use Rattle.lobby_desk.specs.declared.desk.Desk.{Desk}
 use Rattle.lobby_words.specs.Words.{rest_of, as_name, black_name, actor, is_message, sort_of, u32_in, is_login_sort}
 use Rattle.lobby_words.specs.Waiting.{opens_game, joins_game}
-use Rattle.lobby_roster.specs.Players.{holder_of, known_name, renewed, is_token_of, login_text, players_text, present_names, who_text}
+use Rattle.lobby_roster.specs.Players.{holder_of, known_name, renewed, login_text, players_text, present_names, who_text, IsRelinked}
 use Rattle.lobby_words.specs.Plans.{refusal_text, plan_of, order_of}
 use Rattle.lobby_desk.specs.Lines.{bytes_of, lines_of, act_lines, join_line, said_after, notice_lines, IsNamed}
 use Rattle.lobby_words.specs.Answers.{IsSeated, IsFirstSeated, IsSeatless, has_empty_seat, act_game, answer}
@@ -360,15 +360,15 @@ pub record IsRenewed (players : List Player) (old : View) (later : List Player) 
   pub paused_is : new.paused ≡ old.paused
   pub who_is : (d : ℕ) → new.who d ≡ renewed players later (old.who d)
 
--- The same for a message, whose plan is an order of an arbiter's: among the players from now on the token is of the one whom the
--- message names.
+-- The same for a message, whose plan is an order of an arbiter's: the players from now on are those before, but that
+-- the one whom the message names has this token, which nobody had.
 pub record IsLinked (players : List Player) (old : View) (c : ℕ) (text : List ℕ) (later : List Player) (token : List ℕ) (lines : List (List ℕ)) (new : View) : Type 0 where
   pub standing : Standing
   pub who : standing.who ≡ old.who c
   pub link : standing.linked ≡ known_name players (rest_of text)
   pub order : Order
   pub planned : plan_of (is_message text) (sort_of text) standing (u32_in (rest_of text)) ≡ plans.Order order
-  pub holds : is_token_of later token (rest_of text) ≡ true
+  pub relinks : IsRelinked (rest_of text) token players later
   pub renews : IsRenewed players old later lines new
 
 -- what the desk does about an event: the lines that go out, and for whom connections act then

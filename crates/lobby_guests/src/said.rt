@@ -22,7 +22,7 @@ fn say_order<K: KeepsLinks>(
     requires asked { order_asked talk.old.desk number shown.now at ≡ Some order.now }
     ensures { OnOk result (Says shown.now number at talk.old talk.new) }
 {
-    match links.change(order) {
+    match links.change(order, talk.players()) {
         None => {
             talk.said(number, shown, at)?;
             Ok(())

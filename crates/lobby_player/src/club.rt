@@ -1,7 +1,6 @@
 //! The players of the desk that is played.
 use anyhow::{Context, Result};
 use lobby_roster::Player;
-use rec_codec::Name;
 use sha2::{Digest, Sha256};
 use std::alloc::{AllocError, Global};
 
@@ -51,21 +50,25 @@ pub fn give_token(
     Ok(())
 }
 
-// The desk's player of a member.
-fn player(alloc: Global, member: &Member) -> Result<Player> {
-    Ok(Player {
-        name: Name::try_new(member.name.as_str()).context("a name is none")?,
-        full_name: String::from_str(alloc, member.full_name.as_str())?,
-        sum: Sha256::digest(member.token.as_str()),
-        is_arbiter: member.is_arbiter,
-    })
+/// The players' file of these.
+pub fn file_of(alloc: Global, members: &[Member]) -> Result<String> {
+    let mut file = String::new(alloc);
+    for member in members {
+        let role = if member.is_arbiter {
+            "arbiter"
+        } else {
+            "player"
+        };
+        let sum = hex::encode(alloc, Sha256::digest(member.token.as_str()).as_slice())?;
+        let (name, full_name) = (&member.name, &member.full_name);
+        let line = format!(in alloc; "{name} {role} {sum} {full_name}\n")?;
+        file.push_str(line.as_str())?;
+    }
+    Ok(file)
 }
 
 /// The desk's players of these.
 pub fn players_of(alloc: Global, members: &[Member]) -> Result<Vec<Player>> {
-    let mut players = Vec::new(alloc);
-    for member in members {
-        players.push(player(alloc, member)?)?;
-    }
-    Ok(players)
+    let file = file_of(alloc, members)?;
+    Ok(lobby_players::read(alloc, file.as_bytes())?)
 }

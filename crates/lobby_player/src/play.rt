@@ -1,13 +1,15 @@
 //! One line after another, and what comes of it.
-use crate::club::{Member, give_token, members_of, players_of};
+use crate::club::{Member, file_of, give_token, members_of, players_of};
 use crate::tags::Tags;
 use anyhow::{Context, Result, bail};
+use hex::FromHex;
 use lobby_desk::{Desk, Kind, Message};
-use lobby_roster::Linked;
+use lobby_players::relinked;
 use std::alloc::Global;
 
-// The players of the desk at first: two, and an arbiter. The token of each is the name.
-const CLUB: &str = "ann ann player Ann Lee|bob bob player Bob|eve eve arbiter Eve Moss";
+// The players of the desk at first: two, and an arbiter.
+const CLUB: &str =
+    "ann aaaaaaaaaaaaaaaaaaaaaaaaaaaaaaa1 player Ann Lee|bob bbbbbbbbbbbbbbbbbbbbbbbbbbbbbbb1 player Bob|eve eeeeeeeeeeeeeeeeeeeeeeeeeeeeeee1 arbiter Eve Moss";
 
 /// A desk, the time that has passed, and what is told of the archive's next game.
 #[derive(Drop)]
@@ -93,16 +95,13 @@ impl Play {
         let Some(order) = self.desk.order(from, text, self.now) else {
             bail!("browser {from} may not ask for a link by: {text}");
         };
+        let bytes = <[u8; 16]>::from_hex(token).ok().context("a token is none")?;
+        let file = file_of(self.alloc, self.members.as_slice())?;
+        let players = self.desk.players();
+        let new = relinked(self.alloc, players, file.as_bytes(), &order.name, &bytes)?;
         give_token(&mut self.members, self.alloc, order.name.as_str(), token)?;
-        let linked = Linked {
-            players: players_of(self.alloc, self.members.as_slice())?,
-            token: String::from_str(self.alloc, token)?,
-        };
-        if !linked.is_of(&order.name) {
-            bail!("another has the token: {token}");
-        }
         self.desk
-            .linked(from, text, self.now, &order, linked, told)?;
+            .linked(from, text, self.now, &order, new.linked, told)?;
         Ok(())
     }
 

@@ -1,12 +1,13 @@
 -- Lines, one after another.
-use Rattle.std.proofs.Common.{ℕ, suc, ◌≡◌, ◌+◌, Bool, true, false, not, cond, List, [], ◌∷◌, ◌++◌, map, refl, sym, ap, ◌∙◌, arith, None, inl, inr, subst, append-nil}
+use Rattle.std.proofs.Common.{ℕ, suc, ◌≡◌, Bool, true, false, not, cond, List, [], ◌∷◌, ◌++◌, map, refl, sym, ap, ◌∙◌, arith, None, inl, inr, subst, append-nil}
+use Rattle.std.specs.Str.{str_to_ascii_lowercase}
 use Rattle.std.specs.List.{All, AllZip, AllPairs, list_any}
 use Rattle.std.proofs.lemmas.List.Elements.{All-from_get_or, All-push, filter-append}
 use Rattle.std.proofs.lemmas.List.Kept.{AllPairs-cons}
 use Rattle.std.proofs.lemmas.Slice.Eq.{bytes_eq-Decides}
 use Rattle.std.proofs.lemmas.Bool.{false≢true, or_parts}
 use Rattle.lobby_roster.specs.declared.players.Player.{Player}
-use Rattle.lobby_players.specs.File.{Entry, IsLineOf, AreTwo, AreLinesOf, spoken, is_silent, has_name, has_sum, entry_of, entries_of}
+use Rattle.lobby_players.specs.File.{Entry, IsLineOf, AreTwo, AreLinesOf, spoken, is_silent, is_alike, has_sum, entry_of, entries_of}
 use Rattle.lobby_players.specs.Faults.{TakesLine}
 
 pub any_mapped : {A B : Type 0} (f : A → B) (p : B → Bool) (xs : List A) → list_any (λ x. p (f x)) xs ≡ list_any p (map f xs)
@@ -43,13 +44,13 @@ pairs_push R [] y pairs all = λ i j d less below. absurd (omega arith)
 pairs_push R (x ∷ xs) y pairs all =
     AllPairs-cons R x (xs ++ y ∷ []) (All-push (R x) xs y (pairs_head R x xs pairs) all.0) (pairs_push R xs y (pairs_tail R x xs pairs) all.1)
 
-pub two_if : (one e : Entry) → has_name e.name one ≡ false → has_sum e.sum one ≡ false → AreTwo one e
+pub two_if : (one e : Entry) → is_alike e.name one ≡ false → has_sum e.sum one ≡ false → AreTwo one e
 two_if one e named shown = record {
-  names = λ same. false≢true (sym named ∙ (bytes_eq-Decides one.name e.name).1 same);
+  names = λ same. false≢true (sym named ∙ (bytes_eq-Decides (str_to_ascii_lowercase one.name) (str_to_ascii_lowercase e.name)).1 same);
   sums = λ same. false≢true (sym shown ∙ (bytes_eq-Decides one.sum e.sum).1 same);
 }
 
-pub two_each : (es : List Entry) (e : Entry) → list_any (has_name e.name) es ≡ false → list_any (has_sum e.sum) es ≡ false →
+pub two_each : (es : List Entry) (e : Entry) → list_any (is_alike e.name) es ≡ false → list_any (has_sum e.sum) es ≡ false →
     AllByStep AreTwo es e
 two_each [] e named shown = tt
 two_each (one ∷ es) e named shown =
@@ -67,7 +68,7 @@ one_silent before line silent =
 
 -- one player more
 pub one_more : (before : List (List ℕ)) (line : List ℕ) (es : List Entry) (e : Entry) → AreLinesOf before es → is_silent line ≡ false →
-    IsLineOf line e → list_any (has_name e.name) es ≡ false → list_any (has_sum e.sum) es ≡ false →
+    IsLineOf line e → list_any (is_alike e.name) es ≡ false → list_any (has_sum e.sum) es ≡ false →
     AreLinesOf (before ++ line ∷ []) (es ++ e ∷ [])
 one_more before line es e are speaks told named shown = record {
   told = subst (λ (ls : List (List ℕ)). AllZip IsLineOf ls (es ++ e ∷ [])) (sym (one_spoken before line speaks))

@@ -3,3 +3,5 @@ pub mod Told
 pub mod EachLine
 pub mod Written
 pub mod NewLink
+pub mod Same
+pub mod TokenText

@@ -1,10 +1,10 @@
 -- A player has a new link.
-use Rattle.std.proofs.Common.{ℕ, ◌≡◌, Bool, true, false, cond, ◌||◌, List, [], ◌∷◌, refl, sym, ap, ◌∙◌, subst, Ok, None, Some}
+use Rattle.std.proofs.Common.{ℕ, ◌≡◌, Bool, true, false, not, cond, ◌||◌, List, [], ◌∷◌, refl, sym, ap, ◌∙◌, subst, Ok, None, Some}
 use Rattle.std.specs.Prelude.{find, option_map, if◌then◌else◌}
-use Rattle.std.specs.Str.{bytes_eq}
+use Rattle.std.specs.Str.{bytes_eq, str_to_ascii_lowercase}
 use Rattle.std.specs.String.{string_bytes}
 use Rattle.std.specs.List.{All, AllZip, AllPairs, list_any, filter}
-use Rattle.std.proofs.lemmas.Bool.{or_parts}
+use Rattle.std.proofs.lemmas.Bool.{false≢true, false_from_ne_true, or_parts}
 use Rattle.std.proofs.lemmas.Option.{none-some, same_Some}
 use Rattle.std.proofs.lemmas.List.Elements.{All-head, All-tail}
 use Rattle.std.proofs.lemmas.Slice.Eq.{bytes_eq-Decides}
@@ -12,30 +12,19 @@ use Rattle.hex.specs.Hex.{decode_sized, encode_lower}
 use Rattle.sha2.specs.Sha256.{sha256}
 use Rattle.rec_codec.specs.Name.{IsName}
 use Rattle.lobby_roster.specs.declared.players.Player.{Player}
-use Rattle.lobby_roster.specs.Players.{has_sum as has_sum_now, identity_of, is_named, holder_of, is_token_of, sum_given, IsWithSum, IsRelinked}
-use Rattle.lobby_players.specs.File.{Entry, IsLineOf, AreTwo, IsFileOf, lines_of, spoken, is_full_name, has_name, has_sum, entry_of, entries_of}
+use Rattle.lobby_roster.specs.Players.{has_sum as has_sum_now, identity_of, is_named, is_token, holder_of, holder_of_sum, is_token_of, sum_given, IsWithSum, IsRelinked}
+use Rattle.lobby_players.specs.File.{Entry, IsLineOf, AreTwo, IsFileOf, lines_of, spoken, is_full_name, has_name, is_alike, has_sum, entry_of, entries_of}
 use Rattle.lobby_players.specs.Adding.{added_text, in_place, is_other, line_of}
 use Rattle.lobby_players.specs.Relinking.{IsFileRelinked, entry_linked}
 use Rattle.lobby_players.proofs.EachLine.{any_mapped, pairs_head, pairs_tail}
-use Rattle.lobby_players.proofs.Written.{file_after}
+use Rattle.lobby_players.proofs.Same.{same_entry}
+use Rattle.lobby_players.proofs.Written.{file_after, flipped_two}
 
 abbrev pub named : List ℕ → Player → Bool
 named name player = bytes_eq player.name name
 
 abbrev pub AreWithSum : List ℕ → List ℕ → List Player → List Player → Type 0
 AreWithSum name sum before after = AllZip (λ (old new : Player). IsWithSum (sum_given name sum old) old new) before after
-
--- ---- one of a list
-
-abbrev entry_by : List ℕ → Bool → List ℕ → List ℕ → Entry
-entry_by name is_arbiter sum full_name = record { name = name; is_arbiter = is_arbiter; sum = sum; full_name = full_name }
-
-same_entry : (a b : Entry) → a.name ≡ b.name → a.is_arbiter ≡ b.is_arbiter → a.sum ≡ b.sum → a.full_name ≡ b.full_name → a ≡ b
-same_entry a b name role sum full =
-    ap (λ (x : List ℕ). entry_by x a.is_arbiter a.sum a.full_name) name
-    ∙ (ap (λ (x : Bool). entry_by b.name x a.sum a.full_name) role
-    ∙ (ap (λ (x : List ℕ). entry_by b.name b.is_arbiter x a.full_name) sum
-    ∙ ap (λ (x : List ℕ). entry_by b.name b.is_arbiter b.sum x) full))
 
 -- ---- the players of the new file
 
@@ -59,7 +48,7 @@ others_same name sum (x ∷ xs) (y ∷ ys) none zip =
     ∙ ap (λ (es : List Entry). entry_of x ∷ es) (others_same name sum xs ys (or_parts _ _ none).1 zip.1)
 
 other_by : (name : List ℕ) (x y : Player) (b : Bool) → named name y ≡ b → x.name ≡ name → AreTwo (entry_of x) (entry_of y) → b ≡ false
-other_by name x y true is here two = absurd (two.names (here ∙ sym ((bytes_eq-Decides y.name name).0 is)))
+other_by name x y true is here two = absurd (two.names (ap str_to_ascii_lowercase (here ∙ sym ((bytes_eq-Decides y.name name).0 is))))
 other_by name x y false is here two = refl
 
 -- behind who has the name nobody has it
@@ -123,10 +112,12 @@ shown_found name sum p (x ∷ xs) (y ∷ ys) found fresh zip =
     shown_at name sum p x xs y ys (named name x) refl found (or_parts _ _ fresh).0 zip.0
     (λ more. shown_found name sum p xs ys more (or_parts _ _ fresh).1 zip.1)
 
-shown : (name token : List ℕ) (p : Player) (before after : List Player) → find (named name) before ≡ Some p →
+shown : (name token : List ℕ) (p : Player) (before after : List Player) → is_token token ≡ true → find (named name) before ≡ Some p →
     list_any (has_sum_now (sha256 token)) before ≡ false → AreWithSum name (sha256 token) before after → is_token_of after token name ≡ true
 unfolding holder_of
-shown name token p before after found fresh zip = shown_found name (sha256 token) p before after found fresh zip
+shown name token p before after one found fresh zip =
+    subst (λ (b : Bool). is_named (if b then holder_of_sum after (sha256 token) else None) name ≡ true) (sym one)
+    (shown_found name (sha256 token) p before after found fresh zip)
 
 -- ---- the new file
 
@@ -159,6 +150,55 @@ none_others : (p q : Entry → Bool) (xs : List Entry) → list_any q xs ≡ fal
 none_others p q [] none = refl
 none_others p q (x ∷ xs) none = none_others_by p q x xs (p x) (or_parts _ _ none).0 (none_others p q xs (or_parts _ _ none).1)
 
+-- ---- nobody else has a name like his
+
+alike_if : (name : List ℕ) (x y : Entry) → y.name ≡ name → AreTwo x y → is_alike name x ≡ false
+alike_if name x y here two =
+    false_from_ne_true (is_alike name x)
+    (λ is. two.names ((bytes_eq-Decides (str_to_ascii_lowercase x.name) (str_to_ascii_lowercase name)).0 is ∙ ap str_to_ascii_lowercase (sym here)))
+
+alike_at : (name : List ℕ) (x y : Entry) (ys : List Entry) (b : Bool) → has_name name y ≡ b → All (AreTwo x) (y ∷ ys) →
+    (b || list_any (has_name name) ys) ≡ true → (list_any (has_name name) ys ≡ true → is_alike name x ≡ false) → is_alike name x ≡ false
+alike_at name x y ys true here all has next = alike_if name x y ((bytes_eq-Decides y.name name).0 here) (All-head (AreTwo x) y ys all)
+alike_at name x y ys false here all has next = next has
+
+alike_before : (name : List ℕ) (x : Entry) (xs : List Entry) → All (AreTwo x) xs → list_any (has_name name) xs ≡ true → is_alike name x ≡ false
+alike_before name x [] all has = absurd (false≢true has)
+alike_before name x (y ∷ ys) all has =
+    alike_at name x y ys (has_name name y) refl all has (λ more. alike_before name x ys (All-tail (AreTwo x) y ys all) more)
+
+alike_behind : (name : List ℕ) (x : Entry) (xs : List Entry) → x.name ≡ name → All (AreTwo x) xs → list_any (is_alike name) xs ≡ false
+alike_behind name x [] here all = refl
+alike_behind name x (y ∷ ys) here all =
+    let other : is_alike name y ≡ false = alike_if name y x here (flipped_two x y (All-head (AreTwo x) y ys all)) in
+    rw other (alike_behind name x ys here (All-tail (AreTwo x) y ys all))
+
+alone_at : (name : List ℕ) (x : Entry) (xs : List Entry) (b : Bool) → has_name name x ≡ b → AllPairs AreTwo (x ∷ xs) →
+    (b || list_any (has_name name) xs) ≡ true →
+    (list_any (has_name name) xs ≡ true → list_any (is_alike name) (filter (is_other name) xs) ≡ false) →
+    list_any (is_alike name) (cond (not b) (x ∷ filter (is_other name) xs) (filter (is_other name) xs)) ≡ false
+alone_at name x xs true here pairs has next =
+    none_others (is_other name) (is_alike name) xs
+    (alike_behind name x xs ((bytes_eq-Decides x.name name).0 here) (pairs_head AreTwo x xs pairs))
+alone_at name x xs false here pairs has next =
+    let other : is_alike name x ≡ false = alike_before name x xs (pairs_head AreTwo x xs pairs) has in
+    rw other (next has)
+
+alone : (name : List ℕ) (es : List Entry) → AllPairs AreTwo es → list_any (has_name name) es ≡ true →
+    list_any (is_alike name) (filter (is_other name) es) ≡ false
+alone name [] pairs has = refl
+alone name (x ∷ xs) pairs has =
+    alone_at name x xs (has_name name x) refl pairs has (λ more. alone name xs (pairs_tail AreTwo x xs pairs) more)
+
+found_at : (name : List ℕ) (x : Player) (xs : List Player) (p : Player) (b : Bool) → cond b (Some x) (find (named name) xs) ≡ Some p →
+    (find (named name) xs ≡ Some p → list_any (has_name name) (entries_of xs) ≡ true) → (b || list_any (has_name name) (entries_of xs)) ≡ true
+found_at name x xs p true found next = refl
+found_at name x xs p false found next = next found
+
+found_any : (name : List ℕ) (xs : List Player) (p : Player) → find (named name) xs ≡ Some p → list_any (has_name name) (entries_of xs) ≡ true
+found_any name [] p found = absurd (none-some p found)
+found_any name (x ∷ xs) p found = found_at name x xs p (named name x) found (λ more. found_any name xs p more)
+
 pub file_relinked : (name sum text new : List ℕ) (p : Player) (before after : List Player) → IsFileOf text (entries_of before) →
     find (named name) before ≡ Some p → list_any (has_sum sum) (entries_of before) ≡ false → decode_sized (encode_lower sum) 32 ≡ Ok sum →
     AreWithSum name sum before after → new ≡ added_text text (entry_linked name sum p) → IsFileRelinked name text new before after
@@ -167,7 +207,11 @@ file_relinked name sum text new p before after file found fresh digits each writ
     let line = spelled name p (spoken (lines_of text)) before file.told found in
     let add : IsFileOf new (in_place (has_name name) e (entries_of before)) =
     file_after text (entries_of before) e new file line.is_name digits line.is_full
-    (none_others (is_other name) (has_sum sum) (entries_of before) fresh) written in
+    (record {
+      names = alone name (entries_of before) file.apart (found_any name before p found);
+      sums = none_others (is_other name) (has_sum sum) (entries_of before) fresh;
+    })
+    written in
     record {
       old_file = file;
       new_file = subst (λ (es : List Entry). IsFileOf new es) (sym (placed name sum p before after file.apart found each)) add;
@@ -175,16 +219,16 @@ file_relinked name sum text new p before after file found fresh digits each writ
       written = written;
     }
 
-players_told : (name token : List ℕ) (p : Player) (before after : List Player) → find (named name) before ≡ Some p →
+players_told : (name token : List ℕ) (p : Player) (before after : List Player) → is_token token ≡ true → find (named name) before ≡ Some p →
     list_any (has_sum_now (sha256 token)) before ≡ false → AreWithSum name (sha256 token) before after → IsRelinked name token before after
-players_told name token p before after found fresh each =
-    record { each = each; fresh = fresh; holds = shown name token p before after found fresh each }
+players_told name token p before after one found fresh each =
+    record { each = each; fresh = fresh; holds = shown name token p before after one found fresh each }
 
-pub players_relinked : (name token sum : List ℕ) (p : Player) (before after : List Player) → sum ≡ sha256 token →
+pub players_relinked : (name token sum : List ℕ) (p : Player) (before after : List Player) → is_token token ≡ true → sum ≡ sha256 token →
     find (named name) before ≡ Some p → list_any (has_sum sum) (entries_of before) ≡ false → AreWithSum name sum before after →
     IsRelinked name token before after
-players_relinked name token sum p before after is found fresh each =
-    players_told name token p before after found
+players_relinked name token sum p before after one is found fresh each =
+    players_told name token p before after one found
     (subst (λ (s : List ℕ). list_any (has_sum_now s) before ≡ false) is (any_mapped entry_of (has_sum sum) before ∙ fresh))
     (subst (λ (s : List ℕ). AreWithSum name s before after) is each)
 

@@ -1,7 +1,7 @@
 -- A file that is written.
 use Rattle.std.proofs.Common.{ℕ, suc, ◌≡◌, ◌≢◌, ◌+◌, Bool, true, false, not, cond, ◌&&◌, ◌||◌, List, [], ◌∷◌, ◌++◌, length, take, refl, sym, ap, ◌∙◌, arith, subst, Ok, append_assoc}
-use Rattle.std.specs.Prelude.{◌==◌, ◌-◌, nat_le, slice_index}
-use Rattle.std.specs.Str.{bytes_eq}
+use Rattle.std.specs.Prelude.{◌==◌, ◌-◌, nat_le, slice_index, chars}
+use Rattle.std.specs.Str.{bytes_eq, str_to_ascii_lowercase}
 use Rattle.std.specs.List.{All, AllZip, AllPairs, list_any, list_all, filter, onto_first, position_or_len}
 use Rattle.std.proofs.lemmas.Bool.{false≢true, false_from_ne_true, ne_eqb, not-true, and_from, and_parts, or_parts}
 use Rattle.std.proofs.lemmas.Bool.Decides.{Decides-eqb}
@@ -18,7 +18,7 @@ use Rattle.lobby_words.specs.Words.{word_of}
 use Rattle.lobby_words.specs.Answers.{ended}
 use Rattle.lobby_roster.specs.Lines.{bytes_of}
 use Rattle.lobby_roster.specs.declared.players.Player.{Player}
-use Rattle.lobby_players.specs.File.{Entry, IsWord, IsLineOf, AreTwo, AreLinesOf, IsFileOf, lines_of, spoken, is_silent, is_full_name, is_shown_byte, role_text, has_name, has_sum, entry_of, entries_of}
+use Rattle.lobby_players.specs.File.{Entry, IsWord, IsLineOf, AreTwo, AreLinesOf, IsFileOf, lines_of, spoken, is_silent, is_full_name, is_shown_byte, is_seen, role_text, has_name, is_alike, has_sum, entry_of, entries_of}
 use Rattle.lobby_players.specs.Adding.{IsAdded, added_text, added_entries, in_place, is_of, is_other, line_of}
 use Rattle.lobby_players.proofs.Told.{name_word}
 use Rattle.lobby_players.proofs.Words.{head_of}
@@ -98,7 +98,9 @@ shown_bytes text is =
     let shown = list_all is_shown_byte text in
     let first = not (slice_index text 0 == 32) in
     let last = not (slice_index text (length text - 1) == 32) in
-    (and_parts room shown (and_parts (room && shown) first (and_parts ((room && shown) && first) last is).0).0).1
+    let seen = list_all is_seen (chars text) in
+    (and_parts room shown (and_parts (room && shown) first (and_parts ((room && shown) && first) last
+    (and_parts (((room && shown) && first) && last) seen is).0).0).0).1
 
 line_free : (e : Entry) → IsName e.name → decode_sized (encode_lower e.sum) 32 ≡ Ok e.sum → is_full_name e.full_name ≡ true →
     HasNoFeed (line_of e)
@@ -205,25 +207,39 @@ place_all : {A : Type 0} (P : A → Type 0) (p : A → Bool) (x : A) (xs : List 
 place_all P p x [] here all = All-cons P x [] here (All-nil P)
 place_all P p x (y ∷ ys) here all = place_all_by P x y ys (in_place p x ys) (p y) here all (place_all P p x ys here (All-tail P y ys all))
 
--- no other player has the sum
-abbrev IsOurs : Entry → List Entry → Type 0
-IsOurs e es = list_any (has_sum e.sum) (filter (is_other e.name) es) ≡ false
+-- no other player passes a test
+abbrev NoOther : (Entry → Bool) → Entry → List Entry → Type 0
+NoOther q e es = list_any q (filter (is_other e.name) es) ≡ false
 
-ours_by : (e one : Entry) (es : List Entry) (b : Bool) → list_any (has_sum e.sum) (cond (not b) (one ∷ filter (is_other e.name) es)
-    (filter (is_other e.name) es)) ≡ false → IsOurs e es
-ours_by e one es true ours = ours
-ours_by e one es false ours = (or_parts (has_sum e.sum one) (list_any (has_sum e.sum) (filter (is_other e.name) es)) ours).1
+other_by : (q : Entry → Bool) (e one : Entry) (es : List Entry) (b : Bool) →
+    list_any q (cond (not b) (one ∷ filter (is_other e.name) es) (filter (is_other e.name) es)) ≡ false → NoOther q e es
+other_by q e one es true none = none
+other_by q e one es false none = (or_parts (q one) (list_any q (filter (is_other e.name) es)) none).1
+
+other_more : (q : Entry → Bool) (e one : Entry) (es : List Entry) → NoOther q e (one ∷ es) → NoOther q e es
+other_more q e one es none = other_by q e one es (has_name e.name one) none
+
+other_first : (q : Entry → Bool) (e one : Entry) (es : List Entry) → has_name e.name one ≡ false → NoOther q e (one ∷ es) → q one ≡ false
+other_first q e one es other none =
+    (or_parts (q one) (list_any q (filter (is_other e.name) es))
+    (subst (λ (b : Bool). list_any q (cond (not b) (one ∷ filter (is_other e.name) es) (filter (is_other e.name) es)) ≡ false) other none)).0
+
+-- no other player has the sum, or a name that is alike
+pub record IsOurs (e : Entry) (es : List Entry) : Type 0 where
+  pub names : list_any (is_alike e.name) (filter (is_other e.name) es) ≡ false
+  pub sums : list_any (has_sum e.sum) (filter (is_other e.name) es) ≡ false
 
 ours_more : (e one : Entry) (es : List Entry) → IsOurs e (one ∷ es) → IsOurs e es
-ours_more e one es ours = ours_by e one es (has_name e.name one) ours
+ours_more e one es ours = record {
+  names = other_more (is_alike e.name) e one es ours.names;
+  sums = other_more (has_sum e.sum) e one es ours.sums;
+}
 
-ours_first : (e one : Entry) (es : List Entry) → has_name e.name one ≡ false → IsOurs e (one ∷ es) → has_sum e.sum one ≡ false
-ours_first e one es other ours =
-    (or_parts (has_sum e.sum one) (list_any (has_sum e.sum) (filter (is_other e.name) es))
-    (subst (λ (b : Bool). list_any (has_sum e.sum) (cond (not b) (one ∷ filter (is_other e.name) es) (filter (is_other e.name) es)) ≡ false)
-    other ours)).0
+two_ours : (e one : Entry) (es : List Entry) → has_name e.name one ≡ false → IsOurs e (one ∷ es) → AreTwo one e
+two_ours e one es other ours =
+    two_if one e (other_first (is_alike e.name) e one es other ours.names) (other_first (has_sum e.sum) e one es other ours.sums)
 
-flipped_two : (a b : Entry) → AreTwo a b → AreTwo b a
+pub flipped_two : (a b : Entry) → AreTwo a b → AreTwo b a
 flipped_two a b two = record { names = λ e. two.names (sym e); sums = λ e. two.sums (sym e) }
 
 -- who stands apart from the one that had the name stands apart from the new one
@@ -232,8 +248,9 @@ behind_apart e one [] same all ours = All-nil (AreTwo e)
 behind_apart e one (two ∷ es) same all ours =
     let apart = All-head (AreTwo one) two es all in
     let other : has_name e.name two ≡ false =
-    false_from_ne_true (has_name e.name two) (λ h. apart.names (same ∙ sym ((bytes_eq-Decides two.name e.name).0 h))) in
-    All-cons (AreTwo e) two es (flipped_two two e (two_if two e other (ours_first e two es other ours)))
+    false_from_ne_true (has_name e.name two)
+    (λ h. apart.names (ap str_to_ascii_lowercase (same ∙ sym ((bytes_eq-Decides two.name e.name).0 h)))) in
+    All-cons (AreTwo e) two es (flipped_two two e (two_ours e two es other ours))
     (behind_apart e one es same (All-tail (AreTwo one) two es all) (ours_more e two es ours))
 
 place_pairs_by : (e one : Entry) (es more : List Entry) (b : Bool) → has_name e.name one ≡ b → AllPairs AreTwo (one ∷ es) → IsOurs e (one ∷ es) →
@@ -243,7 +260,7 @@ place_pairs_by e one es more true h pairs ours next all =
     (behind_apart e one es ((bytes_eq-Decides one.name e.name).0 h) (pairs_head AreTwo one es pairs) (ours_more e one es ours))
     (pairs_tail AreTwo one es pairs)
 place_pairs_by e one es more false h pairs ours next all =
-    AllPairs-cons AreTwo one more (all (two_if one e h (ours_first e one es h ours))) next
+    AllPairs-cons AreTwo one more (all (two_ours e one es h ours)) next
 
 place_pairs : (e : Entry) (es : List Entry) → AllPairs AreTwo es → IsOurs e es → AllPairs AreTwo (in_place (has_name e.name) e es)
 place_pairs e [] pairs ours = AllPairs-cons AreTwo e [] (All-nil (AreTwo e)) pairs
@@ -275,6 +292,16 @@ taken_told players slice name who sum digest b is told same named summed answer 
     ∙ (ap (λ (n : List ℕ). list_any (λ player. is_other n (entry_of player) && has_sum digest (entry_of player)) slice) (sym named)
     ∙ (ap (λ (s : List ℕ). list_any (λ player. is_other name (entry_of player) && has_sum s (entry_of player)) slice) (sym summed)
     ∙ (sym told ∙ answer)))))
+
+pub alike_told : (players slice : List Player) (name who : List ℕ) (b is : Bool) →
+    b ≡ list_any (λ player. is_other name (entry_of player) && is_alike name (entry_of player)) slice →
+    slice ≡ players → name ≡ who → b ≡ is → list_any (is_alike who) (filter (is_other who) (entries_of players)) ≡ is
+alike_told players slice name who b is told same named answer =
+    sym (any_filtered (is_other who) (is_alike who) (entries_of players))
+    ∙ (sym (any_mapped entry_of (λ (e : Entry). is_other who e && is_alike who e) players)
+    ∙ (ap (λ (ps : List Player). list_any (λ player. is_other who (entry_of player) && is_alike who (entry_of player)) ps) (sym same)
+    ∙ (ap (λ (n : List ℕ). list_any (λ player. is_other n (entry_of player) && is_alike n (entry_of player)) slice) (sym named)
+    ∙ (sym told ∙ answer))))
 
 line_is : (e : Entry) → IsName e.name → decode_sized (encode_lower e.sum) 32 ≡ Ok e.sum → is_full_name e.full_name ≡ true → IsLineOf (line_of e) e
 line_is e name sum full = record {
@@ -347,9 +374,9 @@ keep_step p line old lines rest put is_put text new all cut other same told befo
     ∙ (ap (λ (ls : List (List ℕ)). text ++ bytes_of (left p line put ls)) (sym cut) ∙ before))))
 
 pub file_after : (text : List ℕ) (es : List Entry) (e : Entry) (new : List ℕ) → IsFileOf text es → IsName e.name →
-    decode_sized (encode_lower e.sum) 32 ≡ Ok e.sum → is_full_name e.full_name ≡ true →
-    list_any (has_sum e.sum) (filter (is_other e.name) es) ≡ false → new ≡ added_text text e → IsFileOf new (added_entries es e)
-file_after text es e new before name sum full shown written =
+    decode_sized (encode_lower e.sum) 32 ≡ Ok e.sum → is_full_name e.full_name ≡ true → IsOurs e es → new ≡ added_text text e →
+    IsFileOf new (added_entries es e)
+file_after text es e new before name sum full ours written =
     let line = line_of e in
     let lines = in_place (is_of e.name) line (lines_of text) in
     let rest = 32 ∷ (role_text e.is_arbiter ++ (32 ∷ (encode_lower e.sum ++ (32 ∷ e.full_name)))) in
@@ -358,15 +385,16 @@ file_after text es e new before name sum full shown written =
     ∙ lines_back lines (place_free (is_of e.name) line (lines_of text) (line_free e name sum full) (lines_free text))))
     (record {
       told = place_zip line e (lines_of text) es (speaks_by e.name rest name) (line_is e name sum full) before.told;
-      apart = place_pairs e es before.apart shown;
+      apart = place_pairs e es before.apart ours;
     })
 
-pub file_added : (text : List ℕ) (es : List Entry) (e : Entry) (new : List ℕ) → IsFileOf text es → IsName e.name →
-    decode_sized (encode_lower e.sum) 32 ≡ Ok e.sum → is_full_name e.full_name ≡ true →
-    list_any (has_sum e.sum) (filter (is_other e.name) es) ≡ false → new ≡ added_text text e → IsAdded text e new
-file_added text es e new before name sum full shown written = record {
+pub file_added : (text : List ℕ) (es : List Entry) (e : Entry) (new : List ℕ) (is_new : Bool) → IsFileOf text es → IsName e.name →
+    decode_sized (encode_lower e.sum) 32 ≡ Ok e.sum → is_full_name e.full_name ≡ true → IsOurs e es → new ≡ added_text text e →
+    is_new ≡ not (list_any (has_name e.name) es) → IsAdded text e new is_new
+file_added text es e new is_new before name sum full ours written is = record {
   entries = es;
   before = before;
   written = written;
-  after = file_after text es e new before name sum full shown written;
+  after = file_after text es e new before name sum full ours written;
+  none_before = is;
 }

@@ -10,7 +10,7 @@ use Rattle.lobby_roster.specs.Lines.{bytes_of}
 use Rattle.lobby_players.specs.declared.adding.Addition.{Addition}
 use Rattle.lobby_players.specs.declared.faults.AddFault.{AddFault}
 use Rattle.lobby_players.specs.declared.faults.AddFault.TheVariants as faults
-use Rattle.lobby_players.specs.File.{Entry, lines_of, has_name, has_sum, IsFileOf, role_text, is_full_name}
+use Rattle.lobby_players.specs.File.{Entry, lines_of, has_name, is_alike, has_sum, IsFileOf, role_text, is_full_name}
 use Rattle.lobby_players.specs.Faults.{IsFault}
 
 -- the player who is put in, with the sum of this token
@@ -49,12 +49,13 @@ abbrev pub is_other : List ℕ → Entry → Bool
 is_other name one = not (has_name name one)
 
 -- The new text is the file with the player: all other lines stand in it as they did and where they did, and it is a file of
--- the players with this one.
-pub record IsAdded (text : List ℕ) (e : Entry) (new : List ℕ) : Type 0 where
+-- the players with this one; it is told whether the file had none of this name.
+pub record IsAdded (text : List ℕ) (e : Entry) (new : List ℕ) (is_new : Bool) : Type 0 where
   pub entries : List Entry
   pub before : IsFileOf text entries
   pub written : new ≡ added_text text e
   pub after : IsFileOf new (added_entries entries e)
+  pub none_before : is_new ≡ not (list_any (has_name e.name) entries)
 
 -- another player of the file has the token
 pub record IsTaken (text : List ℕ) (e : Entry) : Type 0 where
@@ -62,9 +63,16 @@ pub record IsTaken (text : List ℕ) (e : Entry) : Type 0 where
   pub before : IsFileOf text entries
   pub another : list_any (has_sum e.sum) (filter (is_other e.name) entries) ≡ true
 
+-- another player of the file has the name in other letters, small or capital
+pub record IsNamedAlike (text : List ℕ) (e : Entry) : Type 0 where
+  pub entries : List Entry
+  pub before : IsFileOf text entries
+  pub another : list_any (is_alike e.name) (filter (is_other e.name) entries) ≡ true
+
 abbrev pub IsAddFault : List ℕ → Entry → AddFault → Type 0
 IsAddFault text e (faults.File fault) = IsFault text fault
 IsAddFault text e faults.BadName = ¬ IsName e.name
 IsAddFault text e faults.BadFullName = is_full_name e.full_name ≡ false
+IsAddFault text e faults.NameAlike = IsNamedAlike text e
 IsAddFault text e faults.TokenTaken = IsTaken text e
 IsAddFault text e faults.NoMemory = Unit {0}

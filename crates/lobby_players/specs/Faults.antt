@@ -7,7 +7,9 @@ use Rattle.lobby_players.specs.declared.faults.LineFault.{LineFault}
 use Rattle.lobby_players.specs.declared.faults.LineFault.TheVariants as line_faults
 use Rattle.lobby_players.specs.declared.faults.PlayersFault.{PlayersFault}
 use Rattle.lobby_players.specs.declared.faults.PlayersFault.TheVariants as faults
-use Rattle.lobby_players.specs.File.{Entry, IsLineOf, AreLinesOf, lines_of, is_silent, has_name, has_sum}
+use Rattle.lobby_players.specs.declared.faults.RereadFault.{RereadFault}
+use Rattle.lobby_players.specs.declared.faults.RereadFault.TheVariants as reread_faults
+use Rattle.lobby_players.specs.File.{Entry, IsLineOf, AreLinesOf, IsFileOf, lines_of, is_silent, has_name, is_alike, has_sum, ends_line}
 
 -- the line tells of a player whose name, or whose sum, one of those before has
 pub record HasNameOf (before : List Entry) (line : List ℕ) : Type 0 where
@@ -15,16 +17,24 @@ pub record HasNameOf (before : List Entry) (line : List ℕ) : Type 0 where
   pub told : IsLineOf line entry
   pub again : list_any (has_name entry.name) before ≡ true
 
-pub record HasSumOf (before : List Entry) (line : List ℕ) : Type 0 where
+-- the same, but the names differ in small and capital letters
+pub record HasNameLike (before : List Entry) (line : List ℕ) : Type 0 where
   pub entry : Entry
   pub told : IsLineOf line entry
   pub named : list_any (has_name entry.name) before ≡ false
+  pub alike : list_any (is_alike entry.name) before ≡ true
+
+pub record HasSumOf (before : List Entry) (line : List ℕ) : Type 0 where
+  pub entry : Entry
+  pub told : IsLineOf line entry
+  pub named : list_any (is_alike entry.name) before ≡ false
   pub again : list_any (has_sum entry.sum) before ≡ true
 
 -- what is wrong with a line behind those of these players
 abbrev pub IsLineFault : List Entry → List ℕ → LineFault → Type 0
 IsLineFault before line line_faults.NotPlayer = (is_silent line ≡ false) × ((e : Entry) → ¬ IsLineOf line e)
 IsLineFault before line line_faults.NameTwice = (is_silent line ≡ false) × HasNameOf before line
+IsLineFault before line line_faults.NameAlike = (is_silent line ≡ false) × HasNameLike before line
 IsLineFault before line line_faults.TokenTwice = (is_silent line ≡ false) × HasSumOf before line
 
 -- The line of this number, counted from 1, is the first that has a fault.
@@ -48,11 +58,18 @@ IsFault text (faults.NotText number) = IsNotText text number
 IsFault text (faults.Line number fault) = IsFirstFault text number fault
 IsFault text faults.NoMemory = Unit {0}
 
+-- What is wrong with a text that is to take the place of one by which a lobby serves: it is no players' file, has no
+-- player, or its last line has no end, so that it may be cut.
+abbrev pub IsRereadFault : List ℕ → RereadFault → Type 0
+IsRereadFault text (reread_faults.File fault) = IsFault text fault
+IsRereadFault text reread_faults.NoPlayer = IsFileOf text []
+IsRereadFault text reread_faults.CutShort = ends_line text ≡ false
+
 pub record PutsPlayer (before : List Entry) (line : List ℕ) (after : List Entry) : Type 0 where
   pub spoken : is_silent line ≡ false
   pub entry : Entry
   pub told : IsLineOf line entry
-  pub named : list_any (has_name entry.name) before ≡ false
+  pub named : list_any (is_alike entry.name) before ≡ false
   pub shown : list_any (has_sum entry.sum) before ≡ false
   pub put : after ≡ before ++ (entry ∷ [])
 

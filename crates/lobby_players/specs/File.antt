@@ -1,7 +1,7 @@
 -- The players' file.
-use Rattle.std.specs.Prelude.{ℕ, ◌≡◌, ◌≢◌, ◌-◌, Bool, true, false, ◌&&◌, ◌==◌, not, nat_le, List, [], ◌∷◌, ◌++◌, length, codes, Ok, EachIndex, slice_index, map, filter}
+use Rattle.std.specs.Prelude.{ℕ, ◌≡◌, ◌≢◌, ◌-◌, Bool, true, false, ◌&&◌, ◌||◌, ◌==◌, not, nat_le, List, [], ◌∷◌, ◌++◌, length, codes, Ok, EachIndex, slice_index, map, filter, chars}
 use Rattle.std.specs.List.{AllZip, AllPairs, list_all}
-use Rattle.std.specs.Str.{bytes_eq}
+use Rattle.std.specs.Str.{bytes_eq, str_to_ascii_lowercase, str_eq_ignore_ascii_case}
 use Rattle.std.specs.String.{string_bytes}
 use Rattle.text_parts.specs.Parts.{parts_of}
 use Rattle.hex.specs.Hex.{decode_sized}
@@ -32,11 +32,25 @@ role_text false = codes "player"
 abbrev pub is_shown_byte : ℕ → Bool
 is_shown_byte b = nat_le 32 b && not (b == 127)
 
--- a full name: 1 to 100 bytes, no control character, and no space at either end
+abbrev pub is_from_to : ℕ → ℕ → ℕ → Bool
+is_from_to first last c = nat_le first c && nat_le c last
+
+-- A character that is not seen, or that changes how others are: the controls behind DEL; those that set the direction
+-- of writing, join or part letters, or break a line (U+061C, U+200B to U+200F, U+2028 to U+202E, U+2060, U+2066 to
+-- U+2069); and U+FEFF.
+abbrev pub is_hidden : ℕ → Bool
+is_hidden c =
+    is_from_to 128 159 c || c == 1564 || is_from_to 8203 8207 c || is_from_to 8232 8238 c || c == 8288 || is_from_to 8294 8297 c
+    || c == 65279
+
+abbrev pub is_seen : ℕ → Bool
+is_seen c = not (is_hidden c)
+
+-- a full name: 1 to 100 bytes, no control and no hidden character, and no space at either end
 abbrev pub is_full_name : List ℕ → Bool
 is_full_name text =
     nat_le 1 (length text) && nat_le (length text) 100 && list_all is_shown_byte text
-    && not (slice_index text 0 == 32) && not (slice_index text (length text - 1) == 32)
+    && not (slice_index text 0 == 32) && not (slice_index text (length text - 1) == 32) && list_all is_seen (chars text)
 
 -- a text without a space
 abbrev pub IsWord : List ℕ → Type 0
@@ -74,9 +88,13 @@ has_name name one = bytes_eq one.name name
 abbrev pub has_sum : List ℕ → Entry → Bool
 has_sum sum one = bytes_eq one.sum sum
 
--- two players with neither one name nor one token
+-- the player's name is this one, or differs from it in small and capital letters alone
+abbrev pub is_alike : List ℕ → Entry → Bool
+is_alike name one = str_eq_ignore_ascii_case one.name name
+
+-- two players whose names differ also with small letters alone, and who have not one token
 pub record AreTwo (a b : Entry) : Type 0 where
-  pub names : a.name ≢ b.name
+  pub names : str_to_ascii_lowercase a.name ≢ str_to_ascii_lowercase b.name
   pub sums : a.sum ≢ b.sum
 
 -- the lines that are not silent
@@ -102,3 +120,7 @@ entry_of player = record {
 
 abbrev pub entries_of : List Player → List Entry
 entries_of players = map entry_of players
+
+-- a text that ends with a line feed
+abbrev pub ends_line : List ℕ → Bool
+ends_line text = slice_index text (length text - 1) == 10

@@ -6,13 +6,13 @@ ghost use Rattle.hex.specs.Hex.{decode_sized, encode_lower};
 ghost use Rattle.lobby_words.specs.Answers.{ended};
 ghost use Rattle.lobby_roster.specs.Lines.{bytes_of};
 ghost use Rattle.lobby_players.specs.Adding.{IsAdded, IsAddFault, added_text, entry_added, entry_with, in_place, is_of, is_other, line_of};
-ghost use Rattle.lobby_players.specs.File.{has_sum, entry_of, lines_of, role_text};
+ghost use Rattle.lobby_players.specs.File.{has_sum, is_alike as is_alike_to, entry_of, lines_of, role_text};
 
 use crate::faults::{AddFault, PlayersFault};
 use crate::line::is_full_name;
-use crate::lines::word;
-use crate::reading::{read_text, text_of};
-use crate::token::token_text;
+use crate::lines::{is_alike, word};
+use crate::reading::{has_name, read_text, text_of};
+use crate::token::{forget, token_text};
 use lobby_roster::Player;
 use rec_codec::Name;
 use sha2::{Digest, Sha256};
@@ -27,12 +27,30 @@ pub struct Addition<'a> {
     pub is_arbiter: bool,
 }
 
+/// A players' file with a player who was put into it.
+#[derive(Drop)]
+pub struct WithPlayer {
+    /// The file's new text.
+    pub text: String,
+    /// Whether the file had nobody of the name; else that one's link holds no more.
+    pub is_new: bool,
+}
+
 // Whether another player has the sum.
 fn is_taken(players: &[Player], name: &Name, sum: &[u8; 32]) -> bool
     ensures { result ≡ list_any (λ player. is_other name.now (entry_of player) && has_sum sum.now (entry_of player)) players.now }
 {
     players.iter().any(|player| {
         player.name.as_str() != name.as_str() && player.sum.as_slice() == sum.as_slice()
+    })
+}
+
+// Whether another player's name differs from it in small and capital letters alone.
+fn is_named_alike(players: &[Player], name: &Name) -> bool
+    ensures { result ≡ list_any (λ player. is_other name.now (entry_of player) && is_alike_to name.now (entry_of player)) players.now }
+{
+    players.iter().any(|player| {
+        player.name.as_str() != name.as_str() && is_alike(player.name.as_str(), name.as_str())
     })
 }
 
@@ -125,15 +143,15 @@ pub fn text_with(
 
 /// The text of the file with the player's line: in the place of the line that had the name, so that a player who is there
 /// already has a new token, and this full name and role; and behind all for a new one. It fails, and nothing is added,
-/// only where one of these is so: the file is none, the name or the full name is none, another player has the token; or
-/// where memory is refused.
+/// only where one of these is so: the file is none, the name or the full name is none, another player's name differs
+/// in small and capital letters alone, another player has the token; or where memory is refused.
 pub fn added(
     alloc: Global,
     text: &[u8],
     who: &Addition<'_>,
     token: &[u8; 16],
-) -> Result<String, AddFault>
-    ensures added { IfOk result (λ new. IsAdded text.now (entry_added who.now token.now) (string_bytes new)) }
+) -> Result<WithPlayer, AddFault>
+    ensures added { IfOk result (λ new. IsAdded text.now (entry_added who.now token.now) (string_bytes new.text) new.is_new) }
     ensures fault { IfErr result (IsAddFault text.now (entry_added who.now token.now)) }
 {
     let text = match text_of(text) {
@@ -150,10 +168,18 @@ pub fn added(
     if !is_full_name(who.full_name) {
         return Err(AddFault::BadFullName);
     }
-    let sum = Sha256::digest(token_text(alloc, token)?.as_str());
+    if is_named_alike(players.as_slice(), &name) {
+        return Err(AddFault::NameAlike);
+    }
+    let shown = token_text(alloc, token)?;
+    let sum = Sha256::digest(shown.as_str());
+    forget(shown);
     if is_taken(players.as_slice(), &name, &sum) {
         return Err(AddFault::TokenTaken);
     }
     let new = text_with(alloc, text, who, &sum)?;
-    Ok(new)
+    Ok(WithPlayer {
+        text: new,
+        is_new: !has_name(players.as_slice(), &name),
+    })
 }

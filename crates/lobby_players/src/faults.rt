@@ -16,6 +16,9 @@ pub enum LineFault {
     /// A line before it has the name.
     #[error("has a name that a line before it has")]
     NameTwice,
+    /// The name of a line before it differs in small and capital letters alone.
+    #[error("has a name that differs from one before it in small and capital letters alone")]
+    NameAlike,
     /// A line before it has the token's sum.
     #[error("has a token that a line before it has")]
     TokenTwice,
@@ -42,6 +45,20 @@ impl From<AllocError> for PlayersFault {
     }
 }
 
+/// Why a text is not taken for the players' file while a lobby serves by the one before.
+#[derive(Clone, Copy, Debug, PartialEq, Eq, Error)]
+pub enum RereadFault {
+    /// It is none.
+    #[error("{0}")]
+    File(PlayersFault),
+    /// It is one without a player.
+    #[error("the players' file has no player")]
+    NoPlayer,
+    /// It may be half of one.
+    #[error("the last line of the players' file has no line feed: it may be cut")]
+    CutShort,
+}
+
 /// Why a player is not put into a players' file.
 #[derive(Clone, Copy, Debug, PartialEq, Eq, Error)]
 pub enum AddFault {
@@ -50,8 +67,11 @@ pub enum AddFault {
     File(PlayersFault),
     #[error("a name is 1 to 16 of the letters A to Z and a to z, the digits, and _")]
     BadName,
-    #[error("a full name is 1 to 100 bytes, has no control character, and no space at either end")]
+    #[error("a full name is 1 to 100 bytes, has no control and no hidden character, and no space at either end")]
     BadFullName,
+    /// The name of another player differs in small and capital letters alone.
+    #[error("another player's name differs from it in small and capital letters alone")]
+    NameAlike,
     /// Another player has the token.
     #[error("another player has this token")]
     TokenTaken,
@@ -73,6 +93,9 @@ pub enum LinkFault {
     /// The file is none.
     #[error("{0}")]
     File(PlayersFault),
+    /// Its players are others than those by whom the lobby serves.
+    #[error("the players' file was changed a moment ago, or is not taken as it stands")]
+    OtherPlayers,
     #[error("the file has no such player any more")]
     NoPlayer,
     #[error("a player has this token")]

@@ -1,4 +1,4 @@
-use anyhow::Result;
+use anyhow::{Result, bail};
 use night_files::{OWNERS_MODE, folder_of};
 use std::alloc::Global;
 use std::fs::{File, OpenFile, OpenOptions, Permissions};
@@ -7,12 +7,21 @@ use std::os::unix::fs::{OpenOptionsExt, PermissionsExt};
 use std::rt::Files;
 use std::{fs, io};
 
-/// The bytes of a file; none where there is no file. Other errors of the system are handed on.
-pub fn read_file<R: Files + AllocGlobal>(rt: &R, file: &str) -> io::Result<Vec<u8>> {
-    match fs::read(rt, file) {
-        Ok(text) => Ok(text),
+/// The bytes of a file that is there. It fails where it is no regular file: to read of a pipe or a device may last
+/// for ever.
+pub fn read_regular<R: Files + AllocGlobal>(rt: &R, file: &str) -> Result<Vec<u8>> {
+    if !fs::metadata(rt, file)?.is_file() {
+        bail!("{file} is no regular file");
+    }
+    Ok(fs::read(rt, file)?)
+}
+
+/// The bytes of a file; none where there is no file. It fails where it is no regular file, and with other errors of
+/// the system.
+pub fn read_file<R: Files + AllocGlobal>(rt: &R, file: &str) -> Result<Vec<u8>> {
+    match fs::metadata(rt, file) {
         Err(error) if error.kind() == io::ErrorKind::NotFound => Ok(Vec::new(rt.alloc())),
-        Err(error) => Err(error),
+        _ => read_regular(rt, file),
     }
 }
 
@@ -27,27 +36,36 @@ fn permissions_of<R: Files>(rt: &R, file: &str) -> io::Result<Permissions> {
     }
 }
 
-// Writes a file that its owner alone may read until it is whole, and then those of `permissions`.
+// Takes a file away, if it is there; of a symbolic link the link, and not the file that it names.
+fn remove<R: Files>(rt: &R, file: &str) -> io::Result<()> {
+    match fs::remove_file(rt, file) {
+        Ok(()) => Ok(()),
+        Err(error) if error.kind() == io::ErrorKind::NotFound => Ok(()),
+        Err(error) => Err(error),
+    }
+}
+
+// Writes a file that was not there, and that its owner alone may read until it is whole, and then those of
+// `permissions`. One that a stop has left behind, or that another has put there, goes first, and none is opened: a
+// new one is made (`O_EXCL`).
 fn write_new<R: Files>(rt: &R, file: &str, permissions: Permissions, text: &str) -> io::Result<()> {
+    remove(rt, file)?;
     let mut options = OpenOptions::new();
-    options
-        .write(true)
-        .create(true)
-        .truncate(true)
-        .mode(OWNERS_MODE);
+    options.write(true).create_new(true).mode(OWNERS_MODE);
     let mut new = options.open(rt, file)?;
-    // One that a stop has left behind has another's bits.
-    fs::set_permissions(rt, file, Permissions::from_mode(OWNERS_MODE))?;
     new.write_all(text.as_bytes())?;
-    fs::set_permissions(rt, file, permissions)?;
+    new.set_permissions(permissions)?;
     new.sync_all()
 }
 
-/// Puts a text in the place of a file's, at once, for those who may read and write it as before; a new one is its owner's
-/// alone. Where it answers, the text is on the disk. A stop in the middle leaves the file as it was. It fails where the system
-/// refuses a call, and the file is as it was; but where that call is the last, to sync the folder, it may have the text.
-pub fn put_file<R: Files>(rt: &R, alloc: Global, file: &str, text: &str) -> Result<()> {
-    let permissions = permissions_of(rt, file)?;
+// Puts a text in the place of a file's, at once, for those of `permissions`.
+fn put<R: Files>(
+    rt: &R,
+    alloc: Global,
+    file: &str,
+    permissions: Permissions,
+    text: &str,
+) -> Result<()> {
     let new = format!(in alloc; "{file}.new")?;
     write_new(rt, new.as_str(), permissions, text)?;
     fs::rename(rt, new.as_str(), file)?;
@@ -55,13 +73,23 @@ pub fn put_file<R: Files>(rt: &R, alloc: Global, file: &str, text: &str) -> Resu
     Ok(())
 }
 
-/// Takes a file away, if it is there. Where it answers, that is on the disk. It fails where the system refuses a call.
+/// Puts a text in the place of a file's, at once, for those who may read and write it as before; a new one is its owner's
+/// alone. Where it answers, the text is on the disk. A stop in the middle leaves the file as it was. It fails where the system
+/// refuses a call, and the file is as it was; but where that call is the last, to sync the folder, it may have the text.
+pub fn put_file<R: Files>(rt: &R, alloc: Global, file: &str, text: &str) -> Result<()> {
+    let permissions = permissions_of(rt, file)?;
+    put(rt, alloc, file, permissions, text)
+}
+
+/// The same, for its owner alone, whatever was there before: no symbolic link is followed.
+pub fn put_own_file<R: Files>(rt: &R, alloc: Global, file: &str, text: &str) -> Result<()> {
+    put(rt, alloc, file, Permissions::from_mode(OWNERS_MODE), text)
+}
+
+/// Takes a file away, if it is there; of a symbolic link the link. Where it answers, that is on the disk. It fails
+/// where the system refuses a call.
 pub fn take_away<R: Files>(rt: &R, file: &str) -> io::Result<()> {
-    match fs::remove_file(rt, file) {
-        Ok(()) => {}
-        Err(error) if error.kind() == io::ErrorKind::NotFound => {}
-        Err(error) => return Err(error),
-    }
+    remove(rt, file)?;
     File::open(rt, folder_of(file))?.sync_all()
 }
 

@@ -13,11 +13,11 @@ mod reading;
 mod relinking;
 mod token;
 
-pub use adding::{Addition, added};
-pub use faults::{AddFault, LineFault, LinkFault, PlayersFault};
+pub use adding::{Addition, WithPlayer, added};
+pub use faults::{AddFault, LineFault, LinkFault, PlayersFault, RereadFault};
 pub use file::{Hold, put_file, read_file};
 pub use pause_file::PauseFile;
-pub use players::{full_name, players_of};
-pub use reading::read;
+pub use players::{full_name, later_players_of, players_of};
+pub use reading::{read, reread};
 pub use relinking::{ChangedFile, relinked};
-pub use token::{link_text, new_token, token_text};
+pub use token::{forget, link_text, new_token, token_text};

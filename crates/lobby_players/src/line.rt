@@ -1,5 +1,5 @@
 //! The line of a player.
-ghost use Rattle.std.specs.Prelude.{ℕ, Bool, List, ◌≡◌, ◌∷◌, ◌++◌, Ok, IfOk, IfSome, IfNone, length, codes};
+ghost use Rattle.std.specs.Prelude.{ℕ, Bool, List, ◌≡◌, ◌∷◌, ◌++◌, Ok, IfOk, IfSome, IfNone, length, codes, chars};
 ghost use Rattle.std.specs.List.{list_all};
 ghost use Rattle.std.specs.String.{string_bytes};
 ghost use Rattle.hex.specs.Hex.{decode_sized, encode_lower};
@@ -72,7 +72,31 @@ fn are_shown_bytes(bytes: &[u8]) -> bool
     bytes.iter().all(|byte| is_shown_byte(*byte))
 }
 
-/// Whether a text is a full name: 1 to 100 bytes, without a control character, and without a space at either end.
+// Whether a character is seen, and leaves others as they are.
+fn is_seen(c: char) -> bool
+    ensures { result ≡ file.is_seen c }
+{
+    !matches!(
+        c,
+        '\u{80}'..='\u{9f}'
+            | '\u{61c}'
+            | '\u{200b}'..='\u{200f}'
+            | '\u{2028}'..='\u{202e}'
+            | '\u{2060}'
+            | '\u{2066}'..='\u{2069}'
+            | '\u{feff}'
+    )
+}
+
+// Whether each character is.
+fn are_seen(text: &str) -> bool
+    ensures { result ≡ list_all file.is_seen (chars text.now) }
+{
+    text.chars().all(|c| is_seen(c))
+}
+
+/// Whether a text is a full name: 1 to 100 bytes, without a control and without a hidden character (`is_hidden` of
+/// `specs/File`), and without a space at either end.
 pub fn is_full_name(text: &str) -> bool
     ensures { result ≡ file.is_full_name text.now }
 {
@@ -83,7 +107,8 @@ pub fn is_full_name(text: &str) -> bool
     let last = bytes.len() - 1;
     let short = bytes.len() <= 100;
     let shown = are_shown_bytes(bytes);
-    short & shown & (bytes[0] != b' ') & (bytes[last] != b' ')
+    let seen = are_seen(text);
+    short & shown & (bytes[0] != b' ') & (bytes[last] != b' ') & seen
 }
 
 // The player that fields tell.

@@ -1,25 +1,34 @@
 //! A players' file is read.
-ghost use Rattle.std.specs.Prelude.{◌≡◌, ◌==◌, suc, IfOk, IfErr};
-ghost use Rattle.lobby_players.specs.File.{IsFileOf, entry_of, entries_of};
-ghost use Rattle.lobby_players.specs.Faults.{IsFault, TakesLine};
+ghost use Rattle.std.specs.Prelude.{◌≡◌, ◌≢◌, ◌==◌, suc, true, [], OnOk, IfOk, IfErr};
+ghost use Rattle.lobby_players.specs.File.{IsFileOf, ends_line, entry_of, entries_of};
+ghost use Rattle.lobby_players.specs.Faults.{IsFault, IsRereadFault, TakesLine};
 ghost use Rattle.lobby_players.specs.File as file;
 ghost use Rattle.std.specs.List.{list_any, count_by};
 
-use crate::faults::{LineFault, PlayersFault};
+use crate::faults::{LineFault, PlayersFault, RereadFault};
 use crate::line::player_of;
-use crate::lines::is_silent;
+use crate::lines::{is_alike, is_silent};
 use lobby_roster::Player;
 use rec_codec::Name;
 use std::alloc::{AllocError, Global};
 use text_parts::parts;
 
-// Whether a player has the name.
-fn has_name(players: &[Player], name: &Name) -> bool
+/// Whether a player has the name.
+pub fn has_name(players: &[Player], name: &Name) -> bool
     ensures { result ≡ list_any (λ player. file.has_name name.now (entry_of player)) players.now }
 {
     players
         .iter()
         .any(|player| player.name.as_str() == name.as_str())
+}
+
+// Whether a player's name is this one, or differs from it in small and capital letters alone.
+fn has_name_alike(players: &[Player], name: &Name) -> bool
+    ensures { result ≡ list_any (λ player. file.is_alike name.now (entry_of player)) players.now }
+{
+    players
+        .iter()
+        .any(|player| is_alike(player.name.as_str(), name.as_str()))
 }
 
 /// Whether a player has the sum.
@@ -47,6 +56,9 @@ fn take(
     };
     if has_name(players.as_slice(), &player.name) {
         return Ok(Some(LineFault::NameTwice));
+    }
+    if has_name_alike(players.as_slice(), &player.name) {
+        return Ok(Some(LineFault::NameAlike));
     }
     if has_sum(players.as_slice(), &player.sum) {
         return Ok(Some(LineFault::TokenTwice));
@@ -104,4 +116,33 @@ pub fn read(alloc: Global, text: &[u8]) -> Result<Vec<Player>, PlayersFault>
 {
     let text = text_of(text)?;
     read_text(alloc, text)
+}
+
+// Whether a text ends with a line feed.
+fn ends_line(text: &[u8]) -> bool
+    ensures { result ≡ ends_line text.now }
+{
+    !text.is_empty() && text[text.len() - 1] == b'\n'
+}
+
+/// The players of a file that is to take the place of one by which a lobby serves, in the order of its lines; else
+/// why it is not taken: its first fault, or that it has no player, or that its last line has no line feed. An editor
+/// that writes it, or a disk that is full, leaves such a file.
+pub fn reread(alloc: Global, text: &[u8]) -> Result<Vec<Player>, RereadFault>
+    ensures players { IfOk result (λ players. IsFileOf text.now (entries_of players.items)) }
+    ensures some { IfOk result (λ players. players.items ≢ []) }
+    ensures whole { OnOk result (ends_line text.now ≡ true) }
+    ensures fault { IfErr result (IsRereadFault text.now) }
+{
+    let players = match read(alloc, text) {
+        Ok(players) => players,
+        Err(fault) => return Err(RereadFault::File(fault)),
+    };
+    if players.is_empty() {
+        return Err(RereadFault::NoPlayer);
+    }
+    if !ends_line(text) {
+        return Err(RereadFault::CutShort);
+    }
+    Ok(players)
 }

@@ -5,7 +5,7 @@ ghost use Rattle.std.specs.String.{string_bytes};
 ghost use Rattle.hex.specs.Hex.{decode_sized, encode_lower};
 ghost use Rattle.lobby_roster.specs.Players.{IsRelinked, IsWithSum, sum_given};
 ghost use Rattle.lobby_players.specs.Adding.{added_text};
-ghost use Rattle.lobby_players.specs.Relinking.{IsFileRelinked, IsLinkFault, entry_linked};
+ghost use Rattle.lobby_players.specs.Relinking.{IsFileRelinked, IsLinkFault, entry_linked, is_same_player, are_same_players};
 
 use crate::adding::{Addition, text_with};
 use crate::faults::LinkFault;
@@ -21,10 +21,32 @@ use std::alloc::{AllocError, Global};
 pub struct ChangedFile {
     /// The file's new text.
     pub text: String,
-    /// The players of the old text.
-    pub before: Vec<Player>,
-    /// The players of the new text, and the token of the link.
+    /// Its players, and the token of the link.
     pub linked: Linked,
+}
+
+// Whether two players are the same: by name, role, sum and full name.
+fn is_same_player(one: &Player, other: &Player) -> bool
+    ensures { result ≡ is_same_player one.now other.now }
+{
+    one.name.as_str() == other.name.as_str()
+        && one.is_arbiter == other.is_arbiter
+        && one.sum.as_slice() == other.sum.as_slice()
+        && one.full_name.as_str() == other.full_name.as_str()
+}
+
+// Whether players are the same, one for one.
+fn are_same_players(some: &[Player], others: &[Player]) -> bool
+    ensures { result ≡ are_same_players some.now others.now }
+{
+    if some.len() != others.len() {
+        return false;
+    }
+    let mut same = true;
+    for i in 0..some.len() {
+        same = same & is_same_player(&some[i], &others[i]);
+    }
+    same
 }
 
 // The sum of a player, where the player of a name has this one.
@@ -93,41 +115,45 @@ fn text_linked(
     Ok(new)
 }
 
-/// The file in which the player of this name has this token, in the place of the one that he had: in the player's line
-/// the sum is another, and all other lines stand as and where they stood. It fails only where one of these is so: the
-/// file is none, it has no such player, or one of its players has the token; or where memory is refused.
+/// The file of these players in which the one of this name has this token, in the place of the one that he had: in
+/// the player's line the sum is another, and all other lines stand as and where they stood. It fails only where one
+/// of these is so: the file is none, its players are others, it has no such player, or one of its players has the
+/// token; or where memory is refused.
 pub fn relinked(
     alloc: Global,
+    known: &[Player],
     text: &[u8],
     name: &Name,
     token: &[u8; 16],
 ) -> Result<ChangedFile, LinkFault>
-    ensures file { IfOk result (λ new. IsFileRelinked name.now text.now (string_bytes new.text) new.before.items new.linked.players.items) }
-    ensures players { IfOk result (λ new. IsRelinked name.now (string_bytes new.linked.token) new.before.items new.linked.players.items) }
+    ensures file { IfOk result (λ new. IsFileRelinked name.now text.now (string_bytes new.text) known.now new.linked.players.items) }
+    ensures players { IfOk result (λ new. IsRelinked name.now (string_bytes new.linked.token) known.now new.linked.players.items) }
     ensures token { IfOk result (λ new. string_bytes new.linked.token ≡ encode_lower token.now) }
-    ensures fault { IfErr result (IsLinkFault name.now (encode_lower token.now) text.now) }
+    ensures fault { IfErr result (IsLinkFault known.now name.now (encode_lower token.now) text.now) }
 {
     let text = match text_of(text) {
         Ok(text) => text,
         Err(fault) => return Err(LinkFault::File(fault)),
     };
-    let before = match read_text(alloc, text) {
+    let found = match read_text(alloc, text) {
         Ok(players) => players,
         Err(fault) => return Err(LinkFault::File(fault)),
     };
-    let Some(player) = player_by_name(before.as_slice(), name.as_str()) else {
+    if !are_same_players(found.as_slice(), known) {
+        return Err(LinkFault::OtherPlayers);
+    }
+    let Some(player) = player_by_name(known, name.as_str()) else {
         return Err(LinkFault::NoPlayer);
     };
     let shown = token_text(alloc, token)?;
     let sum = Sha256::digest(shown.as_str());
-    if has_sum(before.as_slice(), &sum) {
+    if has_sum(known, &sum) {
         return Err(LinkFault::TokenTaken);
     }
     let new = text_linked(alloc, text, player, name, &sum)?;
-    let players = all_with_sum(alloc, before.as_slice(), name, &sum)?;
+    let players = all_with_sum(alloc, known, name, &sum)?;
     Ok(ChangedFile {
         text: new,
-        before,
         linked: Linked {
             players,
             token: shown,

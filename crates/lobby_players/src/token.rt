@@ -3,18 +3,27 @@ ghost use Rattle.std.specs.Prelude.{◌≡◌, ◌++◌, IfOk, codes};
 ghost use Rattle.std.specs.String.{string_bytes};
 ghost use Rattle.hex.specs.Hex.{encode_lower};
 
+use rand_core::TryRng;
 use std::alloc::{AllocError, Global};
-use std::io;
-use std::random::RandomSource;
 
-/// A new token of 128 bits of the system's randomness (`getentropy`).
-pub fn new_token<R: RandomSource>(source: &R) -> io::Result<[u8; 16]> {
+/// A new token of 128 bits: the bytes that the source gave when it was asked for them, and no others.
+pub fn new_token<G: TryRng>(source: &mut G) -> Result<[u8; 16], G::Error>
+    ensures { IfOk result (λ token. G.may_fill source.old token source.new) }
+{
     let mut token = [0; 16];
-    source.fill_bytes(&mut token)?;
+    source.try_fill_bytes(&mut token)?;
     Ok(token)
 }
 
-/// A token as text: 32 hex digits, small.
+/// Lets a text go whose bytes are a secret: zeros are written over them before its memory is given back. That is all
+/// that is done, and no clause says it: a compiler may leave such writes out, and copies that were made of the text
+/// stay.
+pub fn forget(text: String) {
+    let mut bytes = text.into_bytes();
+    bytes.as_mut_slice().fill(0);
+}
+
+/// A token as text: 32 hex digits, with small letters.
 pub fn token_text(alloc: Global, token: &[u8; 16]) -> Result<String, AllocError>
     ensures { IfOk result (λ text. string_bytes text ≡ encode_lower token.now) }
 {
@@ -30,5 +39,6 @@ pub fn link_text(alloc: Global, page: &str, token: &[u8; 16]) -> Result<String, 
     let mut text = String::from_str(alloc, page)?;
     text.push('#')?;
     text.push_str(shown.as_str())?;
+    forget(shown);
     Ok(text)
 }

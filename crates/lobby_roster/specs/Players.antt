@@ -1,6 +1,6 @@
 -- Whom a token shows, and how players are told.
-use Rattle.std.specs.Prelude.{ℕ, ◌≡◌, Bool, true, false, List, [], length, ◌++◌, codes, decimal, map, filter, Option, Some, None, find, option_map, if◌then◌else◌}
-use Rattle.std.specs.List.{AllZip, flat_map, list_any}
+use Rattle.std.specs.Prelude.{ℕ, ◌≡◌, Bool, true, false, ◌&&◌, ◌||◌, ◌==◌, nat_le, List, [], length, ◌++◌, codes, decimal, map, filter, Option, Some, None, find, option_map, if◌then◌else◌}
+use Rattle.std.specs.List.{AllZip, flat_map, list_any, list_all}
 use Rattle.std.specs.String.{string_bytes}
 use Rattle.std.specs.Str.{bytes_eq}
 use Rattle.sha2.specs.Sha256.{sha256}
@@ -19,9 +19,21 @@ abbrev pub or_holder : Option Identity → Bool → Identity → Option Identity
 or_holder (Some before) is_holder who = Some before
 or_holder None is_holder who = if is_holder then Some who else None
 
--- the first player whose sum is that of the token
+-- one of the digits 0 to 9 and a to f
+abbrev pub is_token_digit : ℕ → Bool
+is_token_digit b = (nat_le 48 b && nat_le b 57) || (nat_le 97 b && nat_le b 102)
+
+-- a token: 32 of these digits
+abbrev pub is_token : List ℕ → Bool
+is_token text = length text == 32 && list_all is_token_digit text
+
+-- the first player who has this sum
+abbrev pub holder_of_sum : List Player → List ℕ → Option Identity
+holder_of_sum players sum = option_map identity_of (find (has_sum sum) players)
+
+-- The first player whose sum is that of the token. What is no token is nobody's, whatever sums the players have.
 unfoldable pub holder_of : List Player → List ℕ → Option Identity
-holder_of players token = option_map identity_of (find (has_sum (sha256 token)) players)
+holder_of players token = if is_token token then holder_of_sum players (sha256 token) else None
 
 -- For whom a connection acts when the players are others: for the player of its name, where that one's sum is the one that this name
 -- had; else for nobody.

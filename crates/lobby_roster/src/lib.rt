@@ -7,6 +7,6 @@ mod renewing;
 mod rows;
 
 pub use linked::Linked;
-pub use players::{Player, holder_of, is_named};
+pub use players::{Player, holder_of, is_named, is_token};
 pub use renewing::renewed;
 pub use rows::{headed, known_name, login_line, player_by_name, player_rows, who_text};

@@ -1,7 +1,8 @@
 //! The players of a club, and whom a token shows.
 ghost use Rattle.std.specs.Prelude.{◌≡◌};
+ghost use Rattle.std.specs.List.{list_all};
 ghost use Rattle.std.specs.Str.{bytes_eq};
-ghost use Rattle.lobby_roster.specs.Players.{identity_of, or_holder, holder_of, is_named};
+ghost use Rattle.lobby_roster.specs.Players.{identity_of, is_token_digit, is_token, or_holder, holder_of_sum, holder_of, is_named};
 
 use lobby_words::Identity;
 use rec_codec::Name;
@@ -47,18 +48,50 @@ fn or_holder(before: Option<Identity>, is_holder: bool, player: &Player) -> Opti
     }
 }
 
-/// The first player who has the token, and `None` where no player has it. Each player's sum is looked at, wherever one is
-/// the token's.
-pub fn holder_of(players: &[Player], token: &str) -> Option<Identity>
-    ensures { result ≡ holder_of players.now token.now }
+// Whether a byte is one of the digits 0 to 9 and a to f.
+fn is_token_digit(byte: u8) -> bool
+    ensures { result ≡ is_token_digit byte }
 {
-    let sum = Sha256::digest(token);
+    matches!(byte, b'0'..=b'9' | b'a'..=b'f')
+}
+
+// Whether each byte is one of these digits.
+fn are_token_digits(bytes: &[u8]) -> bool
+    ensures { result ≡ list_all is_token_digit bytes.now }
+{
+    bytes.iter().all(|byte| is_token_digit(*byte))
+}
+
+/// Whether a text is a token: 32 hex digits, with small letters.
+pub fn is_token(text: &str) -> bool
+    ensures { result ≡ is_token text.now }
+{
+    let bytes = text.as_bytes();
+    bytes.len() == 32 && are_token_digits(bytes)
+}
+
+// The first player who has the sum, and `None` where no player has it. Each player's sum is looked at, wherever one is this.
+fn holder_of_sum(players: &[Player], sum: &[u8; 32]) -> Option<Identity>
+    ensures { result ≡ holder_of_sum players.now sum.now }
+{
     let mut holder = None;
     for player in players {
-        let is_holder = is_same_sum(&player.sum, &sum);
+        let is_holder = is_same_sum(&player.sum, sum);
         holder = or_holder(holder, is_holder, player);
     }
     holder
+}
+
+/// The first player who has the token, and `None` where no player has it, or it is no token. Of a token each player's sum is
+/// looked at, wherever one is the token's.
+pub fn holder_of(players: &[Player], token: &str) -> Option<Identity>
+    ensures { result ≡ holder_of players.now token.now }
+{
+    if !is_token(token) {
+        return None;
+    }
+    let sum = Sha256::digest(token);
+    holder_of_sum(players, &sum)
 }
 
 /// Whether it is the player of a name for whom a connection acts.

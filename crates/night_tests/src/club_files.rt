@@ -2,7 +2,7 @@
 use lobby_players::{Hold, PauseFile, put_file};
 use std::fs;
 use std::fs::File;
-use std::os::unix::fs::PermissionsExt;
+use std::os::unix::fs::{PermissionsExt, symlink};
 use std::process::Abort;
 use std::rt::Files;
 
@@ -12,12 +12,17 @@ const FILE: &str = "players_file_test/club.players";
 
 const NEW: &str = "players_file_test/club.players.new";
 
+const OTHER: &str = "players_file_test/other";
+
 const PAUSED: &str = "players_file_test/club.players.paused";
+
+const PAUSED_NEW: &str = "players_file_test/club.players.paused.new";
 
 /// What is done with the players' file and beside it, and what is seen then.
 enum Step {
-    /// A file was left behind by a stop.
+    /// A file was left behind by a stop, or a symbolic link to `OTHER` by somebody else.
     Leave(&'static str),
+    Link(&'static str),
     Put(&'static str),
     SetMode(u32),
     /// The permission bits of the file.
@@ -27,9 +32,15 @@ enum Step {
     There(&'static str, bool),
     /// A lobby pauses entries or not, and the next one finds them so.
     Pause(bool),
+    /// What stands in the place of that file is none, so that no lobby begins.
+    Unclear,
+    /// A file is taken away.
+    Gone(&'static str),
+    /// `OTHER` is as it was left.
+    Untouched,
 }
 
-static STEPS: [Step; 23] = [
+static STEPS: [Step; 35] = [
     // A new file is its owner's, and another keeps its mode.
     Step::Leave(NEW),
     Step::Put("one\n"),
@@ -54,6 +65,19 @@ static STEPS: [Step; 23] = [
     Step::There(PAUSED, true),
     Step::Pause(false),
     Step::There(PAUSED, false),
+    // No symbolic link is followed, and none is taken for the file.
+    Step::Leave(OTHER),
+    Step::Link(NEW),
+    Step::Put("three\n"),
+    Step::Text("three\n"),
+    Step::There(NEW, false),
+    Step::Link(PAUSED),
+    Step::Unclear,
+    Step::Gone(PAUSED),
+    Step::Link(PAUSED_NEW),
+    Step::Pause(true),
+    Step::Pause(false),
+    Step::Untouched,
 ];
 
 // The permission bits of the file.
@@ -91,6 +115,10 @@ fn is_so<R: Files<File = File> + AllocGlobal + Eprint + Abort>(rt: &R, step: &St
         Step::Mode(wanted) => mode(rt) == *wanted,
         Step::Text(text) => fs::read_to_string(rt, FILE).expect(rt, "a file").as_str() == *text,
         Step::There(file, is_there) => fs::exists(rt, file).expect(rt, "an answer") == *is_there,
+        Step::Link(file) => symlink(rt, "other", file).is_ok(),
+        Step::Unclear => PauseFile::new(rt, FILE).is_err(),
+        Step::Gone(file) => fs::remove_file(rt, file).is_ok(),
+        Step::Untouched => fs::read_to_string(rt, OTHER).expect(rt, "a file").as_str() == "x",
         Step::Pause(is_paused) => paused(rt, FILE, *is_paused) == [*is_paused; 2],
     }
 }

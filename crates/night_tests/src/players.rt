@@ -1,13 +1,15 @@
 //! Files, lines and links as texts.
-use lobby_players::{AddFault, Addition, LineFault, PlayersFault, added, link_text, read};
+use lobby_players::{
+    AddFault, Addition, LineFault, PlayersFault, RereadFault, added, link_text, read, reread,
+};
 
 const ANN: &str =
-    "ann player ba7816bf8f01cfea414140de5dae2223b00361a396177a9cb410ff61f20015ad Ann Lee\n";
+    "ann player 2222222222222222222222222222222222222222222222222222222222222222 Ann Lee\n";
 
 // A text, and how many players it has, or its first fault.
-static TEXTS: [(&[u8], Result<usize, PlayersFault>); 6] = [
+static TEXTS: [(&[u8], Result<usize, PlayersFault>); 10] = [
     (
-        b"ann player ba7816bf8f01cfea414140de5dae2223b00361a396177a9cb410ff61f20015ad Ann Lee\n",
+        b"ann player 2222222222222222222222222222222222222222222222222222222222222222 Ann Lee\n",
         Ok(1),
     ),
     (b"# nobody\n\n", Ok(0)),
@@ -20,8 +22,25 @@ static TEXTS: [(&[u8], Result<usize, PlayersFault>); 6] = [
         Err(PlayersFault::Line(1, LineFault::NotPlayer)),
     ),
     (
-        b"ann player ba7816bf8f01cfea414140de5dae2223b00361a396177a9cb410ff61f20015ad A\nbob player ba7816bf8f01cfea414140de5dae2223b00361a396177a9cb410ff61f20015ad B",
+        b"ann player 2222222222222222222222222222222222222222222222222222222222222222 A\nbob player 2222222222222222222222222222222222222222222222222222222222222222 B",
         Err(PlayersFault::Line(2, LineFault::TokenTwice)),
+    ),
+    (
+        b"ann player 2222222222222222222222222222222222222222222222222222222222222222 A\nAnn player 0000000000000000000000000000000000000000000000000000000000000001 B\n",
+        Err(PlayersFault::Line(2, LineFault::NameAlike)),
+    ),
+    (
+        b"ann player 2222222222222222222222222222222222222222222222222222222222222222 A\nann player 0000000000000000000000000000000000000000000000000000000000000001 B\n",
+        Err(PlayersFault::Line(2, LineFault::NameTwice)),
+    ),
+    // U+202E, which turns what stands behind it, and U+00E9, which doesn't
+    (
+        b"ann player 2222222222222222222222222222222222222222222222222222222222222222 A\xe2\x80\xae\n",
+        Err(PlayersFault::Line(1, LineFault::NotPlayer)),
+    ),
+    (
+        b"ann player 2222222222222222222222222222222222222222222222222222222222222222 A\xc3\xa9\n",
+        Ok(1),
     ),
     (b"#\n\n#\xff", Err(PlayersFault::NotText(3))),
 ];
@@ -30,6 +49,35 @@ static TEXTS: [(&[u8], Result<usize, PlayersFault>); 6] = [
 fn reads_players_and_names_the_first_fault(rt: HostRuntime) {
     for (text, wanted) in &TEXTS {
         let found = match read(rt.alloc(), text) {
+            Ok(players) => Ok(players.len()),
+            Err(fault) => Err(fault),
+        };
+        assert!(rt; found == *wanted);
+    }
+}
+
+// A text that is to take a file's place, and how many players it has, or why it is not taken.
+static LATER_TEXTS: [(&[u8], Result<usize, RereadFault>); 5] = [
+    (
+        b"ann player 2222222222222222222222222222222222222222222222222222222222222222 Ann Lee\n",
+        Ok(1),
+    ),
+    (b"", Err(RereadFault::NoPlayer)),
+    (b"# ann\n", Err(RereadFault::NoPlayer)),
+    (
+        b"ann player 2222222222222222222222222222222222222222222222222222222222222222 Ann L",
+        Err(RereadFault::CutShort),
+    ),
+    (
+        b"ann player 2222",
+        Err(RereadFault::File(PlayersFault::Line(1, LineFault::NotPlayer))),
+    ),
+];
+
+#[test]
+fn takes_no_file_that_is_half_written(rt: HostRuntime) {
+    for (text, wanted) in &LATER_TEXTS {
+        let found = match reread(rt.alloc(), text) {
             Ok(players) => Ok(players.len()),
             Err(fault) => Err(fault),
         };
@@ -46,18 +94,19 @@ type Added = (
 );
 
 const CLUB: &str =
-    "# club\nann player ba7816bf8f01cfea414140de5dae2223b00361a396177a9cb410ff61f20015ad Ann Lee\n";
+    "# club\nann player 2222222222222222222222222222222222222222222222222222222222222222 Ann Lee\n";
 
 const NEW_CLUB: &str =
     "# club\nann arbiter d65df89f702eec58ca3c7bf2001c9ffc7cd80553ae01d42a799ba26756142d96 Ann M. Lee\n";
 
 const GUESTS: &str =
-    "ann player ba7816bf8f01cfea414140de5dae2223b00361a396177a9cb410ff61f20015ad Ann Lee\n# guests\n\nbob player 0000000000000000000000000000000000000000000000000000000000000001 Bo";
+    "ann player 2222222222222222222222222222222222222222222222222222222222222222 Ann Lee\n# guests\n\nbob player 0000000000000000000000000000000000000000000000000000000000000001 Bo";
 
-static ADDED: [Added; 7] = [
+static ADDED: [Added; 8] = [
     (CLUB, "ann", "Ann M. Lee", Ok(NEW_CLUB)),
     (ANN, "a b", "A", Err(AddFault::BadName)),
     (ANN, "bob", " B", Err(AddFault::BadFullName)),
+    (ANN, "ANN", "Ann Lee", Err(AddFault::NameAlike)),
     (NEW_CLUB, "bob", "B", Err(AddFault::TokenTaken)),
     // a new link keeps its place, and a new player is the last
     (
@@ -73,7 +122,7 @@ static ADDED: [Added; 7] = [
         "bob",
         "X",
         Ok(
-            "ann player ba7816bf8f01cfea414140de5dae2223b00361a396177a9cb410ff61f20015ad Ann Lee\n# guests\n\nbob arbiter d65df89f702eec58ca3c7bf2001c9ffc7cd80553ae01d42a799ba26756142d96 X\n",
+            "ann player 2222222222222222222222222222222222222222222222222222222222222222 Ann Lee\n# guests\n\nbob arbiter d65df89f702eec58ca3c7bf2001c9ffc7cd80553ae01d42a799ba26756142d96 X\n",
         ),
     ),
     (
@@ -81,7 +130,7 @@ static ADDED: [Added; 7] = [
         "cid",
         "X",
         Ok(
-            "ann player ba7816bf8f01cfea414140de5dae2223b00361a396177a9cb410ff61f20015ad Ann Lee\n# guests\n\nbob player 0000000000000000000000000000000000000000000000000000000000000001 Bo\ncid arbiter d65df89f702eec58ca3c7bf2001c9ffc7cd80553ae01d42a799ba26756142d96 X\n",
+            "ann player 2222222222222222222222222222222222222222222222222222222222222222 Ann Lee\n# guests\n\nbob player 0000000000000000000000000000000000000000000000000000000000000001 Bo\ncid arbiter d65df89f702eec58ca3c7bf2001c9ffc7cd80553ae01d42a799ba26756142d96 X\n",
         ),
     ),
 ];
@@ -98,10 +147,14 @@ fn adds_a_player_and_gives_a_new_token(rt: HostRuntime) {
         };
         let made = added(rt.alloc(), text.as_bytes(), &who, &TOKEN);
         let told = match &made {
-            Ok(new) => Ok(new.as_str()),
+            Ok(new) => Ok(new.text.as_str()),
             Err(fault) => Err(*fault),
         };
-        assert!(rt; told == *wanted);
+        let is_new = match &made {
+            Ok(new) => new.is_new,
+            Err(_) => false,
+        };
+        assert!(rt; told == *wanted && is_new == (*name == "cid"));
     }
 }
 
