@@ -7,4 +7,5 @@ pub mod Refusals
 pub mod Logging
 pub mod Tellings
 pub mod Who
+pub mod Strangers
 pub mod History
