@@ -46,10 +46,10 @@ def lobby_path():
 class GameServer:
     """chess_server serve over a journal of its own."""
 
-    def __init__(self, folder, games=1024):
+    def __init__(self, folder, games=1024, plies=600):
         self.program, self.journal = server_path(), os.path.join(folder, 'club.journal')
         self.port = 0
-        subprocess.run([self.program, 'format', '--journal', self.journal, '--games', str(games), '--plies', '600'],
+        subprocess.run([self.program, 'format', '--journal', self.journal, '--games', str(games), '--plies', str(plies)],
                        stdout=subprocess.DEVNULL, check=True)
         self.start()
 
@@ -163,13 +163,13 @@ class Programs:
     """Server, relay and lobby, over a players' file with lines `NAME ROLE TOKEN FULL NAME`, or over the `club.players` that
     is in the folder; `more` are options of the lobby, and `errors` is the file of its standard error."""
 
-    def __init__(self, folder, players=None, has_relay=True, more=(), errors=subprocess.DEVNULL):
+    def __init__(self, folder, players=None, has_relay=True, more=(), errors=subprocess.DEVNULL, games=1024, plies=600):
         self.folder, self.port, self.more, self.errors = folder, 0, more, errors
         self.club = os.path.join(folder, 'club.players')
         if players:
             self.add_players(players)
         self.program = lobby_path()
-        self.server = GameServer(folder)
+        self.server = GameServer(folder, games, plies)
         self.relay = Relay(self.server) if has_relay else None
         self.start()
 
