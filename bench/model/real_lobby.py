@@ -43,10 +43,10 @@ def lobby_path():
 class GameServer:
     """chess_server serve over a journal of its own."""
 
-    def __init__(self, folder, games=1024):
+    def __init__(self, folder, games=1024, plies=600):
         self.program, self.journal = server_path(), os.path.join(folder, 'club.journal')
         self.port = 0
-        subprocess.run([self.program, 'format', '--journal', self.journal, '--games', str(games), '--plies', '600'],
+        subprocess.run([self.program, 'format', '--journal', self.journal, '--games', str(games), '--plies', str(plies)],
                        stdout=subprocess.DEVNULL, check=True)
         self.start()
 
@@ -164,14 +164,15 @@ class Programs:
     is in the folder; `more` are options of the lobby, `errors` is where its standard error goes. It keeps a log, without
     which nobody is an arbiter, where `has_log`."""
 
-    def __init__(self, folder, players=None, has_relay=True, more=(), has_log=True, errors=subprocess.DEVNULL):
+    def __init__(self, folder, players=None, has_relay=True, more=(), has_log=True, errors=subprocess.DEVNULL, games=1024,
+                 plies=600):
         self.folder, self.port, self.errors = folder, 0, errors
         self.more = more if '--log' in more or not has_log else (*more, '--log', os.path.join(folder, 'lobby.log'))
         self.club = os.path.join(folder, 'club.players')
         if players:
             self.add_players(players)
         self.program = lobby_path()
-        self.server = GameServer(folder)
+        self.server = GameServer(folder, games, plies)
         self.relay = Relay(self.server) if has_relay else None
         self.start()
 

@@ -597,6 +597,40 @@ fn that_entries_are_paused_is_kept_before_the_log_is_told(rt: &impl Abort, lab: 
     assert!(rt; is_kept);
 }
 
+// Two who show no token and ask, and one who shows ann's and opens a game when the first of them asks.
+const ASKER: &[u8] = b"UP~~~~\x81\x85\0\0\0\0fen 1\x81\x85\0\0\0\0fen 2";
+
+const OTHER_ASKER: &[u8] = b"UP~~~~\x81\x85\0\0\0\0fen 3";
+
+const OPENER: &[u8] = b"UP~\x81\x87\0\0\0\0login t~~~\x81\x90\0\0\0\0open white 300 2";
+
+// A server that answers some turns later: first the act, then the first question, and then that of the other one.
+const ANSWERS: &[u8] =
+    b"~~~~~~~~~~~~ok name ann\nok open 1\n~~ok fen 1 -\n~~~~ok show 1\nok fen 1 -\nok fen 3 -\n";
+
+// All that came, in so many turns with all sockets awake.
+fn turn_three(rt: &impl Abort, lab: &mut Lab, server: &'static [u8], turns: u64) {
+    lab.begin(rt, &(ASKER, server, How::Plainly));
+    for (browser, key) in [(OTHER_ASKER, 3), (OPENER, 4)] {
+        lab.hall.admit(Peer::new(lab.alloc, browser, 1_000), key, 0);
+    }
+    for at in 0..turns {
+        lab.turn_alone(rt, at);
+        for key in 2..5 {
+            lab.hall.wake(key);
+        }
+        lab.hall.wake_server();
+    }
+}
+
+// The act goes first, though who opens a game came last; and of all who ask without a token one waits for the server at a time.
+fn players_come_before_strangers(rt: &impl Abort, lab: &mut Lab) {
+    turn_three(rt, lab, b"", 90);
+    assert!(rt; lab.is_asked(b"name ann\nopen white 300 2\nfen 1\n"));
+    turn_three(rt, lab, ANSWERS, 90);
+    assert!(rt; lab.is_asked(b"name ann\nopen white 300 2\nfen 1\nshow 1\nfen 1\nfen 3\nfen 2\n"));
+}
+
 #[test]
 fn halls(rt: HostRuntime) {
     let alloc = rt.alloc();
@@ -624,5 +658,6 @@ fn halls(rt: HostRuntime) {
     a_failed_accept_ends_the_turn_of_accepting(&rt, &mut lab);
     who_has_another_link_acts_no_more(&rt, &mut lab);
     that_entries_are_paused_is_kept_before_the_log_is_told(&rt, &mut lab);
+    players_come_before_strangers(&rt, &mut lab);
     drop(lab);
 }

@@ -8,4 +8,5 @@ pub mod Refusals
 pub mod Logging
 pub mod Tellings
 pub mod Who
+pub mod Strangers
 pub mod History

@@ -13,6 +13,7 @@ mod present;
 mod refusals;
 mod renewing;
 mod server_line;
+mod strangers;
 mod telling;
 mod visitors;
 mod waiting;

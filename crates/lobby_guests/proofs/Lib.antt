@@ -1,4 +1,5 @@
 pub mod EachGuest
+pub mod Attending
 pub mod Telling
 pub mod Each
 pub mod Making

@@ -1,12 +1,14 @@
 -- What happens at a browser's connection.
-use Rattle.std.specs.Prelude.{ℕ, ◌≡◌, ◌≤◌, ◌⊎◌, Bool, true, false, not, List, [], ◌∷◌, Option, None, Some, Result, length, take, filter}
+use Rattle.std.specs.Prelude.{ℕ, ◌≡◌, ◌≤◌, ◌<◌, ◌⊎◌, ◌&&◌, Bool, true, false, not, is_some, List, [], ◌∷◌, Option, None, Some, Result, length, take, filter}
 use Rattle.std.specs.List.{AllZip}
 use Rattle.std.specs.Io.KnownBytes.{Consumes, Appends}
 use Rattle.std.specs.String.{string_bytes}
 use Rattle.websocket.specs.Content.{text as Text, ping as Ping}
 use Rattle.lobby_desk.specs.declared.telling.Message.{Message}
 use Rattle.lobby_desk.specs.Events.{Closed}
-use Rattle.lobby_desk.specs.Who.{at_table}
+use Rattle.lobby_desk.specs.declared.desk.Desk.{Desk}
+use Rattle.lobby_desk.specs.Who.{at_table, IsReady}
+use Rattle.lobby_desk.specs.Strangers.{acts, strangers_wait}
 use Rattle.lobby_web.specs.declared.browser.Browser.{Browser}
 use Rattle.lobby_web.specs.declared.site.Site.{Site}
 use Rattle.lobby_web.specs.declared.socket.Heard.{Heard}
@@ -14,6 +16,8 @@ use Rattle.lobby_web.specs.declared.socket.Heard.TheVariants as heards
 use Rattle.lobby_web.specs.declared.socket.Unsaid.{Unsaid}
 use Rattle.lobby_web.specs.Browsing.{IsNew, pending, WantsBytes, Takes, HearsNext, SaysTo, Writes}
 use Rattle.lobby_guests.specs.declared.guest.Guest.{Guest}
+use Rattle.lobby_guests.specs.declared.rounds.Others.{Others}
+use Rattle.lobby_guests.specs.declared.rounds.Others.TheVariants.{Newcomers, Strangers}
 use Rattle.lobby_guests.specs.declared.talk.Talk.{Talk}
 use Rattle.lobby_guests.specs.Talking.{Moves, Opens, IsTextSaid}
 use Rattle.lobby_guests.specs.Making.{IsMadeOf}
@@ -61,6 +65,11 @@ pub record IsAsked {S : Type 0} (at : ℕ) (old new : Guest S) (talk after : Tal
 abbrev pub IsHeard : {S : Type 0} → ℕ → Guest S → Guest S → Talk → Talk → Type 0
 IsHeard at old new talk after = IsAsked at old new talk after ⊎ (new ≡ old) × (after ≡ talk)
 
+-- the desk takes what comes next of it: that its socket is open, or a message, where no answer is owed to it
+abbrev pub MaySpeak : Desk → Option ℕ → Type 0
+MaySpeak desk None = Unit {0}
+MaySpeak desk (Some c) = IsReady desk c
+
 -- It is read for, and heard.
 pub record IsAttended {S : Type 0} (remaining : S → Option (List ℕ)) (site : Site) (at : ℕ) (old new : Guest S)
     (talk after : Talk) : Type 0 where
@@ -68,13 +77,91 @@ pub record IsAttended {S : Type 0} (remaining : S → Option (List ℕ)) (site :
   pub reads : IsRead remaining site old read
   pub hears : IsHeard at read new talk after
 
--- One after the other, and each once.
-abbrev pub AreAttended : {S : Type 0} → (S → Option (List ℕ)) → Site → ℕ → List (Guest S) → List (Guest S) → Talk → Talk
-    → Type 0
-AreAttended remaining site at [] after old new = (after ≡ []) × (new ≡ old)
-AreAttended {S = S} remaining site at (guest ∷ guests) after old new =
-    (next : Guest S) × (rest : List (Guest S)) × (between : Talk) × (after ≡ next ∷ rest)
-    × IsAttended remaining site at guest next old between × AreAttended remaining site at guests rest between new
+-- Where it is not lost then and the desk takes what comes next of it, it is asked for that at once: what is whole of it is not left
+-- to a later turn.
+pub record IsServed {S : Type 0} (remaining : S → Option (List ℕ)) (site : Site) (at : ℕ) (old new : Guest S)
+    (talk after : Talk) : Type 0 where
+  pub attended : IsAttended remaining site at old new talk after
+  pub asks : attended.read.is_lost ≡ false → MaySpeak talk.desk attended.read.number → IsAsked at attended.read new talk after
+
+-- Something is done to each, one after the other and each once, and with each something else changes.
+abbrev pub InTurn : {A B : Type 0} → (A → A → B → B → Type 0) → List A → List A → B → B → Type 0
+InTurn does [] after old new = (after ≡ []) × (new ≡ old)
+InTurn {A = A} {B = B} does (one ∷ ones) after old new =
+    (next : A) × (rest : List A) × (between : B) × (after ≡ next ∷ rest)
+    × does one next old between × InTurn does ones rest between new
+
+-- whether it acts for a player
+abbrev pub acts_at : Desk → Option ℕ → Bool
+acts_at desk None = false
+acts_at desk (Some c) = acts desk c
+
+-- Who acts for a player is served, and nothing is done to anybody else.
+abbrev pub IsServedIf : {S : Type 0} → Bool → (S → Option (List ℕ)) → Site → ℕ → Guest S → Guest S → Talk → Talk → Type 0
+IsServedIf true remaining site at old new talk after = IsServed remaining site at old new talk after
+IsServedIf false remaining site at old new talk after = (new ≡ old) × (after ≡ talk)
+
+abbrev pub IsPlayersTurn : {S : Type 0} → (S → Option (List ℕ)) → Site → ℕ → Guest S → Guest S → Talk → Talk → Type 0
+IsPlayersTurn remaining site at old new talk after =
+    IsServedIf (acts_at talk.desk old.number) remaining site at old new talk after
+
+-- Who else is attended: who has no socket yet; and who has one and acts for nobody.
+abbrev pub is_other : Others → Desk → Option ℕ → Bool
+is_other Newcomers desk number = not (is_some number)
+is_other Strangers desk None = false
+is_other Strangers desk (Some c) = not (acts desk c)
+
+-- Who acts for nobody is attended only where the server owes no answer to anybody like that: it has at most one message of all of
+-- them together.
+abbrev pub may_call : Others → Desk → Bool
+may_call Newcomers desk = true
+may_call Strangers desk = not (strangers_wait desk)
+
+-- the desk, and how many more are attended in this turn
+pub record Room : Type 0 where
+  pub talk : Talk
+  pub left : ℕ
+
+-- Nothing is done to one, or it is attended and takes of the room that there is.
+pub record IsPassedOver {S : Type 0} (old new : Guest S) (room after : Room) : Type 0 where
+  pub guest : new ≡ old
+  pub talk : after.talk ≡ room.talk
+  pub left : after.left ≤ room.left
+
+pub record IsCalled {S : Type 0} (others : Others) (remaining : S → Option (List ℕ)) (site : Site) (at : ℕ) (old new : Guest S)
+    (room after : Room) : Type 0 where
+  pub other : is_other others room.talk.desk old.number ≡ true
+  pub may : may_call others room.talk.desk ≡ true
+  pub served : IsServed remaining site at old new room.talk after.talk
+  pub takes : after.left < room.left
+
+abbrev pub IsOthersTurn : {S : Type 0} → Others → (S → Option (List ℕ)) → Site → ℕ → Guest S → Guest S → Room → Room → Type 0
+IsOthersTurn others remaining site at old new room after =
+    IsPassedOver old new room after ⊎ IsCalled others remaining site at old new room after
+
+-- So many of them at most are attended in a turn.
+abbrev pub others_most : ℕ
+others_most = 16
+
+abbrev pub full_room : Talk → Room
+full_room talk = record { talk = talk; left = others_most }
+
+-- In a turn players are served first, each of them; then some of those who have no socket yet; and of those who act for nobody
+-- some who were told no answer yet, and some of the others.
+pub record AreAttended {S : Type 0} (remaining : S → Option (List ℕ)) (site : Site) (at : ℕ) (old new : List (Guest S))
+    (talk after : Talk) : Type 0 where
+  pub first : List (Guest S)
+  pub said : Talk
+  pub players : InTurn (IsPlayersTurn remaining site at) old first talk said
+  pub second : List (Guest S)
+  pub came : Room
+  pub newcomers : InTurn (IsOthersTurn Newcomers remaining site at) first second (full_room said) came
+  pub third : List (Guest S)
+  pub asked : Room
+  pub fresh : InTurn (IsOthersTurn Strangers remaining site at) second third (full_room came.talk) asked
+  pub last : Room
+  pub strangers : InTurn (IsOthersTurn Strangers remaining site at) third new (full_room asked.talk) last
+  pub after_is : after ≡ last.talk
 
 -- ---- what goes
 

@@ -49,7 +49,7 @@ pub record IsOfLine (text new : List ℕ) : Type 0 where
 abbrev pub IsFinished : Kind → List ℕ → List ℕ → Type 0
 IsFinished Whole text new = new ≡ text
 IsFinished AtPosition text new = IsWithMoves text new
-IsFinished Line text new = IsOfLine text new
+IsFinished Line text new = ∥ IsOfLine text new ∥₁
 IsFinished Log text new = new ≡ text
 
 -- a message, as it goes out: to the same connections

@@ -111,8 +111,9 @@ impl Counts {
         }
     }
 
-    // A browser that asked at these moments is told a text: an answer, or a notice, which is not counted.
-    pub(crate) fn told(&mut self, text: &str, asked: &mut Asked) {
+    // A browser that asked at these moments is told a text: an answer, or a notice, which is not counted. It tells whether it is
+    // an answer.
+    pub(crate) fn told(&mut self, text: &str, asked: &mut Asked) -> bool {
         match first_word(text) {
             "ok" => {
                 count(&mut self.ok);
@@ -121,9 +122,10 @@ impl Counts {
             "no" => count(&mut self.no),
             "fallen" => count(&mut self.fallen),
             "lost" => count(&mut self.lost),
-            _ => return,
+            _ => return false,
         }
         self.answered(asked);
+        true
     }
 }
 

@@ -1,7 +1,7 @@
 //! A browser's connection: its socket, what it says, and what it is told.
-ghost use Rattle.std.specs.Prelude.{ℕ, ◌≡◌, None, Some, true, OnOk};
+ghost use Rattle.std.specs.Prelude.{ℕ, ◌≡◌, ◌↔◌, None, Some, false, IsTrue, OnOk};
 ghost use Rattle.lobby_desk.specs.Who.{IsReady, at_table};
-ghost use Rattle.lobby_guests.specs.Guests.{IsNewGuest, IsAsBefore, IsRead, IsHeardAs, IsHeard, IsSaid, IsTold, AreTold, IsWritten, IsLookedAfter};
+ghost use Rattle.lobby_guests.specs.Guests.{IsNewGuest, IsAsBefore, IsRead, IsHeardAs, IsHeard, IsAsked, MaySpeak, IsSaid, IsTold, AreTold, IsWritten, IsLookedAfter};
 
 use crate::counts::Asked;
 use crate::pieces::{Gone, PIECE_ROOM, write_piece};
@@ -22,6 +22,12 @@ const CLOSED_AFTER: u64 = 75_000;
 
 /// So many milliseconds at most a connection has for HTTP.
 const HTTP_MOST: u64 = 60_000;
+
+/// So many bytes of an answer take a millisecond of the time of a connection that acts for nobody, and so many milliseconds its
+/// time may run ahead before its next message is taken.
+const BYTES_A_MILLISECOND: u64 = 200;
+
+const AHEAD: u64 = 1_000;
 
 /// A browser's connection.
 #[derive(Drop)]
@@ -45,6 +51,8 @@ pub struct Guest<S> {
     is_asked: bool,
     /// When its messages were taken that are not answered.
     asked: Asked,
+    /// Until when its time is taken by the answers that it was told.
+    paid_until: u64,
 }
 
 // Whether a connection is among these.
@@ -72,6 +80,7 @@ impl<S> Guest<S> {
             heard_at: at,
             is_asked: false,
             asked: Asked::new(),
+            paid_until: 0,
         }
     }
 
@@ -87,6 +96,33 @@ impl<S> Guest<S> {
         ensures { result ≡ self.now.number }
     {
         self.number
+    }
+
+    /// The name of its socket.
+    pub fn key(&self) -> usize {
+        self.key
+    }
+
+    /// Whether it was told no answer yet, or some, and something may have come of it for which its time is not taken.
+    pub fn is_due(&self, is_fresh: bool, at: u64) -> bool {
+        let wants = self.has_more || self.can_read && self.browser.wants_read();
+        let may = !self.is_lost && self.paid_until <= at.saturating_add(AHEAD);
+        wants && may && is_fresh == (self.paid_until == 0)
+    }
+
+    /// The moment from which on its next message is taken, where it may have one and its time is taken so far ahead.
+    pub fn due_at(&self, at: u64) -> Option<u64> {
+        let moment = self.paid_until.saturating_sub(AHEAD);
+        if self.has_more && moment > at {
+            Some(moment)
+        } else {
+            None
+        }
+    }
+
+    /// Whether something waits to be written that its socket may take.
+    pub fn has_to_write(&self) -> bool {
+        self.can_write && !self.is_lost && !self.browser.out().is_empty()
     }
 
     /// The socket of this name may be ready.
@@ -117,7 +153,7 @@ impl<S> Guest<S> {
 
     // Whether the desk takes what comes next of it: that its socket is open, or a message where the one before it is answered.
     fn may_speak(&self, talk: &Talk) -> bool
-        ensures { result ≡ true → (number : ℕ) → self.now.number ≡ Some number → IsReady talk.now.desk number }
+        ensures { IsTrue result ↔ MaySpeak talk.now.desk self.now.number }
     {
         match self.number {
             None => true,
@@ -134,7 +170,7 @@ impl<S> Guest<S> {
         links: &mut K,
         counts: &mut Counts,
     ) -> Result<bool, AllocError>
-        requires { (number : ℕ) → self.old.number ≡ Some number → IsReady talk.old.desk number }
+        requires { MaySpeak talk.old.desk self.old.number }
         ensures told { OnOk result (IsHeardAs (Some heard.now) at self.old.number self.new.number talk.old talk.new) }
         ensures browser { OnOk result (self.new.browser ≡ self.old.browser) }
         ensures stream { OnOk result (self.new.stream ≡ self.old.stream) }
@@ -176,9 +212,11 @@ impl<S> Guest<S> {
         links: &mut K,
         counts: &mut Counts,
     ) -> Result<bool, AllocError>
-        ensures { OnOk result (IsHeard at self.old self.new talk.old talk.new) }
+        ensures heard { OnOk result (IsHeard at self.old self.new talk.old talk.new) }
+        ensures asks { OnOk result (self.old.is_lost ≡ false → MaySpeak talk.old.desk self.old.number →
+            IsAsked at self.old self.new talk.old talk.new) }
     {
-        if !self.has_more || self.is_lost || !self.may_speak(talk) {
+        if self.is_lost || !self.may_speak(talk) {
             return Ok(false);
         }
         match self.browser.next() {
@@ -203,6 +241,14 @@ impl<S> Guest<S> {
         }
     }
 
+    // Its time is taken by an answer of so many bytes.
+    fn pay(&mut self, at: u64, bytes: usize)
+        ensures { IsAsBefore self.old self.new }
+    {
+        let from = self.paid_until.max(at);
+        self.paid_until = from.saturating_add(bytes as u64 / BYTES_A_MILLISECOND);
+    }
+
     // It is told a message, if that goes to it.
     fn be_told(&mut self, made: &Message, counts: &mut Counts)
         ensures { IsTold made.now self.old self.new }
@@ -212,7 +258,9 @@ impl<S> Guest<S> {
             Some(number) => {
                 if is_among(made.to.as_slice(), number) {
                     self.be_told_text(made.text.as_str());
-                    counts.told(made.text.as_str(), &mut self.asked);
+                    if counts.told(made.text.as_str(), &mut self.asked) {
+                        self.pay(counts.at, made.text.len());
+                    }
                 }
             }
         }
@@ -296,11 +344,11 @@ impl<S: Read + Write> Guest<S> {
         }
     }
 
-    /// Writes what the socket takes at once of what waits. It tells whether that was anything.
-    pub fn write_out(&mut self, site: &Site) -> bool
+    /// Writes what the socket takes at once of what waits, if it is its turn. It tells whether that was anything.
+    pub fn write_out(&mut self, site: &Site, is_turn: bool) -> bool
         ensures { IsWritten S.contents site.now self.old self.new }
     {
-        if !self.can_write || self.is_lost || self.browser.out().is_empty() {
+        if !is_turn || !self.has_to_write() {
             return false;
         }
         match write_piece(&mut self.stream, self.browser.out()) {

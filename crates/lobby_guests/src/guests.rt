@@ -1,13 +1,15 @@
 //! All browsers that are connected, by the names of their sockets, which grow.
 #![tactic(auto, using(crate::proofs::Each::zipped_none, crate::proofs::Each::zipped_vec))]
 
-ghost use Rattle.std.specs.Prelude.{ℕ, Bool, true, false, ◌≡◌, ◌++◌, ◌∷◌, [], Option, OnOk};
+ghost use Rattle.std.specs.Prelude.{ℕ, Bool, true, false, ◌≡◌, ◌++◌, ◌∷◌, [], List, Option, OnOk};
 ghost use Rattle.std.specs.List.{AllZip};
-ghost use Rattle.lobby_guests.specs.Guests.{IsAsBefore, IsAttended, AreAttended, AreTold, AreDelivered, IsWritten, IsLookedAfter, IsClosedIf, AreClosed, AreParted};
+ghost use Rattle.lobby_guests.specs.Guests as guests;
+ghost use Rattle.lobby_guests.specs.Guests.{IsAsBefore, IsServed, IsPlayersTurn, IsOthersTurn, InTurn, Room, full_room, AreAttended, AreTold, AreDelivered, IsWritten, IsLookedAfter, IsClosedIf, AreClosed, AreParted};
 
 use crate::guest::Guest;
 use crate::made::finish_all;
 use crate::pieces::PIECE_ROOM;
+use crate::rounds::{Others, Round, Rounds};
 use crate::{Counts, KeepsLinks, Talk};
 use lobby_desk::Message;
 use lobby_web::Site;
@@ -24,16 +26,132 @@ fn attend<S: Read + Write, K: KeepsLinks>(
     piece: &mut [u8; PIECE_ROOM],
     counts: &mut Counts,
 ) -> Result<bool, AllocError>
-    ensures { OnOk result (IsAttended S.remaining site.now at guest.old guest.new talk.old talk.new) }
+    ensures { OnOk result (IsServed S.remaining site.now at guest.old guest.new talk.old talk.new) }
 {
     let has_read = guest.read_in(site, at, piece, counts);
     let has_heard = guest.hear(talk, at, links, counts)?;
     Ok(has_read | has_heard)
 }
 
-/// Reads for each, and says to the desk what came next of it. It tells whether there was anything.
+// Attends a browser if it acts for a player.
+fn attend_player<S: Read + Write, K: KeepsLinks>(
+    guest: &mut Guest<S>,
+    site: &Site,
+    talk: &mut Talk,
+    at: u64,
+    links: &mut K,
+    piece: &mut [u8; PIECE_ROOM],
+    counts: &mut Counts,
+) -> Result<bool, AllocError>
+    ensures { OnOk result (IsPlayersTurn S.remaining site.now at guest.old guest.new talk.old talk.new) }
+{
+    if !talk.acts(guest.number()) {
+        return Ok(false);
+    }
+    attend(guest, site, talk, at, links, piece, counts)
+}
+
+// Attends each that acts for a player.
+fn attend_players<S: Read + Write, K: KeepsLinks>(
+    guests: &mut Vec<Guest<S>>,
+    site: &Site,
+    talk: &mut Talk,
+    at: u64,
+    links: &mut K,
+    piece: &mut [u8; PIECE_ROOM],
+    counts: &mut Counts,
+) -> Result<bool, AllocError>
+    ensures { OnOk result (InTurn (IsPlayersTurn S.remaining site.now at) guests.old.items guests.new.items talk.old talk.new) }
+{
+    let mut any = false;
+    for guest in guests.iter_mut() {
+        any |= attend_player(guest, site, talk, at, links, piece, counts)?;
+    }
+    Ok(any)
+}
+
+// Whether a browser is one of these others.
+fn is_other(others: Others, number: Option<u64>, talk: &Talk) -> bool
+    ensures { result ≡ guests.is_other others talk.now.desk number }
+{
+    match others {
+        Others::Newcomers => number.is_none(),
+        Others::Strangers => number.is_some() && !talk.acts(number),
+    }
+}
+
+// Whether one of these others may be attended now.
+fn may_call(others: Others, talk: &Talk, at: u64) -> bool
+    ensures { result ≡ true → guests.may_call others talk.now.desk ≡ true }
+{
+    match others {
+        Others::Newcomers => true,
+        Others::Strangers => at >= talk.strangers_at() && !talk.strangers_wait(),
+    }
+}
+
+// Attends a browser if it is one of these others, and its turn.
+fn attend_other<S: Read + Write, K: KeepsLinks>(
+    guest: &mut Guest<S>,
+    others: Others,
+    is_fresh: bool,
+    round: &mut Round,
+    site: &Site,
+    talk: &mut Talk,
+    at: u64,
+    links: &mut K,
+    piece: &mut [u8; PIECE_ROOM],
+    counts: &mut Counts,
+) -> Result<bool, AllocError>
+    ensures { OnOk result (IsOthersTurn others S.remaining site.now at guest.old guest.new
+        (record { talk = talk.old; left = round.old.left }) (record { talk = talk.new; left = round.new.left })) }
+{
+    if !round.is_at(guest.key())
+        || !guest.is_due(is_fresh, at)
+        || !is_other(others, guest.number(), talk)
+    {
+        return Ok(false);
+    }
+    if !may_call(others, talk, at) {
+        round.shut();
+        return Ok(false);
+    }
+    round.take(guest.key());
+    attend(guest, site, talk, at, links, piece, counts)
+}
+
+// Attends some of these others, and tells whether there was anything or more can be attended at once.
+fn attend_others<S: Read + Write, K: KeepsLinks>(
+    guests: &mut Vec<Guest<S>>,
+    others: Others,
+    is_fresh: bool,
+    round: &mut Round,
+    site: &Site,
+    talk: &mut Talk,
+    at: u64,
+    links: &mut K,
+    piece: &mut [u8; PIECE_ROOM],
+    counts: &mut Counts,
+) -> Result<bool, AllocError>
+    ensures { OnOk result ((room : Room) × (room.talk ≡ talk.new)
+        × InTurn (IsOthersTurn others S.remaining site.now at) guests.old.items guests.new.items (full_room talk.old) room) }
+{
+    let mut any = false;
+    round.begin_attending();
+    for guest in guests.iter_mut() {
+        any |= attend_other(
+            guest, others, is_fresh, round, site, talk, at, links, piece, counts,
+        )?;
+    }
+    let can_more = round.end();
+    Ok(any | can_more)
+}
+
+/// Reads for players, and says to the desk what came next of each of them; and then for some of the others. It tells whether
+/// there was anything.
 pub fn attend_all<S: Read + Write, K: KeepsLinks>(
     guests: &mut Vec<Guest<S>>,
+    rounds: &mut Rounds,
     site: &Site,
     talk: &mut Talk,
     at: u64,
@@ -43,11 +161,22 @@ pub fn attend_all<S: Read + Write, K: KeepsLinks>(
 ) -> Result<bool, AllocError>
     ensures { OnOk result (AreAttended S.remaining site.now at guests.old.items guests.new.items talk.old talk.new) }
 {
-    let mut any = false;
-    for guest in guests.iter_mut() {
-        any |= attend(guest, site, talk, at, links, piece, counts)?;
-    }
-    Ok(any)
+    let new = Others::Newcomers;
+    let round = &mut rounds.newcomers;
+    let players = attend_players(guests, site, talk, at, links, piece, counts)?;
+    let came = attend_others(
+        guests, new, true, round, site, talk, at, links, piece, counts,
+    )?;
+    let strange = Others::Strangers;
+    let round = &mut rounds.fresh;
+    let fresh = attend_others(
+        guests, strange, true, round, site, talk, at, links, piece, counts,
+    )?;
+    let round = &mut rounds.strangers;
+    let other = attend_others(
+        guests, strange, false, round, site, talk, at, links, piece, counts,
+    )?;
+    Ok(players | came | fresh | other)
 }
 
 // Each is told the messages that go to it.
@@ -72,21 +201,79 @@ pub fn deliver<S>(
     ensures wire { OnOk result (talk.new.wire ≡ talk.old.wire) }
     ensures next { OnOk result (talk.new.next ≡ talk.old.next) }
 {
-    finish_all(alloc, &mut talk.told)?;
+    finish_all(alloc, &mut talk.told, &mut talk.kept)?;
+    talk.rest_strangers(counts.at);
     tell_all(guests, talk.told.as_slice(), counts);
     talk.told.clear();
     Ok(())
 }
 
-/// Writes to each what it takes. It tells whether that was anything.
-pub fn write_all<S: Read + Write>(guests: &mut Vec<Guest<S>>, site: &Site) -> bool
+// Writes to each that acts for a player what it takes.
+fn write_players<S: Read + Write>(guests: &mut Vec<Guest<S>>, site: &Site, talk: &Talk) -> bool
     ensures { AllZip (IsWritten S.contents site.now) guests.old.items guests.new.items }
 {
     let mut any = false;
     for guest in guests.iter_mut() {
-        any |= guest.write_out(site);
+        let is_turn = guest.has_to_write() && talk.acts(guest.number());
+        any |= guest.write_out(site, is_turn);
     }
     any
+}
+
+// Whether it is the turn of a browser that something is written to it; then it has it.
+fn has_turn_to_write<S>(guest: &Guest<S>, talk: &Talk, round: &mut Round) -> bool {
+    let is_turn = round.is_at(guest.key()) && guest.has_to_write() && !talk.acts(guest.number());
+    if is_turn {
+        round.take(guest.key());
+    }
+    is_turn
+}
+
+// Writes to some of the others what they take, and tells whether that was anything or more can be written at once.
+fn write_others<S: Read + Write>(
+    guests: &mut Vec<Guest<S>>,
+    site: &Site,
+    talk: &Talk,
+    round: &mut Round,
+) -> bool
+    ensures { AllZip (IsWritten S.contents site.now) guests.old.items guests.new.items }
+{
+    let mut any = false;
+    round.begin_writing();
+    for guest in guests.iter_mut() {
+        let is_turn = has_turn_to_write(guest, talk, round);
+        any |= guest.write_out(site, is_turn);
+    }
+    let can_more = round.end();
+    any | can_more
+}
+
+/// Writes to players what they take, and then to some of the others. It tells whether that was anything.
+pub fn write_all<S: Read + Write>(
+    guests: &mut Vec<Guest<S>>,
+    rounds: &mut Rounds,
+    site: &Site,
+    talk: &Talk,
+) -> bool
+    ensures { (first : List (Guest S)) × AllZip (IsWritten S.contents site.now) guests.old.items first
+        × AllZip (IsWritten S.contents site.now) first guests.new.items }
+{
+    let players = write_players(guests, site, talk);
+    let others = write_others(guests, site, talk, &mut rounds.written);
+    players | others
+}
+
+/// The earliest moment behind this one from which on somebody's next message is taken, where there is any.
+pub fn first_due<S>(guests: &[Guest<S>], at: u64) -> Option<u64> {
+    let mut first: Option<u64> = None;
+    for guest in guests {
+        first = match (first, guest.due_at(at)) {
+            (Some(one), Some(other)) => Some(one.min(other)),
+            (None, other) => other,
+            (one, None) => one,
+        };
+    }
+    first
 }
 
 /// Looks after each, where it is time.

@@ -6,18 +6,23 @@
 mod counts;
 mod guest;
 mod guests;
+mod kept;
 mod lines;
 mod link;
 mod links;
 mod made;
 mod pieces;
+mod rounds;
 mod said;
 mod talk;
 
 pub use counts::{ACTS, BOUNDS, Counts};
 pub use guest::Guest;
-pub use guests::{attend_all, deliver, let_go, look_after_all, push_guest, wake_all, write_all};
+pub use guests::{
+    attend_all, deliver, first_due, let_go, look_after_all, push_guest, wake_all, write_all,
+};
 pub use link::Link;
 pub use links::{KeepsLinks, NoLinks};
 pub use pieces::PIECE_ROOM;
+pub use rounds::Rounds;
 pub use talk::Talk;

@@ -6,6 +6,7 @@ ghost use Rattle.lobby_words.specs.Words.{word_of, rest_of};
 ghost use Rattle.lobby_guests.specs.Making.{IsWithMoves, IsOfLine, IsFinished, IsMadeOf};
 ghost use Rattle.lobby_guests.specs.Making as making;
 
+use crate::kept::KeptAnswers;
 use lobby_desk::{Kind, Message};
 use lobby_positions::{line_answer, moves_line};
 use std::alloc::{AllocError, Global};
@@ -81,33 +82,56 @@ fn as_positions(alloc: Global, text: &str) -> Result<String, AllocError>
     }
 }
 
+// The same, as it was made before, or made and kept now.
+fn made_or_kept(alloc: Global, text: &str, kept: &mut KeptAnswers) -> Result<String, AllocError>
+    ensures { IfOk result (λ made. ∥ IsOfLine text.now (string_bytes made) ∥₁) }
+{
+    match kept.find(text) {
+        Some(answer) => String::from_str(alloc, answer),
+        None => {
+            let answer = as_positions(alloc, text)?;
+            kept.keep(game_in(text), text, answer.as_str())?;
+            Ok(answer)
+        }
+    }
+}
+
 // A text of this kind, as it goes out.
-fn finish_text(alloc: Global, kind: Kind, text: &mut String) -> Result<(), AllocError>
+fn finish_text(
+    alloc: Global,
+    kind: Kind,
+    text: &mut String,
+    kept: &mut KeptAnswers,
+) -> Result<(), AllocError>
     ensures { OnOk result (IsFinished kind (string_bytes text.old) (string_bytes text.new)) }
 {
     match kind {
         Kind::Whole | Kind::Log => Ok(()),
         Kind::Position => add_moves(alloc, text),
         Kind::Line => {
-            *text = as_positions(alloc, text.as_str())?;
+            *text = made_or_kept(alloc, text.as_str(), kept)?;
             Ok(())
         }
     }
 }
 
 // A message, as it goes out.
-fn finish(alloc: Global, one: &mut Message) -> Result<(), AllocError>
+fn finish(alloc: Global, one: &mut Message, kept: &mut KeptAnswers) -> Result<(), AllocError>
     ensures { OnOk result (IsMadeOf one.old one.new) }
 {
-    finish_text(alloc, one.kind, &mut one.text)
+    finish_text(alloc, one.kind, &mut one.text, kept)
 }
 
 // Messages, as they go out: each in its own place.
-pub(crate) fn finish_all(alloc: Global, told: &mut Vec<Message>) -> Result<(), AllocError>
+pub(crate) fn finish_all(
+    alloc: Global,
+    told: &mut Vec<Message>,
+    kept: &mut KeptAnswers,
+) -> Result<(), AllocError>
     ensures { OnOk result (AllZip IsMadeOf told.old.items told.new.items) }
 {
     for one in told.iter_mut() {
-        finish(alloc, one)?;
+        finish(alloc, one, kept)?;
     }
     Ok(())
 }

@@ -26,7 +26,9 @@ use Rattle.lobby_loop.specs.declared.hall.Hall.{Hall}
 use Rattle.lobby_guests.specs.declared.link.Link.{Link}
 use Rattle.lobby_guests.specs.declared.talk.Talk.{Talk}
 use Rattle.lobby_guests.specs.Talking.{Saying, InTime, TooFast, WithLink, saying, Moves}
-use Rattle.lobby_guests.specs.Guests.{IsNewGuest, IsHeardAs, IsAsBefore, IsAttended, AreAttended, IsLookedAfter, AreTold, AreDelivered, IsWritten, IsClosedIf, AreClosed}
+use Rattle.lobby_guests.specs.declared.rounds.Others.TheVariants.{Newcomers, Strangers}
+use Rattle.lobby_guests.proofs.Attending.{players_pass, others_pass}
+use Rattle.lobby_guests.specs.Guests.{IsNewGuest, IsHeardAs, IsAsBefore, IsAttended, InTurn, full_room, IsLookedAfter, AreTold, AreDelivered, IsWritten, IsClosedIf, AreClosed}
 use Rattle.lobby_guests.specs.Lines.{bytes_of as bytes_before, AreHeard}
 use Rattle.lobby_guests.specs.Held.{HoldsNoLine, IsKept}
 use Rattle.lobby_loop.specs.Turning.{BeginsHall, Admits, ServerComes, IsServerAsBefore, HearsServer, bytes_heard, PartsFromServer, TellsServer, HasTurned, texts_put, AreAdmitted, IsReached, IsLobbyTurn}
@@ -681,7 +683,7 @@ module _ {S : Type 0} (remaining contents : S → Option (List ℕ)) (site : Sit
 
   attended_all : (at : ℕ) (done guests after : List (Guest S)) (s t : Talk) → OwnBefore s.next done (numbers guests) →
       AreOwn s.next (numbers guests) → IsTalkAt players is_paused traffic out (Two done guests) s →
-      AreAttended remaining site at guests after s t →
+      InTurn (IsAttended remaining site at) guests after s t →
       IsTalkAt players is_paused traffic out (Two done after) t × AreNumbered s.next (numbers guests) (numbers after) t.next
   attended_all at done [] after s t before owns so_far (none, same) =
       let so = same_talk players is_paused traffic out (Two done []) s t so_far same in (
@@ -1105,6 +1107,20 @@ module _ {S : Type 0} (remaining contents : S → Option (List ℕ)) (players : 
         new.talk.wire.items (message_values new.talk.told.items)
     own : AreOwn new.talk.next (numbers (former ++ new.guests.items))
 
+  -- one pass over browsers
+  attended_pass : (at : ℕ) (former : List (Guest S)) (base : Traffic) (out : List MessageValue) (site : Site) (guests after : List (Guest S))
+      (s t : Talk) → AreOwn s.next (numbers (former ++ guests)) →
+      IsTalkAt players is_paused base out (Two remaining contents site came players is_paused former base out [] guests) s →
+      InTurn (IsAttended remaining site at) guests after s t →
+      IsTalkAt players is_paused base out (Two remaining contents site came players is_paused former base out [] after) t
+      × AreOwn t.next (numbers (former ++ after))
+  attended_pass at former base out site guests after s t own two all =
+      let apart = own_apart s.next former guests own in
+      let said = attended_all remaining contents site came players is_paused former base out at [] guests after s t
+      (tt, all_own_front s.next (numbers former) (numbers guests) apart)
+      (own_back s.next (numbers former) (numbers guests) apart) two all in
+      (said.0, own_attended s.next t.next former guests after own said.1)
+
   -- from where browsers are attended on
   attended_on : (at : ℕ) (former : List (Guest S)) (base : Traffic) (out : List MessageValue) (old new : Hall S)
       (t : HasTurned remaining contents at old new) →
@@ -1116,8 +1132,8 @@ module _ {S : Type 0} (remaining contents : S → Option (List ℕ)) (players : 
       let later = out ++ message_values t.between.talk.told.items in
       let wrote = behind_front t.hands.front base in
       let settled = t.hands.parted_from.settled in
-      let writes = subst (λ (s : Site). AllZip (IsWritten contents s) t.hands.told t.hands.written) t.takes.site t.hands.writes in
-      let apart = own_apart t.takes.parted.next former old.guests.items own in
+      let writes_first = subst (λ (s : Site). AllZip (IsWritten contents s) t.hands.told t.hands.first) t.takes.site t.hands.writes_first in
+      let writes = subst (λ (s : Site). AllZip (IsWritten contents s) t.hands.first t.hands.written) t.takes.site t.hands.writes in
       let two : IsTalkAt players is_paused base out (Two remaining contents site came players is_paused former base out [] old.guests.items) t.takes.parted =
       at_with players is_paused base out (AreKept remaining contents site came former out old.guests.items)
       (Two remaining contents site came players is_paused former base out [] old.guests.items) t.takes.parted.desk t.takes.parted.wire.items
@@ -1126,9 +1142,18 @@ module _ {S : Type 0} (remaining contents : S → Option (List ℕ)) (players : 
         behind = kept.served;
         known = λ c come. elim (kept.known c come) [ inl gone ↦ inl gone | inr one ↦ inr (inr one) ];
       }) so_far in
-      let said = attended_all remaining contents site came players is_paused former base out at [] old.guests.items t.takes.attended t.takes.parted t.between.talk
-      (tt, all_own_front t.takes.parted.next (numbers former) (numbers old.guests.items) apart)
-      (own_back t.takes.parted.next (numbers former) (numbers old.guests.items) apart) two t.takes.attends in
+      let passes = t.takes.attends in
+      let one = attended_pass at former base out site old.guests.items passes.first t.takes.parted passes.said own two
+      (players_pass remaining site at old.guests.items passes.first t.takes.parted passes.said passes.players) in
+      let next = attended_pass at former base out site passes.first passes.second passes.said passes.came.talk one.1 one.0
+      (others_pass remaining site at Newcomers passes.first passes.second (full_room passes.said) passes.came passes.newcomers) in
+      let third = attended_pass at former base out site passes.second passes.third passes.came.talk passes.asked.talk next.1 next.0
+      (others_pass remaining site at Strangers passes.second passes.third (full_room passes.came.talk) passes.asked passes.fresh) in
+      let said = subst (λ (u : Talk). IsTalkAt players is_paused base out
+      (Two remaining contents site came players is_paused former base out [] t.takes.attended) u
+      × AreOwn u.next (numbers (former ++ t.takes.attended))) (sym passes.after_is)
+      (attended_pass at former base out site passes.third t.takes.attended passes.asked.talk passes.last.talk third.1 third.0
+      (others_pass remaining site at Strangers passes.third t.takes.attended (full_room passes.asked.talk) passes.last passes.strangers)) in
       let attended : IsAt players is_paused base out (AreKept remaining contents site came former out t.takes.attended) t.between.talk.desk
       t.between.talk.wire.items (message_values t.between.talk.told.items) =
       at_with players is_paused base out (Two remaining contents site came players is_paused former base out [] t.takes.attended)
@@ -1162,20 +1187,23 @@ module _ {S : Type 0} (remaining contents : S → Option (List ℕ)) (players : 
             (λ steps x y one was. served_before remaining contents site came steps later x y one was) (λ x y one. one.number) t.hands.written
             settled t.hands.parted_from.settles steps
             (kept_same remaining contents site came former later (IsWritten contents site)
+            (λ steps x y one was. served_written remaining contents site came steps later x y one was) (λ x y one. one.number) t.hands.first
+            t.hands.written writes steps
+            (kept_same remaining contents site came former later (IsWritten contents site)
             (λ steps x y one was. served_written remaining contents site came steps later x y one was) (λ x y one. one.number) t.hands.told
-            t.hands.written writes steps kept);
+            t.hands.first writes_first steps kept));
         more = tt;
       }) told) in
       let closed = closed_all remaining contents site came players is_paused former wrote later settled settled (λ steps. Unit {0})
       (λ s steps was. tt) t.hands.rest new.talk at_settled none t.hands.parted_from.closes in
       let same : numbers settled ≡ numbers t.takes.attended =
       same_numbers IsAsBefore (λ x y one. one.number) t.hands.written settled t.hands.parted_from.settles
-      ∙ (same_numbers (IsWritten contents site) (λ x y one. one.number) t.hands.told t.hands.written writes
+      ∙ (same_numbers (IsWritten contents site) (λ x y one. one.number) t.hands.first t.hands.written writes
+      ∙ (same_numbers (IsWritten contents site) (λ x y one. one.number) t.hands.told t.hands.first writes_first
       ∙ (same_numbers (AreTold t.hands.delivers.made) (λ x y one. told_number t.hands.delivers.made x y one) t.between.guests.items t.hands.told
       t.hands.delivers.are_told
-      ∙ same_numbers IsLookedAfter (λ x y one. one.number) t.takes.attended t.between.guests.items t.takes.looks)) in
-      let own_said : AreOwn t.between.talk.next (numbers (former ++ t.takes.attended)) =
-      own_attended t.takes.parted.next t.between.talk.next former old.guests.items t.takes.attended own said.1 in
+      ∙ same_numbers IsLookedAfter (λ x y one. one.number) t.takes.attended t.between.guests.items t.takes.looks))) in
+      let own_said : AreOwn t.between.talk.next (numbers (former ++ t.takes.attended)) = said.1 in
       let own_settled : AreOwn t.between.talk.next (numbers ((gone_of settled ++ former) ++ stay_of settled)) =
       own_parted t.between.talk.next former settled (own_as t.between.talk.next former t.takes.attended settled same own_said) in
       record {

@@ -106,8 +106,10 @@ pub record HandsAllOut {S : Type 0} (contents : S → Option (List ℕ)) (old ne
   pub none : rest.told.items ≡ []
   pub front : List ℕ
   pub tells : TellsServer contents front old.server new.server old.talk.wire.items rest.wire.items
+  pub first : List (Guest S)
+  pub writes_first : AllZip (IsWritten contents old.site) told first
   pub written : List (Guest S)
-  pub writes : AllZip (IsWritten contents old.site) told written
+  pub writes : AllZip (IsWritten contents old.site) first written
   pub parted_from : AreParted written new.guests.items rest new.talk
   pub site : new.site ≡ old.site
 

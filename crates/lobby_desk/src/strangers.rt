@@ -1,0 +1,48 @@
+//! Connections that act for nobody.
+ghost use Rattle.std.specs.Prelude.{◌≡◌};
+ghost use Rattle.std.specs.List.{list_any};
+ghost use Rattle.lobby_desk.specs.Events.{owed_of};
+ghost use Rattle.lobby_desk.specs.Tellings.{waiter};
+ghost use Rattle.lobby_desk.specs.Who.{who_in};
+ghost use Rattle.lobby_desk.specs.Strangers.{acts, is_stranger, strangers_wait};
+
+use crate::answering::asker;
+use crate::carrying::who_acts;
+use crate::desk::Desk;
+use crate::server_line::Due;
+use crate::visitors::Visitor;
+use std::collections::BTreeMap;
+
+// Whether an answer is for a connection that acts for nobody.
+fn is_strangers(visitors: &BTreeMap<u64, Visitor>, due: &Due) -> bool
+    ensures { result ≡ is_stranger (who_in visitors.now) (waiter (owed_of due.now)) }
+{
+    match asker(due) {
+        None => false,
+        Some(connection) => who_acts(visitors, connection).is_none(),
+    }
+}
+
+// Whether one of these answers is.
+fn is_any_strangers(visitors: &BTreeMap<u64, Visitor>, dues: &[Due]) -> bool
+    ensures { result ≡ list_any (λ due. is_stranger (who_in visitors.now) (waiter (owed_of due))) dues.now }
+{
+    dues.iter().any(|due| is_strangers(visitors, due))
+}
+
+impl Desk {
+    /// Whether a connection acts for a player.
+    pub fn acts(&self, connection: u64) -> bool
+        ensures { result ≡ acts self.now connection }
+    {
+        who_acts(&self.visitors, connection).is_some()
+    }
+
+    /// Whether the server owes an answer to a message of a connection that acts for nobody.
+    pub fn strangers_wait(&self) -> bool
+        ensures { result ≡ strangers_wait self.now }
+    {
+        let (first, second) = self.line.queue.as_slices();
+        is_any_strangers(&self.visitors, first) || is_any_strangers(&self.visitors, second)
+    }
+}

@@ -1,0 +1,48 @@
+-- Who has its turn is attended, and to who has none nothing happens.
+use Rattle.std.proofs.Common.{◌≡◌, ℕ, Bool, true, false, List, [], Option, Some, None, inl, inr, refl}
+use Rattle.std.specs.Io.KnownBytes.{Consumes}
+use Rattle.lobby_web.specs.declared.site.Site.{Site}
+use Rattle.lobby_guests.specs.declared.guest.Guest.{Guest}
+use Rattle.lobby_guests.specs.declared.rounds.Others.{Others}
+use Rattle.lobby_guests.specs.declared.talk.Talk.{Talk}
+use Rattle.lobby_guests.specs.Guests.{InTurn, IsAttended, IsServedIf, IsPlayersTurn, IsOthersTurn, Room, acts_at}
+use Rattle.lobby_guests.proofs.EachGuest.{in_turn_as}
+
+module _ {S : Type 0} (remaining : S → Option (List ℕ)) (site : Site) (at : ℕ) where
+  -- nothing comes
+  none_consumed : (had : Option (List ℕ)) → Consumes had had []
+  none_consumed None = tt
+  none_consumed (Some bytes) = refl
+
+  left_alone : (old new : Guest S) (talk after : Talk) → new ≡ old → after ≡ talk → IsAttended remaining site at old new talk after
+  left_alone old new talk after same still = record {
+    read = old;
+    reads = record { number = refl; taken = []; consumed = none_consumed (remaining old.stream); takes = inl (refl, refl) };
+    hears = inr (same, still);
+  }
+
+  served_if : (b : Bool) (old new : Guest S) (talk after : Talk) → IsServedIf b remaining site at old new talk after →
+      IsAttended remaining site at old new talk after
+  served_if true old new talk after served = served.attended
+  served_if false old new talk after (same, still) = left_alone old new talk after same still
+
+  players_attended : (old new : Guest S) (talk after : Talk) → IsPlayersTurn remaining site at old new talk after →
+      IsAttended remaining site at old new talk after
+  players_attended old new talk after turn = served_if (acts_at talk.desk old.number) old new talk after turn
+
+  pub players_pass : (old new : List (Guest S)) (talk after : Talk) → InTurn (IsPlayersTurn remaining site at) old new talk after →
+      InTurn (IsAttended remaining site at) old new talk after
+  players_pass old new talk after turns =
+      in_turn_as (λ (t : Talk). t) (IsPlayersTurn remaining site at) (IsAttended remaining site at)
+      (λ x y a b one. players_attended x y a b one) old new talk after turns
+
+  others_attended : (others : Others) (old new : Guest S) (room after : Room) → IsOthersTurn others remaining site at old new room after →
+      IsAttended remaining site at old new room.talk after.talk
+  others_attended others old new room after (inl over) = left_alone old new room.talk after.talk over.guest over.talk
+  others_attended others old new room after (inr called) = called.served.attended
+
+  pub others_pass : (others : Others) (old new : List (Guest S)) (room after : Room) →
+      InTurn (IsOthersTurn others remaining site at) old new room after → InTurn (IsAttended remaining site at) old new room.talk after.talk
+  others_pass others old new room after turns =
+      in_turn_as (λ (r : Room). r.talk) (IsOthersTurn others remaining site at) (IsAttended remaining site at)
+      (λ x y a b one. others_attended others x y a b one) old new room after turns

@@ -1,0 +1,119 @@
+//! Whose turn it is among those who act for nobody: a few of them in each turn, and in a round.
+ghost use Rattle.std.specs.Prelude.{◌≡◌, ◌≤◌, ◌<◌, ◌+◌, true};
+ghost use Rattle.lobby_guests.specs.Guests.{others_most};
+
+/// So many of them are attended in a turn at most, of those who have no socket yet and of those who have one.
+const ATTENDED_MOST: usize = 16;
+
+/// To so many of them something is written in a turn at most.
+const WRITTEN_MOST: usize = 64;
+
+/// Those who are attended behind the players.
+#[derive(Clone, Copy, PartialEq, Eq)]
+pub enum Others {
+    /// Who has no socket yet.
+    Newcomers,
+    /// Who has one, and acts for nobody.
+    Strangers,
+}
+
+/// A round, by the names of their sockets.
+#[derive(Clone, Copy)]
+pub struct Round {
+    // The turn is that of who has this name or a later one.
+    from: usize,
+    // Whether those before it had no turn.
+    has_passed: bool,
+    // How many more have a turn.
+    left: usize,
+    // Whether nobody more can have one until something else has happened.
+    is_shut: bool,
+}
+
+impl Round {
+    /// It begins with the first.
+    pub fn new() -> Round {
+        Round {
+            from: 0,
+            has_passed: false,
+            left: 0,
+            is_shut: false,
+        }
+    }
+
+    // So many have a turn from now on.
+    fn begin(&mut self, most: usize)
+        ensures { self.new.left ≡ most }
+    {
+        self.has_passed = self.from > 0;
+        self.left = most;
+        self.is_shut = false;
+    }
+
+    /// Some of those who are attended have a turn from now on.
+    pub fn begin_attending(&mut self)
+        ensures { self.new.left ≡ others_most }
+    {
+        self.begin(ATTENDED_MOST);
+    }
+
+    /// Some of those to whom something is written have a turn from now on.
+    pub fn begin_writing(&mut self) {
+        self.begin(WRITTEN_MOST);
+    }
+
+    /// Whether it may be the turn of this one.
+    pub fn is_at(&self, key: usize) -> bool
+        ensures { result ≡ true → 0 < self.now.left }
+    {
+        self.left > 0 && key >= self.from
+    }
+
+    /// This one has its turn.
+    pub fn take(&mut self, key: usize)
+        requires { 0 < self.old.left }
+        ensures { self.new.left < self.old.left }
+    {
+        self.left -= 1;
+        self.from = key.saturating_add(1);
+    }
+
+    /// Nobody more has a turn until something else has happened.
+    pub fn shut(&mut self)
+        ensures { self.new.left ≤ self.old.left }
+    {
+        self.left = 0;
+        self.is_shut = true;
+    }
+
+    /// All had a turn who could have one. It tells whether others can at once.
+    pub fn end(&mut self) -> bool {
+        if self.left == 0 {
+            return !self.is_shut;
+        }
+        self.from = 0;
+        self.has_passed
+    }
+}
+
+/// The rounds of those who have no socket yet; of those who act for nobody and were told no answer yet, as who is about to show a
+/// token; of those who were; and of all to whom something is written but players.
+#[derive(Clone, Copy)]
+pub struct Rounds {
+    pub newcomers: Round,
+    pub fresh: Round,
+    pub strangers: Round,
+    pub written: Round,
+}
+
+impl Rounds {
+    /// Each begins with the first.
+    pub fn new() -> Rounds {
+        Rounds {
+            newcomers: Round::new(),
+            fresh: Round::new(),
+            strangers: Round::new(),
+            written: Round::new(),
+        }
+    }
+}
