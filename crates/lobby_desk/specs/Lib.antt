@@ -8,3 +8,4 @@ pub mod Logging
 pub mod Tellings
 pub mod Who
 pub mod History
+pub mod Roles

@@ -11,6 +11,7 @@ mod pace;
 mod present;
 mod refusals;
 mod renewing;
+mod roles;
 mod server_line;
 mod telling;
 mod visitors;
