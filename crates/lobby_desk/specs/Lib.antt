@@ -10,3 +10,4 @@ pub mod Tellings
 pub mod Who
 pub mod Strangers
 pub mod History
+pub mod Roles

@@ -12,6 +12,7 @@ mod pairings;
 mod present;
 mod refusals;
 mod renewing;
+mod roles;
 mod server_line;
 mod strangers;
 mod telling;

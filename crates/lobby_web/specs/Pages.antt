@@ -1,5 +1,5 @@
 -- What a site has: its hosts and its files.
-use Rattle.std.specs.Prelude.{ℕ, ◌≡◌, ◌≢◌, Bool, List, [], ◌∷◌, ◌++◌, Option, bytes_eq, find}
+use Rattle.std.specs.Prelude.{ℕ, ◌≡◌, ◌≢◌, ◌-◌, Bool, List, [], ◌∷◌, ◌++◌, Option, bytes_eq, codes, drop, find, if◌then◌else◌, length, take}
 use Rattle.std.specs.List.{list_any, position}
 use Rattle.lobby_web.specs.declared.site.Site.{Site}
 use Rattle.lobby_web.specs.declared.site.File.{File}
@@ -18,9 +18,18 @@ pub record IsFile (place : List ℕ) (sort : Kind) (content : List ℕ) (file : 
   pub bytes : file.bytes ≡ content
   pub tag : file.tag.items ≡ tag_of content
 
--- the host is one of those that are taken, byte for byte
+-- a host without this port behind it, as `:80`
+abbrev pub without_port : List ℕ → List ℕ → List ℕ
+without_port port host =
+    if bytes_eq (drop (length host - length port) host) port then take (length host - length port) host else host
+
+-- Two hosts are one by a scheme whose port this is: a host without a port has that one (RFC 9110, 4.2.1 and 4.2.2).
+abbrev pub is_same_host : List ℕ → List ℕ → List ℕ → Bool
+is_same_host port one other = bytes_eq (without_port port one) (without_port port other)
+
+-- the host is one of those that are taken, by HTTP, whose port is 80
 abbrev pub has_host : Site → List ℕ → Bool
-has_host site host = list_any (λ taken. bytes_eq taken.items host) site.hosts.items
+has_host site host = list_any (λ taken. is_same_host (codes ":80") taken.items host) site.hosts.items
 
 -- the first file of this path
 abbrev pub file_at : Site → List ℕ → Option File

@@ -1,16 +1,17 @@
 -- What is read from a request.
-use Rattle.std.specs.Prelude.{ℕ, Bool, not, ◌&&◌, ◌||◌, List, [], ◌∷◌, ◌++◌, Option, None, Some, is_some, bytes_eq, codes, length, take, drop, nat_lt, if◌then◌else◌}
+use Rattle.std.specs.Prelude.{ℕ, Bool, not, ◌&&◌, ◌||◌, List, [], ◌∷◌, ◌++◌, Option, None, Some, is_some, bytes_eq, codes, length, take, drop, nat_lt, nat_le, ◌-◌, ◌==◌, slice_get, reverse, if◌then◌else◌}
 use Rattle.std.specs.List.{list_all}
 use Rattle.std.specs.Char.{is_ascii_digit}
 use Rattle.http.specs.declared.request.Request.{Request}
 use Rattle.http.specs.Request.{head_of}
 use Rattle.http_header.specs.FieldValue.{FieldValue}
-use Rattle.http_header.specs.HeaderMap.{get}
+use Rattle.http_header.specs.HeaderMap.{get, get_all}
 use Rattle.http_uri.specs.Uri.{uri_authority, uri_path}
 use Rattle.http1.specs.Fields.{known_fields}
 use Rattle.http1.specs.Text.{eq_ignore_case}
+use Rattle.httparse.specs.Grammar.{trim_ows}
 use Rattle.lobby_web.specs.declared.site.Site.{Site}
-use Rattle.lobby_web.specs.Pages.{has_host}
+use Rattle.lobby_web.specs.Pages.{has_host, is_same_host}
 
 abbrev pub bytes_of : Option FieldValue → List ℕ
 bytes_of None = []
@@ -23,15 +24,29 @@ field r name = bytes_of (get (head_of r).headers name)
 abbrev pub path_of : Request (List ℕ) → List ℕ
 path_of r = uri_path (head_of r).uri
 
+-- how often a field of this name stands there
+abbrev pub count_of : Request (List ℕ) → List ℕ → ℕ
+count_of r name = length (get_all (head_of r).headers name)
+
+-- the value of the last field of this name; nothing where there is none
+abbrev pub last_field : Request (List ℕ) → List ℕ → List ℕ
+last_field r name = let values = get_all (head_of r).headers name in bytes_of (slice_get values (length values - 1))
+
 -- It names a host that is taken, and no other in its target.
 abbrev pub is_taken : Site → Request (List ℕ) → Bool
 is_taken site r = not (is_some (uri_authority (head_of r).uri)) && has_host site (field r (codes "host"))
 
--- It comes from a page of the host that it names.
+-- An origin is this scheme and this host.
+abbrev pub is_page_of : List ℕ → List ℕ → List ℕ → List ℕ → Bool
+is_page_of scheme port host origin =
+    bytes_eq (take (length scheme) origin) scheme && is_same_host port (drop (length scheme) origin) host
+
+-- It comes from a page of the host that it names, and says once from which.
 abbrev pub is_from_page : Request (List ℕ) → Bool
 is_from_page r =
-    bytes_eq (field r (codes "origin")) (codes "http://" ++ field r (codes "host"))
-    || bytes_eq (field r (codes "origin")) (codes "https://" ++ field r (codes "host"))
+    nat_le (count_of r (codes "origin")) 1
+    && (is_page_of (codes "http://") (codes ":80") (field r (codes "host")) (field r (codes "origin"))
+    || is_page_of (codes "https://") (codes ":443") (field r (codes "host")) (field r (codes "origin")))
 
 -- `Connection` lists `upgrade`
 abbrev pub lists_upgrade : List ℕ → Bool
@@ -52,6 +67,22 @@ only_reads r = bytes_eq (head_of r).method (codes "GET") || bytes_eq (head_of r)
 -- It is for the page's socket.
 abbrev pub asks_socket : Request (List ℕ) → Bool
 asks_socket r = bytes_eq (path_of r) (codes "/ws")
+
+-- a list without what stands behind its last comma; here from its end on
+abbrev pub from_comma : List ℕ → List ℕ
+from_comma [] = []
+from_comma (b ∷ bs) = if b == 44 then b ∷ bs else from_comma bs
+
+abbrev pub before_last : List ℕ → List ℕ
+before_last value = reverse (from_comma (reverse value))
+
+-- the last element of a list, without the white space around it (RFC 9110, 5.6.1)
+abbrev pub last_element : List ℕ → List ℕ
+last_element value = trim_ows (drop (length (before_last value)) value)
+
+-- the text of the address for which the last proxy says that it asks
+abbrev pub forwarded_text : Request (List ℕ) → List ℕ
+forwarded_text r = last_element (last_field r (codes "x-forwarded-for"))
 
 -- the digits of a number
 abbrev pub is_number : List ℕ → Bool

@@ -1,6 +1,7 @@
 //! What a request is answered.
-ghost use Rattle.std.specs.Prelude.{◌≡◌, ◌++◌, ◌∷◌, [], Some, false, IsTrue, OnOk, bytes_eq, codes};
+ghost use Rattle.std.specs.Prelude.{◌≡◌, ◌++◌, ◌∷◌, [], Some, false, IfSome, IsTrue, OnOk, bytes_eq, codes};
 ghost use Rattle.std.specs.Option.{option_copied};
+ghost use Rattle.std.specs.Net.Grammar.{IsIpText};
 ghost use Rattle.std.specs.Char.{is_ascii_digit};
 ghost use Rattle.std.specs.List.{list_all, list_any};
 ghost use Rattle.http.specs.Request.{head_of};
@@ -10,17 +11,19 @@ ghost use Rattle.http_header.specs.FieldValue.{is_visible_text};
 ghost use Rattle.http1.specs.Fields.{elements};
 ghost use Rattle.http_server.specs.Response.{IsBlank, IsResponse, fields_of};
 ghost use Rattle.lobby_web.specs.Media.{media_type};
-ghost use Rattle.lobby_web.specs.Requests.{field, path_of, is_from_page, lists_upgrade, asks_upgrade, only_reads, is_number, names_game, is_board, served_path};
+ghost use Rattle.lobby_web.specs.Requests.{field, last_field, forwarded_text, count_of, is_page_of, path_of, is_from_page, lists_upgrade, asks_upgrade, only_reads, is_number, names_game, is_board, served_path};
 ghost use Rattle.lobby_web.specs.Answering.{guards, guarded, readers, file_fields, same_fields, is_tag_of, is_known, IsTold, IsFileAnswer, IsOtherMethodAnswer, IsSwitch, IsKeyAnswer, IsSocketAnswer, IsPageAnswer, IsAnswer};
 
-use crate::listed::Elements;
-use crate::site::{File, Kind, Site};
+use crate::listed::{Elements, last_element};
+use crate::site::{File, Kind, Site, is_same_host};
 use bytes::{BufMut, Bytes};
 use http::{HeaderName, HeaderValue, Request, StatusCode};
 use http_server::{Response, Service};
 use http1::fields::KnownFields;
 use http1::text::eq_ignore_case;
 use std::alloc::{AllocError, Global};
+use std::net::IpAddr;
+use std::str;
 use websocket::handshake::server::accept_key;
 
 // The value of the first field of this name, which is in small letters. Nothing where there is none.
@@ -40,7 +43,7 @@ fn path_of(request: &Request<Bytes>) -> &[u8]
     request.uri().path().as_bytes()
 }
 
-// Whether a text is these two parts, as an origin is its scheme, `http://` or `https://`, and its host.
+// Whether a text is these two parts.
 fn is_made_of(text: &[u8], front: &[u8], end: &[u8]) -> bool
     ensures { result ≡ bytes_eq text.now (front.now ++ end.now) }
 {
@@ -50,13 +53,32 @@ fn is_made_of(text: &[u8], front: &[u8], end: &[u8]) -> bool
     }
 }
 
-// Whether a request comes from a page of the host that it names.
+// How often a field of this name stands there, which is in small letters.
+fn count_of(request: &Request<Bytes>, name: &str) -> usize
+    ensures { result ≡ count_of request.now (lowercase name.now) }
+{
+    request.headers().get_all(name).iter().count()
+}
+
+// Whether an origin is this scheme, whose port this is, and this host.
+fn is_page_of(scheme: &[u8], port: &[u8], host: &[u8], origin: &[u8]) -> bool
+    ensures { result ≡ is_page_of scheme.now port.now host.now origin.now }
+{
+    match origin.strip_prefix(scheme) {
+        Some(rest) => is_same_host(port, rest, host),
+        None => false,
+    }
+}
+
+// Whether a request comes from a page of the host that it names, and says once from which.
 fn is_from_page(request: &Request<Bytes>) -> bool
     ensures { result ≡ is_from_page request.now }
 {
     let host = field(request, "host");
     let origin = field(request, "origin");
-    is_made_of(origin, b"http://", host) || is_made_of(origin, b"https://", host)
+    let is_page = is_page_of(b"http://", b":80", host, origin)
+        || is_page_of(b"https://", b":443", host, origin);
+    count_of(request, "origin") <= 1 && is_page
 }
 
 // Whether `Connection` lists `upgrade`.
@@ -415,12 +437,45 @@ fn answer(
     send_page(alloc, site, request, response)
 }
 
-/// The site, as it answers the requests of one connection, and whether the last answer was an upgrade.
+// The value of the last field of this name, which is in small letters. Nothing where there is none.
+fn last_field<'a>(request: &'a Request<Bytes>, name: &str) -> &'a [u8]
+    ensures { result.now ≡ last_field request.now (lowercase name.now) }
+{
+    match request.headers().get_all(name).iter().next_back() {
+        Some(value) => value.as_bytes(),
+        None => &[],
+    }
+}
+
+// The address that a text is.
+fn address_of(text: &str) -> Option<IpAddr>
+    ensures { IfSome result (IsIpText text.now) }
+{
+    match text.parse::<IpAddr>() {
+        Ok(address) => Some(address),
+        Err(_) => None,
+    }
+}
+
+// The address for which the last proxy says that it asks: the last element of X-Forwarded-For.
+fn forwarded(request: &Request<Bytes>) -> Option<IpAddr>
+    ensures { IfSome result (IsIpText (forwarded_text request.now)) }
+{
+    let text = last_element(last_field(request, "x-forwarded-for"));
+    match str::from_utf8(text) {
+        Ok(text) => address_of(text),
+        Err(_) => None,
+    }
+}
+
+/// The site, as it answers the requests of one connection, whether the last answer was an upgrade, and for whom the last request
+/// says that a proxy asks.
 #[derive(Drop)]
 pub struct Asked<'a> {
     alloc: Global,
     site: &'a Site,
     has_switched: bool,
+    forwarded: Option<IpAddr>,
 }
 
 impl<'a> Asked<'a> {
@@ -433,6 +488,7 @@ impl<'a> Asked<'a> {
             alloc,
             site,
             has_switched: false,
+            forwarded: None,
         }
     }
 
@@ -441,6 +497,13 @@ impl<'a> Asked<'a> {
         ensures { result ≡ self.now.has_switched }
     {
         self.has_switched
+    }
+
+    /// The address for which the last request says that a proxy asks. None where it says none, or nothing was asked.
+    pub fn forwarded(&self) -> Option<IpAddr>
+        ensures { result ≡ self.now.forwarded }
+    {
+        self.forwarded
     }
 }
 
@@ -455,6 +518,7 @@ impl Service for Asked<'_> {
         response: &mut Response,
     ) -> Result<(), AllocError> {
         answer(self.alloc, self.site, request, response)?;
+        self.forwarded = forwarded(request);
         self.has_switched = response.status.as_u16() == 101;
         Ok(())
     }

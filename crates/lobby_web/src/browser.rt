@@ -15,6 +15,7 @@ use http1::Limits;
 use std::alloc::Global;
 use std::hash::RandomState;
 use std::mem;
+use std::net::IpAddr;
 use websocket::protocol::CloseCode;
 
 /// So many bytes are taken at once.
@@ -33,6 +34,8 @@ pub enum Stage {
 pub struct Browser {
     alloc: Global,
     stage: Stage,
+    // For whom the last request that said it said that a proxy asks.
+    forwarded: Option<IpAddr>,
 }
 
 // The limits of HTTP: heads of 16,384 bytes, and requests without a body.
@@ -51,13 +54,20 @@ fn web_config() -> Config
     }
 }
 
-// The connection once the site has answered what came: on as HTTP, or handed over to a socket.
+// The connection once the site has answered what came: on as HTTP, or handed over to a socket. It is told for whom the last of the
+// requests says that a proxy asks.
 // (What is let go is let go by a call: its parts are proved once then, and not at each way out.)
-fn answered(alloc: Global, site: &Site, mut connection: Connection) -> Stage
+fn answered(
+    alloc: Global,
+    site: &Site,
+    mut connection: Connection,
+    told: &mut Option<IpAddr>,
+) -> Stage
     ensures { Answers (config_of connection) site.now (history connection) result }
 {
     let mut asked = Asked::new(alloc, site);
     connection.advance(&mut asked);
+    *told = asked.forwarded().or(*told);
     match connection.state() {
         State::Upgraded => {}
         _ => return Stage::Http(connection),
@@ -83,11 +93,17 @@ fn takes_all(connection: &mut Connection, bytes: &[u8]) -> bool
 }
 
 // The connection once these bytes came by HTTP.
-fn read_http(alloc: Global, site: &Site, mut connection: Connection, bytes: &[u8]) -> Stage
+fn read_http(
+    alloc: Global,
+    site: &Site,
+    mut connection: Connection,
+    bytes: &[u8],
+    told: &mut Option<IpAddr>,
+) -> Stage
     ensures { Answers (config_of connection) site.now (after_read (history connection) bytes.now) result }
 {
     if takes_all(&mut connection, bytes) {
-        answered(alloc, site, connection)
+        answered(alloc, site, connection, told)
     } else {
         drop(connection);
         Stage::Over
@@ -95,12 +111,12 @@ fn read_http(alloc: Global, site: &Site, mut connection: Connection, bytes: &[u8
 }
 
 // The connection once these bytes came, where bytes are wanted.
-fn taken(alloc: Global, site: &Site, stage: Stage, bytes: &[u8]) -> Stage
+fn taken(alloc: Global, site: &Site, stage: Stage, bytes: &[u8], told: &mut Option<IpAddr>) -> Stage
     requires { WantsBytes stage }
     ensures { TakesBytes site.now bytes.now stage result }
 {
     match stage {
-        Stage::Http(connection) => read_http(alloc, site, connection, bytes),
+        Stage::Http(connection) => read_http(alloc, site, connection, bytes, told),
         Stage::Socket(mut socket) => {
             socket.take(bytes);
             Stage::Socket(socket)
@@ -110,14 +126,20 @@ fn taken(alloc: Global, site: &Site, stage: Stage, bytes: &[u8]) -> Stage
 }
 
 // The connection once so many of the bytes that waited were written.
-fn lightened(alloc: Global, site: &Site, stage: Stage, count: usize) -> Stage
+fn lightened(
+    alloc: Global,
+    site: &Site,
+    stage: Stage,
+    count: usize,
+    told: &mut Option<IpAddr>,
+) -> Stage
     requires { count ≤ length (pending stage) }
     ensures { Writes site.now count stage result }
 {
     match stage {
         Stage::Http(mut connection) => {
             connection.sent(count);
-            answered(alloc, site, connection)
+            answered(alloc, site, connection, told)
         }
         Stage::Socket(mut socket) => {
             socket.written(count);
@@ -142,7 +164,16 @@ impl Browser {
         Browser {
             alloc,
             stage: Stage::Http(Connection::new(alloc, keys, web_config())),
+            forwarded: None,
         }
+    }
+
+    /// The address for which its last request that said so says that a proxy asks: the last element of X-Forwarded-For. Whoever
+    /// connects may write anything there, so it counts only of a proxy that is trusted.
+    pub fn forwarded(&self) -> Option<IpAddr>
+        ensures { result ≡ self.now.forwarded }
+    {
+        self.forwarded
     }
 
     /// Whether bytes are taken. Else the socket is not to be read.
@@ -188,7 +219,8 @@ impl Browser {
         let wanted = self.wants_read();
         let stage = mem::replace(&mut self.stage, Stage::Over);
         if wanted {
-            put(&mut self.stage, taken(self.alloc, site, stage, bytes));
+            let stage = taken(self.alloc, site, stage, bytes, &mut self.forwarded);
+            put(&mut self.stage, stage);
         } else {
             drop(stage);
         }
@@ -253,6 +285,7 @@ impl Browser {
         ensures { Writes site.now count self.old.stage self.new.stage }
     {
         let stage = mem::replace(&mut self.stage, Stage::Over);
-        put(&mut self.stage, lightened(self.alloc, site, stage, count));
+        let stage = lightened(self.alloc, site, stage, count, &mut self.forwarded);
+        put(&mut self.stage, stage);
     }
 }

@@ -1,8 +1,9 @@
 //! The elements of a field's value that is a list.
-ghost use Rattle.std.specs.Prelude.{◌≡◌, reverse};
+ghost use Rattle.std.specs.Prelude.{◌≡◌, ◌≤◌, length, reverse};
 ghost use Rattle.httparse.specs.Grammar.{skip_ows, trim_ows};
 ghost use Rattle.http1.specs.Fields.{elements};
 ghost use Rattle.lobby_web.specs.Listed.{elements_left};
+ghost use Rattle.lobby_web.specs.Requests.{before_last, last_element};
 ghost use Rattle.std.specs.Iterator.{YieldsFirstRef, item_count};
 
 use httparse::is_space_or_tab;
@@ -34,6 +35,27 @@ fn trimmed(text: &[u8]) -> &[u8]
     ensures { result.now ≡ trim_ows text.now }
 {
     trimmed_end(trimmed_front(text))
+}
+
+// A list without what stands behind its last comma.
+fn before_last(mut text: &[u8]) -> &[u8]
+    ensures front { result.now ≡ before_last text.now }
+    ensures within { length result.now ≤ length text.now }
+{
+    while let [rest @ .., last] = text
+        && *last != b','
+    {
+        text = rest;
+    }
+    text
+}
+
+/// The last element of a list, without the white space around it (RFC 9110, 5.6.1).
+pub(crate) fn last_element(value: &[u8]) -> &[u8]
+    ensures { result.now ≡ last_element value.now }
+{
+    let front = before_last(value).len();
+    trimmed(&value[front..])
 }
 
 /// The elements of a list, without the white space around each (RFC 9110, 5.6.1).

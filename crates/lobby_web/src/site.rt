@@ -1,7 +1,7 @@
 //! What is served: the files of the page, under the hosts that are taken.
 ghost use Rattle.std.specs.Prelude.{◌≡◌, ◌++◌, ◌∷◌, [], Some, None, IfOk, OnOk, OnErr};
 ghost use Rattle.std.specs.Option.{option_copied};
-ghost use Rattle.lobby_web.specs.Pages.{tag_of};
+ghost use Rattle.lobby_web.specs.Pages.{tag_of, without_port, is_same_host};
 
 use bytes::Bytes;
 use sha2::{Digest, Sha256};
@@ -115,11 +115,28 @@ pub struct Site {
     files: Vec<File>,
 }
 
+// A host without this port behind it.
+fn without_port<'a>(port: &[u8], host: &'a [u8]) -> &'a [u8]
+    ensures { result.now ≡ without_port port.now host.now }
+{
+    match host.strip_suffix(port) {
+        Some(host) => host,
+        None => host,
+    }
+}
+
+/// Whether two hosts are one by a scheme whose port this is, as `:80`: a host without a port has that one.
+pub(crate) fn is_same_host(port: &[u8], one: &[u8], other: &[u8]) -> bool
+    ensures { result ≡ is_same_host port.now one.now other.now }
+{
+    without_port(port, one) == without_port(port, other)
+}
+
 impl Site {
     ghost use Rattle.lobby_web.specs.Pages.{has_host, file_at, place_of, Changes, IsSameSite};
 
-    /// A site of these files. A host is what `Host` has to say, byte for byte and with its port, as `127.0.0.1:8080`. Of two
-    /// files with one path the first is served.
+    /// A site of these files. A host is what `Host` has to say, byte for byte and with its port, as `127.0.0.1:8080`; one without
+    /// a port has port 80. Of two files with one path the first is served.
     pub fn new(hosts: Vec<Vec<u8>>, files: Vec<File>) -> Site
         ensures hosts { result.hosts ≡ hosts }
         ensures files { result.files ≡ files }
@@ -131,7 +148,9 @@ impl Site {
     pub(crate) fn has_host(&self, host: &[u8]) -> bool
         ensures { result ≡ has_host self.now host.now }
     {
-        self.hosts.iter().any(|taken| taken.as_slice() == host)
+        self.hosts
+            .iter()
+            .any(|taken| is_same_host(b":80", taken.as_slice(), host))
     }
 
     /// The file of a path.

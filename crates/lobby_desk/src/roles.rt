@@ -1,0 +1,34 @@
+//! What a connection is to the lobby.
+ghost use Rattle.std.specs.Prelude.{◌≡◌};
+ghost use Rattle.lobby_desk.specs.Watching.{watches_any};
+
+use crate::carrying::who_acts;
+use crate::desk::Desk;
+use crate::watching::{Watch, is_at_table};
+
+// Whether a connection watches a game.
+fn watches_any(watches: &[Watch], by: u64) -> bool
+    ensures { result ≡ watches_any watches.now by }
+{
+    watches.iter().any(|watch| watch.by == by)
+}
+
+impl Desk {
+    ghost use Rattle.lobby_desk.specs.Roles.{acts, is_watcher};
+
+    /// Whether a connection acts for a player.
+    pub fn acts(&self, connection: u64) -> bool
+        ensures { result ≡ acts self.now connection }
+    {
+        who_acts(&self.visitors, connection).is_some()
+    }
+
+    /// Whether a connection watches a game, or is told of the table.
+    pub fn is_watcher(&self, connection: u64) -> bool
+        ensures { result ≡ is_watcher self.now connection }
+    {
+        let watches = watches_any(self.watches.as_slice(), connection);
+        let is_at_table = is_at_table(self.table.as_slice(), connection);
+        watches || is_at_table
+    }
+}
