@@ -8,7 +8,7 @@ import sys
 import time
 
 sys.path.insert(0, os.path.dirname(os.path.realpath(__file__)))
-from web import TEXT, Line, frame, handshake, taken_frame
+from web import TEXT, Line, frame, handshake, taken_frame, token_of
 
 # (messages that a connection may say in a second, and at once)
 RATE, BURST = 20, 18
@@ -145,7 +145,7 @@ class Mover:
 
     def __init__(self, port, name):
         self.line = Line(port, 60)
-        self.ask('login token-of-' + name)
+        self.ask('login ' + token_of(name))
 
     def ask(self, text):
         self.line.send(text)
