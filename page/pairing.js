@@ -1,5 +1,6 @@
-// Pairing by hand: an arbiter opens a game for one player and joins another. What was begun is kept in this browser until
-// both sit, so that after a broken connection or a reload the table is looked at first, and no second game is opened.
+// Pairing by hand: by one word of an arbiter's a game is opened for one player and joined for another. What was begun is kept
+// in this browser until both sit, so that after a broken connection or a reload the table is looked at first, and no second
+// game is opened.
 
 import { readPgn, readRefusal, readRows, readShow, timesOfOpen } from './lines.js';
 import { byId, make, read, setText, write } from './make.js';
@@ -85,7 +86,7 @@ export class Pairing {
     if (this.begun) return;
     if (white === black) this.note('Choose two players: nobody plays against himself.');
     else if (/[^\x20-\x7e]/.test(fen)) this.note(NO_FEN);
-    else if (`as ${white} ${line}`.length > LONGEST) this.note('This FEN is too long.');
+    else if (Math.max(line.length, pairLine({ white, black, line }).length) > LONGEST) this.note('This FEN is too long.');
     else {
       const from = this.adjourned, ofIt = from && from.white === white && from.black === black;
       this.note('');
@@ -134,16 +135,17 @@ export class Pairing {
   }
 
   async open() {
-    const { white, line } = this.begun, answer = await this.app.wire.say(`as ${white} ${line}`);
-    const opened = /^ok open (\d+)$/.exec(answer[0]);
-    if (opened) {
-      this.opened(Number(opened[1]));
-      await this.join();
+    const answer = await this.app.wire.say(pairLine(this.begun)), paired = /^ok pair (\d+)$/.exec(answer[0]);
+    if (paired) {
+      this.opened(Number(paired[1]));
+      this.done();
     } else if (answer[0] === 'lost') {
-      this.isUnsure('The connection broke before the answer to the opening came.');
+      this.isUnsure('The connection broke before the answer to the pairing came.');
     } else {
-      this.step(`No game was opened. ${this.wordsOf(answer[0])}`, false);
-      this.keep(null);
+      this.step(`They were not paired. ${this.wordsOf(answer[0])}`, false);
+      // (the server may have opened the game, and refused the join)
+      await this.look();
+      if (this.begun && !this.begun.number && !this.unsure && !this.several) this.keep(null);
     }
   }
 
@@ -152,6 +154,7 @@ export class Pairing {
     this.step(`Game ${number} is open: ${this.name(this.begun.white)} has White.`);
   }
 
+  /** Joins Black in what was opened and not joined. */
   async join() {
     const { black, number } = this.begun, answer = await this.app.wire.say(`as ${black} join ${number}`);
     if (answer[0].startsWith('ok ')) {
@@ -238,7 +241,7 @@ export class Pairing {
         this.name(black)} anew.`, false, number);
       this.keep(null);
     } else if (!goesOn) {
-      this.step(`Game ${number} stands open: ${this.name(white)} has White, and anybody may join it.`, false);
+      this.step(`Game ${number} stands open: ${this.name(white)} has White, and ${this.name(black)} has not joined.`, false);
     }
   }
 
@@ -317,6 +320,11 @@ function readBegun() {
   } catch (refused) {
     return null;
   }
+}
+
+/** The one word that pairs: what stands behind the colour in the `open` line goes with it. */
+function pairLine({ white, black, line }) {
+  return `pair ${white} ${black} ${line.slice('open white '.length)}`;
 }
 
 /** Whether a game has the times and the men of an `open` line (the server may spell the rest of a FEN in another way). */

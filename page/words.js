@@ -30,7 +30,7 @@ const REFUSALS = {
   32: 'This personal link is not known here. Ask your arbiter for a new one.',
   33: 'Only an arbiter may do that.',
   34: 'That was too much within a second. Nothing was sent; try again.',
-  35: 'Sixteen of your games wait for an opponent already. Wait until one is joined, or ask an arbiter to take one off.',
+  35: 'Four of your games wait for an opponent already. Wait until one is joined, or ask an arbiter to take one off.',
   36: 'The lobby has no connection to the game server at the moment. Nothing was done; try again soon.',
   37: 'This page watches sixteen games already.',
   38: 'No player of this name is known here.',
@@ -39,13 +39,15 @@ const REFUSALS = {
     + 'help, tell who runs the lobby.',
   41: 'This game does not wait for a second player, so it is not taken off from here. One that is over goes by itself once it '
     + 'is kept.',
+  42: 'This game waits for nobody, or for another player. Look at the table again.',
+  43: 'You play in eight games already. End one first, or ask an arbiter.',
 };
 
 const OF_ANOTHER = {
   4: 'This player does not play in this game.',
   8: 'It is not this player’s turn.',
   11: 'No offer of a draw stands: it was declined, or a move was made.',
-  35: 'Sixteen games of this player wait for an opponent already: one of them has to be joined or taken off first.',
+  35: 'Four games of this player wait for an opponent already: one of them has to be joined or taken off first.',
 };
 
 /** What a refused line means to who sent it. */

@@ -43,12 +43,12 @@ OF_LINKS = ('link', 'close')
 OWN = ('login', 'players', 'lobby', 'watch', 'leave', 'line')
 REFUSED = {1: 'BadLine', 31: 'NoToken', 32: 'BadToken', 33: 'NotArbiter', 34: 'TooFast', 35: 'TooManyOpen',
            36: 'NoServer', 37: 'TooManyWatched', 38: 'NoPlayer', 39: 'EntriesPaused', 40: 'NotWritten',
-           41: 'NotWaiting'}
+           41: 'NotWaiting', 42: 'NotOffered'}
 POLICY = ("default-src 'none'; script-src 'self'; style-src 'self'; img-src 'self'; connect-src 'self'; "
           "base-uri 'none'; form-action 'none'; frame-ancestors 'none'")
 TYPES = {'html': 'text/html; charset=utf-8', 'css': 'text/css; charset=utf-8',
          'js': 'text/javascript; charset=utf-8', 'svg': 'image/svg+xml'}
-MOST_WATCHED, MOST_OPEN, GAMES, PLIES = 16, 16, 4096, 600
+MOST_WATCHED, MOST_OPEN, GAMES, PLIES = 16, 4, 4096, 600
 COST_MS, AHEAD_MS = 50, 950
 G = '(0|[1-9][0-9]{0,9})'
 
@@ -107,6 +107,7 @@ class Lobby:
         self.silent = False
         self.delay = 0
         self.opened = collections.defaultdict(set)
+        self.offered = set()           # the games that were told as waiting
         self.paused = os.path.exists(file + '.paused')
 
     # ---- one message
@@ -131,6 +132,8 @@ class Lobby:
             return self.own(c, word, text), None
         if text in OF_ARBITERS or word in OF_LINKS:
             return self.of_arbiters(c, text), None
+        if word == 'pair':
+            return self.pair(c, text)
         if word not in (*READS, *ACTS, 'as'):
             refuse(1)
         _, other, line = (text.split(' ', 2) + ['', ''])[:3]
@@ -153,6 +156,8 @@ class Lobby:
         seat = other if word == 'as' else name
         if act == 'open' and len(self.waiting_of(seat)) >= MOST_OPEN:
             refuse(35)
+        if act == 'join':
+            self.may_join(seat, line if word == 'as' else text)
         return self.asked(c, act, name, text, seat, line if word == 'as' else text)
 
     def asked(self, c, word, name, text, seat, line):
@@ -174,12 +179,54 @@ class Lobby:
         if fault == 'lose':
             self.server_is(False)
             return ['lost'], None
+        if word == 'list':
+            self.lists(answer)
         if word in READS or answer[0].startswith('no '):
             return answer, None
         number = int(answer[0].split(' ')[1 if answer[0].startswith('fallen') else 2])
         if word == 'open':
             self.opened[seat].add(number)
+            self.offered.add(number)
         return answer, (number, word, name, text, answer[0])
+
+    def lists(self, answer):
+        rows = [row.split(' ') for row in answer[1:]]
+        self.offered = {int(row[0]) for row in rows if '-' in row[1:3]}
+        return answer
+
+    def may_join(self, name, line):
+        found = re.fullmatch('join ' + G + '( .*)?', line)
+        if not found:
+            refuse(1)
+        if int(found[1]) not in self.offered:
+            refuse(42)
+
+    def pair(self, c, text):
+        """`pair WHITE BLACK TIMES`: a game is opened for one and joined for the other."""
+        _, white, black, times = (text.split(' ', 3) + ['', '', ''])[:4]
+        if white == black or not 1 <= len(times) <= 244:
+            refuse(1)
+        if c.player is None:
+            refuse(31)
+        if c.player[1] != 'arbiter':
+            refuse(33)
+        if not {white, black} <= {name for name, _, _ in self.players.values()}:
+            refuse(38)
+        if not self.here:
+            refuse(36)
+        fault, self.fault = self.fault, None
+        if fault == 'drop':
+            self.server_is(False)
+            return ['lost'], None
+        opened = self.server.ask(white, 'open white ' + times)[0]
+        if opened.startswith('no '):
+            return [opened], None
+        if fault == 'lose':
+            self.server_is(False)
+            return ['lost'], None
+        number = int(opened.split(' ')[2])
+        joined = self.server.ask(black, 'join %d' % number)[0]
+        return ['ok pair %d' % number], (number, 'pair', c.player[0], text, joined)
 
     def waiting_of(self, name):
         games = self.server.table.games
@@ -241,7 +288,7 @@ class Lobby:
             if not self.here:
                 refuse(36)
             c.at_table = True
-            return ['ok lobby'] + self.server.ask(None, 'list')
+            return ['ok lobby'] + self.lists(self.server.ask(None, 'list'))
         found = re.fullmatch('(watch|leave|line) ' + G, text)
         if not found or int(found[2]) > model.TOP:
             refuse(1)
@@ -285,7 +332,7 @@ class Lobby:
         standing = self.standing(number)
         over = len(standing) == 3 and standing[0].split(' ')[-1] != '-'
         for c in list(self.connections):
-            if number in c.watched or c.at_table and (word in ('open', 'join', 'drop') or over):
+            if number in c.watched or c.at_table and (word in ('open', 'join', 'drop', 'pair') or over):
                 c.tell(['told %d' % number, 'by %s %s' % (name, text), answer] + standing)
 
     def server_is(self, here):

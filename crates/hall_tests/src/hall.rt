@@ -365,7 +365,7 @@ static CASES: [Case; 13] = [
     ),
 ];
 
-static ACTS: [Case; 6] = [
+static ACTS: [Case; 7] = [
     // half a frame, and an answer in two pieces
     (
         (
@@ -405,6 +405,17 @@ static ACTS: [Case; 6] = [
         (40, 1),
         b"",
         PAUSED,
+    ),
+    // an arbiter pairs two players: the game is opened for one, and once that is answered joined for the other
+    (
+        (
+            b"UP~\x81\x87\0\0\0\0login e\x81\x92\0\0\0\0pair ann eve 300 2",
+            b"~~~~~~~~ok name ann\nok open 1\n~~ok name eve\nok join 1 black\n~~ok show 1 ann eve 0 w 1 1 - * -\nok fen 1 FEN\n",
+            How::Plainly,
+        ),
+        (60, 1),
+        b"name ann\nopen white 300 2\nname eve\njoin 1\nshow 1\nfen 1\n",
+        b"\x81\x0aok pair 1\n",
     ),
     // where the log fails, nobody is told of the act
     (

@@ -1,18 +1,22 @@
 -- The line of a message `as NAME LINE`.
-use Rattle.std.proofs.Common.{ℕ, zero, suc, ◌≡◌, ◌≤◌, ◌+◌, ◌==◌, Bool, true, false, ◌&&◌, ◌||◌, not, List, [], ◌∷◌, length, drop, codes, refl, sym, ap, ◌∙◌, subst, ⊎_elim, arith}
+use Rattle.std.proofs.Common.{ℕ, zero, suc, ◌≡◌, ◌≤◌, ◌+◌, ◌==◌, Bool, true, false, ◌&&◌, ◌||◌, not, List, [], ◌∷◌, ◌++◌, length, length-append, drop, codes, refl, sym, ap, ◌∙◌, subst, ⊎_elim, arith}
 use Rattle.std.specs.Prelude.{if◌then◌else◌, nat_le}
 use Rattle.std.specs.List.{list_all, position_or_len}
 use Rattle.std.specs.Str.{bytes_eq}
 use Rattle.std.proofs.lemmas.Bool.{false≢true, and_parts, or_cases}
 use Rattle.std.proofs.lemmas.Bool.Decides.{nat_tests}
 use Rattle.std.proofs.lemmas.List.{length-drop}
+use Rattle.std.proofs.lemmas.List.Folds.{list_all-append}
 use Rattle.std.proofs.lemmas.Slice.Eq.{bytes_eq-Decides}
 use Rattle.lobby_words.specs.declared.words.Sort.{Sort}
 use Rattle.lobby_words.specs.declared.words.Sort.TheVariants as sorts
-use Rattle.lobby_words.specs.Words.{word_of, rest_of, as_line, is_message, is_message_byte, is_play_word, is_read_word, is_act_word, as_sort, own_sort, whole_sort, sort_of, is_as_sort, is_as_word, is_act_sort}
+use Rattle.lobby_words.specs.Words.{word_of, rest_of, as_name, as_line, black_name, pair_times, pair_line, is_as_word, is_act_sort, is_message, is_message_byte, is_play_word, is_read_word, is_act_word, as_sort, own_sort, whole_sort, sort_of, is_as_sort, is_pair_sort}
 use Rattle.lobby_desk.proofs.Lines.{message}
 
 -- ---- where a message asks for that, LINE is an act
+
+abbrev may_pair : List ℕ → Bool
+may_pair text = not (bytes_eq (as_name text) (black_name text)) && nat_le 1 (length (pair_times text)) && nat_le (length (pair_times text)) 244
 
 whole_none : (a b c d e f : Bool) →
     is_as_sort (if a then sorts.Players else (if b then sorts.Who else (if c then sorts.Pause else (if d then sorts.Resume
@@ -25,16 +29,26 @@ whole_none false false false false true f = refl
 whole_none false false false false false true = refl
 whole_none false false false false false false = refl
 
-own_none : (a b c d e f : Bool) (last : Sort) → is_as_sort last ≡ false →
+own_none : (a b c d e f g p : Bool) (last : Sort) → is_as_sort last ≡ false →
     is_as_sort (if a then sorts.Login else (if b then sorts.Watch else (if c then sorts.Line else (if d then sorts.Leave
-    else (if e then sorts.Link else (if f then sorts.Close else last)))))) ≡ false
-own_none true b c d e f last h = refl
-own_none false true c d e f last h = refl
-own_none false false true d e f last h = refl
-own_none false false false true e f last h = refl
-own_none false false false false true f last h = refl
-own_none false false false false false true last h = refl
-own_none false false false false false false last h = h
+    else (if e then sorts.Link else (if f then sorts.Close else (if g then (if p then sorts.Pair else sorts.Nothing) else last))))))) ≡ false
+own_none true b c d e f g p last h = refl
+own_none false true c d e f g p last h = refl
+own_none false false true d e f g p last h = refl
+own_none false false false true e f g p last h = refl
+own_none false false false false true f g p last h = refl
+own_none false false false false false true g p last h = refl
+own_none false false false false false false true true last h = refl
+own_none false false false false false false true false last h = refl
+own_none false false false false false false false p last h = h
+
+own_not_as : (w text : List ℕ) → is_as_sort (own_sort w text) ≡ false
+own_not_as w text =
+    own_none (bytes_eq w (codes "login")) (bytes_eq w (codes "watch")) (bytes_eq w (codes "line"))
+    (bytes_eq w (codes "leave") && not (bytes_eq text (codes "leave lobby"))) (bytes_eq w (codes "link")) (bytes_eq w (codes "close"))
+    (bytes_eq w (codes "pair")) (may_pair text) (whole_sort text)
+    (whole_none (bytes_eq text (codes "players")) (bytes_eq text (codes "who")) (bytes_eq text (codes "pause entries"))
+    (bytes_eq text (codes "resume entries")) (bytes_eq text (codes "lobby")) (bytes_eq text (codes "leave lobby")))
 
 plays_if : (a b c d e p : Bool) (last : Sort) → is_as_sort last ≡ false →
     is_as_sort (if a then sorts.Name else (if b then sorts.Read else (if c then sorts.Act else (if d then sorts.Drop
@@ -52,15 +66,9 @@ unfolding sort_of
 as_plays text is =
     let w = word_of text in
     plays_if (bytes_eq w (codes "name")) (is_read_word w) (is_act_word w) (bytes_eq w (codes "drop")) (bytes_eq w (codes "as"))
-    (is_act_word (word_of (as_line text))) (own_sort w text)
-    (own_none (bytes_eq w (codes "login")) (bytes_eq w (codes "watch")) (bytes_eq w (codes "line"))
-    (bytes_eq w (codes "leave") && not (bytes_eq text (codes "leave lobby"))) (bytes_eq w (codes "link")) (bytes_eq w (codes "close"))
-    (whole_sort text)
-    (whole_none (bytes_eq text (codes "players")) (bytes_eq text (codes "who")) (bytes_eq text (codes "pause entries"))
-    (bytes_eq text (codes "resume entries")) (bytes_eq text (codes "lobby")) (bytes_eq text (codes "leave lobby"))))
-    (ap is_as_sort is)
+    (is_act_word (word_of (as_line text))) (own_sort w text) (own_not_as w text) (ap is_as_sort is)
 
--- ---- which messages are `as NAME LINE`
+-- ---- and its word is `as`, as that of an act in one's own name is not
 
 as_if : (a b c d e p : Bool) (last : Sort) → is_as_sort last ≡ false →
     is_as_sort (if a then sorts.Name else (if b then sorts.Read else (if c then sorts.Act else (if d then sorts.Drop
@@ -77,13 +85,14 @@ unfolding sort_of
 as_word text is =
     let w = word_of text in
     as_if (bytes_eq w (codes "name")) (is_read_word w) (is_act_word w) (bytes_eq w (codes "drop")) (bytes_eq w (codes "as"))
-    (is_act_word (word_of (as_line text))) (own_sort w text)
-    (own_none (bytes_eq w (codes "login")) (bytes_eq w (codes "watch")) (bytes_eq w (codes "line"))
-    (bytes_eq w (codes "leave") && not (bytes_eq text (codes "leave lobby"))) (bytes_eq w (codes "link")) (bytes_eq w (codes "close"))
-    (whole_sort text)
-    (whole_none (bytes_eq text (codes "players")) (bytes_eq text (codes "who")) (bytes_eq text (codes "pause entries"))
-    (bytes_eq text (codes "resume entries")) (bytes_eq text (codes "lobby")) (bytes_eq text (codes "leave lobby"))))
-    (ap is_as_sort is)
+    (is_act_word (word_of (as_line text))) (own_sort w text) (own_not_as w text) (ap is_as_sort is)
+
+-- a sort that is of an act in one's own name, and no other
+abbrev pub is_own_act : Sort → Bool
+is_own_act sorts.Act = true
+is_own_act _ = false
+
+-- ---- which messages are `as NAME LINE`
 
 no_act_if : (a b c d e p : Bool) (last : Sort) → a ≡ false → b ≡ false → c ≡ false → d ≡ false → e ≡ true →
     is_act_sort (if a then sorts.Name else (if b then sorts.Read else (if c then sorts.Act else (if d then sorts.Drop
@@ -219,6 +228,83 @@ parts text h =
     let len = length text in
     let both = and_parts (nat_le 1 len && nat_le len 255) (list_all is_message_byte text) h in
     record { short = at_most (length text) (and_parts (nat_le 1 len) (nat_le len 255) both.0).1; shown = both.1 }
+
+-- ---- a line that joins is an act
+
+join_word : is_act_word (codes "join") ≡ true
+unfolding is_act_word
+join_word = refl
+
+pub join_acts : (line : List ℕ) → word_of line ≡ codes "join" → sort_of line ≡ sorts.Act
+join_acts line is = act_by_word line (plays_acts (word_of line) (ap is_act_word is ∙ join_word))
+
+-- ---- the line that opens the game of a pairing
+
+pair_if : (a b c d e : Bool) (other last : Sort) → is_pair_sort other ≡ false → is_pair_sort (if a then sorts.Name else (if b then sorts.Read else (if c then sorts.Act
+    else (if d then sorts.Drop else (if e then other else last))))) ≡ true → is_pair_sort last ≡ true
+pair_if true b c d e other last none h = absurd (false≢true h)
+pair_if false true c d e other last none h = absurd (false≢true h)
+pair_if false false true d e other last none h = absurd (false≢true h)
+pair_if false false false true e other last none h = absurd (false≢true h)
+pair_if false false false false true other last none h = absurd (false≢true (sym none ∙ h))
+pair_if false false false false false other last none h = h
+
+own_pair : (a b c d e f g p : Bool) (last : Sort) → is_pair_sort last ≡ false →
+    is_pair_sort (if a then sorts.Login else (if b then sorts.Watch else (if c then sorts.Line else (if d then sorts.Leave
+    else (if e then sorts.Link else (if f then sorts.Close else (if g then (if p then sorts.Pair else sorts.Nothing) else last))))))) ≡ true → p ≡ true
+own_pair true b c d e f g p last none h = absurd (false≢true h)
+own_pair false true c d e f g p last none h = absurd (false≢true h)
+own_pair false false true d e f g p last none h = absurd (false≢true h)
+own_pair false false false true e f g p last none h = absurd (false≢true h)
+own_pair false false false false true f g p last none h = absurd (false≢true h)
+own_pair false false false false false true g p last none h = absurd (false≢true h)
+own_pair false false false false false false true true last none h = refl
+own_pair false false false false false false true false last none h = absurd (false≢true h)
+own_pair false false false false false false false p last none h = absurd (false≢true (sym none ∙ h))
+
+whole_no_pair : (a b c d e f : Bool) →
+    is_pair_sort (if a then sorts.Players else (if b then sorts.Who else (if c then sorts.Pause else (if d then sorts.Resume
+    else (if e then sorts.Lobby else (if f then sorts.LeaveLobby else sorts.Nothing)))))) ≡ false
+whole_no_pair true b c d e f = refl
+whole_no_pair false true c d e f = refl
+whole_no_pair false false true d e f = refl
+whole_no_pair false false false true e f = refl
+whole_no_pair false false false false true f = refl
+whole_no_pair false false false false false true = refl
+whole_no_pair false false false false false false = refl
+
+as_no_pair : (p : Bool) → is_pair_sort (if p then sorts.As else sorts.Nothing) ≡ false
+as_no_pair true = refl
+as_no_pair false = refl
+
+pairs_so : (text : List ℕ) → sort_of text ≡ sorts.Pair → may_pair text ≡ true
+unfolding sort_of
+pairs_so text is =
+    let w = word_of text in
+    own_pair (bytes_eq w (codes "login")) (bytes_eq w (codes "watch")) (bytes_eq w (codes "line"))
+    (bytes_eq w (codes "leave") && not (bytes_eq text (codes "leave lobby"))) (bytes_eq w (codes "link")) (bytes_eq w (codes "close"))
+    (bytes_eq w (codes "pair")) (may_pair text) (whole_sort text)
+    (whole_no_pair (bytes_eq text (codes "players")) (bytes_eq text (codes "who")) (bytes_eq text (codes "pause entries"))
+    (bytes_eq text (codes "resume entries")) (bytes_eq text (codes "lobby")) (bytes_eq text (codes "leave lobby")))
+    (pair_if (bytes_eq w (codes "name")) (is_read_word w) (is_act_word w) (bytes_eq w (codes "drop")) (bytes_eq w (codes "as"))
+    (as_sort text) (own_sort w text) (as_no_pair (is_act_word (word_of (as_line text)))) (ap is_pair_sort is))
+
+at_most_244 : (n : ℕ) → nat_le n 244 ≡ true → n ≤ 244
+at_most_244 n h = grind (arith, nat_tests)
+
+pub pair_whole : (text : List ℕ) → is_message text ≡ true → sort_of text ≡ sorts.Pair → is_message (pair_line text) ≡ true
+pair_whole text is sort =
+    let p = parts text is in
+    let times = pair_times text in
+    let may = and_parts (not (bytes_eq (as_name text) (black_name text)) && nat_le 1 (length times)) (nat_le (length times) 244) (pairs_so text sort) in
+    let short = at_most_244 (length times) may.1 in
+    let len = length-append (codes "open white ") times in
+    message (pair_line text) (omega (arith, len)) (omega (arith, len, short))
+    (list_all-append is_message_byte (codes "open white ") times ∙ behind_space (as_line text) (behind_space (rest_of text) (behind_space text p.shown)))
+
+pub pair_acts : (text : List ℕ) → sort_of (pair_line text) ≡ sorts.Act
+unfolding sort_of is_read_word is_act_word
+pair_acts text = refl
 
 pub as_whole : (text : List ℕ) → is_message text ≡ true → sort_of text ≡ sorts.As → is_message (as_line text) ≡ true
 as_whole text is sort =

@@ -13,15 +13,17 @@ use Rattle.lobby_words.specs.declared.planning.Standing.{Standing}
 use Rattle.lobby_words.specs.declared.planning.Identity.{Identity}
 use Rattle.lobby_roster.specs.declared.players.Player.{Player}
 use Rattle.lobby_desk.specs.declared.watching.Watch.{Watch}
-use Rattle.lobby_words.specs.Words.{as_line, is_link_sort, is_close_sort, is_leave_sort, is_leave_lobby_sort, or_0}
-use Rattle.lobby_words.specs.Plans.{asked, entered_plan, act_plan, named_plan, as_plan, drop_plan, arbiter_plan, order_plan, login_plan, order_of, numbered_plan, plan_of}
-use Rattle.lobby_desk.specs.Lines.{lines_of, is_said, name_line, notice_lines}
+use Rattle.lobby_words.specs.Words.{as_line, black_name, pair_line, is_link_sort, is_close_sort, is_leave_sort, is_leave_lobby_sort, or_0}
+use Rattle.lobby_words.specs.Plans.{asked, barred, entered_plan, act_plan, named_plan, as_plan, black_plan, white_plan, pair_plan, drop_plan, arbiter_plan, order_plan, login_plan, order_of, numbered_plan, plan_of}
+use Rattle.lobby_desk.specs.Lines.{lines_of, act_lines, is_said, name_line, notice_lines}
 use Rattle.lobby_desk.specs.Refusals.{game_named}
-use Rattle.lobby_desk.specs.Events.{MessageValue, ForItself, ForPositions, ForTable, ForGame, ForAct, Owed, Asker, Dropper, owed_lines, plan_asker, sort_asker}
+use Rattle.lobby_desk.specs.Events.{MessageValue, ForItself, ForPositions, ForTable, ForGame, ForAct, Owed, Asker, Dropper, Pairer, owed_lines, plan_asker, sort_asker}
 use Rattle.lobby_desk.specs.Watching.{risen}
 use Rattle.lobby_desk.specs.Tellings.{left_game, IsToldOrSent}
 use Rattle.lobby_desk.specs.Who.{name_of, plan_watches, plan_table, IsAnswered}
+use Rattle.lobby_roster.specs.Players.{known_name}
 use Rattle.lobby_desk.specs.History.{IsArbiter}
+use Rattle.lobby_roster.proofs.ByName.{named_is}
 
 -- whose the answer to a plan's last line is
 abbrev pub LastIs : Plan → Option (List ℕ) → List ℕ → ℕ → Owed → Type 0
@@ -32,13 +34,14 @@ asked_last : (s : Standing) (plan : Plan) (said : Option (List ℕ)) (text : Lis
 asked_last s plan said text c o h =
     elim s.is_here as (λ b. LastIs (if b then plan else plans.Refuse refusals.NoServer) said text c o) [ true ↦ h | false ↦ refl ]
 
+barred_last : (bar : Option Refusal) (plan : Plan) (said : Option (List ℕ)) (text : List ℕ) (c : ℕ) (o : Owed) → LastIs plan said text c o →
+    LastIs (barred bar plan) said text c o
+barred_last None plan said text c o h = h
+barred_last (Some refusal) plan said text c o h = refl
+
 entered_last : (s : Standing) (plan : Plan) (said : Option (List ℕ)) (text : List ℕ) (c : ℕ) (o : Owed) → LastIs plan said text c o →
     LastIs (entered_plan s plan) said text c o
-entered_last s plan said text c o h =
-    elim s.is_crowded as (λ b. LastIs (if b then asked s (plans.Refuse refusals.TooManyOpen) else asked s plan) said text c o) [
-      | true ↦ asked_last s (plans.Refuse refusals.TooManyOpen) said text c o refl
-      | false ↦ asked_last s plan said text c o h
-    ]
+entered_last s plan said text c o h = asked_last s (barred s.bar plan) said text c o (barred_last s.bar plan said text c o h)
 
 act_last : (s : Standing) (who : Option Identity) (said : Option (List ℕ)) (text : List ℕ) (c : ℕ) → LastIs (act_plan s who) said text c (Asker c (ForAct (name_of who) text))
 act_last s None said text c = refl
@@ -58,6 +61,28 @@ as_last s None said text c = refl
 as_last s (Some who) said text c =
     elim who.is_arbiter as (λ b. LastIs (if b then named_plan s who s.named else plans.Refuse refusals.NotArbiter) said text c (Asker c (ForAct who.name text))) [
       | true ↦ named_last s who s.named said text c
+      | false ↦ refl
+    ]
+
+black_last : (players : List Player) (s : Standing) (who : Identity) (white : List ℕ) (black said : Option (List ℕ)) (text : List ℕ) (c : ℕ) →
+    black ≡ known_name players (black_name text) → LastIs (black_plan s who white black) said text c (Pairer c who.name (black_name text) text)
+black_last players s who white None said text c same = refl
+black_last players s who white (Some black) said text c same =
+    asked_last s (plans.Pair who white black) said text c (Pairer c who.name (black_name text) text)
+    (ap (λ (b : List ℕ). owed_lines (Pairer c who.name b text) (act_lines said white (pair_line text) None))
+    (sym (named_is players (black_name text) black (sym same))))
+
+white_last : (players : List Player) (s : Standing) (who : Identity) (white said : Option (List ℕ)) (text : List ℕ) (c : ℕ) →
+    s.black ≡ known_name players (black_name text) → LastIs (white_plan s who white) said text c (Pairer c who.name (black_name text) text)
+white_last players s who None said text c same = refl
+white_last players s who (Some white) said text c same = black_last players s who white s.black said text c same
+
+pair_last : (players : List Player) (s : Standing) (who : Option Identity) (said : Option (List ℕ)) (text : List ℕ) (c : ℕ) →
+    s.black ≡ known_name players (black_name text) → LastIs (pair_plan s who) said text c (Pairer c (name_of who) (black_name text) text)
+pair_last players s None said text c same = refl
+pair_last players s (Some who) said text c same =
+    elim who.is_arbiter as (λ b. LastIs (if b then white_plan s who s.named else plans.Refuse refusals.NotArbiter) said text c (Pairer c who.name (black_name text) text)) [
+      | true ↦ white_last players s who s.named said text c same
       | false ↦ refl
     ]
 
@@ -109,40 +134,41 @@ line_last : (s : Standing) (game : Option ℕ) (said : Option (List ℕ)) (text 
 line_last s None said text c = refl
 line_last s (Some game) said text c = asked_last s (plans.Line game) said text c (Asker c ForPositions) refl
 
-pub planned_last : (m : Bool) (sort : Sort) (s : Standing) (game : Option ℕ) (said : Option (List ℕ)) (text : List ℕ) (c : ℕ) →
-    LastIs (plan_of m sort s game) said text c (sort_asker sort game c (name_of s.who) text)
-planned_last false sort s game said text c = refl
-planned_last true sorts.Read s game said text c = asked_last s plans.Read said text c (Asker c ForItself) refl
-planned_last true sorts.Act s game said text c = act_last s s.who said text c
-planned_last true sorts.As s game said text c = as_last s s.who said text c
-planned_last true sorts.Drop s game said text c = numbered_last s game said text c
-planned_last true sorts.Login s game said text c = login_last s.holder said text c
-planned_last true sorts.Players s game said text c = refl
-planned_last true sorts.Who s game said text c = arbiter_last s.who plans.Who said text c refl
-planned_last true sorts.Pause s game said text c = arbiter_last s.who plans.Pause said text c refl
-planned_last true sorts.Resume s game said text c = arbiter_last s.who plans.Resume said text c refl
-planned_last true sorts.Link s game said text c =
+pub planned_last : (players : List Player) (m : Bool) (sort : Sort) (s : Standing) (game : Option ℕ) (said : Option (List ℕ)) (text : List ℕ) (c : ℕ) →
+    s.black ≡ known_name players (black_name text) → LastIs (plan_of m sort s game) said text c (sort_asker sort game c (name_of s.who) text)
+planned_last players false sort s game said text c same = refl
+planned_last players true sorts.Read s game said text c same = asked_last s plans.Read said text c (Asker c ForItself) refl
+planned_last players true sorts.Act s game said text c same = act_last s s.who said text c
+planned_last players true sorts.As s game said text c same = as_last s s.who said text c
+planned_last players true sorts.Pair s game said text c same = pair_last players s s.who said text c same
+planned_last players true sorts.Drop s game said text c same = numbered_last s game said text c
+planned_last players true sorts.Login s game said text c same = login_last s.holder said text c
+planned_last players true sorts.Players s game said text c same = refl
+planned_last players true sorts.Who s game said text c same = arbiter_last s.who plans.Who said text c refl
+planned_last players true sorts.Pause s game said text c same = arbiter_last s.who plans.Pause said text c refl
+planned_last players true sorts.Resume s game said text c same = arbiter_last s.who plans.Resume said text c refl
+planned_last players true sorts.Link s game said text c same =
     arbiter_last s.who (order_plan false s.linked) said text c (order_last false s.linked said text c)
-planned_last true sorts.Close s game said text c =
+planned_last players true sorts.Close s game said text c same =
     arbiter_last s.who (order_plan true s.linked) said text c (order_last true s.linked said text c)
-planned_last true sorts.Lobby s game said text c = asked_last s plans.Lobby said text c (Asker c ForTable) refl
-planned_last true sorts.LeaveLobby s game said text c = refl
-planned_last true sorts.Watch s game said text c = watch_last s game said text c
-planned_last true sorts.Leave s game said text c = leave_last s game said text c
-planned_last true sorts.Line s game said text c = line_last s game said text c
-planned_last true sorts.Name s game said text c = refl
-planned_last true sorts.Nothing s game said text c = refl
+planned_last players true sorts.Lobby s game said text c same = asked_last s plans.Lobby said text c (Asker c ForTable) refl
+planned_last players true sorts.LeaveLobby s game said text c same = refl
+planned_last players true sorts.Watch s game said text c same = watch_last s game said text c
+planned_last players true sorts.Leave s game said text c same = leave_last s game said text c
+planned_last players true sorts.Line s game said text c same = line_last s game said text c
+planned_last players true sorts.Name s game said text c same = refl
+planned_last players true sorts.Nothing s game said text c same = refl
 
 -- what each plan does that may be for a message
 pub asked_does : (P : Plan → Type 0) (s : Standing) (plan : Plan) → P (plans.Refuse refusals.NoServer) → P plan → P (asked s plan)
 asked_does P s plan none h = elim s.is_here as (λ b. P (if b then plan else plans.Refuse refusals.NoServer)) [ true ↦ h | false ↦ none ]
 
+barred_does : (P : Plan → Type 0) (bar : Option Refusal) (plan : Plan) → ((r : Refusal) → P (plans.Refuse r)) → P plan → P (barred bar plan)
+barred_does P None plan none h = h
+barred_does P (Some refusal) plan none h = none refusal
+
 pub entered_does : (P : Plan → Type 0) (s : Standing) (plan : Plan) → ((r : Refusal) → P (plans.Refuse r)) → P plan → P (entered_plan s plan)
-entered_does P s plan none h =
-    elim s.is_crowded as (λ b. P (if b then asked s (plans.Refuse refusals.TooManyOpen) else asked s plan)) [
-      | true ↦ asked_does P s (plans.Refuse refusals.TooManyOpen) (none refusals.NoServer) (none refusals.TooManyOpen)
-      | false ↦ asked_does P s plan (none refusals.NoServer) h
-    ]
+entered_does P s plan none h = asked_does P s (barred s.bar plan) (none refusals.NoServer) (barred_does P s.bar plan none h)
 
 pub act_does : (P : Plan → Type 0) (s : Standing) (who : Option Identity) → ((r : Refusal) → P (plans.Refuse r)) → ((one : Identity) → P (plans.Act one)) →
     P (act_plan s who)
@@ -164,6 +190,25 @@ as_does P s None none h = none refusals.NoToken
 as_does P s (Some who) none h =
     elim who.is_arbiter as (λ b. P (if b then named_plan s who s.named else plans.Refuse refusals.NotArbiter)) [
       | true ↦ named_does P s who s.named none (h who)
+      | false ↦ none refusals.NotArbiter
+    ]
+
+black_does : (P : Plan → Type 0) (s : Standing) (who : Identity) (white : List ℕ) (black : Option (List ℕ)) → ((r : Refusal) → P (plans.Refuse r)) →
+    ((name : List ℕ) → P (plans.Pair who white name)) → P (black_plan s who white black)
+black_does P s who white None none h = none refusals.NoPlayer
+black_does P s who white (Some black) none h = asked_does P s (plans.Pair who white black) (none refusals.NoServer) (h black)
+
+white_does : (P : Plan → Type 0) (s : Standing) (who : Identity) (white : Option (List ℕ)) → ((r : Refusal) → P (plans.Refuse r)) →
+    ((one other : List ℕ) → P (plans.Pair who one other)) → P (white_plan s who white)
+white_does P s who None none h = none refusals.NoPlayer
+white_does P s who (Some white) none h = black_does P s who white s.black none (h white)
+
+pub pair_does : (P : Plan → Type 0) (s : Standing) (who : Option Identity) → ((r : Refusal) → P (plans.Refuse r)) →
+    ((by : Identity) (one other : List ℕ) → P (plans.Pair by one other)) → P (pair_plan s who)
+pair_does P s None none h = none refusals.NoToken
+pair_does P s (Some who) none h =
+    elim who.is_arbiter as (λ b. P (if b then white_plan s who s.named else plans.Refuse refusals.NotArbiter)) [
+      | true ↦ white_does P s who s.named none (h who)
       | false ↦ none refusals.NotArbiter
     ]
 
@@ -234,6 +279,7 @@ planned false sort s game c watches table = (refl, refl)
 planned true sorts.Read s game c watches table = asked_does (Stays c watches table) s plans.Read (refl, refl) (refl, refl)
 planned true sorts.Act s game c watches table = act_does (Stays c watches table) s s.who (λ _. (refl, refl)) (λ _. (refl, refl))
 planned true sorts.As s game c watches table = as_does (Stays c watches table) s s.who (λ _. (refl, refl)) (λ _ _. (refl, refl))
+planned true sorts.Pair s game c watches table = pair_does (Stays c watches table) s s.who (λ _. (refl, refl)) (λ _ _ _. (refl, refl))
 planned true sorts.Drop s game c watches table = dropped_does (Stays c watches table) s game (λ _. (refl, refl)) (λ _ _. (refl, refl))
 planned true sorts.Login s game c watches table = login_does (Stays c watches table) s.holder (λ _. (refl, refl)) (λ _. (refl, refl))
 planned true sorts.Players s game c watches table = (refl, refl)
@@ -274,6 +320,7 @@ answered_or_sent is_paused players is_open acts_for (plans.Refuse refusal) said 
 answered_or_sent is_paused players is_open acts_for plans.Read said text c tells h = h
 answered_or_sent is_paused players is_open acts_for (plans.Act who) said text c tells h = act_sent (is_said said who.name) who.name text (notice_lines (game_named text)) c tells h
 answered_or_sent is_paused players is_open acts_for (plans.ActAs who name) said text c tells h = act_sent (is_said said name) name (as_line text) (notice_lines (game_named text)) c tells h
+answered_or_sent is_paused players is_open acts_for (plans.Pair who white black) said text c tells h = act_sent (is_said said white) white (pair_line text) [] c tells h
 answered_or_sent is_paused players is_open acts_for (plans.Drop who game) said text c tells h = h
 answered_or_sent is_paused players is_open acts_for (plans.Login who) said text c tells h = (h.0, h.2)
 answered_or_sent is_paused players is_open acts_for plans.Players said text c tells h = (h.0, h.2)
@@ -328,6 +375,7 @@ planned_orders false sort s game = tt
 planned_orders true sorts.Read s game = asked_does (OfOrder (Orders true sorts.Read s)) s plans.Read tt tt
 planned_orders true sorts.Act s game = act_does (OfOrder (Orders true sorts.Act s)) s s.who (λ _. tt) (λ _. tt)
 planned_orders true sorts.As s game = as_does (OfOrder (Orders true sorts.As s)) s s.who (λ _. tt) (λ _ _. tt)
+planned_orders true sorts.Pair s game = pair_does (OfOrder (Orders true sorts.Pair s)) s s.who (λ _. tt) (λ _ _ _. tt)
 planned_orders true sorts.Drop s game = dropped_does (OfOrder (Orders true sorts.Drop s)) s game (λ _. tt) (λ _ _. tt)
 planned_orders true sorts.Login s game = login_does (OfOrder (Orders true sorts.Login s)) s.holder (λ _. tt) (λ _. tt)
 planned_orders true sorts.Players s game = tt
@@ -355,6 +403,7 @@ is_order (plans.Refuse r) order is = absurd (false≢true (ap is_some is))
 is_order plans.Read order is = absurd (false≢true (ap is_some is))
 is_order (plans.Act who) order is = absurd (false≢true (ap is_some is))
 is_order (plans.ActAs who name) order is = absurd (false≢true (ap is_some is))
+is_order (plans.Pair who white black) order is = absurd (false≢true (ap is_some is))
 is_order (plans.Drop who game) order is = absurd (false≢true (ap is_some is))
 is_order (plans.Login who) order is = absurd (false≢true (ap is_some is))
 is_order plans.Players order is = absurd (false≢true (ap is_some is))

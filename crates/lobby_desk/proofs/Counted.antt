@@ -6,7 +6,7 @@ use Rattle.std.proofs.lemmas.Bool.Decides.{Decides-eqb}
 use Rattle.lobby_words.specs.Answers.{act_game, is_table_act, answer}
 use Rattle.lobby_roster.specs.declared.players.Player.{Player}
 use Rattle.lobby_desk.specs.declared.refusals.RefusedActs.{RefusedActs}
-use Rattle.lobby_desk.specs.Events.{DeskInput, Opened, Closed, Said, Hurried, Heard, ServerTurned, Renewed, Linked, ForItself, ForPositions, ForTable, ForGame, ForAct, Owed, Nobody, Naming, Asker, Dropper, Followers, Behind}
+use Rattle.lobby_desk.specs.Events.{DeskInput, Opened, Closed, Said, Hurried, Heard, ServerTurned, Renewed, Linked, ForItself, ForPositions, ForTable, ForGame, ForAct, Owed, Nobody, Naming, Asker, Dropper, Pairer, Followers, Behind}
 use Rattle.lobby_desk.specs.Refusals.{is_act_accepted, is_refusal, game_named, refused_game, count_in, count_of, without, cleared, one_more}
 use Rattle.lobby_desk.specs.Tellings.{Known, is_counted, is_number, refused_heard, refused_next, refused_now}
 use Rattle.lobby_desk.specs.History.{Step, known_in, Acted, acted_for, acted_next, acted_now, acted_in, refuses, since, refused_since}
@@ -134,6 +134,7 @@ heard_counted (Asker c ForTable) now refused acts h = h
 heard_counted (Asker c (ForGame watched)) now refused acts h = h
 heard_counted (Asker c (ForAct by text)) now refused acts h = λ game. told_at (is_act_accepted now) text now game acts refused refl (h game)
 heard_counted (Dropper c by text) now refused acts h = h
+heard_counted (Pairer c by black text) now refused acts h = λ game. told_at (is_act_accepted now) text now game acts refused refl (h game)
 heard_counted (Followers noticed act is_table) now refused acts h = h
 heard_counted Behind now refused acts h = h
 

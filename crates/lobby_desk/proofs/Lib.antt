@@ -11,4 +11,5 @@ pub mod Steps
 pub mod Runs
 pub mod Counted
 pub mod Logged
+pub mod Paired
 pub mod Named

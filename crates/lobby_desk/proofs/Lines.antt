@@ -10,8 +10,8 @@ use Rattle.std.proofs.lemmas.List.Folds.{list_all-append}
 use Rattle.std.proofs.lemmas.Str.Parse.{digit_at}
 use Rattle.rec_codec.specs.Name.{IsName, is_name_byte}
 use Rattle.lobby_words.specs.declared.words.Sort.TheVariants as sorts
-use Rattle.lobby_words.specs.Words.{is_message, is_message_byte, sort_of, is_read_word}
-use Rattle.lobby_desk.specs.Lines.{name_line, game_line}
+use Rattle.lobby_words.specs.Words.{is_message, is_message_byte, sort_of, is_read_word, is_act_word}
+use Rattle.lobby_desk.specs.Lines.{name_line, game_line, join_line}
 use Rattle.lobby_words.proofs.Numbers.{own}
 
 byte_shown : (c : ℕ) → 32 ≤ c → c ≤ 126 → is_message_byte c ≡ true
@@ -53,6 +53,12 @@ pgn_whole n small =
     let len = length-append (codes "pgn ") (decimal n) in
     message (game_line (codes "pgn ") n) (omega arith) (omega arith) (game_shown (codes "pgn ") n small refl)
 
+pub join_whole : (n : ℕ) → n < 2 ^ 32 → is_message (join_line n) ≡ true
+join_whole n small =
+    let short = decimal_short n small in
+    let len = length-append (codes "join ") (decimal n) in
+    message (join_line n) (omega arith) (omega arith) (game_shown (codes "join ") n small refl)
+
 pub list_whole : is_message (codes "list") ≡ true
 list_whole = refl
 
@@ -85,6 +91,10 @@ fen_reads n = refl
 pub pgn_reads : (n : ℕ) → sort_of (game_line (codes "pgn ") n) ≡ sorts.Read
 unfolding sort_of is_read_word
 pgn_reads n = refl
+
+pub join_line_acts : (n : ℕ) → sort_of (join_line n) ≡ sorts.Act
+unfolding sort_of is_read_word is_act_word
+join_line_acts n = refl
 
 pub list_reads : sort_of (codes "list") ≡ sorts.Read
 unfolding sort_of is_read_word

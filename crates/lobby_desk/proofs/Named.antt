@@ -13,19 +13,19 @@ use Rattle.lobby_words.specs.declared.planning.Standing.{Standing}
 use Rattle.lobby_words.specs.declared.planning.Identity.{Identity}
 use Rattle.lobby_roster.specs.declared.players.Player.{Player}
 use Rattle.lobby_roster.specs.Players.{known_name}
-use Rattle.lobby_words.specs.Words.{word_of, rest_of, as_name, as_line, line_said, actor, is_message, sort_of, is_act_sort, is_drop_sort, is_name_sort, u32_in, or_0}
+use Rattle.lobby_words.specs.Words.{word_of, rest_of, as_name, as_line, black_name, pair_line, line_said, actor, is_message, sort_of, is_act_sort, is_pair_sort, is_drop_sort, is_name_sort, u32_in, or_0}
 use Rattle.lobby_words.specs.Naming.{takes_name}
-use Rattle.lobby_words.specs.Plans.{entered_plan, act_plan, named_plan, as_plan, numbered_plan, plan_of}
+use Rattle.lobby_words.specs.Plans.{entered_plan, act_plan, named_plan, as_plan, black_plan, white_plan, pair_plan, numbered_plan, plan_of}
 use Rattle.lobby_words.specs.Answers.{is_whole, act_game, answer}
-use Rattle.lobby_desk.specs.Lines.{lines_of, act_lines, name_line, game_line, is_said, notice_lines}
+use Rattle.lobby_desk.specs.Lines.{lines_of, act_lines, join_line, name_line, game_line, is_said, notice_lines}
 use Rattle.lobby_desk.specs.Refusals.{game_named}
-use Rattle.lobby_desk.specs.Events.{DeskInput, Opened, Closed, Said, Hurried, Heard, ServerTurned, Renewed, Linked, MessageValue, ForItself, ForPositions, ForTable, ForGame, ForAct, Owed, Nobody, Naming, Asker, Dropper, Followers, Behind, owed_lines, sort_asker, asker, followers_of, follower, asked_after}
+use Rattle.lobby_desk.specs.Events.{DeskInput, Opened, Closed, Said, Hurried, Heard, ServerTurned, Renewed, Linked, MessageValue, ForItself, ForPositions, ForTable, ForGame, ForAct, Owed, Nobody, Naming, Asker, Dropper, Pairer, Followers, Behind, owed_lines, sort_asker, asker, followers_of, follower, asked_after}
 use Rattle.lobby_desk.specs.Tellings.{Known, is_counted, misnamed_heard, misnamed_next, owed_answered}
-use Rattle.lobby_desk.specs.Who.{View, IsSaid, IsSentFor, IsSentNext, IsSentHeard, IsDone, IsDropped, name_of, speaker}
-use Rattle.lobby_desk.specs.History.{Step, player_in, players_in, says_name, is_act, is_drop, name_behind, name_through, name_before, name_in, known_in, HasAsked, IsRun, Sent, sent_under, but_first, unanswered_now, unanswered_in, shown_behind, shown_next, shown_now, shown_in, IsNameOf, IsOfAct, IsOfOwed, IsOfNext, IsOfHeard, IsOfName, AllNamed}
+use Rattle.lobby_desk.specs.Who.{View, IsSaid, IsSentFor, IsSentNext, IsSentHeard, IsDone, IsDropped, IsPaired, name_of, speaker}
+use Rattle.lobby_desk.specs.History.{Step, player_in, players_in, says_name, is_act, is_drop, is_pairing, name_behind, name_through, name_before, name_in, known_in, HasAsked, PairsNow, HasPaired, IsRun, Sent, sent_under, but_first, unanswered_now, unanswered_in, shown_behind, shown_next, shown_now, shown_in, IsLineIf, IsLineOf, IsNameIf, IsNameOf, IsOfAct, IsOfOwed, IsOfNext, IsOfHeard, IsOfName, AllNamed}
 use Rattle.lobby_desk.proofs.Sent.{is_said_same}
-use Rattle.lobby_desk.proofs.Lines.{show_reads, fen_reads, pgn_reads, list_reads, name_names}
-use Rattle.lobby_desk.proofs.As.{as_acts, as_word, plain_word}
+use Rattle.lobby_desk.proofs.Lines.{join_line_acts, show_reads, fen_reads, pgn_reads, list_reads, name_names}
+use Rattle.lobby_desk.proofs.As.{as_acts, as_word, plain_word, pair_acts}
 use Rattle.lobby_desk.proofs.Carry.{asked_does, entered_does, dropped_does, arbiter_does, link_does, login_does, watch_does, line_does}
 use Rattle.lobby_desk.proofs.Runs.{AreAsked, IsAsked, Agrees, was_asked, run_good}
 
@@ -34,7 +34,9 @@ use Rattle.lobby_desk.proofs.Runs.{AreAsked, IsAsked, Agrees, was_asked, run_goo
 abbrev pub Fits : Owed → Sent → Type 0
 Fits (Naming name) s = s.line ≡ name_line name
 Fits (Asker c (ForAct by text)) s =
-    (is_act s.line ≡ true) × (s.line ≡ line_said text) × ((name : List ℕ) × (s.under ≡ Some name) × IsNameOf by text name)
+    (is_act s.line ≡ true) × IsLineOf text s.line × ((name : List ℕ) × (s.under ≡ Some name) × IsNameOf by text name)
+Fits (Pairer c by black text) s =
+    (is_act s.line ≡ true) × (s.line ≡ pair_line text) × ((name : List ℕ) × (s.under ≡ Some name) × (name ≡ as_name text))
 Fits _ s = says_name s.line ≡ false
 
 abbrev pub AreFor : List Owed → List Sent → Type 0
@@ -97,7 +99,7 @@ named_first : (said : Option (List ℕ)) (name : List ℕ) → name_behind said 
 named_first said name = ap (λ (k : Sort). if is_name_sort k then Some name else said) (name_names name)
 
 -- an act, and what is asked behind it
-acts_fit : (c : ℕ) (by text name line : List ℕ) (game : Option ℕ) (said : Option (List ℕ)) → is_act line ≡ true → line ≡ line_said text →
+acts_fit : (c : ℕ) (by text name line : List ℕ) (game : Option ℕ) (said : Option (List ℕ)) → is_act line ≡ true → IsLineOf text line →
     IsNameOf by text name → (b : Bool) → (b ≡ true → said ≡ Some name) →
     AreFor (owed_lines (Asker c (ForAct by text)) (if b then line ∷ notice_lines game else name_line name ∷ line ∷ notice_lines game))
     (sent_under said (if b then line ∷ notice_lines game else name_line name ∷ line ∷ notice_lines game))
@@ -122,7 +124,7 @@ acts_fit c by text name line (Some game) said act of_text named false same = (
   ),
 )
 
-act_fits : (c : ℕ) (by text name line : List ℕ) (said : Option (List ℕ)) → is_act line ≡ true → line ≡ line_said text → IsNameOf by text name →
+act_fits : (c : ℕ) (by text name line : List ℕ) (said : Option (List ℕ)) → is_act line ≡ true → IsLineOf text line → IsNameOf by text name →
     AreFor (owed_lines (Asker c (ForAct by text)) (act_lines said name line (game_named text))) (sent_under said (act_lines said name line (game_named text)))
 act_fits c by text name line said act of_text named =
     acts_fit c by text name line (game_named text) said act of_text named (is_said said name) (is_said_same said name)
@@ -140,6 +142,28 @@ as_said text is = ap (λ (b : Bool). if b then as_line text else text) (sym (as_
 as_actor : (by text : List ℕ) → sort_of text ≡ sorts.As → as_name text ≡ actor by text
 as_actor by text is = ap (λ (b : Bool). if b then as_name text else by) (sym (as_word text is))
 
+-- of a message that is no pairing
+plain_is : (text line : List ℕ) → is_pairing text ≡ false → line ≡ line_said text → IsLineOf text line
+plain_is text line no h = subst (λ (b : Bool). IsLineIf b text line) (sym no) h
+
+plain_named : (by text name : List ℕ) → is_pairing text ≡ false → (is_drop text ≡ false → name ≡ actor by text) → IsNameOf by text name
+plain_named by text name no h = subst (λ (b : Bool). IsNameIf b by text name) (sym no) h
+
+-- the line that opens the game of a pairing, and the one that joins it
+opens_fit : (c : ℕ) (by black text white : List ℕ) (said : Option (List ℕ)) → white ≡ as_name text → (b : Bool) → (b ≡ true → said ≡ Some white) →
+    AreFor (owed_lines (Pairer c by black text) (if b then pair_line text ∷ [] else name_line white ∷ pair_line text ∷ []))
+    (sent_under said (if b then pair_line text ∷ [] else name_line white ∷ pair_line text ∷ []))
+opens_fit c by black text white said named true same = ((ap is_act_sort (pair_acts text), refl, (white, same refl, named)), tt)
+opens_fit c by black text white said named false same =
+    (refl, ((ap is_act_sort (pair_acts text), refl, (white, named_first said white, named)), tt))
+
+joins_fit : (c : ℕ) (by text black : List ℕ) (game : ℕ) (said : Option (List ℕ)) → is_pairing text ≡ true → black ≡ black_name text →
+    AreFor (owed_lines (Asker c (ForAct by text)) (act_lines said black (join_line game) None)) (sent_under said (act_lines said black (join_line game) None))
+joins_fit c by text black game said pairs named =
+    acts_fit c by text black (join_line game) None said (ap is_act_sort (join_line_acts game))
+    (subst (λ (b : Bool). IsLineIf b text (join_line game)) (sym pairs) (game, refl))
+    (subst (λ (b : Bool). IsNameIf b by text black) (sym pairs) named) (is_said said black) (is_said_same said black)
+
 abbrev FitsPlan : Option (List ℕ) → List ℕ → Owed → Plan → Type 0
 FitsPlan said text o plan = AreFor (owed_lines o (lines_of plan said text)) (sent_under said (lines_of plan said text))
 
@@ -152,7 +176,8 @@ own_fits s (Some who) said text c is =
     elim (s.is_paused && not who.is_arbiter) as (λ b. FitsPlan said text (Asker c (ForAct who.name text)) (if b then plans.Refuse refusals.EntriesPaused else entered_plan s (plans.Act who))) [
       | true ↦ tt
       | false ↦ entered_does (FitsPlan said text (Asker c (ForAct who.name text))) s (plans.Act who) (λ _. tt)
-          (act_fits c who.name text who.name text said acts (plain_line text acts) (λ _. plain_actor who.name text acts))
+          (act_fits c who.name text who.name text said acts (plain_is text text (ap is_pair_sort is) (plain_line text acts))
+          (plain_named who.name text who.name (ap is_pair_sort is) (λ _. plain_actor who.name text acts)))
     ]
 
 abbrev or_this : List ℕ → Option (List ℕ) → List ℕ
@@ -172,8 +197,8 @@ named_fits : (players : List Player) (s : Standing) (who : Identity) (named : Op
 named_fits players s who None said text c is other = tt
 named_fits players s who (Some name) said text c is other =
     entered_does (FitsPlan said text (Asker c (ForAct who.name text))) s (plans.ActAs who name) (λ _. tt)
-    (act_fits c who.name text name (as_line text) said (ap is_act_sort (as_acts text is)) (as_said text is)
-    (λ _. known_is players (as_name text) name other ∙ as_actor who.name text is))
+    (act_fits c who.name text name (as_line text) said (ap is_act_sort (as_acts text is)) (plain_is text (as_line text) (ap is_pair_sort is) (as_said text is))
+    (plain_named who.name text name (ap is_pair_sort is) (λ _. known_is players (as_name text) name other ∙ as_actor who.name text is)))
 
 as_fits : (players : List Player) (s : Standing) (who : Option Identity) (said : Option (List ℕ)) (text : List ℕ) (c : ℕ) →
     sort_of text ≡ sorts.As → s.named ≡ known_name players (as_name text) →
@@ -182,6 +207,27 @@ as_fits players s None said text c is other = tt
 as_fits players s (Some who) said text c is other =
     elim who.is_arbiter as (λ b. FitsPlan said text (Asker c (ForAct who.name text)) (if b then named_plan s who s.named else plans.Refuse refusals.NotArbiter)) [
       | true ↦ named_fits players s who s.named said text c is (sym other)
+      | false ↦ tt
+    ]
+
+black_fits : (players : List Player) (s : Standing) (who : Identity) (white : List ℕ) (black said : Option (List ℕ)) (text : List ℕ) (c : ℕ) →
+    white ≡ as_name text → FitsPlan said text (Pairer c who.name (black_name text) text) (black_plan s who white black)
+black_fits players s who white None said text c named = tt
+black_fits players s who white (Some black) said text c named =
+    asked_does (FitsPlan said text (Pairer c who.name (black_name text) text)) s (plans.Pair who white black) tt
+    (opens_fit c who.name (black_name text) text white said named (is_said said white) (is_said_same said white))
+
+white_fits : (players : List Player) (s : Standing) (who : Identity) (white said : Option (List ℕ)) (text : List ℕ) (c : ℕ) →
+    known_name players (as_name text) ≡ white → FitsPlan said text (Pairer c who.name (black_name text) text) (white_plan s who white)
+white_fits players s who None said text c other = tt
+white_fits players s who (Some white) said text c other = black_fits players s who white s.black said text c (known_is players (as_name text) white other)
+
+pair_fits : (players : List Player) (s : Standing) (who : Option Identity) (said : Option (List ℕ)) (text : List ℕ) (c : ℕ) →
+    s.named ≡ known_name players (as_name text) → FitsPlan said text (Pairer c (name_of who) (black_name text) text) (pair_plan s who)
+pair_fits players s None said text c other = tt
+pair_fits players s (Some who) said text c other =
+    elim who.is_arbiter as (λ b. FitsPlan said text (Pairer c who.name (black_name text) text) (if b then white_plan s who s.named else plans.Refuse refusals.NotArbiter)) [
+      | true ↦ white_fits players s who s.named said text c (sym other)
       | false ↦ tt
     ]
 
@@ -198,6 +244,7 @@ planned_fits players true sorts.Read s game said text c is other =
     asked_does (FitsPlan said text (Asker c ForItself)) s plans.Read tt (no_name text is, tt)
 planned_fits players true sorts.Act s game said text c is other = own_fits s s.who said text c is
 planned_fits players true sorts.As s game said text c is other = as_fits players s s.who said text c is other
+planned_fits players true sorts.Pair s game said text c is other = pair_fits players s s.who said text c other
 planned_fits players true sorts.Drop s game said text c is other =
     dropped_does (FitsPlan said text (Dropper c (name_of s.who) text)) s game (λ _. tt)
     (λ one g. (no_name (game_line (codes "show ") g) (show_reads g), tt))
@@ -244,6 +291,10 @@ notice_fits None by text now said = tt
 notice_fits (Some game) by text now said =
     (no_name (game_line (codes "show ") game) (show_reads game), (no_name (game_line (codes "fen ") game) (fen_reads game), tt))
 
+drop_no_pair : (sort : Sort) → is_drop_sort sort ≡ true → is_pair_sort sort ≡ false
+drop_no_pair sorts.Drop h = refl
+drop_no_pair _ h = absurd (false≢true h)
+
 dropped_fits : (players : List Player) (past : List Step) (c : ℕ) (by text now : List ℕ) (said : Option (List ℕ)) (lines : List (List ℕ)) (later : Option (List ℕ)) →
     HasAsked players past c text → IsDropped said now text lines later →
     AreFor (owed_lines (Asker c (ForAct by text)) lines) (sent_under said lines)
@@ -251,7 +302,38 @@ dropped_fits players past c by text now said lines later asked h =
     let was = was_asked players past c text asked in
     let acts : is_act text ≡ true = drop_acts (sort_of text) was.drop in
     subst (λ (ls : List (List ℕ)). AreFor (owed_lines (Asker c (ForAct by text)) ls) (sent_under said ls)) (sym h.lines_are)
-    (act_fits c by text h.name text said acts (plain_line text acts) (λ no. absurd (false≢true (sym no ∙ was.drop))))
+    (act_fits c by text h.name text said acts (plain_is text text (drop_no_pair (sort_of text) was.drop) (plain_line text acts))
+    (plain_named by text h.name (drop_no_pair (sort_of text) was.drop) (λ no. absurd (false≢true (sym no ∙ was.drop)))))
+
+-- a message that asks for a pairing, as it was said
+pub record WasPaired (black text : List ℕ) : Type 0 where
+  pub pairs : is_pairing text ≡ true
+  pub named : black ≡ black_name text
+
+paired_now : (players : List Player) (past : List Step) (event : DeskInput) (c : ℕ) (black text : List ℕ) → PairsNow players past event c black text → WasPaired black text
+paired_now players past (Opened d) c black text h = absurd h
+paired_now players past (Closed d) c black text h = absurd h
+paired_now players past (Said d said) c black text h =
+    record { pairs = h.4; named = known_is (players_in players past) (black_name text) black h.5 }
+paired_now players past (Hurried d) c black text h = absurd h
+paired_now players past (Heard line) c black text h = absurd h
+paired_now players past (Renewed later) c black text h = absurd h
+paired_now players past (Linked d said later token) c black text h = absurd h
+paired_now players past (ServerTurned is_here) c black text h = absurd h
+
+was_paired : (players : List Player) (past : List Step) (c : ℕ) (black text : List ℕ) → HasPaired players past c black text → WasPaired black text
+was_paired players [] c black text h = absurd h
+was_paired players (s ∷ past) c black text h =
+    elim h [ inl now ↦ paired_now players past s.event c black text now | inr before ↦ was_paired players past c black text before ]
+
+paired_fits : (players : List Player) (past : List Step) (c : ℕ) (by black text : List ℕ) (game : Option ℕ) (said : Option (List ℕ)) (lines : List (List ℕ))
+    (later : Option (List ℕ)) → HasPaired players past c black text → IsPaired game said black lines later →
+    AreFor (owed_lines (Asker c (ForAct by text)) lines) (sent_under said lines)
+paired_fits players past c by black text None said lines later paired h = none_fits (Asker c (ForAct by text)) said lines h.0
+paired_fits players past c by black text (Some game) said lines later paired h =
+    let was = was_paired players past c black text paired in
+    subst (λ (ls : List (List ℕ)). AreFor (owed_lines (Asker c (ForAct by text)) ls) (sent_under said ls)) (sym h.0)
+    (joins_fit c by text black game said was.pairs was.named)
 
 sent_fits : (players : List Player) (past : List Step) (o : Owed) (said : Option (List ℕ)) (now : List ℕ) (lines : List (List ℕ)) (later : Option (List ℕ)) →
     IsAsked players past o → IsSentFor o said now lines later → AreFor (owed_lines (follower o now) lines) (sent_under said lines)
@@ -269,6 +351,8 @@ sent_fits players past (Dropper c by text) said now lines later asked h =
       | inl none ↦ none_fits (Asker c (ForAct by text)) said lines none.none
       | inr goes ↦ dropped_fits players past c by text now said lines later asked goes
     ]
+sent_fits players past (Pairer c by black text) said now lines later asked h =
+    paired_fits players past c by black text (act_game now) said lines later asked h
 sent_fits players past (Followers game act is_table) said now lines later asked h = none_fits Nobody said lines h.0
 sent_fits players past Behind said now lines later asked h = none_fits Nobody said lines h.0
 
@@ -299,6 +383,7 @@ same_behind (Asker c ForTable) s shown now m fits taken = silent_behind shown s.
 same_behind (Asker c (ForGame game)) s shown now m fits taken = silent_behind shown s.line now fits
 same_behind (Asker c (ForAct by text)) s shown now m fits taken = silent_behind shown s.line now (act_no_name (sort_of s.line) fits.0)
 same_behind (Dropper c by text) s shown now m fits taken = silent_behind shown s.line now fits
+same_behind (Pairer c by black text) s shown now m fits taken = silent_behind shown s.line now (act_no_name (sort_of s.line) fits.0)
 same_behind (Followers game act is_table) s shown now m fits taken = silent_behind shown s.line now fits
 same_behind Behind s shown now m fits taken = silent_behind shown s.line now fits
 
@@ -414,6 +499,19 @@ owed_named (Asker c (ForAct by text)) owed (s ∷ sent) shown said h =
       holds = sym h.1.0 ∙ fits.2.1;
     }
 owed_named (Dropper c by text) owed sent shown said h = tt
+owed_named (Pairer c by black text) owed [] shown said h = absurd h.0
+owed_named (Pairer c by black text) owed (s ∷ sent) shown said h =
+    let fits = h.0.0 in
+    record {
+      line = s.line;
+      name = fits.2.0;
+      others = sent;
+      first = ap (λ (under : Option (List ℕ)). record { line = s.line; under = under } ∷ sent) fits.2.1;
+      act = fits.0;
+      of_text = fits.1;
+      named = fits.2.2;
+      holds = sym h.1.0 ∙ fits.2.1;
+    }
 owed_named (Followers game act is_table) owed sent shown said h = tt
 owed_named Behind owed sent shown said h = tt
 

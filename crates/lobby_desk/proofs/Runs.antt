@@ -8,31 +8,34 @@ use Rattle.std.proofs.lemmas.Bool.Decides.{Decides-eqb}
 use Rattle.rec_codec.specs.Name.{IsName}
 use Rattle.lobby_words.specs.declared.words.Sort.{Sort}
 use Rattle.lobby_words.specs.declared.words.Sort.TheVariants as sorts
+use Rattle.lobby_words.specs.declared.refusals.Refusal.{Refusal}
 use Rattle.lobby_words.specs.declared.refusals.Refusal.TheVariants as refusals
 use Rattle.lobby_words.specs.declared.planning.Plan.{Plan}
 use Rattle.lobby_words.specs.declared.planning.Plan.TheVariants as plans
 use Rattle.lobby_words.specs.declared.planning.Standing.{Standing}
 use Rattle.lobby_words.specs.declared.planning.Identity.{Identity}
 use Rattle.lobby_roster.specs.declared.players.Player.{Player}
-use Rattle.lobby_words.specs.declared.listing.Waiting.{Waiting}
+use Rattle.lobby_words.specs.declared.listing.Seat.{Seat}
 use Rattle.lobby_desk.specs.declared.refusals.RefusedActs.{RefusedActs}
+use Rattle.lobby_desk.specs.declared.pairings.Pairing.{Pairing}
 use Rattle.lobby_desk.specs.declared.watching.Watch.{Watch}
-use Rattle.lobby_words.specs.Words.{word_of, rest_of, as_name, as_line, line_said, is_message, sort_of, is_act_sort, is_as_sort, is_drop_sort, is_name_sort, is_login_sort, u32_in, or_0}
-use Rattle.lobby_words.specs.Plans.{asked, entered_plan, act_plan, named_plan, as_plan, arbiter_plan, order_plan, drop_plan, login_plan, numbered_plan, plan_of}
-use Rattle.lobby_desk.specs.Lines.{lines_of, act_lines, said_after, name_line, game_line, is_said, notice_lines, IsNamed}
-use Rattle.lobby_words.specs.Answers.{is_accepted, first_line, act_game, answer}
+use Rattle.lobby_words.specs.Words.{word_of, rest_of, as_name, as_line, black_name, pair_line, is_pair, line_said, is_message, sort_of, is_act_sort, is_as_sort, is_pair_sort, is_drop_sort, is_name_sort, is_login_sort, u32_in, or_0}
+use Rattle.lobby_words.specs.Plans.{asked, barred, entered_plan, act_plan, named_plan, as_plan, black_plan, white_plan, pair_plan, arbiter_plan, order_plan, drop_plan, login_plan, numbered_plan, plan_of}
+use Rattle.lobby_desk.specs.Lines.{lines_of, act_lines, said_after, name_line, game_line, join_line, is_said, notice_lines, IsNamed}
+use Rattle.lobby_words.specs.Answers.{is_accepted, first_line, act_game, is_whole, answer}
 use Rattle.lobby_desk.specs.Refusals.{game_named}
 use Rattle.lobby_desk.specs.Watching.{watch_if, sit_if}
-use Rattle.lobby_desk.specs.Events.{DeskInput, Opened, Closed, Said, Hurried, Heard, ServerTurned, Renewed, Linked, MessageValue, ForItself, ForPositions, ForTable, ForGame, ForAct, Owed, Nobody, Naming, Asker, Dropper, Followers, Behind, owed_last, owed_acted, owed_some, owed_lines, sort_asker, asker, followers_of, follower, Following, is_asked_behind, game_if, asked_after}
+use Rattle.lobby_desk.specs.Events.{DeskInput, Opened, Closed, Said, Hurried, Heard, ServerTurned, Renewed, Linked, MessageValue, ForItself, ForPositions, ForTable, ForGame, ForAct, Owed, Nobody, Naming, Asker, Dropper, Pairer, Followers, Behind, owed_last, owed_acted, owed_some, owed_lines, sort_asker, asker, followers_of, follower, Following, is_asked_behind, game_if, asked_after}
 use Rattle.lobby_desk.specs.Tellings.{Known, is_counted, open_now, watch_heard, watch_next, watches_now, table_heard, table_next, table_now, owed_answered, owed_now, known_now, presence, lost, AreToldAll, IsTold}
-use Rattle.lobby_desk.specs.Who.{View, BeginsView, IsSaid, IsHeard, IsDropped, IsSentFor, IsSentNext, IsSentHeard, IsDone, IsRenewed, IsLinked, IsKnown, who_noted, name_of, speaker}
+use Rattle.lobby_desk.specs.Who.{View, BeginsView, IsSaid, IsHeard, IsDropped, IsPaired, IsSentFor, IsSentNext, IsSentHeard, IsDone, IsRenewed, IsLinked, IsKnown, who_noted, name_of, speaker}
 use Rattle.lobby_roster.specs.Players.{holder_of, known_name, renewed}
-use Rattle.lobby_desk.specs.History.{Step, comes, has_come, shown_by, player_said, player_after, players_in, player_in, is_drop, name_as, name_for, name_behind, name_through, name_before, name_in, ActsUnder, ActsRight, NoActs, NoDrops, sort_asks, IsOf, open_in, known_in, IsArbiter, AsksNow, HasAsked, IsDropOf, IsNoticeOf, IsRight, AreWhole, AllRight, AllTold, IsRun}
+use Rattle.lobby_desk.specs.History.{Step, comes, has_come, shown_by, player_said, player_after, players_in, player_in, is_drop, is_pairing, name_as, name_for, name_behind, name_through, name_before, name_in, ActsUnder, ActsRight, NoActs, NoDrops, sort_asks, IsOf, open_in, known_in, IsArbiter, AsksNow, HasAsked, HasPaired, IsDropOf, IsJoinOf, IsNoticeOf, IsRight, AreWhole, AllRight, AllTold, IsRun}
 use Rattle.lobby_words.proofs.Numbers.{number_small}
+use Rattle.lobby_roster.proofs.ByName.{named_is}
 use Rattle.lobby_desk.proofs.Sent.{is_said_same}
-use Rattle.lobby_desk.proofs.Carry.{act_does, as_does, arbiter_does, link_does, OfOrder, Orders, planned_orders}
-use Rattle.lobby_desk.proofs.As.{as_whole, as_acts}
-use Rattle.lobby_desk.proofs.Lines.{show_whole, fen_whole, pgn_whole, list_whole, name_whole, show_reads, fen_reads, pgn_reads, list_reads, name_names}
+use Rattle.lobby_desk.proofs.Carry.{act_does, as_does, pair_does, arbiter_does, link_does, OfOrder, Orders, planned_orders}
+use Rattle.lobby_desk.proofs.As.{as_whole, as_acts, pair_whole, pair_acts}
+use Rattle.lobby_desk.proofs.Lines.{show_whole, fen_whole, pgn_whole, join_whole, join_line_acts, list_whole, name_whole, show_reads, fen_reads, pgn_reads, list_reads, name_names}
 
 -- for whom the connection acts after a plan
 asked_who : (s : Standing) (plan : Plan) (before : Option Identity) → who_noted plan before ≡ before → who_noted (asked s plan) before ≡ before
@@ -83,6 +86,7 @@ planned_who false sort s game before = refl
 planned_who true sorts.Read s game before = asked_who s plans.Read before refl
 planned_who true sorts.Act s game before = act_who s s.who before
 planned_who true sorts.As s game before = as_who s s.who before
+planned_who true sorts.Pair s game before = pair_does (λ plan. who_noted plan before ≡ before) s s.who (λ _. refl) (λ _ _ _. refl)
 planned_who true sorts.Drop s game before = dropped_who s game before
 planned_who true sorts.Login s game before = login_who s.holder before
 planned_who true sorts.Players s game before = refl
@@ -190,13 +194,17 @@ said_or_not text name rest read rest_whole said sort message is no_name named fa
     }
 
 -- what asks how a game stands
-notice_read : (game : Option ℕ) → IfSome game (λ g. g < 2 ^ 32) → AllRead (notice_lines game) × AreWhole (notice_lines game)
+pub notice_read : (game : Option ℕ) → IfSome game (λ g. g < 2 ^ 32) → AllRead (notice_lines game) × AreWhole (notice_lines game)
 notice_read None small = (tt, tt)
 notice_read (Some game) small = ((show_reads game, (fen_reads game, tt)), (show_whole game small, (fen_whole game small, tt)))
 
 -- the game that an act names is small
-named_small : (text : List ℕ) → IfSome (game_named text) (λ g. g < 2 ^ 32)
-named_small text = number_small (word_of (rest_of (line_said text)))
+pub named_small : (text : List ℕ) → IfSome (game_named text) (λ g. g < 2 ^ 32)
+named_small text =
+    elim (is_pair text) as (λ b. IfSome (if b then None else u32_in (word_of (rest_of (line_said text)))) (λ g. g < 2 ^ 32)) [
+      | true ↦ tt
+      | false ↦ number_small (word_of (rest_of (line_said text)))
+    ]
 
 act_under : (text name : List ℕ) (game : Option ℕ) → IfSome game (λ g. g < 2 ^ 32) → (said : Option (List ℕ)) (sort : Sort) →
     is_message text ≡ true → sort_of text ≡ sort → is_name_sort sort ≡ false → IsName name →
@@ -239,19 +247,20 @@ acts_good text name game small under said own message is named =
 
 -- the name under which the act of a message stands that is no `as`
 own_name : (players : List Player) (who : Identity) (text : List ℕ) → sort_of text ≡ sorts.Act → name_for players (Some who) text ≡ Some who.name
-own_name players who text is = ap (λ (sort : Sort). if is_as_sort sort then name_as players who.is_arbiter text else Some who.name) is
+own_name players who text is = ap (λ (sort : Sort). if is_as_sort sort || is_pair_sort sort then name_as players who.is_arbiter text else Some who.name) is
 
--- no game more than may wait
+-- where nothing bars it
+barred_good : (asks : List (List ℕ)) (text : List ℕ) (bar : Option Refusal) (under said : Option (List ℕ)) (plan : Plan) →
+    (IsNamed plan → Good asks under said (lines_of plan said text) (said_after plan said)) → IsNamed (barred bar plan) →
+    Good asks under said (lines_of (barred bar plan) said text) (said_after (barred bar plan) said)
+barred_good asks text None under said plan h = h
+barred_good asks text (Some refusal) under said plan h = λ _. none_good asks under said
+
 entered_good : (asks : List (List ℕ)) (text : List ℕ) (s : Standing) (under said : Option (List ℕ)) (plan : Plan) →
     (IsNamed plan → Good asks under said (lines_of plan said text) (said_after plan said)) → IsNamed (entered_plan s plan) →
     Good asks under said (lines_of (entered_plan s plan) said text) (said_after (entered_plan s plan) said)
 entered_good asks text s under said plan h =
-    elim s.is_crowded as (λ b. IsNamed (if b then asked s (plans.Refuse refusals.TooManyOpen) else asked s plan) →
-    Good asks under said (lines_of (if b then asked s (plans.Refuse refusals.TooManyOpen) else asked s plan) said text)
-    (said_after (if b then asked s (plans.Refuse refusals.TooManyOpen) else asked s plan) said)) [
-      | true ↦ asked_good asks text s under said (plans.Refuse refusals.TooManyOpen) (λ _. none_good asks under said)
-      | false ↦ asked_good asks text s under said plan h
-    ]
+    asked_good asks text s under said (barred s.bar plan) (barred_good asks text s.bar under said plan h)
 
 -- the plan for an act
 act_good : (players : List Player) (text : List ℕ) (s : Standing) (said : Option (List ℕ)) (who : Option Identity) → is_message text ≡ true →
@@ -283,7 +292,7 @@ arbiter_good : (players : List Player) (text : List ℕ) (s : Standing) (said : 
     (said_after (if b then named_plan s who s.named else plans.Refuse refusals.NotArbiter) said)
 arbiter_good players text s said who other message is true arbiter =
     named_good text s who s.named (name_for players (Some who) text) said
-    (ap (λ (sort : Sort). if is_as_sort sort then name_as players who.is_arbiter text else Some who.name) is
+    (ap (λ (sort : Sort). if is_as_sort sort || is_pair_sort sort then name_as players who.is_arbiter text else Some who.name) is
     ∙ (ap (λ (b : Bool). name_as players b text) arbiter ∙ sym other)) message is
 arbiter_good players text s said who other message is false arbiter = λ named. none_good (as_line text ∷ notice_lines (game_named text)) (name_for players (Some who) text) said
 
@@ -292,6 +301,38 @@ as_good : (players : List Player) (text : List ℕ) (s : Standing) (said : Optio
     Good (as_line text ∷ notice_lines (game_named text)) (name_for players who text) said (lines_of (as_plan s who) said text) (said_after (as_plan s who) said)
 as_good players text s said None other message is = λ named. none_good (as_line text ∷ notice_lines (game_named text)) None said
 as_good players text s said (Some who) other message is = arbiter_good players text s said who other message is who.is_arbiter refl
+
+-- the plan for a pairing
+black_good : (text : List ℕ) (s : Standing) (who : Identity) (white : List ℕ) (black under said : Option (List ℕ)) → under ≡ Some white → is_message text ≡ true →
+    sort_of text ≡ sorts.Pair → IsNamed (black_plan s who white black) →
+    Good (pair_line text ∷ []) under said (lines_of (black_plan s who white black) said text) (said_after (black_plan s who white black) said)
+black_good text s who white None under said same message is = λ _. none_good (pair_line text ∷ []) under said
+black_good text s who white (Some black) under said same message is =
+    asked_good (pair_line text ∷ []) text s under said (plans.Pair who white black)
+    (λ named. acts_good (pair_line text) white None tt under said same (pair_whole text message is) (pair_acts text) named)
+
+white_good : (text : List ℕ) (s : Standing) (who : Identity) (white under said : Option (List ℕ)) → under ≡ white → is_message text ≡ true →
+    sort_of text ≡ sorts.Pair → IsNamed (white_plan s who white) →
+    Good (pair_line text ∷ []) under said (lines_of (white_plan s who white) said text) (said_after (white_plan s who white) said)
+white_good text s who None under said same message is = λ _. none_good (pair_line text ∷ []) under said
+white_good text s who (Some white) under said same message is = black_good text s who white s.black under said same message is
+
+paired_good : (players : List Player) (text : List ℕ) (s : Standing) (said : Option (List ℕ)) (who : Identity) → s.named ≡ known_name players (as_name text) →
+    is_message text ≡ true → sort_of text ≡ sorts.Pair → (b : Bool) → who.is_arbiter ≡ b →
+    IsNamed (if b then white_plan s who s.named else plans.Refuse refusals.NotArbiter) →
+    Good (pair_line text ∷ []) (name_for players (Some who) text) said (lines_of (if b then white_plan s who s.named else plans.Refuse refusals.NotArbiter) said text)
+    (said_after (if b then white_plan s who s.named else plans.Refuse refusals.NotArbiter) said)
+paired_good players text s said who other message is true arbiter =
+    white_good text s who s.named (name_for players (Some who) text) said
+    (ap (λ (sort : Sort). if is_as_sort sort || is_pair_sort sort then name_as players who.is_arbiter text else Some who.name) is
+    ∙ (ap (λ (b : Bool). name_as players b text) arbiter ∙ sym other)) message is
+paired_good players text s said who other message is false arbiter = λ _. none_good (pair_line text ∷ []) (name_for players (Some who) text) said
+
+pair_good : (players : List Player) (text : List ℕ) (s : Standing) (said : Option (List ℕ)) (who : Option Identity) → s.named ≡ known_name players (as_name text) →
+    is_message text ≡ true → sort_of text ≡ sorts.Pair → IsNamed (pair_plan s who) →
+    Good (pair_line text ∷ []) (name_for players who text) said (lines_of (pair_plan s who) said text) (said_after (pair_plan s who) said)
+pair_good players text s said None other message is = λ _. none_good (pair_line text ∷ []) None said
+pair_good players text s said (Some who) other message is = paired_good players text s said who other message is who.is_arbiter refl
 
 -- the plan for a drop asks who is seated
 show_good : (under said : Option (List ℕ)) (game : ℕ) → game < 2 ^ 32 →
@@ -374,6 +415,7 @@ plan_good players text s said game true sorts.Read other message is small named 
     (λ _. reads_good (name_for players s.who text) said (text ∷ []) (is, tt) (message, tt)) named
 plan_good players text s said game true sorts.Act other message is small named = act_good players text s said s.who message is named
 plan_good players text s said game true sorts.As other message is small named = as_good players text s said s.who other message is named
+plan_good players text s said game true sorts.Pair other message is small named = pair_good players text s said s.who other message is named
 plan_good players text s said game true sorts.Drop other message is small named = dropped_good text s (name_for players s.who text) said game small named
 plan_good players text s said game true sorts.Login other message is small named = login_good text (name_for players s.who text) said s.holder
 plan_good players text s said game true sorts.Players other message is small named = none_good [] (name_for players s.who text) said
@@ -409,33 +451,35 @@ said_good players old c text lines tells new h =
     subst (λ (n : Option (List ℕ)). Good (sort_asks (sort_of text) (or_0 (u32_in (rest_of text))) text) (name_for players (old.who c) text) old.said lines n) (sym h.said_is) lined
 
 -- what is known is the same if each part of it is
-abbrev known_of : List Owed → ℕ → List ℕ → List ℕ → List Watch → List ℕ → List Waiting → List RefusedActs → Option Following → Bool → Known
-known_of owed left begun last watches table waiting refused follows misnamed = record {
+abbrev known_of : List Owed → ℕ → List ℕ → List ℕ → List Watch → List ℕ → List Seat → List Pairing → List RefusedActs → Option Following → Bool → Known
+known_of owed left begun last watches table seats pairings refused follows misnamed = record {
   owed = owed;
   left = left;
   begun = begun;
   last = last;
   watches = watches;
   table = table;
-  waiting = waiting;
+  seats = seats;
+  pairings = pairings;
   refused = refused;
   follows = follows;
   misnamed = misnamed;
 }
 
 same_known : (a b : Known) → a.owed ≡ b.owed → a.left ≡ b.left → a.begun ≡ b.begun → a.last ≡ b.last → a.watches ≡ b.watches →
-    a.table ≡ b.table → a.waiting ≡ b.waiting → a.refused ≡ b.refused → a.follows ≡ b.follows → a.misnamed ≡ b.misnamed → a ≡ b
-same_known a b owed left begun last watches table waiting refused follows misnamed =
-    ap (λ (x : List Owed). known_of x a.left a.begun a.last a.watches a.table a.waiting a.refused a.follows a.misnamed) owed
-    ∙ (ap (λ (x : ℕ). known_of b.owed x a.begun a.last a.watches a.table a.waiting a.refused a.follows a.misnamed) left
-    ∙ (ap (λ (x : List ℕ). known_of b.owed b.left x a.last a.watches a.table a.waiting a.refused a.follows a.misnamed) begun
-    ∙ (ap (λ (x : List ℕ). known_of b.owed b.left b.begun x a.watches a.table a.waiting a.refused a.follows a.misnamed) last
-    ∙ (ap (λ (x : List Watch). known_of b.owed b.left b.begun b.last x a.table a.waiting a.refused a.follows a.misnamed) watches
-    ∙ (ap (λ (x : List ℕ). known_of b.owed b.left b.begun b.last b.watches x a.waiting a.refused a.follows a.misnamed) table
-    ∙ (ap (λ (x : List Waiting). known_of b.owed b.left b.begun b.last b.watches b.table x a.refused a.follows a.misnamed) waiting
-    ∙ (ap (λ (x : List RefusedActs). known_of b.owed b.left b.begun b.last b.watches b.table b.waiting x a.follows a.misnamed) refused
-    ∙ (ap (λ (x : Option Following). known_of b.owed b.left b.begun b.last b.watches b.table b.waiting b.refused x a.misnamed) follows
-    ∙ ap (λ (x : Bool). known_of b.owed b.left b.begun b.last b.watches b.table b.waiting b.refused b.follows x) misnamed))))))))
+    a.table ≡ b.table → a.seats ≡ b.seats → a.pairings ≡ b.pairings → a.refused ≡ b.refused → a.follows ≡ b.follows → a.misnamed ≡ b.misnamed → a ≡ b
+same_known a b owed left begun last watches table seats pairings refused follows misnamed =
+    ap (λ (x : List Owed). known_of x a.left a.begun a.last a.watches a.table a.seats a.pairings a.refused a.follows a.misnamed) owed
+    ∙ (ap (λ (x : ℕ). known_of b.owed x a.begun a.last a.watches a.table a.seats a.pairings a.refused a.follows a.misnamed) left
+    ∙ (ap (λ (x : List ℕ). known_of b.owed b.left x a.last a.watches a.table a.seats a.pairings a.refused a.follows a.misnamed) begun
+    ∙ (ap (λ (x : List ℕ). known_of b.owed b.left b.begun x a.watches a.table a.seats a.pairings a.refused a.follows a.misnamed) last
+    ∙ (ap (λ (x : List Watch). known_of b.owed b.left b.begun b.last x a.table a.seats a.pairings a.refused a.follows a.misnamed) watches
+    ∙ (ap (λ (x : List ℕ). known_of b.owed b.left b.begun b.last b.watches x a.seats a.pairings a.refused a.follows a.misnamed) table
+    ∙ (ap (λ (x : List Seat). known_of b.owed b.left b.begun b.last b.watches b.table x a.pairings a.refused a.follows a.misnamed) seats
+    ∙ (ap (λ (x : List Pairing). known_of b.owed b.left b.begun b.last b.watches b.table b.seats x a.refused a.follows a.misnamed) pairings
+    ∙ (ap (λ (x : List RefusedActs). known_of b.owed b.left b.begun b.last b.watches b.table b.seats b.pairings x a.follows a.misnamed) refused
+    ∙ (ap (λ (x : Option Following). known_of b.owed b.left b.begun b.last b.watches b.table b.seats b.pairings b.refused x a.misnamed) follows
+    ∙ ap (λ (x : Bool). known_of b.owed b.left b.begun b.last b.watches b.table b.seats b.pairings b.refused b.follows x) misnamed)))))))))
 
 -- who watches depends on who is open alone
 watch_alike : (f g : ℕ → Bool) → ((c : ℕ) → f c ≡ g c) → (before : List ℕ) (o : Owed) (watches : List Watch) →
@@ -448,6 +492,7 @@ watch_alike f g same before (Asker c ForTable) watches = refl
 watch_alike f g same before (Asker c (ForGame game)) watches = ap (λ (b : Bool). watch_if (is_accepted before && b) c game watches) (same c)
 watch_alike f g same before (Asker c (ForAct by text)) watches = refl
 watch_alike f g same before (Dropper c by text) watches = refl
+watch_alike f g same before (Pairer c by black text) watches = refl
 watch_alike f g same before (Followers game act is_table) watches = refl
 watch_alike f g same before Behind watches = refl
 
@@ -477,6 +522,7 @@ table_alike f g same (Asker c ForTable) table = ap (λ (b : Bool). sit_if b c ta
 table_alike f g same (Asker c (ForGame game)) table = refl
 table_alike f g same (Asker c (ForAct by text)) table = refl
 table_alike f g same (Dropper c by text) table = refl
+table_alike f g same (Pairer c by black text) table = refl
 table_alike f g same (Followers game act is_table) table = refl
 table_alike f g same Behind table = refl
 
@@ -504,7 +550,7 @@ known_alike event by lines f g same k =
 known_then : (event : DeskInput) (by : List ℕ) (lines : List (List ℕ)) (f g : ℕ → Bool) → ((c : ℕ) → f c ≡ g c) → (old new past : Known) →
     IsKnown event by lines f old new → old ≡ past → new ≡ known_now event by lines g past
 known_then event by lines f g same old new past known is =
-    same_known new (known_now event by lines f old) known.owed known.left known.begun known.last known.watches known.table known.waiting known.refused known.follows known.misnamed
+    same_known new (known_now event by lines f old) known.owed known.left known.begun known.last known.watches known.table known.seats known.pairings known.refused known.follows known.misnamed
     ∙ (known_alike event by lines f g same old ∙ ap (λ (k : Known). known_now event by lines g k) is)
 
 -- for whom a connection acts that speaks
@@ -534,9 +580,10 @@ told_alike (Renewed later) lines tells f g same k h = h
 told_alike (Linked c text later token) lines tells f g same k h = (sym (same c) ∙ h.0, h.1, h.2)
 told_alike (ServerTurned is_here) lines tells f g same k h = all_alike f g same (lost k.owed) (presence is_here) tells h
 
--- each drop that waits was asked for
+-- each drop, and each pairing, that waits was asked for
 abbrev pub IsAsked : List Player → List Step → Owed → Type 0
 IsAsked players past (Dropper c by text) = HasAsked players past c text
+IsAsked players past (Pairer c by black text) = HasPaired players past c black text
 IsAsked players past _ = Unit {0}
 
 abbrev pub AreAsked : List Player → List Step → List Owed → Type 0
@@ -547,6 +594,7 @@ asked_later players s past Nobody h = tt
 asked_later players s past (Naming name) h = tt
 asked_later players s past (Asker c ask) h = tt
 asked_later players s past (Dropper c by text) h = inr h
+asked_later players s past (Pairer c by black text) h = inr h
 asked_later players s past (Followers game act is_table) h = tt
 asked_later players s past Behind h = tt
 
@@ -581,6 +629,7 @@ wait_some players past (Asker c ForTable) h line lines = wait_last players past 
 wait_some players past (Asker c (ForGame game)) h line lines = wait_last players past (Asker c (ForGame game)) h (line ∷ lines)
 wait_some players past (Asker c (ForAct by text)) h line lines = wait_acted players past (Asker c (ForAct by text)) h (line ∷ lines)
 wait_some players past (Dropper c by text) h line lines = wait_last players past (Dropper c by text) h (line ∷ lines)
+wait_some players past (Pairer c by black text) h line lines = wait_acted players past (Pairer c by black text) h (line ∷ lines)
 wait_some players past (Followers game act is_table) h line lines = wait_last players past (Followers game act is_table) h (line ∷ lines)
 wait_some players past Behind h line lines = wait_last players past Behind h (line ∷ lines)
 
@@ -602,6 +651,7 @@ asked_follower players past (Asker c ForTable) now = tt
 asked_follower players past (Asker c (ForGame game)) now = tt
 asked_follower players past (Asker c (ForAct by text)) now = asked_followers players past (asked_after text (act_game now)) by text now
 asked_follower players past (Dropper c by text) now = tt
+asked_follower players past (Pairer c by black text) now = tt
 asked_follower players past (Followers game act is_table) now = tt
 asked_follower players past Behind now = tt
 
@@ -652,6 +702,7 @@ asks_at false sort s game said text = asks_none (is_drop_sort sort) s.who false
 asks_at true sorts.Read s game said text = tt
 asks_at true sorts.Act s game said text = tt
 asks_at true sorts.As s game said text = tt
+asks_at true sorts.Pair s game said text = tt
 asks_at true sorts.Drop s game said text = dropped_asks s game said text
 asks_at true sorts.Login s game said text = tt
 asks_at true sorts.Players s game said text = tt
@@ -676,27 +727,105 @@ said_asks players old c text lines tells new h =
     let lined = subst (λ (ls : List (List ℕ)). AsksDrop (is_drop text) ls h.standing.who (is_message text)) (sym h.lines_are) by_plan in
     subst (λ (who : Option Identity). AsksDrop (is_drop text) lines who (is_message text)) h.who lined
 
--- the answer to a message is owed to a drop that was asked for, if to any
+-- the same of a pairing, and then a player has the name of Black
+abbrev pub AsksPair : Bool → List (List ℕ) → Option Identity → Bool → Option (List ℕ) → List ℕ → Type 0
+AsksPair false lines who m known black = Unit {0}
+AsksPair true [] who m known black = Unit {0}
+AsksPair true (line ∷ lines) who m known black = IsArbiter who × (m ≡ true) × (known ≡ Some black)
+
+pair_none : (b : Bool) (who : Option Identity) (m : Bool) (known : Option (List ℕ)) (black : List ℕ) → AsksPair b [] who m known black
+pair_none true who m known black = tt
+pair_none false who m known black = tt
+
+black_asks : (players : List Player) (s : Standing) (who : Identity) (white : List ℕ) (black said : Option (List ℕ)) (text : List ℕ) →
+    IsArbiter (Some who) → black ≡ known_name players (black_name text) →
+    AsksPair true (lines_of (black_plan s who white black) said text) (Some who) true (known_name players (black_name text)) (black_name text)
+black_asks players s who white None said text arbiter same = tt
+black_asks players s who white (Some black) said text arbiter same =
+    let name = black_name text in
+    let known = known_name players (black_name text) in
+    let is : known_name players (black_name text) ≡ Some (black_name text) = sym same ∙ ap Some (sym (named_is players (black_name text) black (sym same))) in
+    elim s.is_here as (λ h. AsksPair true (lines_of (if h then plans.Pair who white black else plans.Refuse refusals.NoServer) said text) (Some who) true (known_name players (black_name text)) (black_name text)) [
+      | true ↦ elim (is_said said white) as (λ b. AsksPair true (if b then pair_line text ∷ [] else name_line white ∷ pair_line text ∷ []) (Some who) true (known_name players (black_name text)) (black_name text)) [
+        | true ↦ (arbiter, refl, is)
+        | false ↦ (arbiter, refl, is)
+      ]
+      | false ↦ tt
+    ]
+
+white_asks : (players : List Player) (s : Standing) (who : Identity) (white said : Option (List ℕ)) (text : List ℕ) → IsArbiter (Some who) →
+    s.black ≡ known_name players (black_name text) →
+    AsksPair true (lines_of (white_plan s who white) said text) (Some who) true (known_name players (black_name text)) (black_name text)
+white_asks players s who None said text arbiter same = tt
+white_asks players s who (Some white) said text arbiter same = black_asks players s who white s.black said text arbiter same
+
+pair_asks_at : (players : List Player) (s : Standing) (who : Identity) (said : Option (List ℕ)) (text : List ℕ) → s.black ≡ known_name players (black_name text) →
+    (b : Bool) → who.is_arbiter ≡ b →
+    AsksPair true (lines_of (if b then white_plan s who s.named else plans.Refuse refusals.NotArbiter) said text) (Some who) true (known_name players (black_name text)) (black_name text)
+pair_asks_at players s who said text same true arbiter = white_asks players s who s.named said text arbiter same
+pair_asks_at players s who said text same false arbiter = tt
+
+pair_asks : (players : List Player) (s : Standing) (who : Option Identity) (said : Option (List ℕ)) (text : List ℕ) → s.black ≡ known_name players (black_name text) →
+    AsksPair true (lines_of (pair_plan s who) said text) who true (known_name players (black_name text)) (black_name text)
+pair_asks players s None said text same = tt
+pair_asks players s (Some who) said text same = pair_asks_at players s who said text same who.is_arbiter refl
+
+pairs_at : (players : List Player) (m : Bool) (sort : Sort) (s : Standing) (game : Option ℕ) (said : Option (List ℕ)) (text : List ℕ) →
+    s.black ≡ known_name players (black_name text) →
+    AsksPair (is_pair_sort sort) (lines_of (plan_of m sort s game) said text) s.who m (known_name players (black_name text)) (black_name text)
+pairs_at players false sort s game said text same = pair_none (is_pair_sort sort) s.who false (known_name players (black_name text)) (black_name text)
+pairs_at players true sorts.Read s game said text same = tt
+pairs_at players true sorts.Act s game said text same = tt
+pairs_at players true sorts.As s game said text same = tt
+pairs_at players true sorts.Pair s game said text same = pair_asks players s s.who said text same
+pairs_at players true sorts.Drop s game said text same = tt
+pairs_at players true sorts.Login s game said text same = tt
+pairs_at players true sorts.Players s game said text same = tt
+pairs_at players true sorts.Who s game said text same = tt
+pairs_at players true sorts.Pause s game said text same = tt
+pairs_at players true sorts.Resume s game said text same = tt
+pairs_at players true sorts.Link s game said text same = tt
+pairs_at players true sorts.Close s game said text same = tt
+pairs_at players true sorts.Lobby s game said text same = tt
+pairs_at players true sorts.LeaveLobby s game said text same = tt
+pairs_at players true sorts.Watch s game said text same = tt
+pairs_at players true sorts.Leave s game said text same = tt
+pairs_at players true sorts.Line s game said text same = tt
+pairs_at players true sorts.Name s game said text same = tt
+pairs_at players true sorts.Nothing s game said text same = tt
+
+said_pairs : (players : List Player) (old : View) (c : ℕ) (text : List ℕ) (lines : List (List ℕ)) (tells : List MessageValue) (new : View) →
+    IsSaid players old c text lines tells new →
+    AsksPair (is_pairing text) lines (old.who c) (is_message text) (known_name players (black_name text)) (black_name text)
+said_pairs players old c text lines tells new h =
+    let planned = pairs_at players (is_message text) (sort_of text) h.standing (u32_in (rest_of text)) old.said text h.black in
+    let by_plan = subst (λ (plan : Plan). AsksPair (is_pairing text) (lines_of plan old.said text) h.standing.who (is_message text) (known_name players (black_name text)) (black_name text)) (sym h.planned) planned in
+    let lined = subst (λ (ls : List (List ℕ)). AsksPair (is_pairing text) ls h.standing.who (is_message text) (known_name players (black_name text)) (black_name text)) (sym h.lines_are) by_plan in
+    subst (λ (who : Option Identity). AsksPair (is_pairing text) lines who (is_message text) (known_name players (black_name text)) (black_name text)) h.who lined
+
+-- the answer to a message is owed to a drop, or to a pairing, that was asked for, if to any
 asked_if_drop : (players : List Player) (past : List Step) (c : ℕ) (by text : List ℕ) (sort : Sort) (game : Option ℕ) →
-    (is_drop_sort sort ≡ true → HasAsked players past c text) → IsAsked players past (sort_asker sort game c by text)
-asked_if_drop players past c by text sorts.Read game h = tt
-asked_if_drop players past c by text sorts.Act game h = tt
-asked_if_drop players past c by text sorts.As game h = tt
-asked_if_drop players past c by text sorts.Drop game h = h refl
-asked_if_drop players past c by text sorts.Login game h = tt
-asked_if_drop players past c by text sorts.Players game h = tt
-asked_if_drop players past c by text sorts.Who game h = tt
-asked_if_drop players past c by text sorts.Pause game h = tt
-asked_if_drop players past c by text sorts.Resume game h = tt
-asked_if_drop players past c by text sorts.Link game h = tt
-asked_if_drop players past c by text sorts.Close game h = tt
-asked_if_drop players past c by text sorts.Lobby game h = tt
-asked_if_drop players past c by text sorts.LeaveLobby game h = tt
-asked_if_drop players past c by text sorts.Watch game h = tt
-asked_if_drop players past c by text sorts.Leave game h = tt
-asked_if_drop players past c by text sorts.Line game h = tt
-asked_if_drop players past c by text sorts.Name game h = tt
-asked_if_drop players past c by text sorts.Nothing game h = tt
+    (is_drop_sort sort ≡ true → HasAsked players past c text) → (is_pair_sort sort ≡ true → HasPaired players past c (black_name text) text) →
+    IsAsked players past (sort_asker sort game c by text)
+asked_if_drop players past c by text sorts.Read game h k = tt
+asked_if_drop players past c by text sorts.Act game h k = tt
+asked_if_drop players past c by text sorts.As game h k = tt
+asked_if_drop players past c by text sorts.Pair game h k = k refl
+asked_if_drop players past c by text sorts.Drop game h k = h refl
+asked_if_drop players past c by text sorts.Login game h k = tt
+asked_if_drop players past c by text sorts.Players game h k = tt
+asked_if_drop players past c by text sorts.Who game h k = tt
+asked_if_drop players past c by text sorts.Pause game h k = tt
+asked_if_drop players past c by text sorts.Resume game h k = tt
+asked_if_drop players past c by text sorts.Link game h k = tt
+asked_if_drop players past c by text sorts.Close game h k = tt
+asked_if_drop players past c by text sorts.Lobby game h k = tt
+asked_if_drop players past c by text sorts.LeaveLobby game h k = tt
+asked_if_drop players past c by text sorts.Watch game h k = tt
+asked_if_drop players past c by text sorts.Leave game h k = tt
+asked_if_drop players past c by text sorts.Line game h k = tt
+asked_if_drop players past c by text sorts.Name game h k = tt
+asked_if_drop players past c by text sorts.Nothing game h k = tt
 
 asked_by : (players : List Player) (past : List Step) (c : ℕ) (text : List ℕ) (all : List (List ℕ)) (line : List ℕ) (lines : List (List ℕ)) (tells : List MessageValue) →
     AsksDrop (is_drop text) (line ∷ lines) (player_in players past c) (is_message text) → is_drop text ≡ true →
@@ -705,14 +834,22 @@ asked_by players past c text all line lines tells asks is =
     let by = subst (λ (b : Bool). AsksDrop b (line ∷ lines) (player_in players past c) (is_message text)) is asks in
     inl (refl, refl, by.0, by.1, is)
 
+paired_by : (players : List Player) (past : List Step) (c : ℕ) (text : List ℕ) (all : List (List ℕ)) (line : List ℕ) (lines : List (List ℕ)) (tells : List MessageValue) →
+    AsksPair (is_pairing text) (line ∷ lines) (player_in players past c) (is_message text) (known_name (players_in players past) (black_name text)) (black_name text) →
+    is_pairing text ≡ true → HasPaired players (record { event = Said c text; lines = all; tells = tells } ∷ past) c (black_name text) text
+paired_by players past c text all line lines tells asks is =
+    let by = subst (λ (b : Bool). AsksPair b (line ∷ lines) (player_in players past c) (is_message text) (known_name (players_in players past) (black_name text)) (black_name text)) is asks in
+    inl (refl, refl, by.0, by.1, is, by.2)
+
 asker_asked : (players : List Player) (past : List Step) (c : ℕ) (by text : List ℕ) (all lines : List (List ℕ)) (tells : List MessageValue) →
     AsksDrop (is_drop text) lines (player_in players past c) (is_message text) →
+    AsksPair (is_pairing text) lines (player_in players past c) (is_message text) (known_name (players_in players past) (black_name text)) (black_name text) →
     AreAsked players (record { event = Said c text; lines = all; tells = tells } ∷ past) (owed_lines (asker c by text) lines)
-asker_asked players past c by text all [] tells asks = tt
-asker_asked players past c by text all (line ∷ lines) tells asks =
+asker_asked players past c by text all [] tells asks pairs = tt
+asker_asked players past c by text all (line ∷ lines) tells asks pairs =
     wait_lines players (record { event = Said c text; lines = all; tells = tells } ∷ past) (asker c by text)
     (asked_if_drop players (record { event = Said c text; lines = all; tells = tells } ∷ past) c by text (sort_of text) (u32_in (rest_of text))
-    (asked_by players past c text all line lines tells asks)) (line ∷ lines)
+    (asked_by players past c text all line lines tells asks) (paired_by players past c text all line lines tells pairs)) (line ∷ lines)
 
 -- what is seen of the desk is what the past says
 pub record Agrees (players : List Player) (past : List Step) (now : View) : Type 0 where
@@ -752,19 +889,19 @@ game_small true b x y = number_small x
 game_small false true x y = number_small y
 game_small false false x y = tt
 
-act_game_small : (now : List ℕ) → IfSome (act_game now) (λ g. g < 2 ^ 32)
+pub act_game_small : (now : List ℕ) → IfSome (act_game now) (λ g. g < 2 ^ 32)
 act_game_small now =
     let line = first_line now in
     game_small (bytes_eq (word_of line) (codes "ok")) (bytes_eq (word_of line) (codes "fallen")) (word_of (rest_of (rest_of line))) (word_of (rest_of line))
 
-after_small : (text : List ℕ) (game : Option ℕ) → IfSome game (λ g. g < 2 ^ 32) → IfSome (asked_after text game) (λ g. g < 2 ^ 32)
+pub after_small : (text : List ℕ) (game : Option ℕ) → IfSome game (λ g. g < 2 ^ 32) → IfSome (asked_after text game) (λ g. g < 2 ^ 32)
 after_small text game small =
     elim (is_asked_behind text game) as (λ b. IfSome (game_if (not b) game) (λ g. g < 2 ^ 32)) [ true ↦ tt | false ↦ small ]
 
 -- what goes out for an answer
 record HeardGood (players : List Player) (past : List Step) (line : List ℕ) (lines : List (List ℕ)) (later : Option (List ℕ)) : Type 0 where
   said : later ≡ name_through (name_in past) lines
-  right : (lines ≡ []) ⊎ IsNoticeOf players past line lines ⊎ IsDropOf players past line lines
+  right : (lines ≡ []) ⊎ IsNoticeOf players past line lines ⊎ IsDropOf players past line lines ⊎ IsJoinOf players past line lines
   whole : AreWhole lines
 
 heard_reads : (players : List Player) (past : List Step) (line : List ℕ) (lines : List (List ℕ)) (later : Option (List ℕ)) →
@@ -805,6 +942,7 @@ drop_names_none : (sort : Sort) → is_drop_sort sort ≡ true → is_name_sort 
 drop_names_none sorts.Read h = absurd (false≢true h)
 drop_names_none sorts.Act h = absurd (false≢true h)
 drop_names_none sorts.As h = absurd (false≢true h)
+drop_names_none sorts.Pair h = absurd (false≢true h)
 drop_names_none sorts.Drop h = refl
 drop_names_none sorts.Login h = absurd (false≢true h)
 drop_names_none sorts.Players h = absurd (false≢true h)
@@ -830,7 +968,7 @@ dropped_heard players past line c by text others waits asked lines later h =
     let under = act_under text h.name (game_named text) (named_small text) (name_in past) (sort_of text) was.message refl (drop_names_none (sort_of text) was.drop) h.named in
     record {
       said = h.said_is ∙ (under.later ∙ ap (name_through (name_in past)) (sym h.lines_are));
-      right = inr (inr (record {
+      right = inr (inr (inl (record {
         c = c;
         by = by;
         text = text;
@@ -844,8 +982,33 @@ dropped_heard players past line c by text others waits asked lines later h =
         empty = h.empty;
         acts = subst (λ (ls : List (List ℕ)). ActsUnder (name_in past) ls h.name) (sym h.lines_are) under.acts;
         of_text = subst (λ (ls : List (List ℕ)). IsOf (text ∷ notice_lines (game_named text)) ls) (sym h.lines_are) under.of_text;
-      }));
+      })));
       whole = subst AreWhole (sym h.lines_are) under.whole;
+    }
+
+paired_heard : (players : List Player) (past : List Step) (line : List ℕ) (c : ℕ) (by black text : List ℕ) (others : List Owed) →
+    (known_in players past).owed ≡ Pairer c by black text ∷ others → HasPaired players past c black text → (game : Option ℕ) →
+    act_game (answer (known_in players past).begun line) ≡ game → IfSome game (λ g. g < 2 ^ 32) →
+    (lines : List (List ℕ)) (later : Option (List ℕ)) → IsPaired game (name_in past) black lines later → HeardGood players past line lines later
+paired_heard players past line c by black text others waits paired None opened small lines later h = heard_none players past line lines later h.1 h.0
+paired_heard players past line c by black text others waits paired (Some game) opened small lines later h =
+    let under = act_under (join_line game) black None tt (name_in past) sorts.Act (join_whole game small) (join_line_acts game) refl h.2 in
+    record {
+      said = h.1 ∙ (under.later ∙ ap (name_through (name_in past)) (sym h.0));
+      right = inr (inr (inr (record {
+        c = c;
+        by = by;
+        black = black;
+        text = text;
+        paired = paired;
+        others = others;
+        waits = waits;
+        game = game;
+        opened = opened;
+        acts = subst (λ (ls : List (List ℕ)). ActsUnder (name_in past) ls black) (sym h.0) under.acts;
+        of_game = subst (λ (ls : List (List ℕ)). IsOf (join_line game ∷ []) ls) (sym h.0) under.of_text;
+      })));
+      whole = subst AreWhole (sym h.0) under.whole;
     }
 
 sent_for : (players : List Player) (past : List Step) (line : List ℕ) (o : Owed) (others : List Owed) → (known_in players past).owed ≡ o ∷ others →
@@ -867,6 +1030,9 @@ sent_for players past line (Dropper c by text) others waits asked lines later h 
       | inl none ↦ heard_none players past line lines later none.said_is none.none
       | inr goes ↦ dropped_heard players past line c by text others waits asked lines later goes
     ]
+sent_for players past line (Pairer c by black text) others waits asked lines later h =
+    let now = answer (known_in players past).begun line in
+    paired_heard players past line c by black text others waits asked (act_game now) refl (act_game_small now) lines later h
 sent_for players past line (Followers game act is_table) others waits asked lines later h = heard_none players past line lines later h.1 h.0
 sent_for players past line Behind others waits asked lines later h = heard_none players past line lines later h.1 h.0
 
@@ -987,9 +1153,11 @@ asked_then players past old (Closed c) lines tells now agrees step = are_asked_l
 asked_then players past old (Hurried c) lines tells now agrees step = are_asked_later players (record { event = Hurried c; lines = lines; tells = tells }) past old.known.owed agrees.asked
 asked_then players past old (Said c text) lines tells now agrees step =
     let asks = subst (λ (who : Option Identity). AsksDrop (is_drop text) lines who (is_message text)) (agrees.who c) (said_asks (players_in players past) old c text lines tells now step) in
+    let pairs = subst (λ (who : Option Identity). AsksPair (is_pairing text) lines who (is_message text) (known_name (players_in players past) (black_name text)) (black_name text))
+    (agrees.who c) (said_pairs (players_in players past) old c text lines tells now step) in
     are_asked_both players (record { event = Said c text; lines = lines; tells = tells } ∷ past) old.known.owed (owed_lines (asker c (name_of (old.who c)) text) lines)
     (are_asked_later players (record { event = Said c text; lines = lines; tells = tells }) past old.known.owed agrees.asked)
-    (asker_asked players past c (name_of (old.who c)) text lines lines tells asks)
+    (asker_asked players past c (name_of (old.who c)) text lines lines tells asks pairs)
 asked_then players past old (Heard line) lines tells now agrees step =
     asked_heard players (record { event = Heard line; lines = lines; tells = tells } ∷ past) old.known.owed (answer old.known.begun line) lines
     (are_asked_later players (record { event = Heard line; lines = lines; tells = tells }) past old.known.owed agrees.asked)
@@ -1000,7 +1168,7 @@ asked_then players past old (ServerTurned is_here) lines tells now agrees step =
 
 begins_known : (players : List Player) (is_paused : Bool) (now : View) → BeginsView is_paused now → now.known ≡ known_in players []
 begins_known players is_paused now begins =
-    same_known now.known (known_in players []) begins.owed begins.left begins.begun begins.last begins.watches begins.table begins.waiting begins.refused begins.follows begins.misnamed
+    same_known now.known (known_in players []) begins.owed begins.left begins.begun begins.last begins.watches begins.table begins.seats begins.pairings begins.refused begins.follows begins.misnamed
 
 pub record RunGood (players : List Player) (steps : List Step) (now : View) : Type 0 where
   pub agrees : Agrees players steps now

@@ -4,7 +4,7 @@ use Rattle.std.proofs.lemmas.Bool.{false≢true}
 use Rattle.std.proofs.lemmas.Slice.Eq.{bytes_eq-Decides}
 use Rattle.std.specs.Prelude.{if◌then◌else◌}
 use Rattle.lobby_desk.specs.Lines.{ended, bytes_of, is_said, name_line, name_lines, notice_lines, act_lines}
-use Rattle.lobby_desk.specs.Events.{ForAct, Owed, Nobody, Naming, Asker, Behind, owed_last, owed_acted, owed_lines}
+use Rattle.lobby_desk.specs.Events.{ForAct, Owed, Nobody, Naming, Asker, Pairer, Behind, owed_last, owed_acted, owed_lines}
 
 pub one_line : (line : List ℕ) → bytes_of (line ∷ []) ≡ ended line
 one_line line = append-nil (ended line)
@@ -66,3 +66,25 @@ act_owed said c by text name line game old mid next new a b d =
     d ∙ (ap (λ (t : List Owed). t ++ owed_last Behind (notice_lines game)) (b ∙ ap (λ (t : List Owed). t ++ Asker c (ForAct by text) ∷ []) a)
     ∙ (owed_if (is_said said name) (Asker c (ForAct by text)) name line game old
     ∙ ap (λ (t : List Owed). old ++ t) (of_act c by text (act_lines said name line game))))
+
+-- the same, where nothing is asked behind it
+pub alone_bytes : (said : Option (List ℕ)) (name line : List ℕ) (old mid new : List ℕ) → mid ≡ old ++ bytes_of (name_lines said name) →
+    new ≡ mid ++ ended line → new ≡ old ++ bytes_of (act_lines said name line None)
+alone_bytes said name line old mid new a b = act_bytes said name line None old mid new new a b (sym (append-nil new))
+
+pub alone_owed : (said : Option (List ℕ)) (c : ℕ) (by text name line : List ℕ) (old mid new : List Owed) →
+    mid ≡ old ++ owed_last (Naming name) (name_lines said name) → new ≡ mid ++ Asker c (ForAct by text) ∷ [] →
+    new ≡ old ++ owed_lines (Asker c (ForAct by text)) (act_lines said name line None)
+alone_owed said c by text name line old mid new a b = act_owed said c by text name line None old mid new new a b (sym (append-nil new))
+
+pair_if : (b : Bool) (c : ℕ) (by black text name line : List ℕ) (old : List Owed) →
+    (old ++ owed_last (Naming name) (if b then [] else name_line name ∷ [])) ++ Pairer c by black text ∷ []
+    ≡ old ++ owed_lines (Pairer c by black text) (if b then line ∷ [] else name_line name ∷ line ∷ [])
+pair_if true c by black text name line old = ap (λ (t : List Owed). t ++ Pairer c by black text ∷ []) (append-nil old)
+pair_if false c by black text name line old = append_assoc old (Naming name ∷ []) (Pairer c by black text ∷ [])
+
+pub pair_owed : (said : Option (List ℕ)) (c : ℕ) (by black text name line : List ℕ) (old mid new : List Owed) →
+    mid ≡ old ++ owed_last (Naming name) (name_lines said name) → new ≡ mid ++ Pairer c by black text ∷ [] →
+    new ≡ old ++ owed_lines (Pairer c by black text) (act_lines said name line None)
+pair_owed said c by black text name line old mid new a b =
+    b ∙ (ap (λ (t : List Owed). t ++ Pairer c by black text ∷ []) a ∙ pair_if (is_said said name) c by black text name line old)

@@ -1,4 +1,4 @@
--- How many games of a player wait.
+-- How many games of a player wait, or go on.
 use Rattle.std.proofs.Common.{ℕ, ◌≡◌, ◌+◌, ◌-◌, ◌==◌, List, [], ◌∷◌, ◌++◌, map, fold, Bool, refl, sym, ap, ◌∙◌, arith, cond}
 use Rattle.std.specs.Prelude.{nat_le}
 use Rattle.std.specs.Cmp.{both_ways}
@@ -7,7 +7,7 @@ use Rattle.std.proofs.lemmas.Bool.Decides.{nat_tests}
 use Rattle.std.proofs.lemmas.List.Sums.{sum_by-append}
 use Rattle.lobby_desk.specs.declared.server_line.Due.{Due}
 use Rattle.lobby_desk.specs.Events.{owed_of}
-use Rattle.lobby_desk.specs.Waiting.{is_opening}
+use Rattle.lobby_desk.specs.Waiting.{is_entry}
 
 count_map : {X Y : Type 0} (f : X → Y) (p : Y → Bool) (xs : List X) → count_by p (map f xs) ≡ count_by (λ x. p (f x)) xs
 count_map {X} {Y} f p xs = along 0 xs
@@ -16,14 +16,14 @@ count_map {X} {Y} f p xs = along 0 xs
     along a [] = refl
     along a (y ∷ ys) = along (a + cond (p (f y)) 1 0) ys
 
--- the answers to a player's openings that are owed, in two parts
-pub openings_both : (name : List ℕ) (dues first second : List Due) → first ++ second ≡ dues →
-    count_by (λ due. is_opening name (owed_of due)) first + count_by (λ due. is_opening name (owed_of due)) second
-    ≡ count_by (is_opening name) (map owed_of dues)
-openings_both name dues first second is =
-    let opens = λ (due : Due). is_opening name (owed_of due) in
-    sym (sum_by-append (λ (due : Due). cond (opens due) 1 0) first second)
-    ∙ (ap (count_by (λ (due : Due). is_opening name (owed_of due))) is ∙ sym (count_map owed_of (is_opening name) dues))
+-- the answers to a player's entries that are owed, in two parts
+pub entries_both : (joins : Bool) (name : List ℕ) (dues first second : List Due) → first ++ second ≡ dues →
+    count_by (λ due. is_entry joins name (owed_of due)) first + count_by (λ due. is_entry joins name (owed_of due)) second
+    ≡ count_by (is_entry joins name) (map owed_of dues)
+entries_both joins name dues first second is =
+    let enters = λ (due : Due). is_entry joins name (owed_of due) in
+    sym (sum_by-append (λ (due : Due). cond (enters due) 1 0) first second)
+    ∙ (ap (count_by (λ (due : Due). is_entry joins name (owed_of due))) is ∙ sym (count_map owed_of (is_entry joins name) dues))
 
-pub many : (a b c : ℕ) → (16 - a - b - c == 0) ≡ nat_le 16 (a + (b + c))
-many a b c = both_ways (16 - a - b - c == 0) (nat_le 16 (a + (b + c))) (λ h. grind (arith, nat_tests)) (λ h. grind (arith, nat_tests))
+pub many : (m a b c : ℕ) → (m - a - b - c == 0) ≡ nat_le m (a + (b + c))
+many m a b c = both_ways (m - a - b - c == 0) (nat_le m (a + (b + c))) (λ h. grind (arith, nat_tests)) (λ h. grind (arith, nat_tests))

@@ -11,7 +11,7 @@ use Rattle.lobby_words.specs.declared.planning.Plan.{Plan}
 use Rattle.lobby_words.specs.declared.planning.Plan.TheVariants as plans
 use Rattle.lobby_words.specs.declared.words.Sort.{Sort}
 use Rattle.lobby_words.specs.declared.words.Sort.TheVariants as sorts
-use Rattle.lobby_words.specs.Words.{rest_of, sort_of, u32_in, or_0}
+use Rattle.lobby_words.specs.Words.{rest_of, black_name, sort_of, u32_in, or_0}
 use Rattle.lobby_desk.specs.declared.server_line.Notice.{Notice}
 use Rattle.lobby_desk.specs.Refusals.{game_named}
 use Rattle.lobby_words.specs.Answers.{act_game, is_table_act}
@@ -68,14 +68,15 @@ pub data Ask : Type 0 where
   ForAct : (by : List ℕ) → (text : List ℕ) → Ask
 
 -- For whom the server's answer to a line is: for nobody; for the desk, which has said this name; for the connection whose message
--- it answers; for the one whose `drop`, by this arbiter, waits for it; for those who are told of a game, with the lines that tell of
--- the act, and whether the table is told; for those who are told of the act right behind which the line went out, if the server
--- accepted it.
+-- it answers; for the one whose `drop`, by this arbiter, waits for it; for the one whose pairing, by this arbiter, has its game opened,
+-- for this player to join it; for those who are told of a game, with the lines that tell of the act, and whether the table is told;
+-- for those who are told of the act right behind which the line went out, if the server accepted it.
 pub data Owed : Type 0 where
   Nobody : Owed
   Naming : (name : List ℕ) → Owed
   Asker : (c : ℕ) → (ask : Ask) → Owed
   Dropper : (c : ℕ) → (by : List ℕ) → (text : List ℕ) → Owed
+  Pairer : (c : ℕ) → (by : List ℕ) → (black : List ℕ) → (text : List ℕ) → Owed
   Followers : (game : ℕ) → (act : List ℕ) → (is_table : Bool) → Owed
   Behind : Owed
 
@@ -88,6 +89,7 @@ owed_of (dues.Positions c) = Asker c ForPositions
 owed_of (dues.Table c) = Asker c ForTable
 owed_of (dues.Act act) = Asker act.from (ForAct act.who (string_bytes act.text))
 owed_of (dues.Drop act) = Dropper act.from act.who (string_bytes act.text)
+owed_of (dues.Pair act black) = Pairer act.from act.who black (string_bytes act.text)
 owed_of (dues.Watch c game) = Asker c (ForGame game)
 owed_of (dues.Notice notice) = Followers notice.game (string_bytes notice.act) notice.is_table
 owed_of dues.Behind = Behind
@@ -110,6 +112,7 @@ owed_acted who (name ∷ act ∷ show ∷ fen ∷ lines) = Naming (rest_of name)
 -- for whom the answers to lines are that go out together
 abbrev pub owed_some : Owed → List ℕ → List (List ℕ) → List Owed
 owed_some (Asker c (ForAct by text)) line lines = owed_acted (Asker c (ForAct by text)) (line ∷ lines)
+owed_some (Pairer c by black text) line lines = owed_acted (Pairer c by black text) (line ∷ lines)
 owed_some who line lines = owed_last who (line ∷ lines)
 
 abbrev pub owed_lines : Owed → List (List ℕ) → List Owed
@@ -122,6 +125,7 @@ abbrev pub sort_asker : Sort → Option ℕ → ℕ → List ℕ → List ℕ �
 sort_asker sorts.Drop game c by text = Dropper c by text
 sort_asker sorts.Act game c by text = Asker c (ForAct by text)
 sort_asker sorts.As game c by text = Asker c (ForAct by text)
+sort_asker sorts.Pair game c by text = Pairer c by (black_name text) text
 sort_asker sorts.Line game c by text = Asker c ForPositions
 sort_asker sorts.Lobby game c by text = Asker c ForTable
 sort_asker sorts.Watch game c by text = Asker c (ForGame (or_0 game))
@@ -135,6 +139,7 @@ abbrev pub plan_asker : Plan → ℕ → List ℕ → Owed
 plan_asker (plans.Drop who game) c text = Dropper c who.name text
 plan_asker (plans.Act who) c text = Asker c (ForAct who.name text)
 plan_asker (plans.ActAs who name) c text = Asker c (ForAct who.name text)
+plan_asker (plans.Pair who white black) c text = Pairer c who.name black text
 plan_asker (plans.Line game) c text = Asker c ForPositions
 plan_asker plans.Lobby c text = Asker c ForTable
 plan_asker (plans.Watch game) c text = Asker c (ForGame game)
@@ -183,13 +188,14 @@ asked_behind text game = game_if (is_asked_behind text game) game
 abbrev pub asked_after : List ℕ → Option ℕ → Option ℕ
 asked_after text game = game_if (not (is_asked_behind text game)) game
 
--- Whose the answers are to the lines that go out for an answer: the drop's for which that was asked; or those who are told of the
--- game in which an act was done.
+-- Whose the answers are to the lines that go out for an answer: the drop's for which that was asked, or the pairing's for which its game
+-- was opened; or those who are told of the game in which an act was done.
 abbrev pub followers_of : Option ℕ → List ℕ → List ℕ → List ℕ → Owed
 followers_of game by text answer = owed_to (following_of game by text answer)
 
 abbrev pub follower : Owed → List ℕ → Owed
 follower (Dropper c by text) answer = Asker c (ForAct by text)
+follower (Pairer c by black text) answer = Asker c (ForAct by text)
 follower (Asker c (ForAct by text)) answer = followers_of (asked_after text (act_game answer)) by text answer
 follower _ answer = Nobody
 

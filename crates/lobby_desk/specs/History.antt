@@ -6,15 +6,18 @@ use Rattle.lobby_words.specs.declared.words.Sort.{Sort}
 use Rattle.lobby_words.specs.declared.words.Sort.TheVariants as sorts
 use Rattle.lobby_words.specs.declared.planning.Identity.{Identity}
 use Rattle.lobby_roster.specs.declared.players.Player.{Player}
-use Rattle.lobby_words.specs.Words.{rest_of, as_name, as_line, line_said, actor, is_message, sort_of, is_act_sort, is_as_sort, is_drop_sort, is_name_sort, is_login_sort, is_link_sort, number_or_0}
+use Rattle.lobby_words.specs.Words.{rest_of, as_name, as_line, line_said, actor, black_name, pair_line, is_message, sort_of, is_act_sort, is_as_sort, is_pair_sort, is_drop_sort, is_name_sort, is_login_sort, is_link_sort, number_or_0}
 use Rattle.lobby_roster.specs.Players.{holder_of, known_name, renewed, is_token_of}
-use Rattle.lobby_words.specs.Naming.{takes_name}
 use Rattle.lobby_words.specs.Answers.{IsSeated, IsFirstSeated, has_empty_seat, act_game, answer}
-use Rattle.lobby_desk.specs.Lines.{name_line, game_line, notice_lines}
-use Rattle.lobby_desk.specs.Events.{DeskInput, Opened, Closed, Said, Heard, ServerTurned, Renewed, Linked, MessageValue, ForAct, Owed, Asker, Dropper, Followers, Following, asked_after, told_as}
+use Rattle.lobby_desk.specs.Lines.{name_line, game_line, join_line, notice_lines}
+use Rattle.lobby_desk.specs.Events.{DeskInput, Opened, Closed, Said, Heard, ServerTurned, Renewed, Linked, MessageValue, ForAct, Owed, Asker, Dropper, Pairer, Followers, Following, asked_after, told_as}
+use Rattle.lobby_words.specs.Naming.{takes_name}
 use Rattle.lobby_desk.specs.Refusals.{is_act_accepted, game_named, refused_game}
+use Rattle.lobby_words.specs.declared.listing.Seat.{Seat}
+use Rattle.lobby_desk.specs.declared.pairings.Pairing.{Pairing}
+use Rattle.lobby_desk.specs.Pairings.{game_joined, IsFree, IsOffered}
 use Rattle.lobby_desk.specs.Logging.{act_logged, is_of_act, one_if, log_texts}
-use Rattle.lobby_desk.specs.Tellings.{Known, is_counted, known_now, open_now, is_number, IsTold}
+use Rattle.lobby_desk.specs.Tellings.{Known, is_counted, known_now, pairings_now, open_now, is_number, IsTold}
 use Rattle.lobby_desk.specs.Who.{View, BeginsView, IsStep, speaker, players_now}
 
 -- one event, the lines that went to the server for it, and what connections were told
@@ -51,7 +54,7 @@ abbrev pub player_in : List Player → List Step → ℕ → Option Identity
 player_in players [] c = None
 player_in players (s ∷ past) c = player_after (players_in players past) s.event c (player_in players past c)
 
--- a line says a name, is an act, is a `drop`; a message is `as NAME LINE`
+-- a line says a name, is an act, is a `drop`; a message is `as NAME LINE`, is a pairing
 abbrev pub says_name : List ℕ → Bool
 says_name line = is_name_sort (sort_of line)
 
@@ -63,6 +66,9 @@ is_drop line = is_drop_sort (sort_of line)
 
 abbrev pub is_as : List ℕ → Bool
 is_as text = is_as_sort (sort_of text)
+
+abbrev pub is_pairing : List ℕ → Bool
+is_pairing text = is_pair_sort (sort_of text)
 
 -- the name that was said last behind a line, and behind lines
 abbrev pub name_behind : Option (List ℕ) → List ℕ → Option (List ℕ)
@@ -94,13 +100,14 @@ abbrev pub NoDrops : List (List ℕ) → Type 0
 NoDrops lines = AllByRecursion (λ line. is_drop line ≡ false) lines
 
 -- The name under which the acts for a message may stand, where its connection has shown the token of this player: his own; but
--- for `as NAME LINE` that name, where he is an arbiter and a player has it, and else none. Without a token there is none.
+-- for `as NAME LINE` that name, and for `pair WHITE ..` that of White, where he is an arbiter and a player has it, and else none.
+-- Without a token there is none.
 abbrev pub name_as : List Player → Bool → List ℕ → Option (List ℕ)
 name_as players is_arbiter text = if is_arbiter then known_name players (as_name text) else None
 
 abbrev pub name_for : List Player → Option Identity → List ℕ → Option (List ℕ)
 name_for players None text = None
-name_for players (Some who) text = if is_as text then name_as players who.is_arbiter text else Some who.name
+name_for players (Some who) text = if is_as text || is_pairing text then name_as players who.is_arbiter text else Some who.name
 
 -- The lines for a message: each act among them stands under this name; where there is none, none is an act.
 abbrev pub ActsRight : Option (List ℕ) → Option (List ℕ) → List (List ℕ) → Type 0
@@ -108,12 +115,13 @@ ActsRight None said lines = NoActs lines
 ActsRight (Some name) said lines = ActsUnder said lines name
 
 -- What a message has the desk say to the server, by its sort and by the number behind its word: itself, or of `as NAME LINE` the
--- line, and right behind an act how the game stands that it names, if it names one; or for the game or the table that it names what
+-- line, or of a pairing the line that opens its game; and right behind an act how the game stands that it names, if it names one; or for the game or the table that it names what
 -- the server is asked; for all else nothing.
 abbrev pub sort_asks : Sort → ℕ → List ℕ → List (List ℕ)
 sort_asks sorts.Read game text = text ∷ []
 sort_asks sorts.Act game text = text ∷ notice_lines (game_named text)
 sort_asks sorts.As game text = as_line text ∷ notice_lines (game_named text)
+sort_asks sorts.Pair game text = pair_line text ∷ []
 sort_asks sorts.Drop game text = game_line (codes "show ") game ∷ []
 sort_asks sorts.Lobby game text = codes "list" ∷ []
 sort_asks sorts.Watch game text = game_line (codes "show ") game ∷ game_line (codes "fen ") game ∷ []
@@ -134,7 +142,7 @@ open_in (s ∷ past) c = open_now s.event c (open_in past c)
 
 -- what is known of the connections and of the server behind a past
 abbrev pub known_in : List Player → List Step → Known
-known_in players [] = record { owed = []; left = 0; begun = []; last = []; watches = []; table = []; waiting = []; refused = []; follows = None; misnamed = false }
+known_in players [] = record { owed = []; left = 0; begun = []; last = []; watches = []; table = []; seats = []; pairings = []; refused = []; follows = None; misnamed = false }
 known_in players (s ∷ past) =
     known_now s.event (speaker (player_in players past) s.event) s.lines (open_in past) (known_in players past)
 
@@ -181,6 +189,32 @@ pub record IsNoticeOf (players : List Player) (past : List Step) (line : List �
   pub waits : (known_in players past).owed ≡ Asker c (ForAct by text) ∷ others
   pub lines_are : lines ≡ notice_lines (asked_after text (act_game (answer (known_in players past).begun line)))
 
+-- a connection that had shown an arbiter's token has said this message, a pairing in which Black is this player
+abbrev pub PairsNow : List Player → List Step → DeskInput → ℕ → List ℕ → List ℕ → Type 0
+PairsNow players past (Said d said) c black text =
+    (d ≡ c) × (said ≡ text) × IsArbiter (player_in players past c) × (is_message text ≡ true) × (is_pairing text ≡ true)
+    × (known_name (players_in players past) (black_name text) ≡ Some black)
+PairsNow players past _ c black text = ⊥
+
+abbrev pub HasPaired : List Player → List Step → ℕ → List ℕ → List ℕ → Type 0
+HasPaired players [] c black text = ⊥
+HasPaired players (s ∷ past) c black text = PairsNow players past s.event c black text ⊎ HasPaired players past c black text
+
+-- Behind the server's answer to the opening of a pairing, which a connection had said that had shown an arbiter's token, Black joins
+-- the game that this answer names: under the name that the message has for Black, which was a player's.
+pub record IsJoinOf (players : List Player) (past : List Step) (line : List ℕ) (lines : List (List ℕ)) : Type 0 where
+  pub c : ℕ
+  pub by : List ℕ
+  pub black : List ℕ
+  pub text : List ℕ
+  pub paired : HasPaired players past c black text
+  pub others : List Owed
+  pub waits : (known_in players past).owed ≡ Pairer c by black text ∷ others
+  pub game : ℕ
+  pub opened : act_game (answer (known_in players past).begun line) ≡ Some game
+  pub acts : ActsUnder (name_in past) lines black
+  pub of_game : IsOf (join_line game ∷ []) lines
+
 -- whether a connection of this number has come
 abbrev pub comes : DeskInput → ℕ → Bool
 comes (Opened d) c = d == c
@@ -196,7 +230,7 @@ abbrev pub IsRight : List Player → List Step → DeskInput → List (List ℕ)
 IsRight players past (Said c text) lines =
     ActsRight (name_for (players_in players past) (player_in players past c) text) (name_in past) lines × NoDrops lines × IsOf (asks_of text) lines
 IsRight players past (Heard line) lines =
-    (lines ≡ []) ⊎ IsNoticeOf players past line lines ⊎ IsDropOf players past line lines
+    (lines ≡ []) ⊎ IsNoticeOf players past line lines ⊎ IsDropOf players past line lines ⊎ IsJoinOf players past line lines
 IsRight players past (Opened c) lines = (lines ≡ []) × (has_come past c ≡ false)
 IsRight players past (Linked c text later token) lines =
     (lines ≡ []) × IsArbiter (player_in players past c) × (is_message text ≡ true) × (is_link_sort (sort_of text) ≡ true)
@@ -217,6 +251,23 @@ abbrev pub AllTold : List Player → List Step → Type 0
 AllTold players [] = Unit {0}
 AllTold players (s ∷ past) = IsTold s.event s.lines s.tells (open_in past) (known_in players past) × AllTold players past
 
+-- The lines for an event, under the name that holds before each: none joins a game that is kept for another. A game is kept for Black
+-- from the server's answer to the opening of its pairing until that to its join, or its drop.
+abbrev pub AreFree : List Pairing → Option (List ℕ) → List (List ℕ) → Type 0
+AreFree pairings said [] = Unit {0}
+AreFree pairings said (line ∷ lines) = IsFree pairings said (game_joined line) × AreFree pairings (name_behind said line) lines
+
+-- those for a message join no game but one that the server's answers told as waiting
+abbrev pub AreOffered : DeskInput → List Seat → List (List ℕ) → Type 0
+AreOffered (Said c text) seats lines = AllByRecursion (λ line. IsOffered seats (game_joined line)) lines
+AreOffered _ seats lines = Unit {0}
+
+abbrev pub AllPaired : List Player → List Step → Type 0
+AllPaired players [] = Unit {0}
+AllPaired players (s ∷ past) =
+    AreFree (pairings_now s.event (known_in players past)) (name_before s.event (name_in past)) s.lines
+    × AreOffered s.event (known_in players past).seats s.lines × AllPaired players past
+
 -- a desk that begins with these players, with entries paused or not, and steps of it
 abbrev pub IsRun : List Player → Bool → List Step → View → Type 0
 IsRun players is_paused [] now = BeginsView is_paused now
@@ -231,6 +282,7 @@ pub record Acted : Type 0 where
 -- the act that an answer is to, by whose it is
 abbrev pub acted_for : Owed → List ℕ → List Acted
 acted_for (Asker c (ForAct by text)) now = record { text = text; answer = now } ∷ []
+acted_for (Pairer c by black text) now = record { text = text; answer = now } ∷ []
 acted_for _ now = []
 
 abbrev pub acted_next : List Owed → List ℕ → List Acted
@@ -275,6 +327,8 @@ pub record Accepted : Type 0 where
 abbrev pub accepted_for : List Acted → Owed → List ℕ → List Accepted
 accepted_for acts (Asker c (ForAct by text)) now =
     one_if (is_act_accepted now) (record { by = by; text = text; answer = now; refused = refused_since (act_game now) acts })
+accepted_for acts (Pairer c by black text) now =
+    one_if (is_act_accepted now) (record { by = by; text = text; answer = now; refused = refused_since (act_game now) acts })
 accepted_for acts _ now = []
 
 abbrev pub accepted_next : List Acted → List Owed → List ℕ → List Accepted
@@ -295,6 +349,8 @@ accepted_in players (s ∷ past) = accepted_in players past ++ accepted_now (act
 -- such an act stands, as the answer to `show` says, which stands before that to `fen`.
 abbrev pub entries_for : List Acted → List ℕ → Owed → List ℕ → List (List ℕ)
 entries_for acts before (Asker c (ForAct by text)) now =
+    one_if (is_act_accepted now) (act_logged by text now (refused_since (act_game now) acts))
+entries_for acts before (Pairer c by black text) now =
     one_if (is_act_accepted now) (act_logged by text now (refused_since (act_game now) acts))
 entries_for acts before (Followers game act is_table) now = one_if (not (is_of_act before)) before
 entries_for acts before _ now = []
@@ -372,25 +428,39 @@ abbrev pub shown_in : List Player → List Step → Option (List ℕ)
 shown_in players [] = None
 shown_in players (s ∷ past) = shown_now s.event (known_in players past) (unanswered_in players past) (shown_in players past)
 
--- The name under which an act of this player's message stands: his own, of `as NAME LINE` that NAME; of a `drop` the name of who
--- waits in its game (`IsDropOf`).
+-- Which line goes for an act of this player's message, and under which name: that is his own message, of `as NAME LINE` the LINE and
+-- that NAME; of a `drop` the name of who waits in its game (`IsDropOf`); and of a pairing, once its game is opened, the line that joins
+-- it, and the name of Black.
+abbrev pub IsLineIf : Bool → List ℕ → List ℕ → Type 0
+IsLineIf true text line = (game : ℕ) × (line ≡ join_line game)
+IsLineIf false text line = line ≡ line_said text
+
+abbrev pub IsLineOf : List ℕ → List ℕ → Type 0
+IsLineOf text line = IsLineIf (is_pairing text) text line
+
+abbrev pub IsNameIf : Bool → List ℕ → List ℕ → List ℕ → Type 0
+IsNameIf true by text name = name ≡ black_name text
+IsNameIf false by text name = is_drop text ≡ false → name ≡ actor by text
+
 abbrev pub IsNameOf : List ℕ → List ℕ → List ℕ → Type 0
-IsNameOf by text name = is_drop text ≡ false → name ≡ actor by text
+IsNameOf by text name = IsNameIf (is_pairing text) by text name
 
 -- An answer to an act counts where it is the answer to that very act's line, the first that has none; and where the server's
 -- answers before it show that at it the very name holds that was said last before that line went out, under which the act stands.
-pub record IsOfAct (by text : List ℕ) (sent : List Sent) (shown : Option (List ℕ)) : Type 0 where
+pub record IsOfAct (IsLine IsName : List ℕ → Type 0) (sent : List Sent) (shown : Option (List ℕ)) : Type 0 where
   pub line : List ℕ
   pub name : List ℕ
   pub others : List Sent
   pub first : sent ≡ record { line = line; under = Some name } ∷ others
   pub act : is_act line ≡ true
-  pub of_text : line ≡ line_said text
-  pub named : IsNameOf by text name
+  pub of_text : IsLine line
+  pub named : IsName name
   pub holds : shown ≡ Some name
 
+-- The line that opens the game of a pairing stands under White's name.
 abbrev pub IsOfOwed : Owed → List Sent → Option (List ℕ) → Type 0
-IsOfOwed (Asker c (ForAct by text)) sent shown = IsOfAct by text sent shown
+IsOfOwed (Asker c (ForAct by text)) sent shown = IsOfAct (IsLineOf text) (IsNameOf by text) sent shown
+IsOfOwed (Pairer c by black text) sent shown = IsOfAct (λ line. line ≡ pair_line text) (λ name. name ≡ as_name text) sent shown
 IsOfOwed _ sent shown = Unit {0}
 
 abbrev pub IsOfNext : List Owed → List Sent → Option (List ℕ) → Type 0

@@ -3,6 +3,7 @@ pub mod Watching
 pub mod Pace
 pub mod Events
 pub mod Waiting
+pub mod Pairings
 pub mod Refusals
 pub mod Logging
 pub mod Tellings

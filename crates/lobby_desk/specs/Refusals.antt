@@ -1,7 +1,7 @@
 -- The acts that the server refused, of each game since it accepted one there.
 use Rattle.std.specs.Prelude.{ℕ, ◌&&◌, ◌||◌, ◌==◌, ◌+◌, Bool, false, not, nat_le, List, [], ◌∷◌, ◌++◌, codes, filter, Option, None, Some, if◌then◌else◌}
 use Rattle.std.specs.List.{starts_with}
-use Rattle.lobby_words.specs.Words.{word_of, rest_of, line_said, u32_in}
+use Rattle.lobby_words.specs.Words.{word_of, rest_of, line_said, is_pair, u32_in}
 use Rattle.lobby_words.specs.Answers.{act_game, is_accepted, is_table_act}
 use Rattle.lobby_desk.specs.declared.refusals.RefusedActs.{RefusedActs}
 
@@ -22,10 +22,11 @@ is_of_seated (Some number) = nat_le 5 number && nat_le number 24
 abbrev pub is_refusal : List ℕ → Bool
 is_refusal answer = starts_with (λ a b. a == b) answer (codes "no ") && is_of_seated (u32_in (word_of (rest_of answer)))
 
--- The game in which an answer refuses an act of who plays in it. An `open`, a `join` and a `drop` are no acts of who plays.
+-- The game that a message names; a pairing names two players.
 abbrev pub game_named : List ℕ → Option ℕ
-game_named text = u32_in (word_of (rest_of (line_said text)))
+game_named text = if is_pair text then None else u32_in (word_of (rest_of (line_said text)))
 
+-- The game in which an answer refuses an act of who plays in it. An `open`, a `join`, a `drop` and a pairing are no acts of who plays.
 abbrev pub refused_game : List ℕ → List ℕ → Option ℕ
 refused_game text answer = if is_refusal answer && not (is_table_act text) then game_named text else None
 

@@ -1,27 +1,31 @@
 -- What connections are told.
 use Rattle.std.specs.Prelude.{ℕ, ◌≡◌, Bool, true, false, ◌&&◌, ◌||◌, ◌==◌, not, List, [], ◌∷◌, ◌++◌, codes, decimal, Option, None, Some, if◌then◌else◌}
 use Rattle.std.specs.List.{list_any}
-use Rattle.lobby_words.specs.declared.listing.Waiting.{Waiting}
+use Rattle.lobby_words.specs.declared.listing.Seat.{Seat}
 use Rattle.lobby_desk.specs.declared.watching.Watch.{Watch}
 use Rattle.lobby_desk.specs.declared.refusals.RefusedActs.{RefusedActs}
+use Rattle.lobby_desk.specs.declared.pairings.Pairing.{Pairing}
 use Rattle.lobby_desk.specs.declared.telling.Kind.{Kind}
 use Rattle.lobby_desk.specs.declared.telling.Kind.TheVariants as kinds
-use Rattle.lobby_words.specs.Words.{rest_of, is_message, sort_of, is_close_sort, is_leave_sort, is_leave_lobby_sort, u32_in}
+use Rattle.lobby_words.specs.Words.{rest_of, is_pair, is_message, sort_of, is_close_sort, is_leave_sort, is_leave_lobby_sort, u32_in}
 use Rattle.lobby_words.specs.declared.refusals.Refusal.TheVariants as refusals
 use Rattle.lobby_words.specs.Plans.{refusal_text}
 use Rattle.lobby_words.specs.Naming.{takes_name}
+use Rattle.lobby_words.specs.Waiting.{tells_end}
 use Rattle.lobby_words.specs.Answers.{left_after, is_whole, answer, is_accepted, is_over, act_game}
 use Rattle.lobby_desk.specs.Watching.{at_table, watch_if, sit_if, unwatched, none_watched, risen, followers}
-use Rattle.lobby_desk.specs.Events.{DeskInput, Opened, Closed, Said, Hurried, Heard, ServerTurned, Renewed, Linked, MessageValue, to_one, to_one_as, Ask, ForPositions, ForGame, ForTable, ForAct, Owed, Nobody, Naming, Asker, Dropper, Followers, Behind, owed_lines, asker, follower, Following, follows_heard, told_as}
+use Rattle.lobby_desk.specs.Events.{DeskInput, Opened, Closed, Said, Hurried, Heard, ServerTurned, Renewed, Linked, MessageValue, to_one, to_one_as, Ask, ForPositions, ForGame, ForTable, ForAct, Owed, Nobody, Naming, Asker, Dropper, Pairer, Followers, Behind, owed_lines, asker, follower, Following, follows_heard, told_as}
 use Rattle.lobby_desk.specs.Logging.{logged_for, logged_standing}
-use Rattle.lobby_desk.specs.Waiting.{waiting_told, waiting_listed}
+use Rattle.lobby_desk.specs.Waiting.{seats_told, seats_opened, seats_listed}
+use Rattle.lobby_desk.specs.Pairings.{pairings_opened, pairings_told}
 use Rattle.lobby_desk.specs.Refusals.{refused_told}
 
 -- What is known of the connections and of the server: for whom the next answers of the server are, the oldest first; how many
 -- lines of the answer that has begun are still to come, and those that came; the last whole answer; who watches which game, and
--- who is told of the table, each in the order in which they came to; which games wait for a second player; how many acts were
--- refused in which game since one was accepted there; the last act of which it was asked right behind it how its game stands,
--- where the server accepted it and that is not told yet; and whether the server has not taken a name on the connection that stands.
+-- who is told of the table, each in the order in which they came to; who has a seat in which game that waits or goes on, and which are kept
+-- for whom; how many acts were refused in which game since one was accepted there; the last act of which it was asked right behind it
+-- how its game stands, where the server accepted it and that is not told yet; and whether the server has not taken a name on the
+-- connection that stands.
 pub record Known : Type 0 where
   pub owed : List Owed
   pub left : ℕ
@@ -29,7 +33,8 @@ pub record Known : Type 0 where
   pub last : List ℕ
   pub watches : List Watch
   pub table : List ℕ
-  pub waiting : List Waiting
+  pub seats : List Seat
+  pub pairings : List Pairing
   pub refused : List RefusedActs
   pub follows : Option Following
   pub misnamed : Bool
@@ -93,26 +98,42 @@ table_now (Said c text) is_open k = if leaves_table text then risen c k.table el
 table_now (Heard line) is_open k = if is_counted k line then table_next is_open k.owed k.table else k.table
 table_now _ is_open k = k.table
 
--- Which games wait for a second player after an answer, by whose it is: an act was done in the game that its answer names; and
--- whoever asked for it, the answer to `list` tells all that wait.
-abbrev pub waiting_heard : Owed → List ℕ → List Waiting → List Waiting
-waiting_heard (Asker c (ForAct by text)) now waiting = waiting_told by text (act_game now) waiting
-waiting_heard _ now waiting = waiting
+-- Who has a seat in which game after an answer, by whose it is: an act was done in the game that its answer names; and whoever asked
+-- for it, the answer to `list` tells all.
+abbrev pub seats_heard : Owed → List ℕ → List Seat → List Seat
+seats_heard (Asker c (ForAct by text)) now seats = seats_told by text (tells_end now) (act_game now) seats
+seats_heard (Pairer c by black text) now seats = seats_opened text (act_game now) seats
+seats_heard _ now seats = seats
 
-abbrev pub waiting_next : List Owed → List ℕ → List Waiting → List Waiting
-waiting_next [] now waiting = waiting
-waiting_next (o ∷ owed) now waiting = waiting_heard o now waiting
+abbrev pub seats_next : List Owed → List ℕ → List Seat → List Seat
+seats_next [] now seats = seats
+seats_next (o ∷ owed) now seats = seats_heard o now seats
 
-abbrev pub waiting_answered : List Owed → List ℕ → List Waiting → List Waiting
-waiting_answered owed now waiting = waiting_listed now (waiting_next owed now waiting)
+abbrev pub seats_answered : List Owed → List ℕ → List Seat → List Seat
+seats_answered owed now seats = seats_listed now (seats_next owed now seats)
 
-abbrev pub waiting_now : DeskInput → Known → List Waiting
-waiting_now (Heard line) k = if is_counted k line then waiting_answered k.owed (answer k.begun line) k.waiting else k.waiting
-waiting_now _ k = k.waiting
+abbrev pub seats_now : DeskInput → Known → List Seat
+seats_now (Heard line) k = if is_counted k line then seats_answered k.owed (answer k.begun line) k.seats else k.seats
+seats_now _ k = k.seats
+
+-- Which games are kept for whom after an answer, by whose it is: that to the opening of a pairing, or to an act.
+abbrev pub pairings_heard : Owed → List ℕ → List Pairing → List Pairing
+pairings_heard (Asker c (ForAct by text)) now pairings = pairings_told text (act_game now) pairings
+pairings_heard (Pairer c by black text) now pairings = pairings_opened black (act_game now) pairings
+pairings_heard _ now pairings = pairings
+
+abbrev pub pairings_next : List Owed → List ℕ → List Pairing → List Pairing
+pairings_next [] now pairings = pairings
+pairings_next (o ∷ owed) now pairings = pairings_heard o now pairings
+
+abbrev pub pairings_now : DeskInput → Known → List Pairing
+pairings_now (Heard line) k = if is_counted k line then pairings_next k.owed (answer k.begun line) k.pairings else k.pairings
+pairings_now _ k = k.pairings
 
 -- How many acts were refused after an answer, by whose it is.
 abbrev pub refused_heard : Owed → List ℕ → List RefusedActs → List RefusedActs
 refused_heard (Asker c (ForAct by text)) now refused = refused_told text now refused
+refused_heard (Pairer c by black text) now refused = refused_told text now refused
 refused_heard _ now refused = refused
 
 abbrev pub refused_next : List Owed → List ℕ → List RefusedActs → List RefusedActs
@@ -184,7 +205,8 @@ known_now event by lines is_open k = record {
   last = last_now event k;
   watches = watches_now event is_open k;
   table = table_now event is_open k;
-  waiting = waiting_now event k;
+  seats = seats_now event k;
+  pairings = pairings_now event k;
   refused = refused_now event k;
   follows = follows_now event k;
   misnamed = misnamed_now event k;
@@ -199,12 +221,21 @@ abbrev pub IsToldOrSent : List (List ℕ) → ℕ → List MessageValue → Type
 IsToldOrSent [] c tells = IsToldOne c tells
 IsToldOrSent (line ∷ lines) c tells = tells ≡ []
 
+-- The answer to an act is the server's; but that to a pairing, once its game is joined, tells the game.
+abbrev pub pair_told : Option ℕ → List ℕ → List ℕ
+pair_told None now = now
+pair_told (Some game) now = codes "ok pair " ++ decimal game ++ codes "\n"
+
+abbrev pub acted_text : List ℕ → List ℕ → List ℕ
+acted_text text now = if is_pair text then pair_told (act_game now) now else now
+
 -- What a connection is told for the server's answers to its message, of which this is the last: that answer itself; for the table
 -- `ok lobby` and the answer, which is to `list`. Two lines go out for a game to watch, `show` and `fen`: where the game is shown,
 -- `ok watch G` and both answers; else the first of them.
 abbrev pub made_of : Ask → List ℕ → List ℕ → List ℕ
 made_of ForTable before now = table_front ++ now
 made_of (ForGame game) before now = if is_accepted before then watch_front game ++ before ++ now else before
+made_of (ForAct by text) before now = acted_text text now
 made_of _ before now = now
 
 -- what is still to be done with a text that ends with the answer to `fen`, and with the answer to `pgn` for `line`
@@ -242,6 +273,9 @@ IsToldFor before watches table refused (Asker c ask) now lines tells =
     tells ≡ logged_for refused ask now ++ to_one_as c (kind_of ask before now) (made_of ask before now) ∷ []
 IsToldFor before watches table refused (Dropper c by text) now [] tells = tells ≡ to_one c (undropped now) ∷ []
 IsToldFor before watches table refused (Dropper c by text) now (line ∷ lines) tells = tells ≡ []
+IsToldFor before watches table refused (Pairer c by black text) now [] tells =
+    tells ≡ logged_for refused (ForAct by text) now ++ to_one c now ∷ []
+IsToldFor before watches table refused (Pairer c by black text) now (line ∷ lines) tells = tells ≡ logged_for refused (ForAct by text) now
 IsToldFor before watches table refused (Followers game act is_table) now lines tells =
     (lines ≡ []) × (tells ≡ logged_standing before ++ notice watches table game act is_table before now ∷ [])
 IsToldFor before watches table refused Behind now lines tells = (lines ≡ []) × (tells ≡ [])
@@ -263,6 +297,7 @@ is_number n (Some m) = n == m
 abbrev pub waiter : Owed → Option ℕ
 waiter (Asker c ask) = Some c
 waiter (Dropper c by text) = Some c
+waiter (Pairer c by black text) = Some c
 waiter _ = None
 
 -- whether the answer to a message of a connection is owed

@@ -1,11 +1,12 @@
 -- For whom connections act, and what a step of the desk does.
-use Rattle.std.specs.Prelude.{ℕ, ◌≡◌, ◌⊎◌, Bool, true, false, ◌&&◌, ◌||◌, ◌==◌, List, [], ◌∷◌, ◌++◌, ◌+◌, codes, decimal, map, Option, None, Some, is_some, option_and_then, if◌then◌else◌}
+use Rattle.std.specs.Prelude.{ℕ, ◌≡◌, ◌⊎◌, Bool, true, false, not, ◌&&◌, ◌||◌, ◌==◌, List, [], ◌∷◌, ◌++◌, ◌+◌, codes, decimal, map, Option, None, Some, is_some, option_and_then, if◌then◌else◌}
 use Rattle.std.specs.BTreeMap.{BTreeMap, get}
 use Rattle.std.specs.Ordering.{nat_cmp}
 use Rattle.std.specs.String.{string_bytes}
 use Rattle.rec_codec.specs.Name.{IsName}
 use Rattle.lobby_words.specs.declared.planning.Plan.{Plan}
 use Rattle.lobby_words.specs.declared.planning.Plan.TheVariants as plans
+use Rattle.lobby_words.specs.declared.refusals.Refusal.{Refusal}
 use Rattle.lobby_words.specs.declared.refusals.Refusal.TheVariants as refusals
 use Rattle.lobby_words.specs.declared.planning.Order.{Order}
 use Rattle.lobby_words.specs.declared.planning.Standing.{Standing}
@@ -14,19 +15,20 @@ use Rattle.lobby_roster.specs.declared.players.Player.{Player}
 use Rattle.lobby_desk.specs.declared.visitors.Visitor.{Visitor}
 use Rattle.lobby_desk.specs.declared.watching.Watch.{Watch}
 use Rattle.lobby_desk.specs.declared.desk.Desk.{Desk}
-use Rattle.lobby_words.specs.Words.{rest_of, as_name, actor, is_message, sort_of, is_login_sort, u32_in}
-use Rattle.lobby_words.specs.Waiting.{opens_game}
+use Rattle.lobby_words.specs.Words.{rest_of, as_name, black_name, actor, is_message, sort_of, is_login_sort, u32_in}
+use Rattle.lobby_words.specs.Waiting.{opens_game, joins_game}
 use Rattle.lobby_roster.specs.Players.{holder_of, known_name, renewed, is_token_of, login_text, players_text, present_names, who_text}
 use Rattle.lobby_words.specs.Plans.{refusal_text, plan_of, order_of}
-use Rattle.lobby_desk.specs.Lines.{bytes_of, lines_of, act_lines, said_after, notice_lines, IsNamed}
+use Rattle.lobby_desk.specs.Lines.{bytes_of, lines_of, act_lines, join_line, said_after, notice_lines, IsNamed}
 use Rattle.lobby_words.specs.Answers.{IsSeated, IsFirstSeated, IsSeatless, has_empty_seat, act_game, answer}
 use Rattle.lobby_desk.specs.Watching.{games_of, unwatched, risen, is_full}
 use Rattle.lobby_desk.specs.Refusals.{game_named}
-use Rattle.lobby_desk.specs.Waiting.{is_crowded}
+use Rattle.lobby_desk.specs.Waiting.{is_crowded, is_busy}
+use Rattle.lobby_desk.specs.Pairings.{open_bar, join_bar}
 use Rattle.lobby_desk.specs.Pace.{is_too_fast}
 pub use Rattle.lobby_desk.specs.Watching.{at_table}
-use Rattle.lobby_desk.specs.Events.{DeskInput, Opened, Closed, Said, Hurried, Heard, ServerTurned, Renewed, Linked, MessageValue, to_one, ForAct, Owed, Asker, Dropper, owed_of, owed_lines, plan_asker, follower, following, asked_after, follows_heard, told_as}
-use Rattle.lobby_desk.specs.Tellings.{Known, is_counted, open_now, watch_heard, watch_next, table_heard, table_next, watches_now, table_now, waiting_heard, waiting_next, waiting_now, refused_heard, refused_next, refused_now, follows_next, follows_now, misnamed_heard, misnamed_next, misnamed_now, owed_now, left_now, begun_now, last_now, owed_answered, owes, presence, IsTold, IsToldFor, IsToldNext}
+use Rattle.lobby_desk.specs.Events.{DeskInput, Opened, Closed, Said, Hurried, Heard, ServerTurned, Renewed, Linked, MessageValue, to_one, ForAct, Owed, Asker, Dropper, Pairer, owed_of, owed_lines, plan_asker, follower, following, asked_after, follows_heard, told_as}
+use Rattle.lobby_desk.specs.Tellings.{Known, is_counted, open_now, watch_heard, watch_next, table_heard, table_next, watches_now, table_now, seats_heard, seats_next, seats_now, pairings_heard, pairings_next, pairings_now, refused_heard, refused_next, refused_now, follows_next, follows_now, misnamed_heard, misnamed_next, misnamed_now, owed_now, left_now, begun_now, last_now, owed_answered, owes, presence, IsTold, IsToldFor, IsToldNext}
 
 -- the player for whom a connection acts
 abbrev pub who_in : BTreeMap ℕ Visitor → ℕ → Option Identity
@@ -153,7 +155,8 @@ known desk = record {
   last = string_bytes desk.line.last;
   watches = desk.watches.items;
   table = desk.table.items;
-  waiting = desk.line.waiting.items;
+  seats = desk.line.seats.items;
+  pairings = desk.line.pairings.items;
   refused = desk.line.refused.items;
   follows = following desk.line.acted;
   misnamed = desk.line.is_misnamed;
@@ -190,7 +193,8 @@ pub record BeginsView (is_paused : Bool) (now : View) : Type 0 where
   pub last : now.known.last ≡ []
   pub watches : now.known.watches ≡ []
   pub table : now.known.table ≡ []
-  pub waiting : now.known.waiting ≡ []
+  pub seats : now.known.seats ≡ []
+  pub pairings : now.known.pairings ≡ []
   pub refused : now.known.refused ≡ []
   pub follows : now.known.follows ≡ None
   pub misnamed : now.known.misnamed ≡ false
@@ -203,10 +207,16 @@ abbrev pub said_event : Bool → ℕ → List ℕ → DeskInput
 said_event true c text = Hurried c
 said_event false c text = Said c text
 
--- whether a message opens a game, and no game more of the player for whom it does may wait for a second player
-abbrev pub crowds : Known → Option Identity → List ℕ → Bool
-crowds k None text = false
-crowds k (Some who) text = opens_game text && is_crowded k.waiting k.owed (actor who.name text)
+-- Why a message does not open a game, or does not join one, by the games that are known, where it would under this name: no game more
+-- of this player may wait for a second one, or, but for an arbiter's message, go on; or no such game waits for him.
+abbrev pub name_bar : Known → Bool → List ℕ → List ℕ → Option Refusal
+name_bar k is_arbiter name text =
+    if opens_game text then open_bar (is_crowded k.seats k.owed name) (not is_arbiter && is_busy k.seats k.owed name)
+    else (if joins_game text then join_bar k.seats k.pairings (not is_arbiter && is_busy k.seats k.owed name) name (game_named text) else None)
+
+abbrev pub bar_of : Known → Option Identity → List ℕ → Option Refusal
+bar_of k None text = None
+bar_of k (Some who) text = name_bar k who.is_arbiter (actor who.name text) text
 
 -- who has the token that a message shows; nobody where it shows none
 abbrev pub holder_shown : List Player → List ℕ → Option Identity
@@ -218,10 +228,11 @@ standing_of desk c text = record {
   who = who_of desk c;
   holder = holder_shown desk.players.items text;
   named = known_name desk.players.items (as_name text);
+  black = known_name desk.players.items (black_name text);
   linked = known_name desk.players.items (rest_of text);
   is_here = desk.line.is_here;
   is_full = is_full desk.watches.items c (u32_in (rest_of text));
-  is_crowded = crowds (known desk) (who_of desk c) text;
+  bar = bar_of (known desk) (who_of desk c) text;
   is_paused = opens_game text && desk.is_paused;
 }
 
@@ -238,10 +249,11 @@ pub record IsSaid (players : List Player) (old : View) (c : ℕ) (text : List �
   pub who : standing.who ≡ old.who c
   pub holder : standing.holder ≡ holder_shown players text
   pub other : standing.named ≡ known_name players (as_name text)
+  pub black : standing.black ≡ known_name players (black_name text)
   pub link : standing.linked ≡ known_name players (rest_of text)
   pub here : standing.is_here ≡ old.here
   pub full : standing.is_full ≡ is_full old.known.watches c (u32_in (rest_of text))
-  pub crowded : standing.is_crowded ≡ crowds old.known (old.who c) text
+  pub bar : standing.bar ≡ bar_of old.known (old.who c) text
   pub paused : standing.is_paused ≡ (opens_game text && old.paused)
   pub plan : Plan
   pub planned : plan ≡ plan_of (is_message text) (sort_of text) standing (u32_in (rest_of text))
@@ -270,11 +282,19 @@ pub record IsNotDropped (said : Option (List ℕ)) (now text : List ℕ) (lines 
   pub said_is : later ≡ said
   pub not_waiting : IsSeatless now (rest_of text) ⊎ (has_empty_seat now ≡ false)
 
+-- What goes out for the answer to the opening of a pairing: where it names the game, Black joins it.
+abbrev pub IsPaired : Option ℕ → Option (List ℕ) → List ℕ → List (List ℕ) → Option (List ℕ) → Type 0
+IsPaired None said black lines later = (lines ≡ []) × (later ≡ said)
+IsPaired (Some game) said black lines later =
+    (lines ≡ act_lines said black (join_line game) None) × (later ≡ Some black) × IsName black
+
 -- What goes out for an answer, by whose it is, and the name that was said last then. For the answer to an act it is asked how the
--- game stands that it names, if that was not asked right behind the act; a drop goes out for the answer that it waits for, where a seat is empty; else nothing does.
+-- game stands that it names, if that was not asked right behind the act; a drop goes out for the answer that it waits for, where a seat
+-- is empty, and the join of a pairing for the answer that opens its game; else nothing does.
 abbrev pub IsSentFor : Owed → Option (List ℕ) → List ℕ → List (List ℕ) → Option (List ℕ) → Type 0
 IsSentFor (Asker c (ForAct by text)) said now lines later = (lines ≡ notice_lines (asked_after text (act_game now))) × (later ≡ said)
 IsSentFor (Dropper c by text) said now lines later = IsNotDropped said now text lines later ⊎ IsDropped said now text lines later
+IsSentFor (Pairer c by black text) said now lines later = IsPaired (act_game now) said black lines later
 IsSentFor _ said now lines later = (lines ≡ []) × (later ≡ said)
 
 abbrev pub IsSentNext : List Owed → Option (List ℕ) → List ℕ → List (List ℕ) → Option (List ℕ) → Type 0
@@ -370,7 +390,8 @@ pub record IsKnown (event : DeskInput) (by : List ℕ) (lines : List (List ℕ))
   pub last : new.last ≡ last_now event old
   pub watches : new.watches ≡ watches_now event is_open old
   pub table : new.table ≡ table_now event is_open old
-  pub waiting : new.waiting ≡ waiting_now event old
+  pub seats : new.seats ≡ seats_now event old
+  pub pairings : new.pairings ≡ pairings_now event old
   pub refused : new.refused ≡ refused_now event old
   pub follows : new.follows ≡ follows_now event old
   pub misnamed : new.misnamed ≡ misnamed_now event old
@@ -409,7 +430,8 @@ pub record Carried (old : Desk) (from : ℕ) (text : List ℕ) (plan : Plan) (un
   pub untils : (c : ℕ) → until_of new c ≡ (if from == c then until else until_of old c)
   pub watches : new.watches.items ≡ plan_watches plan from old.watches.items
   pub table : new.table.items ≡ plan_table plan from old.table.items
-  pub waiting : new.line.waiting ≡ old.line.waiting
+  pub seats : new.line.seats ≡ old.line.seats
+  pub pairings : new.line.pairings ≡ old.line.pairings
   pub refused : new.line.refused ≡ old.line.refused
   pub follows : new.line.acted ≡ old.line.acted
   pub misnamed : new.line.is_misnamed ≡ old.line.is_misnamed
@@ -439,7 +461,8 @@ pub record AnswersTo (o : Owed) (now : List ℕ) (old : Desk) (before after : Li
   pub owed : (known new).owed ≡ (known old).owed ++ owed_lines (follower o now) lines
   pub watches : new.watches.items ≡ watch_heard (open_of old) (string_bytes old.line.last) o old.watches.items
   pub table : new.table.items ≡ table_heard (open_of old) o old.table.items
-  pub waiting : new.line.waiting.items ≡ waiting_heard o now old.line.waiting.items
+  pub seats : new.line.seats.items ≡ seats_heard o now old.line.seats.items
+  pub pairings : new.line.pairings.items ≡ pairings_heard o now old.line.pairings.items
   pub refused : new.line.refused.items ≡ refused_heard o now old.line.refused.items
   pub follows : following new.line.acted ≡ follows_heard o now (following old.line.acted)
   pub misnamed : new.line.is_misnamed ≡ misnamed_heard o now old.line.is_misnamed
@@ -456,7 +479,8 @@ pub record Answered (now : List ℕ) (old : Desk) (before after : List ℕ) (tol
   pub owed : (known new).owed ≡ owed_answered (known old).owed now lines
   pub watches : new.watches.items ≡ watch_next (open_of old) (string_bytes old.line.last) (known old).owed old.watches.items
   pub table : new.table.items ≡ table_next (open_of old) (known old).owed old.table.items
-  pub waiting : new.line.waiting.items ≡ waiting_next (known old).owed now old.line.waiting.items
+  pub seats : new.line.seats.items ≡ seats_next (known old).owed now old.line.seats.items
+  pub pairings : new.line.pairings.items ≡ pairings_next (known old).owed now old.line.pairings.items
   pub refused : new.line.refused.items ≡ refused_next (known old).owed now old.line.refused.items
   pub follows : following new.line.acted ≡ follows_next (known old).owed now (following old.line.acted)
   pub misnamed : new.line.is_misnamed ≡ misnamed_next (known old).owed now old.line.is_misnamed

@@ -95,6 +95,9 @@ pub fn send(
         Plan::ActAs(who, name) => {
             line.pass_act(alloc, from, who.name, text, *name, as_line(text), wire)
         }
+        Plan::Pair(who, white, black) => {
+            line.open_pair(alloc, from, who.name, text, *white, *black, wire)
+        }
         Plan::Drop(who, game) => {
             let act = waiting_act(alloc, from, who.name, text)?;
             line.ask("show ", *game, Due::Drop(act), wire)

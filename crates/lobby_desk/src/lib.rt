@@ -8,6 +8,7 @@ mod carrying;
 mod desk;
 mod law;
 mod pace;
+mod pairings;
 mod present;
 mod refusals;
 mod renewing;
@@ -18,6 +19,6 @@ mod waiting;
 mod watching;
 
 pub use desk::Desk;
-pub use law::{law_of_lines, law_of_logs, law_of_names, law_of_tellings};
+pub use law::{law_of_lines, law_of_logs, law_of_names, law_of_pairings, law_of_tellings};
 pub use lobby_words::Order;
 pub use telling::{Kind, Message};

@@ -4,7 +4,9 @@ ghost use Rattle.std.specs.List.{starts_with};
 ghost use Rattle.lobby_desk.specs.Refusals as spec;
 
 use crate::desk::number_after;
-use lobby_words::{cut_word, game_told, is_accepted, is_table_act, line_said, number_named};
+use lobby_words::{
+    cut_word, game_told, is_accepted, is_pair, is_table_act, line_said, number_named,
+};
 use std::alloc::AllocError;
 
 /// A game, and how many acts of who plays in it were refused since one was accepted there.
@@ -62,13 +64,17 @@ fn is_refusal(answer: &str) -> bool
     is_no & is_of_seated
 }
 
-/// The game that the line of an act names.
+/// The game that the line of an act names; a pairing names two players.
 pub fn game_named(text: &str) -> Option<u32>
     ensures { result ≡ spec.game_named text.now }
 {
     let (_, rest) = cut_word(line_said(text));
     let (game, _) = cut_word(rest);
-    number_named(game)
+    if is_pair(text) {
+        None
+    } else {
+        number_named(game)
+    }
 }
 
 // The game in which an answer refuses an act of who plays in it.

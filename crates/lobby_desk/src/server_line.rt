@@ -3,13 +3,15 @@
 ghost use Rattle.std.specs.Prelude.{◌≡◌, ◌++◌, [], ◌∷◌, map, false, Some, None, IfOk, OnOk};
 ghost use Rattle.rec_codec.specs.Name.{IsName};
 ghost use Rattle.std.specs.String.{string_bytes};
-ghost use Rattle.lobby_desk.specs.Events.{owed_of, owed_last, owed_lines, Nobody, Naming, Behind, Asker, ForAct};
+ghost use Rattle.lobby_desk.specs.Events.{owed_of, owed_last, owed_lines, Nobody, Naming, Behind, Asker, Pairer, ForAct};
 ghost use Rattle.lobby_desk.specs.Refusals.{game_named};
-ghost use Rattle.lobby_desk.specs.Lines.{ended, bytes_of, name_lines, act_lines, notice_lines, game_line, IsHeardSame};
+ghost use Rattle.lobby_desk.specs.Lines.{ended, bytes_of, name_lines, act_lines, join_line, notice_lines, game_line, IsHeardSame};
+ghost use Rattle.lobby_words.specs.Words.{pair_line};
 
+use crate::pairings::Pairing;
 use crate::refusals::{RefusedActs, game_named};
 use itoa::Buffer;
-use lobby_words::{Coming, Waiting, is_said};
+use lobby_words::{Coming, Seat, is_said, pair_times};
 use rec_codec::Name;
 use std::alloc::{AllocError, Global};
 use std::collections::VecDeque;
@@ -58,6 +60,8 @@ pub enum Due {
     Act(Acting),
     /// The `show G` before a connection's `drop G`.
     Drop(Acting),
+    /// The `open` of a connection's pairing, whose game this player joins.
+    Pair(Acting, Name),
     /// The `fen G`, behind `show G`, for a connection that will watch the game.
     Watch(u64, u32),
     /// The `fen G`, behind `show G`, for those who are told of a game.
@@ -84,7 +88,9 @@ pub struct ServerLine {
     /// The last whole answer.
     pub last: String,
     /// The games that wait for a second player, as far as the answers have told.
-    pub waiting: Vec<Waiting>,
+    pub seats: Vec<Seat>,
+    /// Those that pairings have opened, and that are kept for Black until then.
+    pub pairings: Vec<Pairing>,
     /// The acts that were refused, of each game since one was accepted there.
     pub refused: Vec<RefusedActs>,
 }
@@ -107,7 +113,8 @@ impl ServerLine {
         ensures left { result.coming.left ≡ 0 }
         ensures begun { string_bytes result.coming.text ≡ [] }
         ensures last { string_bytes result.last ≡ [] }
-        ensures waiting { result.waiting.items ≡ [] }
+        ensures seats { result.seats.items ≡ [] }
+        ensures pairings { result.pairings.items ≡ [] }
         ensures refused { result.refused.items ≡ [] }
         ensures acted { result.acted ≡ None }
         ensures misnamed { result.is_misnamed ≡ false }
@@ -120,7 +127,8 @@ impl ServerLine {
             acted: None,
             is_misnamed: false,
             last: String::new(alloc),
-            waiting: Vec::new(alloc),
+            seats: Vec::new(alloc),
+            pairings: Vec::new(alloc),
             refused: Vec::new(alloc),
         }
     }
@@ -134,7 +142,8 @@ impl ServerLine {
         ensures left { self.new.coming.left ≡ 0 }
         ensures begun { string_bytes self.new.coming.text ≡ [] }
         ensures last { self.new.last ≡ self.old.last }
-        ensures waiting { self.new.waiting ≡ self.old.waiting }
+        ensures seats { self.new.seats ≡ self.old.seats }
+        ensures pairings { self.new.pairings ≡ self.old.pairings }
         ensures refused { self.new.refused ≡ self.old.refused }
         ensures acted { self.new.acted ≡ None }
         ensures misnamed { self.new.is_misnamed ≡ false }
@@ -290,6 +299,54 @@ impl ServerLine {
     {
         let sent = waiting_act(alloc, from, who, text)?;
         self.act(name, line, game_named(text), sent, wire)
+    }
+
+    /// Opens the game of a connection's pairing under the name of White, which is said first where another was said last.
+    pub fn open_pair(
+        &mut self,
+        alloc: Global,
+        from: u64,
+        who: Name,
+        text: &str,
+        white: Name,
+        black: Name,
+        wire: &mut Vec<u8>,
+    ) -> Result<(), AllocError>
+        ensures sent { OnOk result (wire.new.items ≡ wire.old.items ++ bytes_of (act_lines self.old.said white (pair_line text.now) None)) }
+        ensures owed { OnOk result (map owed_of self.new.queue.items ≡ map owed_of self.old.queue.items
+            ++ owed_lines (Pairer from who black text.now) (act_lines self.old.said white (pair_line text.now) None)) }
+        ensures said { OnOk result (self.new.said ≡ Some white) }
+        ensures here { self.new.is_here ≡ self.old.is_here }
+        ensures heard { IsHeardSame self.old self.new }
+        ensures named { OnOk result (IsName white) }
+    {
+        let act = waiting_act(alloc, from, who, text)?;
+        self.say_name(white, wire)?;
+        self.send("open white ", pair_times(text), Due::Pair(act, black), wire)?;
+        Ok(())
+    }
+
+    /// Joins the game that a pairing has opened under the name of Black, which is said first where another was said last.
+    pub fn join_pair(
+        &mut self,
+        alloc: Global,
+        game: u32,
+        black: Name,
+        act: &Acting,
+        wire: &mut Vec<u8>,
+    ) -> Result<(), AllocError>
+        ensures sent { OnOk result (wire.new.items ≡ wire.old.items ++ bytes_of (act_lines self.old.said black (join_line game) None)) }
+        ensures owed { OnOk result (map owed_of self.new.queue.items ≡ map owed_of self.old.queue.items
+            ++ owed_lines (Asker act.now.from (ForAct act.now.who (string_bytes act.now.text))) (act_lines self.old.said black (join_line game) None)) }
+        ensures said { OnOk result (self.new.said ≡ Some black) }
+        ensures here { OnOk result (self.new.is_here ≡ self.old.is_here) }
+        ensures heard { OnOk result (IsHeardSame self.old self.new) }
+        ensures named { OnOk result (IsName black) }
+    {
+        let later = waiting_act(alloc, act.from, act.who, act.text.as_str())?;
+        self.say_name(black, wire)?;
+        self.ask("join ", game, Due::Act(later), wire)?;
+        Ok(())
     }
 
     /// Sends the drop that waited under a name, and asks right behind it how its game stands.

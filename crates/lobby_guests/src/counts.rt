@@ -1,8 +1,8 @@
 //! What is counted for who looks after a lobby. No law speaks of it, and nothing else goes by it.
 
 /// The acts: the second words of their answers.
-pub const ACTS: [&str; 10] = [
-    "open", "join", "move", "offer", "accept", "decline", "resign", "claim", "flag", "drop",
+pub const ACTS: [&str; 11] = [
+    "open", "join", "pair", "move", "offer", "accept", "decline", "resign", "claim", "flag", "drop",
 ];
 
 // How a request for figures begins, as who asks for them by HTTP sends it.
@@ -26,7 +26,7 @@ pub struct Counts {
     pub fallen: u64,
     pub lost: u64,
     /// Acts that were accepted by `ok`, as `ACTS` has them.
-    pub acts: [u64; 10],
+    pub acts: [u64; 11],
     /// Answers whose time is known, their times together, and how many of them are within each of `BOUNDS`.
     pub timed: u64,
     pub time: u64,
@@ -65,7 +65,7 @@ impl Counts {
             no: 0,
             fallen: 0,
             lost: 0,
-            acts: [0; 10],
+            acts: [0; 11],
             timed: 0,
             time: 0,
             within: [0; 12],

@@ -1,8 +1,10 @@
 -- The number that a text spells.
-use Rattle.std.proofs.Common.{ℕ, ◌≡◌, ◌<◌, ◌^◌, List, Option, None, Some, IfSome, decimal, arith}
+use Rattle.std.proofs.Common.{ℕ, ◌≡◌, ◌<◌, ◌^◌, List, Option, None, Some, IfSome, decimal, ap, ◌∙◌, arith}
 use Rattle.text_parts.specs.Numbers.{number_below}
 use Rattle.text_parts.proofs.Spelled as decimals
-use Rattle.lobby_words.specs.Words.{u32_in}
+use Rattle.text_parts.proofs.Cuts.{before_whole}
+use Rattle.text_parts.proofs.Digits.{lacks_below}
+use Rattle.lobby_words.specs.Words.{word_of, u32_in}
 pub use Rattle.text_parts.proofs.Digits.{own}
 
 -- a number that is found is small, and spelled so
@@ -29,3 +31,7 @@ number_spelled n small = decimals.number_spelled (2 ^ 32) n small (omega arith)
 pub spelled_in : (text : List ℕ) (r : Option ℕ) → r ≡ number_below (2 ^ 32) text → r ≡ u32_in text
 unfolding u32_in
 spelled_in text r is = is
+
+-- and it is one word
+pub number_word : (n : ℕ) → n < 2 ^ 32 → u32_in (word_of (decimal n)) ≡ Some n
+number_word n small = ap u32_in (before_whole 32 (decimal n) (lacks_below 32 n (omega arith) (omega arith))) ∙ number_spelled n small

@@ -96,4 +96,4 @@ is_over shown = is_ended shown || is_no_game shown
 abbrev pub is_table_act : List ℕ → Bool
 is_table_act text =
     bytes_eq (word_of (line_said text)) (codes "open") || bytes_eq (word_of (line_said text)) (codes "join")
-    || bytes_eq (word_of (line_said text)) (codes "drop")
+    || bytes_eq (word_of (line_said text)) (codes "drop") || bytes_eq (word_of (line_said text)) (codes "pair")

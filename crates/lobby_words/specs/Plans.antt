@@ -23,14 +23,20 @@ refusal_text refusals.NoPlayer = codes "no 38 NoPlayer\n"
 refusal_text refusals.EntriesPaused = codes "no 39 EntriesPaused\n"
 refusal_text refusals.NotWritten = codes "no 40 NotWritten\n"
 refusal_text refusals.NotWaiting = codes "no 41 NotWaiting\n"
+refusal_text refusals.NotOffered = codes "no 42 NotOffered\n"
+refusal_text refusals.TooManyGames = codes "no 43 TooManyGames\n"
 
 -- what asks for the server
 abbrev pub asked : Standing → Plan → Plan
 asked s plan = if s.is_here then plan else plans.Refuse refusals.NoServer
 
--- An act under a name: no game is opened more than may wait for a second player.
+-- An act under a name: not where the games that are known bar it.
+abbrev pub barred : Option Refusal → Plan → Plan
+barred None plan = plan
+barred (Some refusal) plan = plans.Refuse refusal
+
 abbrev pub entered_plan : Standing → Plan → Plan
-entered_plan s plan = if s.is_crowded then asked s (plans.Refuse refusals.TooManyOpen) else asked s plan
+entered_plan s plan = asked s (barred s.bar plan)
 
 -- An act of a connection that acts for this player: not without a token; no game is opened while entries are paused, but by an
 -- arbiter.
@@ -48,6 +54,19 @@ named_plan s who (Some name) = entered_plan s (plans.ActAs who name)
 abbrev pub as_plan : Standing → Option Identity → Plan
 as_plan s None = plans.Refuse refusals.NoToken
 as_plan s (Some who) = if who.is_arbiter then named_plan s who s.named else plans.Refuse refusals.NotArbiter
+
+-- a pairing: not without an arbiter's token, and not where one of the two names is no player's
+abbrev pub black_plan : Standing → Identity → List ℕ → Option (List ℕ) → Plan
+black_plan s who white None = plans.Refuse refusals.NoPlayer
+black_plan s who white (Some black) = asked s (plans.Pair who white black)
+
+abbrev pub white_plan : Standing → Identity → Option (List ℕ) → Plan
+white_plan s who None = plans.Refuse refusals.NoPlayer
+white_plan s who (Some white) = black_plan s who white s.black
+
+abbrev pub pair_plan : Standing → Option Identity → Plan
+pair_plan s None = plans.Refuse refusals.NoToken
+pair_plan s (Some who) = if who.is_arbiter then white_plan s who s.named else plans.Refuse refusals.NotArbiter
 
 -- a drop: not without an arbiter's token
 abbrev pub drop_plan : Standing → Option Identity → ℕ → Plan
@@ -91,6 +110,7 @@ abbrev pub sort_plan : Sort → Standing → Option ℕ → Plan
 sort_plan sorts.Read s game = asked s plans.Read
 sort_plan sorts.Act s game = act_plan s s.who
 sort_plan sorts.As s game = as_plan s s.who
+sort_plan sorts.Pair s game = pair_plan s s.who
 sort_plan sorts.Drop s game = numbered_plan sorts.Drop s game
 sort_plan sorts.Login s game = login_plan s.holder
 sort_plan sorts.Players s game = plans.Players

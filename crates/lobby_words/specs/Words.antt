@@ -1,5 +1,5 @@
 -- What the first word of a message says.
-use Rattle.std.specs.Prelude.{ℕ, ◌^◌, Bool, true, false, ◌&&◌, ◌||◌, ◌==◌, not, nat_le, List, length, codes, Option, None, Some, if◌then◌else◌}
+use Rattle.std.specs.Prelude.{ℕ, ◌^◌, Bool, true, false, ◌&&◌, ◌||◌, ◌==◌, not, nat_le, List, ◌++◌, length, codes, Option, None, Some, if◌then◌else◌}
 use Rattle.std.specs.List.{before_first, after_first, list_all}
 use Rattle.std.specs.Str.{bytes_eq}
 use Rattle.text_parts.specs.Numbers.{number_below}
@@ -42,6 +42,26 @@ as_name text = word_of (rest_of text)
 abbrev pub as_line : List ℕ → List ℕ
 as_line text = rest_of (rest_of text)
 
+-- Of a message `pair WHITE BLACK TIMES`, in which WHITE stands where NAME does in `as NAME LINE`: whether its word is this; the name
+-- of BLACK, and the times, which are all that stands behind it; and the line that opens its game, under WHITE.
+abbrev pub is_pair : List ℕ → Bool
+is_pair text = bytes_eq (word_of text) (codes "pair")
+
+abbrev pub black_name : List ℕ → List ℕ
+black_name text = word_of (as_line text)
+
+abbrev pub pair_times : List ℕ → List ℕ
+pair_times text = rest_of (as_line text)
+
+abbrev pub pair_line : List ℕ → List ℕ
+pair_line text = codes "open white " ++ pair_times text
+
+-- what a message asks for whose word is `pair`: two players, and times with which that line has no more than 255 bytes
+abbrev pub pair_sort : List ℕ → Sort
+pair_sort text =
+    if not (bytes_eq (as_name text) (black_name text)) && nat_le 1 (length (pair_times text)) && nat_le (length (pair_times text)) 244
+    then sorts.Pair else sorts.Nothing
+
 -- what a message asks for whose word is `as`: LINE is an act, but `drop`
 abbrev pub as_sort : List ℕ → Sort
 as_sort text = if is_act_word (word_of (as_line text)) then sorts.As else sorts.Nothing
@@ -67,15 +87,20 @@ whole_sort text =
     else (if bytes_eq text (codes "leave lobby") then sorts.LeaveLobby
     else sorts.Nothing)))))
 
+abbrev pub arbiter_sort : List ℕ → List ℕ → Sort
+arbiter_sort w text =
+    if bytes_eq w (codes "link") then sorts.Link
+    else (if bytes_eq w (codes "close") then sorts.Close
+    else (if bytes_eq w (codes "pair") then pair_sort text
+    else whole_sort text))
+
 abbrev pub own_sort : List ℕ → List ℕ → Sort
 own_sort w text =
     if bytes_eq w (codes "login") then sorts.Login
     else (if bytes_eq w (codes "watch") then sorts.Watch
     else (if bytes_eq w (codes "line") then sorts.Line
     else (if bytes_eq w (codes "leave") && not (bytes_eq text (codes "leave lobby")) then sorts.Leave
-    else (if bytes_eq w (codes "link") then sorts.Link
-    else (if bytes_eq w (codes "close") then sorts.Close
-    else whole_sort text)))))
+    else arbiter_sort w text)))
 
 -- what a message asks for
 unfoldable pub sort_of : List ℕ → Sort
@@ -100,6 +125,10 @@ is_drop_sort _ = false
 abbrev pub is_as_sort : Sort → Bool
 is_as_sort sorts.As = true
 is_as_sort _ = false
+
+abbrev pub is_pair_sort : Sort → Bool
+is_pair_sort sorts.Pair = true
+is_pair_sort _ = false
 
 abbrev pub is_name_sort : Sort → Bool
 is_name_sort sorts.Name = true

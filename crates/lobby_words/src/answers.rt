@@ -39,7 +39,8 @@ pub fn is_table_act(text: &str) -> bool
     let is_open = word == "open";
     let is_join = word == "join";
     let is_drop = word == "drop";
-    is_open | is_join | is_drop
+    let is_pair = word == "pair";
+    is_open | is_join | is_drop | is_pair
 }
 
 // Whether the last field of the answer to `show` is `-`.

@@ -11,13 +11,13 @@ mod words;
 
 pub use answers::{game_told, has_empty_seat, is_accepted, is_over, is_table_act, seated};
 pub use coming::Coming;
-pub use listing::{Waiting, ends_wait, is_list, opens_game, waiting_in, waiting_of, waiting_row};
+pub use listing::{Seat, ends_wait, is_list, joins_game, opens_game, seat_of, seats_in, tells_end};
 pub use naming::{is_said, takes_name};
 pub use planning::{
     Identity, Order, Plan, Standing, asks_for_link, order_of, plan_of, shows_token,
 };
 pub use refusals::Refusal;
 pub use words::{
-    Sort, actor, are_message_bytes, as_line, as_name, cut_word, is_play_word, line_said,
-    number_named, number_or_0,
+    Sort, actor, are_message_bytes, as_line, as_name, black_name, cut_word, is_pair, is_play_word,
+    line_said, number_named, number_or_0, pair_times,
 };

@@ -1,18 +1,19 @@
-//! The games that wait for a second player, as the server's answers tell.
-ghost use Rattle.std.specs.Prelude.{◌≡◌, ◌++◌, ◌∷◌, [], IfOk, OnOk};
-ghost use Rattle.std.specs.List.{filter_map};
-ghost use Rattle.lobby_words.specs.Waiting.{opens_game, ends_wait, waiting_of, waiting_row, is_list, waiting_in};
+//! The games that wait for a second player or go on, as the server's answers tell.
+ghost use Rattle.std.specs.Prelude.{◌≡◌, ◌++◌, true, IfOk, OnOk};
+ghost use Rattle.lobby_words.specs.Waiting.{opens_game, joins_game, ends_wait, seat_of, listed, seats_row, tells_end, is_list, seats_in};
 
 use crate::words::{cut_word, line_said, number_named};
 use rec_codec::Name;
 use std::alloc::{AllocError, Global};
 use text_parts::parts;
 
-/// A game that waits, and the player who has a seat in it.
+/// A seat of a player in a game that waits for its second player, or goes on.
 #[derive(Clone, Copy)]
-pub struct Waiting {
+pub struct Seat {
     pub game: u32,
     pub by: Name,
+    /// Whether the game goes on.
+    pub plays: bool,
 }
 
 /// Whether a message opens a game.
@@ -23,59 +24,92 @@ pub fn opens_game(text: &str) -> bool
     word == "open"
 }
 
-/// Whether a message is one by which a game waits no more.
+/// Whether a message joins a game.
+pub fn joins_game(text: &str) -> bool
+    ensures { result ≡ joins_game text.now }
+{
+    let (word, _) = cut_word(line_said(text));
+    word == "join"
+}
+
+/// Whether a message is one by which a game waits no more; of a pairing that is its second act.
 pub fn ends_wait(text: &str) -> bool
     ensures { result ≡ ends_wait text.now }
 {
     let (word, _) = cut_word(line_said(text));
     let is_join = word == "join";
     let is_drop = word == "drop";
-    is_join | is_drop
+    let is_pair = word == "pair";
+    is_join | is_drop | is_pair
 }
 
 #[tactic(auto, using(crate::proofs::Names::name_is, crate::proofs::Names::name_is_not))]
-/// The game of a number, where this is who has the one seat in it; none where no player can have the name.
-pub fn waiting_of(game: Option<u32>, seated: &str) -> Option<Waiting>
-    ensures { result ≡ waiting_of game seated.now }
+/// A seat of this player in the game of a number, which goes on or waits; none where no player can have the name.
+pub fn seat_of(game: Option<u32>, seated: &str, plays: bool) -> Option<Seat>
+    ensures { result ≡ seat_of game seated.now plays }
 {
     match game {
         None => None,
         Some(game) => match Name::try_new(seated) {
-            Some(by) => Some(Waiting { game, by }),
+            Some(by) => Some(Seat { game, by, plays }),
             None => None,
         },
     }
 }
 
-/// The game of a row `G WHITE BLACK ..` of which one seat alone is empty (`-`), and who waits there; `None` of any other row,
-/// and where G is no number or who waits has no name.
-pub fn waiting_row(row: &str) -> Option<Waiting>
-    ensures { result ≡ waiting_row row.now }
+// Puts a seat behind others, if it is one.
+fn push_seat(seats: &mut Vec<Seat>, seat: Option<Seat>) -> Result<(), AllocError>
+    ensures { OnOk result (seats.new.items ≡ seats.old.items ++ listed seat) }
 {
-    let (number, rest) = cut_word(row);
-    let (white, rest) = cut_word(rest);
-    let (black, _) = cut_word(rest);
-    let game = number_named(number);
-    if white == "-" {
-        waiting_of(game, black)
-    } else if black == "-" {
-        waiting_of(game, white)
-    } else {
-        None
-    }
-}
-
-// Puts the game of a row behind others, if it waits.
-fn add_row(waiting: &mut Vec<Waiting>, row: &str) -> Result<(), AllocError>
-    ensures { OnOk result (waiting.new.items ≡ waiting.old.items ++ filter_map waiting_row (row.now ∷ [])) }
-{
-    match waiting_row(row) {
+    match seat {
         None => Ok(()),
         Some(one) => {
-            waiting.push(one)?;
+            seats.push(one)?;
             Ok(())
         }
     }
+}
+
+// Puts the two seats of a game that goes on behind others.
+fn push_both(
+    seats: &mut Vec<Seat>,
+    game: Option<u32>,
+    white: &str,
+    black: &str,
+) -> Result<(), AllocError>
+    ensures { OnOk result (seats.new.items ≡ seats.old.items ++ (listed (seat_of game white.now true) ++ listed (seat_of game black.now true))) }
+{
+    push_seat(seats, seat_of(game, white, true))?;
+    push_seat(seats, seat_of(game, black, true))?;
+    Ok(())
+}
+
+// Puts the seats in the game of a row `G WHITE BLACK PLY RESULT` behind others: of one that waits, or goes on.
+fn add_row(seats: &mut Vec<Seat>, row: &str) -> Result<(), AllocError>
+    ensures { OnOk result (seats.new.items ≡ seats.old.items ++ seats_row row.now) }
+{
+    let (number, rest) = cut_word(row);
+    let (white, rest) = cut_word(rest);
+    let (black, rest) = cut_word(rest);
+    let (_, rest) = cut_word(rest);
+    let (result, _) = cut_word(rest);
+    let game = number_named(number);
+    if white == "-" {
+        push_seat(seats, seat_of(game, black, false))
+    } else if black == "-" {
+        push_seat(seats, seat_of(game, white, false))
+    } else if result == "*" {
+        push_both(seats, game, white, black)
+    } else {
+        Ok(())
+    }
+}
+
+/// Whether an answer to an act tells that the game is over.
+pub fn tells_end(answer: &str) -> bool
+    ensures { result ≡ tells_end answer.now }
+{
+    answer.as_bytes().iter().any(|byte| *byte == b'.')
 }
 
 /// Whether an answer is one to `list` that is accepted.
@@ -85,14 +119,14 @@ pub fn is_list(answer: &str) -> bool
     answer.starts_with("ok list ")
 }
 
-/// The games that wait by the rows of the answer to `list`.
-pub fn waiting_in(alloc: Global, list: &str) -> Result<Vec<Waiting>, AllocError>
-    ensures { IfOk result (λ waiting. waiting.items ≡ waiting_in list.now) }
+/// The seats in the games that wait or go on by the rows of the answer to `list`.
+pub fn seats_in(alloc: Global, list: &str) -> Result<Vec<Seat>, AllocError>
+    ensures { IfOk result (λ seats. seats.items ≡ seats_in list.now) }
 {
     let rows = parts(alloc, list, '\n')?;
-    let mut waiting = Vec::new(alloc);
+    let mut seats = Vec::new(alloc);
     for row in rows.as_slice() {
-        add_row(&mut waiting, row)?;
+        add_row(&mut seats, row)?;
     }
-    Ok(waiting)
+    Ok(seats)
 }

@@ -32,6 +32,8 @@ pub enum Plan {
     Act(Identity),
     /// The line of an arbiter's message is passed on under the name of another.
     ActAs(Identity, Name),
+    /// A game is opened under the name of White, and joined under that of Black.
+    Pair(Identity, Name, Name),
     /// Who is seated in the game is asked for, and the message is passed on under a name of theirs.
     Drop(Identity, u32),
     Login(Identity),
@@ -59,14 +61,16 @@ pub struct Standing {
     pub holder: Option<Identity>,
     /// The name that stands behind the message's word, where a player has it.
     pub named: Option<Name>,
-    /// All that stands behind it, where that is a name that a player has.
+    /// The name that stands behind that one, where a player has it.
+    pub black: Option<Name>,
+    /// All that stands behind the message's word, where that is a name that a player has.
     pub linked: Option<Name>,
     /// Whether the server is there.
     pub is_here: bool,
     /// Whether the connection watches as many games as may be.
     pub is_full: bool,
-    /// Whether the message opens a game for a player of whom as many wait for a second player as may.
-    pub is_crowded: bool,
+    /// Why the message does not open or join a game, by the games that are known.
+    pub bar: Option<Refusal>,
     /// Whether the message opens a game while entries are paused.
     pub is_paused: bool,
 }
@@ -96,15 +100,21 @@ fn asked(standing: &Standing, plan: Plan) -> Plan
     }
 }
 
-// An act but a drop, where no more games of its player wait than may.
+// A plan, where nothing bars it.
+fn barred(bar: Option<Refusal>, plan: Plan) -> Plan
+    ensures { result ≡ plans.barred bar plan }
+{
+    match bar {
+        None => plan,
+        Some(refusal) => Plan::Refuse(refusal),
+    }
+}
+
+// An act but a drop, where the games that are known do not bar it.
 fn entered_plan(standing: &Standing, plan: Plan) -> Plan
     ensures { result ≡ plans.entered_plan standing.now plan }
 {
-    if standing.is_crowded {
-        asked(standing, Plan::Refuse(Refusal::TooManyOpen))
-    } else {
-        asked(standing, plan)
-    }
+    asked(standing, barred(standing.bar, plan))
 }
 
 // An act but a drop.
@@ -145,6 +155,41 @@ fn as_plan(standing: &Standing) -> Plan
                 Plan::Refuse(Refusal::NotArbiter)
             } else {
                 named_plan(standing, who, standing.named)
+            }
+        }
+    }
+}
+
+// A pairing of these two.
+fn black_plan(standing: &Standing, who: Identity, white: Name, black: Option<Name>) -> Plan
+    ensures { result ≡ plans.black_plan standing.now who white black }
+{
+    match black {
+        None => Plan::Refuse(Refusal::NoPlayer),
+        Some(black) => asked(standing, Plan::Pair(who, white, black)),
+    }
+}
+
+fn white_plan(standing: &Standing, who: Identity, white: Option<Name>) -> Plan
+    ensures { result ≡ plans.white_plan standing.now who white }
+{
+    match white {
+        None => Plan::Refuse(Refusal::NoPlayer),
+        Some(white) => black_plan(standing, who, white, standing.black),
+    }
+}
+
+// A pairing.
+fn pair_plan(standing: &Standing) -> Plan
+    ensures { result ≡ plans.pair_plan standing.now standing.now.who }
+{
+    match standing.who {
+        None => Plan::Refuse(Refusal::NoToken),
+        Some(who) => {
+            if !who.is_arbiter {
+                Plan::Refuse(Refusal::NotArbiter)
+            } else {
+                white_plan(standing, who, standing.named)
             }
         }
     }
@@ -239,6 +284,7 @@ fn sort_plan(sort: Sort, standing: &Standing, game: Option<u32>) -> Plan
         Sort::Read => asked(standing, Plan::Read),
         Sort::Act => act_plan(standing),
         Sort::As => as_plan(standing),
+        Sort::Pair => pair_plan(standing),
         Sort::Login => login_plan(standing.holder),
         Sort::Players => Plan::Players,
         Sort::Who => arbiter_plan(standing, Plan::Who),

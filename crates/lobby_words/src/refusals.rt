@@ -27,6 +27,10 @@ pub enum Refusal {
     NotWritten,
     /// The game does not wait for a second player, so that it is not dropped from here.
     NotWaiting,
+    /// The game that is to be joined was not told as one that waits, or it is kept for another player.
+    NotOffered,
+    /// As many games of the player go on as may be.
+    TooManyGames,
 }
 
 impl Refusal {
@@ -46,6 +50,8 @@ impl Refusal {
             Refusal::EntriesPaused => "no 39 EntriesPaused\n",
             Refusal::NotWritten => "no 40 NotWritten\n",
             Refusal::NotWaiting => "no 41 NotWaiting\n",
+            Refusal::NotOffered => "no 42 NotOffered\n",
+            Refusal::TooManyGames => "no 43 TooManyGames\n",
         }
     }
 }

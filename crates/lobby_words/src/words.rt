@@ -12,6 +12,8 @@ pub enum Sort {
     Act,
     /// An act, but `drop`, under the name of another.
     As,
+    /// A game is opened for one player and joined for another.
+    Pair,
     Drop,
     Login,
     Players,
@@ -139,6 +141,45 @@ pub fn actor<'a>(by: &'a str, text: &'a str) -> &'a str
     if word == "as" { as_name(text) } else { by }
 }
 
+/// Whether a message begins with the word of a pairing, `pair WHITE BLACK TIMES`; its form may be another.
+pub fn is_pair(text: &str) -> bool
+    ensures { result ≡ words.is_pair text.now }
+{
+    let (word, _) = cut_word(text);
+    word == "pair"
+}
+
+/// The name of BLACK in a message `pair WHITE BLACK TIMES`; `as_name` tells that of WHITE.
+pub fn black_name(text: &str) -> &str
+    ensures { result.now ≡ words.black_name text.entry.now }
+{
+    let (name, _) = cut_word(as_line(text));
+    name
+}
+
+/// What stands behind BLACK in a message `pair WHITE BLACK TIMES`.
+pub fn pair_times(text: &str) -> &str
+    ensures { result.now ≡ words.pair_times text.entry.now }
+{
+    let (_, times) = cut_word(as_line(text));
+    times
+}
+
+// What a message asks for whose word is `pair`: two players, and times with which the line that opens is not too long.
+fn pair_sort(text: &str) -> Sort
+    ensures { result ≡ words.pair_sort text.now }
+{
+    let are_one = as_name(text) == black_name(text);
+    let times = pair_times(text).len();
+    let is_some = 1 <= times;
+    let is_short = times <= 244;
+    if !are_one & is_some & is_short {
+        Sort::Pair
+    } else {
+        Sort::Nothing
+    }
+}
+
 // What a message asks for whose word is `as`.
 fn as_sort(text: &str) -> Sort
     ensures { result ≡ words.as_sort text.now }
@@ -184,10 +225,21 @@ fn own_sort(word: &str, text: &str) -> Sort
         Sort::Line
     } else if word == "leave" && text != "leave lobby" {
         Sort::Leave
-    } else if word == "link" {
+    } else {
+        arbiter_sort(word, text)
+    }
+}
+
+// What a message asks for whose word is an arbiter's.
+fn arbiter_sort(word: &str, text: &str) -> Sort
+    ensures { result ≡ words.arbiter_sort word.now text.now }
+{
+    if word == "link" {
         Sort::Link
     } else if word == "close" {
         Sort::Close
+    } else if word == "pair" {
+        pair_sort(text)
     } else {
         whole_sort(text)
     }

@@ -1,10 +1,9 @@
-use Rattle.std.proofs.Common.{ℕ, ◌<◌, ◌++◌, List, [], ◌∷◌, length, get_or, sym, ap, ◌∙◌, arith}
-use Rattle.std.specs.List.{filter_map}
+use Rattle.std.proofs.Common.{ℕ, ◌<◌, ◌++◌, List, [], length, get_or, sym, ap, ◌∙◌, arith}
 use Rattle.std.specs.Borrow.{Bor}
-use Rattle.lobby_words.specs.declared.listing.Waiting.{Waiting}
-use Rattle.lobby_words.specs.Waiting.{waiting_row}
+use Rattle.lobby_words.specs.declared.listing.Seat.{Seat}
+use Rattle.lobby_words.specs.Waiting.{seats_row}
 use Rattle.lobby_words.proofs.Rows.{rows_more}
-use Rattle.lobby_words.proofs.listing.waiting_in.Goals as goal
+use Rattle.lobby_words.proofs.listing.seats_in.Goals as goal
 
 pub loop-row-preserved : goal.loop-row-preserved
 loop-row-preserved c =
@@ -14,4 +13,4 @@ loop-row-preserved c =
     let d : Bor (List ℕ) = record { ref_ptr = (0, 0); now = [] } in
     let row = (get_or items i d).now in
     c.in_ok-add_row.ensures
-    ∙ (ap (λ (ws : List Waiting). ws ++ filter_map waiting_row (row ∷ [])) c.loop-row.invariant ∙ sym (rows_more items i d below))
+    ∙ (ap (λ (ws : List Seat). ws ++ seats_row row) c.loop-row.invariant ∙ sym (rows_more items i d below))

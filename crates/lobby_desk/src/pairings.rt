@@ -1,0 +1,119 @@
+//! The games that are kept for one player: a pairing has opened them, and nobody has joined them yet.
+ghost use Rattle.std.specs.Prelude.{◌≡◌, ◌==◌, not, filter, OnOk};
+ghost use Rattle.lobby_desk.specs.declared.pairings.Pairing.{Pairing};
+ghost use Rattle.lobby_desk.specs.Pairings as spec;
+
+use lobby_words::{Refusal, Seat, ends_wait};
+use rec_codec::Name;
+use std::alloc::AllocError;
+
+/// A game that a pairing has opened, and the player for whom it is kept.
+#[derive(Clone, Copy)]
+pub struct Pairing {
+    pub game: u32,
+    pub black: Name,
+}
+
+// Whether a game waits for a second player.
+fn waits(seats: &[Seat], game: u32) -> bool
+    ensures { result ≡ spec.waits seats.now game }
+{
+    seats.iter().any(|one| one.game == game && !one.plays)
+}
+
+// Whether it is this game, kept for another than this player.
+fn is_other(one: &Pairing, game: u32, name: &str) -> bool
+    ensures { result ≡ spec.is_other game name.now one.now }
+{
+    let is_game = one.game == game;
+    let is_his = one.black.as_str() == name;
+    is_game & !is_his
+}
+
+// Whether a game is kept for another than this player.
+fn is_kept(pairings: &[Pairing], game: u32, name: &str) -> bool
+    ensures { result ≡ spec.is_kept pairings.now game name.now }
+{
+    pairings.iter().any(|one| is_other(one, game, name))
+}
+
+// A game is kept no more.
+fn take_off(pairings: &mut Vec<Pairing>, game: u32)
+    ensures { pairings.new.items ≡ spec.others game pairings.old.items }
+{
+    pairings.retain(|one| one.game != game);
+}
+
+/// Keeps the game that a pairing has opened for Black, if it has opened one.
+pub fn keep(pairings: &mut Vec<Pairing>, black: Name, game: Option<u32>) -> Result<(), AllocError>
+    ensures { OnOk result (pairings.new.items ≡ spec.pairings_opened black game pairings.old.items) }
+{
+    match game {
+        None => Ok(()),
+        Some(game) => {
+            take_off(pairings, game);
+            pairings.push(Pairing { game, black })?;
+            Ok(())
+        }
+    }
+}
+
+/// Notes an act, where it was done in a game.
+pub fn note_pairing(pairings: &mut Vec<Pairing>, text: &str, game: Option<u32>)
+    ensures { pairings.new.items ≡ spec.pairings_told text.now game pairings.old.items }
+{
+    match game {
+        None => {}
+        Some(game) => {
+            if ends_wait(text) {
+                take_off(pairings, game);
+            }
+        }
+    }
+}
+
+// Why a player may not play in one more game, where as many of his go on as may.
+fn game_bar(is_busy: bool) -> Option<Refusal>
+    ensures { result ≡ spec.game_bar is_busy }
+{
+    if is_busy {
+        Some(Refusal::TooManyGames)
+    } else {
+        None
+    }
+}
+
+/// Why a player may not join the game that a message names, if it names one, where as many of his go on as may or not.
+pub fn join_bar(
+    seats: &[Seat],
+    pairings: &[Pairing],
+    is_busy: bool,
+    name: &str,
+    game: Option<u32>,
+) -> Option<Refusal>
+    ensures { result ≡ spec.join_bar seats.now pairings.now is_busy name.now game }
+{
+    match game {
+        None => Some(Refusal::BadLine),
+        Some(game) => {
+            let waits = waits(seats, game);
+            let is_kept = is_kept(pairings, game, name);
+            if waits & !is_kept {
+                game_bar(is_busy)
+            } else {
+                Some(Refusal::NotOffered)
+            }
+        }
+    }
+}
+
+/// Why he may not open one, where as many of his wait as may, or go on.
+pub fn open_bar(is_crowded: bool, is_busy: bool) -> Option<Refusal>
+    ensures { result ≡ spec.open_bar is_crowded is_busy }
+{
+    if is_crowded {
+        Some(Refusal::TooManyOpen)
+    } else {
+        game_bar(is_busy)
+    }
+}
