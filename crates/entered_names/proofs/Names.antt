@@ -18,13 +18,13 @@ use Rattle.chess_sessions.specs.Session.{Said as Answer}
 use Rattle.chess_sessions.specs.Turn.{IsReading}
 use Rattle.chess_sessions.specs.Answers.{is_late, given_name, renamed, own_answer, alone, asked}
 use Rattle.lobby_roster.specs.declared.players.Player.{Player}
-use Rattle.lobby_words.specs.Words.{word_of, rest_of, sort_of, is_read_word, is_act_word, is_play_word, is_name_sort}
+use Rattle.lobby_words.specs.Words.{word_of, rest_of, as_name, pair_line, sort_of, is_read_word, is_act_word, is_play_word, is_name_sort}
 use Rattle.lobby_words.specs.Naming.{takes_name}
 use Rattle.lobby_words.specs.Answers.{ended, answer}
-use Rattle.lobby_desk.specs.Events.{DeskInput, Opened, Closed, Said, Hurried, Heard, ServerTurned, Renewed, Linked, ForItself, ForPositions, ForTable, ForGame, ForAct, Owed, Nobody, Naming, Asker, Dropper, Followers, Behind}
+use Rattle.lobby_desk.specs.Events.{DeskInput, Opened, Closed, Said, Hurried, Heard, ServerTurned, Renewed, Linked, ForItself, ForPositions, ForTable, ForGame, ForAct, Owed, Nobody, Naming, Asker, Dropper, Pairer, Followers, Behind}
 use Rattle.lobby_desk.specs.Tellings.{Known, is_counted}
 use Rattle.lobby_desk.specs.Who.{View}
-use Rattle.lobby_desk.specs.History.{Step, Sent, says_name, known_in, unanswered_in, shown_behind, shown_next, shown_now, shown_in, IsRun, IsOfAct, IsOfOwed, IsOfNext, IsOfHeard, IsOfName, AllNamed}
+use Rattle.lobby_desk.specs.History.{Step, Sent, says_name, known_in, unanswered_in, shown_behind, shown_next, shown_now, shown_in, IsRun, IsLineOf, IsNameOf, IsOfAct, IsOfOwed, IsOfNext, IsOfHeard, IsOfName, AllNamed}
 use Rattle.lobby_desk.proofs.Named.{run_named}
 use Rattle.entered_names.specs.Names.{Taken, IsTaken, name_after, Told, told_first, told_now, told_in, text_of, AreTaken, IsEnteredAs, IsEnteredFor, IsEnteredNext, IsEnteredHeard, IsEntered, AllEntered}
 
@@ -163,13 +163,15 @@ all_shown players (s ∷ past) = shown_then players past s.event (all_shown play
 
 -- ---- an act
 
-act_entered : (by text : List ℕ) (sent : List Sent) (shown : Option (List ℕ)) (told : List Told) → shown ≡ shown_over None told →
-    IsOfAct by text sent shown → IsEnteredAs by text sent told
-act_entered by text sent shown told is h = record {
+act_entered : (IsLine IsName : List ℕ → Type 0) (sent : List Sent) (shown : Option (List ℕ)) (told : List Told) → shown ≡ shown_over None told →
+    IsOfAct IsLine IsName sent shown → IsEnteredAs IsLine IsName sent told
+act_entered IsLine IsName sent shown told is h = record {
+  line = h.line;
   name = h.name;
+  of_text = h.of_text;
   named = h.named;
   others = h.others;
-  next = h.first ∙ ap (λ (l : List ℕ). record { line = l; under = Some h.name } ∷ h.others) h.of_text;
+  next = h.first;
   entered = λ taken at act are.
       ap (λ (who : Option (List ℕ)). asked at who (Some (Act act))) (over None None (λ n k. k) told taken are h.name (sym is ∙ h.holds));
 }
@@ -182,8 +184,10 @@ owed_entered (Asker c ForItself) sent shown told is h = tt
 owed_entered (Asker c ForPositions) sent shown told is h = tt
 owed_entered (Asker c ForTable) sent shown told is h = tt
 owed_entered (Asker c (ForGame game)) sent shown told is h = tt
-owed_entered (Asker c (ForAct by text)) sent shown told is h = act_entered by text sent shown told is h
+owed_entered (Asker c (ForAct by text)) sent shown told is h = act_entered (IsLineOf text) (IsNameOf by text) sent shown told is h
 owed_entered (Dropper c by text) sent shown told is h = tt
+owed_entered (Pairer c by black text) sent shown told is h =
+    act_entered (λ line. line ≡ pair_line text) (λ name. name ≡ as_name text) sent shown told is h
 owed_entered (Followers game act is_table) sent shown told is h = tt
 owed_entered Behind sent shown told is h = tt
 

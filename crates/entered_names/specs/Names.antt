@@ -8,11 +8,11 @@ use Rattle.chess_sessions.specs.Session.{Said}
 use Rattle.chess_sessions.specs.Turn.{IsReading}
 use Rattle.chess_sessions.specs.Answers.{given_name, renamed, own_answer, alone, asked}
 use Rattle.lobby_roster.specs.declared.players.Player.{Player}
-use Rattle.lobby_words.specs.Words.{line_said}
+use Rattle.lobby_words.specs.Words.{as_name, pair_line}
 use Rattle.lobby_words.specs.Answers.{ended, answer}
-use Rattle.lobby_desk.specs.Events.{DeskInput, Heard, ServerTurned, ForAct, Owed, Asker}
+use Rattle.lobby_desk.specs.Events.{DeskInput, Heard, ServerTurned, ForAct, Owed, Asker, Pairer}
 use Rattle.lobby_desk.specs.Tellings.{Known, is_counted}
-use Rattle.lobby_desk.specs.History.{Step, Sent, known_in, unanswered_in, IsNameOf}
+use Rattle.lobby_desk.specs.History.{Step, Sent, known_in, unanswered_in, IsLineOf, IsNameOf}
 
 -- ---- at the server
 
@@ -67,18 +67,21 @@ AreTaken [] (t ∷ taken) = ⊥
 AreTaken (a ∷ told) [] = ⊥
 AreTaken (a ∷ told) (t ∷ taken) = (t.text ≡ a.line) × (text_of t.said ≡ a.answer) × IsTaken t × AreTaken told taken
 
--- The line that is answered next is that of the message `text` of the player `by`, and the session asks what it reads as an act of
--- the table under this name.
-pub record IsEnteredAs (by text : List ℕ) (sent : List Sent) (told : List Told) : Type 0 where
+-- The line that is answered next is this one, and the session asks what it reads as an act of the table under this name.
+pub record IsEnteredAs (IsLine IsName : List ℕ → Type 0) (sent : List Sent) (told : List Told) : Type 0 where
+  pub line : List ℕ
   pub name : List ℕ
-  pub named : IsNameOf by text name
+  pub of_text : IsLine line
+  pub named : IsName name
   pub others : List Sent
-  pub next : sent ≡ record { line = line_said text; under = Some name } ∷ others
+  pub next : sent ≡ record { line = line; under = Some name } ∷ others
   pub entered : (taken : List Taken) (at : ℕ) (act : Asked) → AreTaken told taken →
       asked at (name_after None taken) (Some (Act act)) ≡ record { moment = at; who = Some name; act = act } ∷ []
 
+-- the act of a message, and the opening of a pairing, which stands under White's name
 abbrev pub IsEnteredFor : Owed → List Sent → List Told → Type 0
-IsEnteredFor (Asker c (ForAct by text)) sent told = IsEnteredAs by text sent told
+IsEnteredFor (Asker c (ForAct by text)) sent told = IsEnteredAs (IsLineOf text) (IsNameOf by text) sent told
+IsEnteredFor (Pairer c by black text) sent told = IsEnteredAs (λ line. line ≡ pair_line text) (λ name. name ≡ as_name text) sent told
 IsEnteredFor _ sent told = Unit {0}
 
 abbrev pub IsEnteredNext : List Owed → List Sent → List Told → Type 0

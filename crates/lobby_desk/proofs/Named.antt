@@ -144,10 +144,10 @@ as_actor by text is = ap (λ (b : Bool). if b then as_name text else by) (sym (a
 
 -- of a message that is no pairing
 plain_is : (text line : List ℕ) → is_pairing text ≡ false → line ≡ line_said text → IsLineOf text line
-plain_is text line no h = subst (λ (b : Bool). IsLineIf b text line) (sym no) h
+plain_is text line other h = subst (λ (b : Bool). IsLineIf b text line) (sym other) h
 
 plain_named : (by text name : List ℕ) → is_pairing text ≡ false → (is_drop text ≡ false → name ≡ actor by text) → IsNameOf by text name
-plain_named by text name no h = subst (λ (b : Bool). IsNameIf b by text name) (sym no) h
+plain_named by text name other h = subst (λ (b : Bool). IsNameIf b by text name) (sym other) h
 
 -- the line that opens the game of a pairing, and the one that joins it
 opens_fit : (c : ℕ) (by black text white : List ℕ) (said : Option (List ℕ)) → white ≡ as_name text → (b : Bool) → (b ≡ true → said ≡ Some white) →
