@@ -2,7 +2,6 @@
 ghost use Rattle.std.specs.Prelude.{◌≡◌};
 ghost use Rattle.lobby_desk.specs.Watching.{watches_any};
 
-use crate::carrying::who_acts;
 use crate::desk::Desk;
 use crate::watching::{Watch, is_at_table};
 
@@ -14,14 +13,7 @@ fn watches_any(watches: &[Watch], by: u64) -> bool
 }
 
 impl Desk {
-    ghost use Rattle.lobby_desk.specs.Roles.{acts, is_watcher};
-
-    /// Whether a connection acts for a player.
-    pub fn acts(&self, connection: u64) -> bool
-        ensures { result ≡ acts self.now connection }
-    {
-        who_acts(&self.visitors, connection).is_some()
-    }
+    ghost use Rattle.lobby_desk.specs.Roles.{is_watcher};
 
     /// Whether a connection watches a game, or is told of the table.
     pub fn is_watcher(&self, connection: u64) -> bool
