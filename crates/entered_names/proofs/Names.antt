@@ -8,7 +8,7 @@ use Rattle.chess_entry.specs.declared.commands.Act.TheVariants as acts
 use Rattle.chess_entry.specs.declared.refusals.Refusal.TheVariants.{BadLine, BadMoment}
 use Rattle.chess_line.specs.declared.lines.Request.{Request}
 use Rattle.chess_line.specs.declared.lines.Request.TheVariants.{Called, Act}
-use Rattle.chess_line.specs.Line.{act_fields, line_fields, IsLineOf}
+use Rattle.chess_line.specs.Line.{act_fields}
 use Rattle.std.specs.List.{join_with_byte}
 use Rattle.chess_answer.specs.Acts.{named_text}
 use Rattle.chess_answer.specs.Fields.{with_fields}
