@@ -27,7 +27,7 @@ use Rattle.chess_lives.specs.declared.plan.Report.{Report}
 use Rattle.chess_lives.specs.Courses.{Batch, Course, IsCourse, IsLeft, AreJudged, acknowledged, accepted, entries_of, list_of}
 use Rattle.chess_lives.specs.Lives.{HasFailed, EndsBy, IsLife, IsLifeThen, AreLives, IsBegun, IsReport, HasLegalMoves, batches_of}
 use Rattle.chess_lives.specs.Stops.{IsReturned, IsPendingOf, IsFirstWorn, IsStopped, IsCutShort, MeansLeft, first_batches, IsFirstUnarmed}
-use Rattle.chess_lives.specs.Serving.{AreJudgedOn, ArePending, IsCourseOn, EndsWith, EndsUnopened, WasRefused, WasOpened, IsServed, IsShown, returned}
+use Rattle.chess_lives.specs.Serving.{AreJudgedOn, ArePending, IsCourseOn, EndsWith, EndsUnopened, WasRefused, WasOpened, IsServed, IsShown, CountsEnd, returned}
 use Rattle.chess_lives.proofs.LawfulEntries.{Gives, Gives-more}
 
 -- ---- the limits that an image names are in range
@@ -209,6 +209,15 @@ returned-none (Some n) (Some Exists) is = absurd (cc)
 returned-none (Some n) (Some TooSmall) is = absurd (cc)
 returned-none (Some n) (Some NotOurs) is = absurd (cc)
 returned-none (Some n) (Some Damaged) is = absurd (cc)
+
+-- it has failed, where the store was not opened
+pub failed_unopened : (calls : Option ℕ) (fault : Option StoreFault) (failures after : ℕ) → returned calls fault ≡ None → IsSome fault
+    → CountsEnd fault failures after → HasRisen failures after
+failed_unopened calls fault failures after is some counts =
+    elim (returned-none calls fault is) [
+      | inl none ↦ absurd (cc)
+      | inr stop ↦ (subst (λ (f : Option StoreFault). CountsEnd f failures after) stop.is counts).0
+    ]
 
 fails_at : (life : Life) (failures after pending : ℕ) (failed : Option Batch) (left : List (List Command))
     → IsSome life.calls → ArePending pending failed → HasRisen failures after → EndsBy life failures after failed left

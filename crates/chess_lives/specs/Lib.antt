@@ -1,5 +1,6 @@
 pub mod Courses
 pub mod Lives
+pub mod Devices
 pub mod Stops
 pub mod Serving
 pub mod Laws

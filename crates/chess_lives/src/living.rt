@@ -10,6 +10,7 @@ ghost use Rattle.chess_entry.specs.Table.{IsTable};
 ghost use Rattle.chess_store.specs.Means.{AllMean};
 ghost use Rattle.chess_store.specs.Faults.{IsDevice, CountsFault};
 ghost use Rattle.chess_lives.specs.Courses.{IsSubmittable};
+ghost use Rattle.chess_lives.specs.Devices.{IsLivedOn, AreTold};
 ghost use Rattle.chess_lives.specs.Lives.{AreSubmittable, IsBegun, IsLifeThen, IsReport, batches_of};
 ghost use Rattle.chess_lives.specs.Stops.{IsStopped, IsCutShort, IsLivesFault};
 ghost use Rattle.chess_lives.specs.Serving.{IsShown, EndsUnopened, returned};
@@ -34,6 +35,7 @@ fn returned(calls: Option<u64>, fault: Option<StoreFault>) -> Option<StoreFault>
 fn limit<D: CrashDevice>(device: &mut D, calls: Option<u64>)
     ensures images { (D.state device.old).keeps_model → (c : Sectors)
         → (D.state device.new).image c → (D.state device.old).image c }
+    ensures later { (D.state device.old).keeps_model → (D.state device.old).moment ≤ (D.state device.new).moment }
     ensures failures { D.failures device.new ≡ D.failures device.old }
     ensures model { (D.state device.new).keeps_model ↔ (D.state device.old).keeps_model }
     ensures sectors { D.sector_count device.new ≡ D.sector_count device.old }
@@ -56,6 +58,8 @@ fn live<D: CrashDevice>(alloc: Global, device: D, life: &Life) -> Ended<D>
     ensures lived { (limits : Limits) (k : List Entry) → IsBegun limits k (D.state device)
         → IfOk result.report (λ report. IsLifeThen limits (λ next after. IsBegun limits next (D.state result.device)
         × (after ≡ D.failures result.device)) k (D.failures device) life.now report) }
+    ensures told { (D.state device).keeps_model → IfOk result.report (λ report.
+        IsLivedOn D.state D.failures D.calls_left D.stable D.pending life.now report device result.device) }
     ensures stopped { (limits : Limits) (k : List Entry) → IsBegun limits k (D.state device)
         → IfErr result.report (λ fault. IsStopped limits k (D.failures device) (life.now ∷ []) fault
         (D.state result.device) (D.failures result.device)) }
@@ -94,6 +98,8 @@ fn show<D: Device>(alloc: Global, device: D, reports: Vec<LifeReport>) -> Lived<
         → IfOk result.report (λ report. IsShown table (D.failures device) report.table report.kept
         (D.failures result.device)) }
     ensures reports { IfOk result.report (λ report. report.lives.items ≡ reports.items) }
+    ensures later { (D.state device).keeps_model → (D.state device).moment ≤ (D.state result.device).moment }
+    ensures unfailed { IfOk result.report (λ report. D.failures result.device ≡ D.failures device) }
     ensures count { IfOk result.report (λ report. report.kept ≡ report.table.entries) }
     ensures bounds { IfOk result.report (λ report. IsTable report.table) }
     ensures refused { (D.state device).keeps_model → (table : TableState) → AllMean (D.state device) table
@@ -145,6 +151,10 @@ fn show<D: Device>(alloc: Global, device: D, reports: Vec<LifeReport>) -> Lived<
 /// means the table of a list that a stop would have left. Where not every image means one such table, also `NotOurs`,
 /// `Damaged` and `TooSmall`, as an opening says it. On any device `Device` comes only where the count of its failures
 /// rose.
+///
+/// What is reported of a life is of that life: the device goes from life to life, each of which ends with a stop, and at the
+/// stop it has failed as often as is reported; where an opening is told as failed, it has failed since the life began
+/// (`told`).
 pub fn lives<D: CrashDevice>(alloc: Global, device: D, plan: &Plan) -> Lived<D>
     requires { AreSubmittable plan.now.lives.items }
     ensures reported { (limits : Limits) (k : List Entry) → IsBegun limits k (D.state device)
@@ -152,6 +162,9 @@ pub fn lives<D: CrashDevice>(alloc: Global, device: D, plan: &Plan) -> Lived<D>
         (D.failures result.device)) }
     ensures images { (limits : Limits) (k : List Entry) → IsBegun limits k (D.state device)
         → IfOk result.report (λ report. AllMean (D.state result.device) report.table) }
+    ensures told { (D.state device).keeps_model → IfOk result.report (λ report.
+        AreTold D.state D.failures D.calls_left D.stable D.pending plan.now.lives.items report.lives.items device
+        result.device) }
     ensures returned { (limits : Limits) (k : List Entry) → IsBegun limits k (D.state device)
         → IfErr result.report (λ fault. IsCutShort limits k (D.failures device) plan.now.lives.items fault
         (D.state result.device) (D.failures result.device)) }

@@ -1,5 +1,5 @@
 //! The batches of one life.
-ghost use Rattle.std.specs.Prelude.{◌≡◌, ◌≤◌, ◌+◌, ◌-◌, ◌↔◌, false, map, count_by, IfSome};
+ghost use Rattle.std.specs.Prelude.{◌≡◌, ◌≤◌, ◌+◌, ◌-◌, ◌↔◌, false, map, count_by, None, IfSome, IsSome};
 ghost use Rattle.chess_board.specs.Legal.{EachOf};
 ghost use Rattle.chess_entry.specs.State.{TableState};
 ghost use Rattle.chess_store.specs.Means.{AllMean};
@@ -54,6 +54,8 @@ fn submit_all<D: Device>(store: &mut Store<D>, batches: &[Vec<Command>]) -> Subm
         (D.failures store.old.journal.device) (IsStoreKept store.old) (D.state store.new.journal.device)
         (D.failures store.new.journal.device) }
     ensures room { HasRoomForPending result }
+    ensures later { IsStoreKept store.old
+        → (D.state store.old.journal.device).moment ≤ (D.state store.new.journal.device).moment }
     ensures fault { IfSome result.fault IsLivesFault }
     ensures counts { CountsEnd result.fault (D.failures store.old.journal.device)
         (D.failures store.new.journal.device) }
@@ -128,6 +130,9 @@ pub(crate) fn serve<D: CrashDevice>(alloc: Global, device: D, batches: &[Vec<Com
     ensures served { (D.state device).keeps_model → (table : TableState) → AllMean (D.state device) table
         → IsServed table (map (λ b. b.items) batches.now) (D.failures device) result.report result.fault
         (D.state result.device) (D.failures result.device) }
+    ensures later { (D.state device).keeps_model → (D.state device).moment ≤ (D.state result.device).moment }
+    ensures told { result.report.failures ≡ D.failures result.device }
+    ensures unopened { result.report.opened ≡ None → IsSome result.fault }
     ensures fault { IfSome result.fault IsLivesFault }
     ensures counts { CountsEnd result.fault (D.failures device) (D.failures result.device) }
     ensures model { (D.state result.device).keeps_model ↔ (D.state device).keeps_model }

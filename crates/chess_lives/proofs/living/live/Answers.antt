@@ -1,9 +1,11 @@
-use Rattle.std.proofs.Common.{ℕ, ◌≤◌, ◌∙◌, sym, subst, arith, List, Option, IfSome, map, Vec, Global}
+use Rattle.std.proofs.Common.{ℕ, ◌≤◌, ◌∙◌, ap, sym, subst, arith, List, Option, IfSome, map, Vec, Global}
 use Rattle.rec_codec.specs.declared.limits.Limits.{Limits}
 use Rattle.rec_codec.specs.declared.limits.Version.TheVariants.{Two}
 use Rattle.rec_codec.specs.declared.record.Entry.{Entry}
 use Rattle.rec_codec.specs.Limits.{IsInRange}
 use Rattle.sector_dev.specs.Image.{Sectors}
+use Rattle.sector_dev.specs.Device.{HasRisen}
+use Rattle.sector_dev.specs.Crash.{left_by}
 use Rattle.chess_entry.specs.Games.{table_of}
 use Rattle.chess_entry.specs.declared.commands.Command.{Command}
 use Rattle.chess_store.specs.declared.fault.StoreFault.{StoreFault}
@@ -13,7 +15,7 @@ use Rattle.chess_lives.specs.Lives.{IsBegun, batches_of}
 use Rattle.chess_lives.specs.Serving.{IsServed, CountsEnd}
 use Rattle.chess_lives.specs.Stops.{IsLivesFault}
 use Rattle.chess_lives.proofs.ServingLemmas.{counted-end}
-use Rattle.chess_lives.proofs.LivesLemmas.{Means-in_range, lived_to, life_stopped, passed_on}
+use Rattle.chess_lives.proofs.LivesLemmas.{Means-in_range, lived_to, life_stopped, passed_on, failed_unopened}
 use Rattle.chess_lives.proofs.living.live.Given.{Over}
 use Rattle.chess_lives.proofs.living.live.Goals.{After-returned}
 use Rattle.chess_lives.proofs.living.live.Goals as goal
@@ -109,4 +111,27 @@ returns-in-None-clause-lived g c = λ limits k begun.
         },
         sym c.crash_as.ensures.failures,
       );
+    }
+
+pub returns-in-None-clause-told : goal.returns-in-None-clause-told
+returns-in-None-clause-told g c = λ model.
+    let failures = g.D.Device.failures in
+    let left = c.serve-left.result in
+    let armed = c.limit.ensures.model.1 model in
+    let kept = c.serve-left.ensures.model.1 armed in
+    let crash = c.crash_as.ensures in
+    record {
+      left = left.device;
+      later = omega (arith, c.limit.ensures.later model, c.serve-left.ensures.later armed);
+      counted = c.serve-left.ensures.told;
+      unopened = λ none.
+          subst (λ (n : ℕ). HasRisen n (failures left.device)) c.limit.ensures.failures
+          (failed_unopened c.args.life.now.calls left.fault (failures c.limit.new.device) (failures left.device)
+          (sym c.returned.ensures ∙ c.in-None.is) (c.serve-left.ensures.unopened none) c.serve-left.ensures.counts);
+      stopped = record {
+        fates = crash.stable kept ∙ ap (λ (fates : List _). left_by (g.D.CrashDevice.stable left.device) (g.D.CrashDevice.pending left.device) fates) c.deref-in-None.ensures.value;
+        settled = crash.pending kept;
+        unlimited = crash.calls_left;
+        unfailed = crash.failures;
+      };
     }

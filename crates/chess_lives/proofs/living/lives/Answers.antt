@@ -1,4 +1,4 @@
-use Rattle.std.proofs.Common.{◌≡◌, ◌∙◌, ◌+◌, ◌++◌, [], ◌∷◌, Result, ap, sym, subst, arith, List, length, length-append, take, IfOk, IfErr}
+use Rattle.std.proofs.Common.{◌≡◌, ◌∙◌, ◌+◌, ◌++◌, [], ◌∷◌, Result, ap, sym, subst, arith, List, length, length-append, take, IfOk, IfErr, refl}
 use Rattle.std.proofs.lemmas.List.{take_all}
 use Rattle.std.proofs.lemmas.Result.{IfErr-weaker, IfOk-weaker}
 use Rattle.rec_codec.specs.declared.limits.Limits.{Limits}
@@ -12,10 +12,12 @@ use Rattle.chess_store.specs.Faults.{IsDevice, CountsFault}
 use Rattle.sector_dev.specs.Device.{HasRisen}
 use Rattle.chess_lives.specs.declared.plan.Life.{Life}
 use Rattle.chess_lives.specs.declared.plan.LifeReport.{LifeReport}
+use Rattle.chess_lives.specs.Devices.{IsLivedOn, AreLivedOn}
 use Rattle.chess_lives.specs.Lives.{IsBegun, IsLifeThen}
 use Rattle.chess_lives.specs.Stops.{IsStopped, IsLivesFault}
 use Rattle.chess_lives.specs.Serving.{IsShown}
 use Rattle.chess_lives.proofs.LivesLemmas.{AreOver, are_over-none, are_over-more, cut_short, cut_at_start, cut_at_end, is_report, IfOk-both, around-one}
+use Rattle.chess_lives.proofs.DeviceLemmas.{lived_on-more}
 use Rattle.chess_lives.proofs.ServingLemmas.{risen-fault}
 use Rattle.chess_lives.proofs.living.lives.Given.{Over}
 use Rattle.chess_lives.proofs.living.lives.Goals.{After-show}
@@ -37,6 +39,9 @@ loop-life-init g c =
       over = λ limits k begun.
           subst (λ (rs : List LifeReport). AreOver limits k (failures device) [] rs (state device) (failures device))
           (sym c.in-Ok.ensures.items) (are_over-none limits k (failures device) (state device) begun);
+      told = λ model.
+          subst (λ (rs : List LifeReport). AreLivedOn state failures g.D.Device.calls_left g.D.CrashDevice.stable g.D.CrashDevice.pending [] rs device device)
+          (sym c.in-Ok.ensures.items) refl;
       within = omega arith;
       counted = omega arith;
       model = (λ model. model, λ model. model);
@@ -79,6 +84,16 @@ loop-life-preserved g c =
           (failures new)) (sym c.push_reserved.ensures.items)
           (subst (λ (ls : List Life). AreOver limits k (failures device) ls (reports ++ report ∷ []) (state new)
           (failures new)) (sym (take_with lives i life c.loop-life-test.true c.life-item.is)) more);
+      told = λ model.
+          let OnDevices = AreLivedOn state failures g.D.Device.calls_left g.D.CrashDevice.stable g.D.CrashDevice.pending in
+          let one = subst (λ (r : Result LifeReport StoreFault). IfOk r (λ report. IsLivedOn state failures g.D.Device.calls_left
+          g.D.CrashDevice.stable g.D.CrashDevice.pending life report left new)) c.in-Ok-report.is
+          (c.live-device.ensures.told (inv.model.1 model)) in
+          subst (λ (rs : List LifeReport). OnDevices (take (i + 1) lives) rs device new) (sym c.push_reserved.ensures.items)
+          (subst (λ (ls : List Life). OnDevices ls (reports ++ report ∷ []) device new)
+          (sym (take_with lives i life c.loop-life-test.true c.life-item.is))
+          (lived_on-more state failures g.D.Device.calls_left g.D.CrashDevice.stable g.D.CrashDevice.pending (take i lives) reports device left new life report
+          (inv.told model) one));
       within = omega (arith, c.loop-life-test.true);
       counted = omega (arith, inv.counted, c.live-device.ensures.counted);
       model = (λ model. inv.model.0 (c.live-device.ensures.model.0 model), λ model. c.live-device.ensures.model.1 (inv.model.1 model));
@@ -165,6 +180,28 @@ returns-clause-reported g c = λ limits k begun.
     is_report limits k (failures c.args.device) c.args.plan.now.lives.items c.loop-life.reports.items
     (g.D.Device.state left) (failures left) (failures c.show.result.device) report (all_over g here limits k begun) shown
     same)
+
+pub returns-clause-told : goal.returns-clause-told
+returns-clause-told g c = λ model.
+    let state = g.D.Device.state in
+    let failures = g.D.Device.failures in
+    let device = c.args.device in
+    let left = c.loop-life.left in
+    let new = c.show.result.device in
+    let lives = c.args.plan.now.lives.items in
+    let OnDevices = AreLivedOn state failures g.D.Device.calls_left g.D.CrashDevice.stable g.D.CrashDevice.pending in
+    let inv = c.loop-life.invariant in
+    let whole : take c.loop-life.life-index c.deref-life-items.result.now ≡ lives =
+    take_all c.loop-life.life-index c.deref-life-items.result.now c.loop-life-test.false
+    ∙ c.deref-life-items.ensures.value in
+    IfOk-both c.show.result.report _ _ _ c.show.ensures.reports c.show.ensures.unfailed
+    (λ report same unfailed. record {
+      last = left;
+      lived = subst (λ (rs : List LifeReport). OnDevices lives rs device left) (sym same)
+          (subst (λ (ls : List Life). OnDevices ls c.loop-life.reports.items device left) whole (inv.told model));
+      later = c.show.ensures.later (inv.model.1 model);
+      unfailed = unfailed;
+    })
 
 pub returns-clause-images : goal.returns-clause-images
 returns-clause-images g c = λ limits k begun.

@@ -2,6 +2,7 @@ use Rattle.std.proofs.Common.{◌≡◌, ◌≤◌, ◌↔◌, List, length, tak
 use Rattle.std.specs.Vec.{vec_capacity}
 use Rattle.rec_codec.specs.declared.limits.Limits.{Limits}
 use Rattle.rec_codec.specs.declared.record.Entry.{Entry}
+use Rattle.chess_lives.specs.Devices.{AreLivedOn}
 use Rattle.chess_lives.specs.Lives.{IsBegun}
 use Rattle.chess_lives.proofs.LivesLemmas.{AreOver}
 use Rattle.chess_lives.proofs.living.lives.Given as goal
@@ -16,6 +17,9 @@ invariant-loop-life g l =
       over : (limits : Limits) (k : List Entry) → IsBegun limits k (state l.fn.device)
           → AreOver limits k (failures l.fn.device) (take l.life-index l.life-items) l.reports.items (state l.left)
           (failures l.left);
+      told : (state l.fn.device).keeps_model
+          → AreLivedOn state failures g.D.Device.calls_left g.D.CrashDevice.stable g.D.CrashDevice.pending (take l.life-index l.life-items) l.reports.items
+          l.fn.device l.left;
       within : l.life-index ≤ length l.life-items;
       counted : failures l.fn.device ≤ failures l.left;
       model : (state l.left).keeps_model ↔ (state l.fn.device).keeps_model;

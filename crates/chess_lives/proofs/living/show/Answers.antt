@@ -1,4 +1,4 @@
-use Rattle.std.proofs.Common.{◌≡◌, ◌∙◌, arith, ap, sym, subst}
+use Rattle.std.proofs.Common.{◌≡◌, ◌≤◌, ◌∙◌, arith, ap, sym, subst}
 use Rattle.chess_entry.specs.State.{TableState}
 use Rattle.chess_entry.specs.Table.{IsTable}
 use Rattle.chess_store.proofs.MeansLemmas.{one_table}
@@ -57,3 +57,15 @@ returns-in-Err-clause-refused g c = λ model table means.
 pub returns-in-Err-clause-images : goal.returns-in-Err-clause-images
 returns-in-Err-clause-images g c = λ model table means image is.
     means image (c.in-Err.ensures.images_refused model image is)
+
+pub returns-in-Ok-clause-later : goal.returns-in-Ok-clause-later
+returns-in-Ok-clause-later g c = λ model.
+    let state = g.D.Device.state in
+    subst (λ (d : _). (state c.args.device).moment ≤ (state d).moment) (sym c.into_parts-device.ensures.device)
+    (c.in-Ok.ensures.goes.time model).later
+
+pub returns-in-Err-clause-later : goal.returns-in-Err-clause-later
+returns-in-Err-clause-later g c = λ model. (c.in-Err.ensures.goes_refused.time model).later
+
+pub returns-in-Ok-clause-unfailed : goal.returns-in-Ok-clause-unfailed
+returns-in-Ok-clause-unfailed g c = ap g.D.Device.failures c.into_parts-device.ensures.device ∙ c.in-Ok.ensures.cause

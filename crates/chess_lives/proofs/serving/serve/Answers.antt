@@ -1,4 +1,4 @@
-use Rattle.std.proofs.Common.{◌∙◌, ◌↔◌, ap, ◌≡◌, ℕ, sym, subst, arith, map}
+use Rattle.std.proofs.Common.{◌∙◌, ◌↔◌, ◌≤◌, ap, ◌≡◌, ℕ, sym, subst, arith, map}
 use Rattle.chess_entry.specs.State.{TableState}
 use Rattle.chess_store.proofs.MeansLemmas.{one_table}
 use Rattle.chess_store.specs.Kept.{IsStoreKept}
@@ -77,3 +77,21 @@ returns-in-Ok-clause-model g c =
 pub returns-in-Ok-clause-sectors : goal.returns-in-Ok-clause-sectors
 returns-in-Ok-clause-sectors g c =
     ap g.D.Device.sector_count c.into_device-left.ensures ∙ c.submit_all-submitted.ensures.sectors ∙ c.in-Ok.ensures.goes.size
+
+pub returns-in-Ok-clause-later : goal.returns-in-Ok-clause-later
+returns-in-Ok-clause-later g c = λ model.
+    let state = g.D.Device.state in
+    let opened = c.in-Ok.ensures in
+    subst (λ (d : _). (state c.args.device).moment ≤ (state d).moment) (sym c.into_device-left.ensures)
+    (omega (arith, (opened.goes.time model).later, c.submit_all-submitted.ensures.later (opened.kept model)))
+
+pub returns-in-Err-clause-later : goal.returns-in-Err-clause-later
+returns-in-Err-clause-later g c = λ model. (c.in-Err.ensures.goes_refused.time model).later
+
+pub returns-in-Ok-clause-told : goal.returns-in-Ok-clause-told
+returns-in-Ok-clause-told g c = c.report_of.ensures.failures ∙ c.failure_count.ensures
+
+pub returns-in-Ok-clause-unopened : goal.returns-in-Ok-clause-unopened
+returns-in-Ok-clause-unopened g c = λ none.
+    let opened = c.report_of.ensures.opened in
+    absurd (cc)

@@ -1,4 +1,4 @@
-use Rattle.std.proofs.Common.{ℕ, ◌≡◌, ◌≤◌, ◌∙◌, ◌+◌, ◌-◌, ◌^◌, min, Some, Err, ap, sym, subst, List, length, map, take, true, count_by}
+use Rattle.std.proofs.Common.{ℕ, ◌≡◌, ◌≤◌, ◌∙◌, ◌+◌, ◌-◌, ◌^◌, min, Some, Err, ap, sym, subst, List, length, map, take, true, count_by, arith}
 use Rattle.std.proofs.lemmas.List.{take_all}
 use Rattle.sector_dev.proofs.Runs.{leaves_now}
 use Rattle.chess_entry.specs.declared.commands.Command.{Command}
@@ -31,6 +31,7 @@ loop-batch-init g c = record {
   works = c.requires.works;
   so_far = so_far-none c.args.store.now.table c.shown-count.result c.shown-count.ensures;
   kept = λ kept. kept;
+  later = λ kept. omega arith;
   unfailed = cc;
   model = (λ model. model, λ model. model);
   sectors = cc;
@@ -60,6 +61,7 @@ loop-batch-preserved g c =
           replies answered.entries inv.so_far told c.shown-count-in-Ok.ensures
           (c.saturating_add-refused.ensures ∙ ap (λ (n : ℕ). min (c.loop-batch.refused + n) (2 ^ 64 - 1)) counted));
       kept = λ kept. e.kept (inv.kept kept);
+      later = λ kept. omega (arith, inv.later kept, (e.any_moment (inv.kept kept)).later);
       unfailed = e.tried.cause ∙ inv.unfailed;
       model = (λ model. inv.model.0 (e.tried.model.0 model), λ model. e.tried.model.1 (inv.model.1 model));
       sectors = e.tried.sectors ∙ inv.sectors;
@@ -116,6 +118,11 @@ returns-in-Err-clause-tallied g c =
     (g.D.Device.state new.journal.device) (MeansEither store.table new.table)
     (g.met.D.Device.coherent new.journal.device) (c.submit.ensures.batch.tried.model.1 kept.keeps.model)
     (c.submit.ensures.batch.any_moment kept)))
+
+pub returns-in-Err-clause-later : goal.returns-in-Err-clause-later
+returns-in-Err-clause-later g c = λ was.
+    let inv = c.loop-batch.invariant in
+    omega (arith, inv.later was, (c.submit.ensures.batch.any_moment (inv.kept was)).later)
 
 pub returns-in-Err-clause-fault : goal.returns-in-Err-clause-fault
 returns-in-Err-clause-fault g c =
