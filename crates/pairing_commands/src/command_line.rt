@@ -406,9 +406,12 @@ fn source_of<'a>(values: &ArgMatches<'a>) -> Option<Source<'a>> {
 }
 
 fn asking_of<'a>(values: &ArgMatches<'a>) -> Option<Word<'a>> {
+    let (Some(round), Some(source)) = (round_of(values), source_of(values)) else {
+        return None;
+    };
     Some(Word::Results(Asking {
-        round: round_of(values)?,
-        source: source_of(values)?,
+        round,
+        source,
         players: values.get_str("players"),
     }))
 }
