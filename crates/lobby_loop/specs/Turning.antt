@@ -143,6 +143,6 @@ pub record IsLobbyTurn {S : Type 0} (remaining contents : S → Option (List ℕ
   pub welcomes : AreAdmitted streams reached welcomed
   pub turns : HasTurned remaining contents at welcomed new
 
--- of a socket's bytes nothing is known
+-- of a socket's bytes nothing is known, be it of a port or a Unix socket
 abbrev pub unknown : {S : Type 0} → S → Option (List ℕ)
 unknown stream = None

@@ -4,6 +4,7 @@ ghost use Rattle.mio.specs.declared.net.stream.TcpStream.{TcpStream};
 ghost use Rattle.mio.specs.declared.net.uds.stream.UnixStream.{UnixStream};
 ghost use Rattle.either.specs.declared.Either.{Either};
 ghost use Rattle.lobby_desk.specs.Who.{watched_games};
+ghost use Rattle.either.specs.Either.{either};
 ghost use Rattle.lobby_loop.specs.Turning.{BeginsHall, AreAdmitted, IsReached, IsLobbyTurn, texts_put, unknown};
 ghost use Rattle.lobby_loop.specs.Living.{IsWoken, Files, KeepsFiles, Renews};
 ghost use Rattle.lobby_loop.specs.Logging.{Logs};
@@ -304,7 +305,7 @@ impl Lobby {
         log: &mut L,
         links: &mut K,
     ) -> Result<Turned, Fault>
-        ensures { OnOk result ((turn : IsLobbyTurn unknown unknown at self.old.hall self.new.hall)
+        ensures { OnOk result ((turn : IsLobbyTurn (either unknown unknown) (either unknown unknown) at self.old.hall self.new.hall)
             × Logs (L.logged log.old) (L.logged log.new) (texts_put turn.turns)) }
     {
         let has_reached = self.reach_server(net, at)?;
