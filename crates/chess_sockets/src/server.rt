@@ -16,7 +16,7 @@ use server_calls::{
 use std::alloc::Global;
 use std::io;
 use std::io::{Read, Write};
-use std::net::Net;
+use std::net::{Net, TcpListener, TcpStream};
 
 /// Whether a turn found something to do.
 #[derive(Clone, Copy, PartialEq, Eq)]
@@ -41,6 +41,7 @@ enum Rested {
 pub struct Server<D: Device, S = Connection> {
     alloc: Global,
     listener: LocalListener,
+    port: u16,
     hub: Hub<D>,
     clients: Vec<Client<S>>,
     watch: Watch,
@@ -145,6 +146,26 @@ pub fn serve_clients<S: Read + Write, D: Device>(
 }
 
 impl<D: Device, S: Read + Write + From<Connection> + Drop> Server<D, S> {
+    /// Listens on a port of 127.0.0.1, of port 0 on one that the system chooses, and serves as `new` does. The system's error
+    /// where it cannot be bound or watched; the hub is then given up.
+    pub fn bind<R: Net<Listener = TcpListener, Stream = TcpStream>>(
+        net: &R,
+        alloc: Global,
+        port: u16,
+        silence: Option<u64>,
+        hub: Hub<D>,
+    ) -> io::Result<Server<D, S>>
+    where
+        D: Drop,
+        ensures hub { IfOk result (λ server. server.hub ≡ hub) }
+        ensures nobody { IfOk result (λ server. server.clients.items ≡ []) }
+        ensures silence { IfOk result (λ server. server.silence ≡ silence) }
+        ensures away { IfOk result (λ server. server.turned_away ≡ 0) }
+    {
+        let listener = LocalListener::bind(net, port)?;
+        Server::new(net, alloc, listener, silence, hub)
+    }
+
     /// Serves who connects to this listener. The system's error where that cannot be watched; the hub is then given up. A
     /// client from which nothing came for `silence` milliseconds, and for which nothing waits, is closed; without that none
     /// is closed for silence.
@@ -163,10 +184,12 @@ impl<D: Device, S: Read + Write + From<Connection> + Drop> Server<D, S> {
         ensures away { IfOk result (λ server. server.turned_away ≡ 0) }
     {
         let mut watch = Watch::new(net, alloc)?;
+        let port = listener.port()?;
         watch.add(listener.socket())?;
         Ok(Server {
             alloc,
             listener,
+            port,
             hub,
             clients: Vec::new(alloc),
             watch,
@@ -174,6 +197,13 @@ impl<D: Device, S: Read + Write + From<Connection> + Drop> Server<D, S> {
             silence,
             turned_away: 0,
         })
+    }
+
+    /// The port that it listens on; 0 where it listens by a Unix socket.
+    pub fn port(&self) -> u16
+        ensures { result ≡ self.now.port }
+    {
+        self.port
     }
 
     /// How many connections were dropped since it began, for want of a place or of memory; at most 2^64 - 1.
