@@ -11,7 +11,7 @@ use Rattle.lobby_guests.specs.declared.places.Role.{Role}
 use Rattle.lobby_guests.specs.Guests.{IsAsBefore}
 use Rattle.lobby_guests.specs.Places.{is_gone, gone, judged, IsKeptOrClosed, IsFair}
 use Rattle.lobby_guests.specs.Roles.{role_by, role_at}
-use Rattle.lobby_guests.specs.Seating.{role_of, place_of, Yields, AreYielding, YieldAt, AreSeated}
+use Rattle.lobby_guests.specs.Seating.{role_of, place_of, Yields, AreYielding, YieldAt, AreSeated, AreSeatedIf}
 use Rattle.lobby_guests.proofs.Each.{SameFrom, further_same, further_front}
 
 -- ---- one after the other
@@ -136,3 +136,15 @@ module _ {S : Type 0} (desk : Desk) where
 
 pub fair_length : (at from : ℕ) (old new : List Place) → IsFair at from old new → length new ≡ length old
 fair_length at from old new fair = sym (length_all_zip IsKeptOrClosed old new fair.kept)
+
+-- where it is not due nothing changes
+module _ {S : Type 0} (desk : Desk) where
+  all_as_before : (guests : List (Guest S)) → AllZip IsAsBefore guests guests
+  all_as_before [] = tt
+  all_as_before (guest ∷ guests) = (record { number = refl; stream = refl; browser = refl }, all_as_before guests)
+
+  pub seated_not : (at from : ℕ) (guests : List (Guest S)) → AreSeatedIf false at from desk guests guests
+  seated_not at from guests = record { before = all_as_before guests; seats = λ is. absurd (cc) }
+
+  pub seated_so : (at from : ℕ) (old new : List (Guest S)) → AreSeated at from desk old new → AreSeatedIf true at from desk old new
+  seated_so at from old new seated = record { before = seated.before; seats = λ is. seated }

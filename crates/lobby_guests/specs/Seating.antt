@@ -42,3 +42,8 @@ pub record AreSeated {S : Type 0} (at from : ℕ) (desk : Desk) (old new : List 
   pub before : AllZip IsAsBefore old new
   pub judged_so : map (place_of desk) new ≡ judged at from (map (place_of desk) old)
   pub fair : IsFair at from (map (place_of desk) old) (map (place_of desk) new)
+
+-- The same where it is due, and else nothing changes.
+pub record AreSeatedIf {S : Type 0} (is_due : Bool) (at from : ℕ) (desk : Desk) (old new : List (Guest S)) : Type 0 where
+  pub before : AllZip IsAsBefore old new
+  pub seats : is_due ≡ true → AreSeated at from desk old new

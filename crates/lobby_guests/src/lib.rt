@@ -25,5 +25,5 @@ pub use links::{KeepsLinks, NoLinks};
 pub use origin::Origin;
 pub use pieces::PIECE_ROOM;
 pub use places::{Place, Role};
-pub use seating::seat_all;
+pub use seating::seat_if;
 pub use talk::Talk;

@@ -1,6 +1,6 @@
 //! The places of all connections.
 ghost use Rattle.std.specs.Prelude.{◌≡◌, IfOk, OnOk, length, map};
-ghost use Rattle.lobby_guests.specs.Seating.{place_of, AreYielding, YieldAt, AreSeated};
+ghost use Rattle.lobby_guests.specs.Seating.{place_of, AreYielding, YieldAt, AreSeated, AreSeatedIf};
 
 use crate::Talk;
 use crate::guest::Guest;
@@ -44,9 +44,8 @@ fn seat_at<S>(
     Ok(count)
 }
 
-/// Those are to be closed who are to make room at a moment, in milliseconds. Whoever came before the moment `from` has his time from
-/// then on. It answers how many are to be closed for want of room.
-pub fn seat_all<S>(
+// Those are to be closed who are to make room at a moment. It answers how many for want of room.
+fn seat_all<S>(
     alloc: Global,
     guests: &mut Vec<Guest<S>>,
     talk: &Talk,
@@ -57,4 +56,23 @@ pub fn seat_all<S>(
 {
     let mut places = places_of(alloc, guests.as_slice(), talk)?;
     Ok(seat_at(alloc, guests, places.as_mut_slice(), at, from)?)
+}
+
+/// Where it is due, those are to be closed who are to make room at a moment, in milliseconds. Whoever came before the moment `from`
+/// has his time from then on. It answers how many are to be closed for want of room.
+pub fn seat_if<S>(
+    alloc: Global,
+    guests: &mut Vec<Guest<S>>,
+    talk: &Talk,
+    is_due: bool,
+    at: u64,
+    from: u64,
+) -> Result<usize, AllocError>
+    ensures { OnOk result (AreSeatedIf is_due at from talk.now.desk guests.old.items guests.new.items) }
+{
+    if is_due {
+        Ok(seat_all(alloc, guests, talk, at, from)?)
+    } else {
+        Ok(0)
+    }
 }

@@ -83,19 +83,14 @@ pub record ServerComes {S : Type 0} (stream : S) (old new : Hall S) : Type 0 whe
   pub guests : new.guests ≡ old.guests
   pub site : new.site ≡ old.site
 
--- It is judged who has a place, by what the desk says: each has his time from the last moment on at which the server was not there.
-abbrev pub SeatsIf : {S : Type 0} → Bool → ℕ → Hall S → Hall S → Type 0
-SeatsIf true at old new = AreSeated at new.away_at new.talk.desk old.guests.items new.guests.items
-SeatsIf false at old new = new.guests ≡ old.guests
-
 -- the last moment of a turn at which the server was not there
 abbrev pub away_after : Bool → ℕ → ℕ → ℕ
 away_after is_here before at = if is_here then before else at
 
 -- Where somebody has come, each of those who were attended has a place by what the desk says, or is to be closed.
 abbrev pub HasPlaces : {S : Type 0} → Bool → ℕ → List (Guest S) → Hall S → Type 0
-HasPlaces false at attended new = Unit {0}
-HasPlaces {S} true at attended new =
+HasPlaces {S} has_come at attended new =
+    has_come ≡ true →
     (looked : List (Guest S)) × AllZip IsLookedAfter attended looked × AreSeated at new.away_at new.talk.desk looked new.guests.items
 
 -- What comes is taken in: the server is heard, and the desk is told where its connection is lost; then each browser is.
