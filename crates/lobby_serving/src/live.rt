@@ -31,7 +31,7 @@ fn opened<R: Files>(rt: &R, file: &str) -> io::Result<R::File> {
 
 // What a regular file has that is not too long. (It may have grown since it was looked at: one byte more tells.)
 fn read_regular<R: Files + AllocGlobal>(rt: &R, file: &str) -> io::Result<Vec<u8>> {
-    let mut opened = opened(rt, file)?;
+    let opened = opened(rt, file)?;
     let found = opened.metadata()?;
     if !found.is_file() {
         return Err(io::Error::from(ErrorKind::InvalidInput));
