@@ -20,7 +20,7 @@ use server_calls::{Call, RETRY, ServerAddress, call, is_made};
 use std::alloc::{AllocError, Global};
 use std::hash::RandomState;
 use std::io;
-use std::net::Net;
+use std::net::{IpAddr, Net};
 use std::time::Duration;
 
 /// What came of a turn.
@@ -123,8 +123,8 @@ fn earlier(a: Option<u64>, b: Option<u64>) -> Option<u64> {
 }
 
 impl Lobby {
-    /// A lobby whose server is at this address, which begins with entries paused, or not. The system's error where it cannot be
-    /// watched.
+    /// A lobby whose server is at this address, which begins with entries paused, or not, behind a trusted proxy of this address, if
+    /// there is one. The system's error where it cannot be watched.
     pub fn new(
         net: &impl Net,
         alloc: Global,
@@ -134,6 +134,7 @@ impl Lobby {
         site: Site,
         players: Vec<Player>,
         is_paused: bool,
+        proxy: Option<IpAddr>,
     ) -> io::Result<Lobby>
         ensures { IfOk result (λ lobby. BeginsHall site players.items is_paused lobby.hall) }
     {
@@ -146,7 +147,7 @@ impl Lobby {
             call: None,
             call_until: 0,
             call_at: 0,
-            hall: Hall::new(alloc, keys, site, players, is_paused),
+            hall: Hall::new(alloc, keys, site, players, is_paused, proxy),
             poll,
             events,
         })
