@@ -432,7 +432,7 @@ static ACTS: [Case; 7] = [
     // an arbiter pairs two players: the game is opened for one, and once that is answered joined for the other
     (
         (
-            b"UP~\x81\x87\0\0\0\0login e\x81\x92\0\0\0\0pair ann eve 300 2",
+            b"UP~\x81\xa6\0\0\0\0login eeeeeeeeeeeeeeeeeeeeeeeeeeeeeeee\x81\x92\0\0\0\0pair ann eve 300 2",
             b"~~~~~~~~ok name ann\nok open 1\n~~ok name eve\nok join 1 black\n~~ok show 1 ann eve 0 w 1 1 - * -\nok fen 1 FEN\n",
             How::Plainly,
         ),
@@ -489,7 +489,7 @@ fn acts_are_logged_and_told(rt: &impl Abort, lab: &mut Lab) {
 }
 
 // A browser that shows ann's token and opens a game.
-const OPENS: &[u8] = b"UP~\x81\x87\0\0\0\0login t\x81\x90\0\0\0\0open white 300 2";
+const OPENS: &[u8] = b"UP~\x81\xa6\0\0\0\0login aaaaaaaaaaaaaaaaaaaaaaaaaaaaaaaa\x81\x90\0\0\0\0open white 300 2";
 
 // A server that does not take ann's name, one that takes another, and one that leaves the answer to it out.
 const MISNAMES: [&[u8]; 3] = [
@@ -660,7 +660,7 @@ const ASKER: &[u8] = b"UP~~~~\x81\x85\0\0\0\0fen 1\x81\x85\0\0\0\0fen 2";
 
 const OTHER_ASKER: &[u8] = b"UP~~~~\x81\x85\0\0\0\0fen 3";
 
-const OPENER: &[u8] = b"UP~\x81\x87\0\0\0\0login t~~~\x81\x90\0\0\0\0open white 300 2";
+const OPENER: &[u8] = b"UP~\x81\xa6\0\0\0\0login aaaaaaaaaaaaaaaaaaaaaaaaaaaaaaaa~~~\x81\x90\0\0\0\0open white 300 2";
 
 // A server that answers some turns later: first the act, then the first question, and then that of the other one.
 const ANSWERS: &[u8] =
