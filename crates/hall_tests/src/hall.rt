@@ -294,7 +294,7 @@ const LATE: &[u8] =
     b"UP~\x81\xa6\0\0\0\0login aaaaaaaaaaaaaaaaaaaaaaaaaaaaaaaa~~~~~~~~~\x81\x90\0\0\0\0open white 300 2";
 
 // Ann shows her token, and is silent then.
-const SILENT: &[u8] = b"UP~\x81\x87\0\0\0\0login t";
+const SILENT: &[u8] = b"UP~\x81\xa6\0\0\0\0login aaaaaaaaaaaaaaaaaaaaaaaaaaaaaaaa";
 
 static CASES: [Case; 16] = [
     // three messages, of which the first is not answered
@@ -670,7 +670,7 @@ const ANSWERS: &[u8] =
 fn turn_three(rt: &impl Abort, lab: &mut Lab, server: &'static [u8], turns: u64) {
     lab.begin(rt, &(ASKER, server, How::Plainly));
     for (browser, key) in [(OTHER_ASKER, 3), (OPENER, 4)] {
-        lab.hall.admit(Peer::new(lab.alloc, browser, 1_000), key, 0);
+        lab.hall.admit(Peer::new(lab.alloc, browser, 1_000), key, NEAR, 0);
     }
     for at in 0..turns {
         lab.turn_alone(rt, at);

@@ -22,7 +22,8 @@ mod talk;
 pub use counts::{ACTS, BOUNDS, Counts};
 pub use guest::Guest;
 pub use guests::{
-    attend_all, deliver, first_due, let_go, look_after_all, push_guest, wake_all, write_all,
+    attend_all, deliver, first_due, is_crowded, let_go, look_after_all, push_guest, wake_all,
+    write_all,
 };
 pub use link::Link;
 pub use links::{KeepsLinks, NoLinks};

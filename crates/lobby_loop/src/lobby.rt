@@ -46,6 +46,9 @@ const PATIENCE: u64 = 5_000;
 // So many milliseconds the listener is left alone where the system has nothing for another connection.
 const REST: u64 = 1_000;
 
+// So many milliseconds at most those who come next wait for those who are there.
+const HELD_MOST: u64 = 1_000;
+
 /// A lobby: its listener, its browsers, and its connection to the server.
 #[derive(Drop)]
 pub struct Lobby {
@@ -53,6 +56,8 @@ pub struct Lobby {
     // Whether a connection may wait there, and from when on it is asked.
     has_more: bool,
     ask_at: u64,
+    // Until when those who come next may wait there for those who are there.
+    held_until: u64,
     server: ServerAddress,
     // A connection to the server that is being made.
     call: Option<Call>,
@@ -143,6 +148,7 @@ impl Lobby {
             listener,
             has_more: true,
             ask_at: 0,
+            held_until: 0,
             server,
             call: None,
             call_until: 0,
@@ -202,6 +208,18 @@ impl Lobby {
         ensures { Renews players.items self.old.hall self.new.hall }
     {
         self.hall.renew(players);
+    }
+
+    // Where many wait to be heard for the first time, who comes next waits at the listener, a second at most: else so many could come
+    // that these make room before they are heard.
+    fn hold(&mut self, at: u64)
+        ensures { self.new.hall ≡ self.old.hall }
+    {
+        if at < self.held_until && self.hall.is_crowded(at) {
+            self.ask_at = self.ask_at.max(at.saturating_add(1));
+        } else {
+            self.held_until = at.saturating_add(HELD_MOST);
+        }
     }
 
     // Accepts who waits at the listener, and tells whether more may.
@@ -309,6 +327,7 @@ impl Lobby {
         ensures { OnOk result ((turn : IsLobbyTurn (either unknown unknown) (either unknown unknown) at self.old.hall self.new.hall)
             × Logs (L.logged log.old) (L.logged log.new) (texts_put turn.turns)) }
     {
+        self.hold(at);
         let has_reached = self.reach_server(net, at)?;
         let has_welcomed = self.welcome(at);
         let has_turned = self.hall.turn(at, log, links)?;
