@@ -46,7 +46,9 @@ const PATIENCE: u64 = 5_000;
 // So many milliseconds the listener is left alone where the system has nothing for another connection.
 const REST: u64 = 1_000;
 
-// So many milliseconds at most those who come next wait for those who are there.
+// So many milliseconds those who come next wait for those who are there, until it is looked at again, and at most.
+const HOLD: u64 = 10;
+
 const HELD_MOST: u64 = 1_000;
 
 /// A lobby: its listener, its browsers, and its connection to the server.
@@ -216,7 +218,7 @@ impl Lobby {
         ensures { self.new.hall ≡ self.old.hall }
     {
         if at < self.held_until && self.hall.is_crowded(at) {
-            self.ask_at = self.ask_at.max(at.saturating_add(1));
+            self.ask_at = self.ask_at.max(at.saturating_add(HOLD));
         } else {
             self.held_until = at.saturating_add(HELD_MOST);
         }
