@@ -489,7 +489,8 @@ fn acts_are_logged_and_told(rt: &impl Abort, lab: &mut Lab) {
 }
 
 // A browser that shows ann's token and opens a game.
-const OPENS: &[u8] = b"UP~\x81\xa6\0\0\0\0login aaaaaaaaaaaaaaaaaaaaaaaaaaaaaaaa\x81\x90\0\0\0\0open white 300 2";
+const OPENS: &[u8] =
+    b"UP~\x81\xa6\0\0\0\0login aaaaaaaaaaaaaaaaaaaaaaaaaaaaaaaa\x81\x90\0\0\0\0open white 300 2";
 
 // A server that does not take ann's name, one that takes another, and one that leaves the answer to it out.
 const MISNAMES: [&[u8]; 3] = [
@@ -660,7 +661,8 @@ const ASKER: &[u8] = b"UP~~~~\x81\x85\0\0\0\0fen 1\x81\x85\0\0\0\0fen 2";
 
 const OTHER_ASKER: &[u8] = b"UP~~~~\x81\x85\0\0\0\0fen 3";
 
-const OPENER: &[u8] = b"UP~\x81\xa6\0\0\0\0login aaaaaaaaaaaaaaaaaaaaaaaaaaaaaaaa~~~\x81\x90\0\0\0\0open white 300 2";
+const OPENER: &[u8] =
+    b"UP~\x81\xa6\0\0\0\0login aaaaaaaaaaaaaaaaaaaaaaaaaaaaaaaa~~~\x81\x90\0\0\0\0open white 300 2";
 
 // A server that answers some turns later: first the act, then the first question, and then that of the other one.
 const ANSWERS: &[u8] =
