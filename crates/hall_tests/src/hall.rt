@@ -672,7 +672,8 @@ const ANSWERS: &[u8] =
 fn turn_three(rt: &impl Abort, lab: &mut Lab, server: &'static [u8], turns: u64) {
     lab.begin(rt, &(ASKER, server, How::Plainly));
     for (browser, key) in [(OTHER_ASKER, 3), (OPENER, 4)] {
-        lab.hall.admit(Peer::new(lab.alloc, browser, 1_000), key, NEAR, 0);
+        lab.hall
+            .admit(Peer::new(lab.alloc, browser, 1_000), key, NEAR, 0);
     }
     for at in 0..turns {
         lab.turn_alone(rt, at);
