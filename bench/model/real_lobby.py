@@ -234,6 +234,20 @@ class Programs:
             ask('join ' + number)
         self.at_server(pairs)
 
+    def end_games(self):
+        """Past the lobby the games that go on are resigned, and those that wait are taken off."""
+        with socket.create_connection(('127.0.0.1', self.server.port)) as line:
+            answers = line.makefile('rb')
+
+            def ask(text):
+                line.sendall(text.encode() + b'\n')
+                return answers.readline().decode().split()
+            rows = [answers.readline().decode().split() for _ in range(int(ask('list')[2]))]
+            for number, white, black, _, result in rows:
+                if result == '*':
+                    ask('name ' + (black if white == '-' else white))
+                    ask(('drop ' if '-' in (white, black) else 'resign ') + number)
+
     def off(self, number):
         def takes(ask):
             ask('name ' + ask('show ' + number)[3])

@@ -2,7 +2,7 @@
 use archive_text::Heading;
 use clap::{ArgMatches, Command, Error};
 use command_words::{
-    OptionText, OptionValue, SERVER, WordText, command_line, read_by, read_or_told, server_address,
+    OptionText, OptionValue, SERVER, WordText, command_line, read_by, read_or_told,
 };
 use pgn_tags::is_date;
 use server_calls::ServerAddress;
@@ -72,7 +72,8 @@ pub enum Word<'a> {
 /// Whose games are told, what their PGNs are made with, and how often.
 #[derive(Clone, Copy)]
 pub struct Source<'a> {
-    pub server: ServerAddress,
+    /// Where the server listens, as it was said: an address (`ServerAddress::named`).
+    pub server: &'a str,
     pub players: Option<&'a str>,
     pub log: Option<&'a str>,
     /// What the tags are to say; of White and Black nothing yet.
@@ -335,10 +336,20 @@ fn lobby_of(values: &ArgMatches<'_>, drops: bool) -> Option<Option<SocketAddr>> 
     }
 }
 
+// Where the server listens, as it is said; none where that is no address.
+fn server_of<'a>(values: &ArgMatches<'a>) -> Option<&'a str> {
+    let text = values.get_str("server")?;
+    if ServerAddress::named(text).is_some() {
+        Some(text)
+    } else {
+        None
+    }
+}
+
 // What `keep` and `live` both ask for; none where the address is none, or a value cannot stand in a tag.
 fn source_of<'a>(values: &ArgMatches<'a>) -> Option<Source<'a>> {
     Some(Source {
-        server: server_address(values)?,
+        server: server_of(values)?,
         players: values.get_str("players"),
         log: values.get_str("log"),
         heading: heading_of(values)?,

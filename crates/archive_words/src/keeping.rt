@@ -7,7 +7,7 @@ ghost use Rattle.archive_words.specs.Games.{games_over_in};
 use crate::command_line::Keeping;
 use crate::keeper::{Counts, Done, Keeper, NOTHING, Onlookers};
 use crate::rows::{games_over, rows_of};
-use crate::sources::Sources;
+use crate::sources::{Sources, link_to};
 use crate::telling::{Work, go_on};
 use act_log::in_order;
 use anyhow::Result;
@@ -153,7 +153,7 @@ where
 
     // The same of the list as it is now.
     fn look(&mut self) -> Result<(Counts, Result<()>)> {
-        let mut link = Link::open(self.rt, self.keeping.source.server)?;
+        let mut link = link_to(self.rt, &self.keeping.source)?;
         let list = link.list()?;
         let rows = rows_of(self.rt.alloc(), list.as_str())?;
         self.look_at(link, rows.as_slice())

@@ -3,7 +3,7 @@ use crate::asking::pgn_of;
 use crate::command_line::Living;
 use crate::reading::found;
 use crate::rows::rows_of;
-use crate::sources::Sources;
+use crate::sources::{Sources, link_to};
 use crate::telling::{Work, go_on};
 use anyhow::{Context, Result};
 use archive_file::{game_of, lines_of, pgn_of as pgn_in};
@@ -213,7 +213,7 @@ where
     fn push_told(&mut self, boards: &mut Vec<Board>) -> Result<()> {
         let mut link = match self.link.take() {
             Some(link) => link,
-            None => Link::open(self.rt, self.living.source.server)?,
+            None => link_to(self.rt, &self.living.source)?,
         };
         self.push_table(boards, &mut link)?;
         self.link = Some(link);

@@ -3,9 +3,22 @@ use crate::asking::Knowledge;
 use crate::command_line::Source;
 use crate::log_reader::LogReader;
 use crate::players::Players;
-use anyhow::Result;
-use server_link::Row;
+use anyhow::{Result, bail};
+use server_calls::ServerAddress;
+use server_link::{Link, Row};
+use std::net::{Net, TcpStream};
 use std::rt::Files;
+
+/// A connection to the server. It fails where the server does not answer within ten seconds.
+pub fn link_to<R: Net<Stream = TcpStream> + AllocGlobal>(
+    rt: &R,
+    source: &Source<'_>,
+) -> Result<Link> {
+    match ServerAddress::named(source.server) {
+        Some(server) => Link::open(rt, server),
+        None => bail!("{} is no address", source.server),
+    }
+}
 
 /// Where it comes from, and what was read of it last.
 #[derive(Drop)]

@@ -36,10 +36,12 @@ pub fn file_of(
     File::new(alloc, path, kind, Bytes::from_static(bytes)).expect(rt, "memory")
 }
 
-/// No file under the host `a:1`.
+/// No file under the hosts `a:1` and `c`.
 pub fn site_of(rt: &impl Abort, alloc: Global) -> Site {
     let mut hosts = Vec::new(alloc);
     let host = b"a:1".to_vec(alloc).expect(rt, "memory");
+    hosts.push(host).expect(rt, "memory");
+    let host = b"c".to_vec(alloc).expect(rt, "memory");
     hosts.push(host).expect(rt, "memory");
     Site::new(hosts, Vec::new(alloc))
 }

@@ -11,6 +11,7 @@ use server_calls::AcceptFault;
 use std::alloc::Global;
 use std::hash::RandomState;
 use std::io::{Error, ErrorKind, Read, Write};
+use std::net::{IpAddr, Ipv4Addr};
 use std::process::Abort;
 use std::{io, mem};
 
@@ -42,6 +43,9 @@ impl Peer {
         pieces.nth(self.reads).unwrap_or(b"")
     }
 }
+
+// A peer on this machine.
+const NEAR: IpAddr = IpAddr::V4(Ipv4Addr::LOCALHOST);
 
 // A piece that stands for the upgrade, for the end, and for a connection that is reset.
 const UP: &[u8] = b"UP";
@@ -171,7 +175,7 @@ struct Lab {
 // A hall under the host `a:1`.
 fn hall_of(rt: &impl Abort, alloc: Global, keys: RandomState, is_paused: bool) -> Hall<Peer> {
     let site = site_of(rt, alloc);
-    Hall::new(alloc, keys, site, players(rt, alloc, SUM), is_paused)
+    Hall::new(alloc, keys, site, players(rt, alloc, SUM), is_paused, None)
 }
 
 /// How a script is played.
@@ -200,7 +204,8 @@ impl Lab {
         let server = Peer::new(self.alloc, server, if is_slow { 5 } else { 1_000 });
         self.hall.server_came(server).expect(rt, "memory");
         let takes = if is_slow { 7 } else { 1_000 };
-        self.hall.admit(Peer::new(self.alloc, browser, takes), 2, 0);
+        self.hall
+            .admit(Peer::new(self.alloc, browser, takes), 2, NEAR, 0);
         self.log.fails = matches!(how, How::Unlogged);
         self.log.text.clear();
         self.links.is_done = false;
@@ -288,7 +293,10 @@ const FLOOD: &[u8] =
 const LATE: &[u8] =
     b"UP~\x81\xa6\0\0\0\0login aaaaaaaaaaaaaaaaaaaaaaaaaaaaaaaa~~~~~~~~~\x81\x90\0\0\0\0open white 300 2";
 
-static CASES: [Case; 13] = [
+// Ann shows her token, and is silent then.
+const SILENT: &[u8] = b"UP~\x81\xa6\0\0\0\0login aaaaaaaaaaaaaaaaaaaaaaaaaaaaaaaa";
+
+static CASES: [Case; 16] = [
     // three messages, of which the first is not answered
     (
         (
@@ -314,30 +322,48 @@ static CASES: [Case; 13] = [
     ),
     // who is silent is asked, and then let go
     (
-        (b"UP", b"", How::Plainly),
+        (SILENT, b"", How::Plainly),
         (40, 1_000),
         b"",
-        b"\x81\x0cserver here\n\x89\0",
+        b"ann player ann\n\x89\0",
     ),
     (
-        (b"UP", b"", How::Plainly),
+        (SILENT, b"", How::Plainly),
         (74, 1_000),
         b"",
-        b"\x81\x0cserver here\n\x89\0",
+        b"ann player ann\n\x89\0",
     ),
-    ((b"UP", b"", How::Plainly), (82, 1_000), b"", GONE),
+    ((SILENT, b"", How::Plainly), (82, 1_000), b"", GONE),
     // half a head, and then nothing
     (
         (b"GET /ws HTTP/1.1\r\nHost: a:1\r\n", b"", How::Plainly),
-        (59, 1_000),
+        (20, 1_000),
         b"",
         b"",
     ),
     (
         (b"GET /ws HTTP/1.1\r\nHost: a:1\r\n", b"", How::Plainly),
-        (67, 1_000),
+        (22, 1_000),
         b"",
         GONE,
+    ),
+    // who shows no token and watches nothing, and who watches
+    (
+        (b"UP", b"", How::Plainly),
+        (20, 1_000),
+        b"",
+        b"\x81\x0cserver here\n",
+    ),
+    ((b"UP", b"", How::Plainly), (22, 1_000), b"", GONE),
+    (
+        (
+            b"UP~\x81\x85\0\0\0\0lobby",
+            b"~~~~~ok list 0\n",
+            How::Plainly,
+        ),
+        (40, 1_000),
+        b"list\n",
+        b"ok list 0\n\x89\0",
     ),
     // who ends, before the upgrade and behind it, who closes, and who is reset
     ((b"END", b"", How::Plainly), (90, 1), b"", GONE),
@@ -406,7 +432,7 @@ static ACTS: [Case; 7] = [
     // an arbiter pairs two players: the game is opened for one, and once that is answered joined for the other
     (
         (
-            b"UP~\x81\x87\0\0\0\0login e\x81\x92\0\0\0\0pair ann eve 300 2",
+            b"UP~\x81\xa6\0\0\0\0login eeeeeeeeeeeeeeeeeeeeeeeeeeeeeeee\x81\x92\0\0\0\0pair ann eve 300 2",
             b"~~~~~~~~ok name ann\nok open 1\n~~ok name eve\nok join 1 black\n~~ok show 1 ann eve 0 w 1 1 - * -\nok fen 1 FEN\n",
             How::Plainly,
         ),
@@ -463,7 +489,8 @@ fn acts_are_logged_and_told(rt: &impl Abort, lab: &mut Lab) {
 }
 
 // A browser that shows ann's token and opens a game.
-const OPENS: &[u8] = b"UP~\x81\x87\0\0\0\0login t\x81\x90\0\0\0\0open white 300 2";
+const OPENS: &[u8] =
+    b"UP~\x81\xa6\0\0\0\0login aaaaaaaaaaaaaaaaaaaaaaaaaaaaaaaa\x81\x90\0\0\0\0open white 300 2";
 
 // A server that does not take ann's name, one that takes another, and one that leaves the answer to it out.
 const MISNAMES: [&[u8]; 3] = [
@@ -525,13 +552,45 @@ const ASKS_WHO: &[u8] =
 
 fn who_left_is_there_no_more(rt: &impl Abort, lab: &mut Lab) {
     lab.begin(rt, &LEAVES);
-    lab.hall.admit(Peer::new(lab.alloc, ASKS_WHO, 1_000), 3, 0);
+    lab.hall
+        .admit(Peer::new(lab.alloc, ASKS_WHO, 1_000), 3, NEAR, 0);
     for at in 0..30 {
         lab.turn_alone(rt, at);
         lab.hall.wake(2);
         lab.hall.wake(3);
     }
     assert!(rt; lab.hall.len() == 1 && lab.is_told(b"\x81\x12ok who open 1\neve\n"));
+}
+
+// So many come, all by one address or each by its own.
+fn crowd(lab: &mut Lab, count: u16, is_one: bool) {
+    for i in 0..count {
+        let [high, low] = i.to_be_bytes();
+        let peer = if is_one {
+            Ipv4Addr::new(10, 0, 0, 1)
+        } else {
+            Ipv4Addr::new(10, 1, high, low)
+        };
+        let key = usize::from(i) + 3;
+        lab.hall
+            .admit(Peer::new(lab.alloc, b"", 1_000), key, IpAddr::V4(peer), 0);
+    }
+}
+
+// So many come to one of this machine, and so many are there behind the next turn.
+fn check_crowd(rt: &impl Abort, lab: &mut Lab, count: u16, is_one: bool, stay: usize) {
+    lab.begin(rt, &(b"UP", b"", How::Plainly));
+    crowd(lab, count, is_one);
+    lab.turn_alone(rt, 1);
+    assert!(rt; lab.hall.len() == stay);
+}
+
+fn who_has_no_token_makes_room(rt: &impl Abort, lab: &mut Lab) {
+    check_crowd(rt, lab, 32, true, 33);
+    check_crowd(rt, lab, 41, true, 33);
+    check_crowd(rt, lab, 599, false, 600);
+    check_crowd(rt, lab, 700, false, 600);
+    assert!(rt; lab.hall.turned_away() == 101);
 }
 
 /// An acceptor at which one is lost, then one is refused, and then there is nobody.
@@ -543,7 +602,7 @@ struct FaultyAcceptor {
 impl Acceptor for FaultyAcceptor {
     type Stream = Peer;
 
-    fn accept_one(&mut self) -> Result<Peer, AcceptFault> {
+    fn accept_one(&mut self) -> Result<(Peer, IpAddr), AcceptFault> {
         self.tries = self.tries.saturating_add(1);
         match self.tries {
             1 => Err(AcceptFault::Lost),
@@ -602,7 +661,8 @@ const ASKER: &[u8] = b"UP~~~~\x81\x85\0\0\0\0fen 1\x81\x85\0\0\0\0fen 2";
 
 const OTHER_ASKER: &[u8] = b"UP~~~~\x81\x85\0\0\0\0fen 3";
 
-const OPENER: &[u8] = b"UP~\x81\x87\0\0\0\0login t~~~\x81\x90\0\0\0\0open white 300 2";
+const OPENER: &[u8] =
+    b"UP~\x81\xa6\0\0\0\0login aaaaaaaaaaaaaaaaaaaaaaaaaaaaaaaa~~~\x81\x90\0\0\0\0open white 300 2";
 
 // A server that answers some turns later: first the act, then the first question, and then that of the other one.
 const ANSWERS: &[u8] =
@@ -612,7 +672,8 @@ const ANSWERS: &[u8] =
 fn turn_three(rt: &impl Abort, lab: &mut Lab, server: &'static [u8], turns: u64) {
     lab.begin(rt, &(ASKER, server, How::Plainly));
     for (browser, key) in [(OTHER_ASKER, 3), (OPENER, 4)] {
-        lab.hall.admit(Peer::new(lab.alloc, browser, 1_000), key, 0);
+        lab.hall
+            .admit(Peer::new(lab.alloc, browser, 1_000), key, NEAR, 0);
     }
     for at in 0..turns {
         lab.turn_alone(rt, at);
@@ -655,6 +716,7 @@ fn halls(rt: HostRuntime) {
     a_file_changes_between_turns(&rt, &mut lab);
     what_was_said_is_counted(&rt, &mut lab);
     who_left_is_there_no_more(&rt, &mut lab);
+    who_has_no_token_makes_room(&rt, &mut lab);
     a_failed_accept_ends_the_turn_of_accepting(&rt, &mut lab);
     who_has_another_link_acts_no_more(&rt, &mut lab);
     that_entries_are_paused_is_kept_before_the_log_is_told(&rt, &mut lab);

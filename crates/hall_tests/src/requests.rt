@@ -6,7 +6,7 @@ use std::process::Abort;
 /// A request, how its answer begins and ends, and whether the connection is over then.
 type Request = (&'static [u8], &'static [u8], &'static [u8], bool);
 
-const REQUESTS: [Request; 22] = [
+const REQUESTS: [Request; 26] = [
     (
         b"GET / HTTP/1.1\r\nHost: a:1\r\n\r\n",
         b"HTTP/1.1 200 OK\r\n",
@@ -129,7 +129,49 @@ const REQUESTS: [Request; 22] = [
         b"",
         false,
     ),
+    // a host of HTTP's own port, with it and without it, and one of another
+    (
+        b"GET / HTTP/1.1\r\nHost: c\r\n\r\n",
+        b"HTTP/1.1 200 OK\r\n",
+        b"",
+        false,
+    ),
+    (
+        b"GET / HTTP/1.1\r\nHost: c:80\r\n\r\n",
+        b"HTTP/1.1 200 OK\r\n",
+        b"",
+        false,
+    ),
+    (
+        b"GET / HTTP/1.1\r\nHost: c:8080\r\n\r\n",
+        b"HTTP/1.1 403 ",
+        b"",
+        false,
+    ),
+    // an origin that stands twice
+    (
+        b"GET /ws HTTP/1.1\r\nHost: a:1\r\nOrigin: http://a:1\r\nOrigin: http://a:1\r\nConnection: Upgrade\r\nUpgrade: websocket\r\nSec-WebSocket-Version: 13\r\nSec-WebSocket-Key: AAAAAAAAAAAAAAAAAAAAAA==\r\n\r\n",
+        b"HTTP/1.1 403 ",
+        b"",
+        false,
+    ),
 ];
+
+// An origin without a port has its scheme's: each opens the socket.
+const ORIGINS: [&[u8]; 4] = [
+    b"GET /ws HTTP/1.1\r\nHost: c:80\r\nOrigin: http://c\r\nConnection: Upgrade\r\nUpgrade: websocket\r\nSec-WebSocket-Version: 13\r\nSec-WebSocket-Key: AAAAAAAAAAAAAAAAAAAAAA==\r\n\r\n",
+    b"GET /ws HTTP/1.1\r\nHost: c\r\nOrigin: http://c:80\r\nConnection: Upgrade\r\nUpgrade: websocket\r\nSec-WebSocket-Version: 13\r\nSec-WebSocket-Key: AAAAAAAAAAAAAAAAAAAAAA==\r\n\r\n",
+    b"GET /ws HTTP/1.1\r\nHost: c\r\nOrigin: https://c:443\r\nConnection: Upgrade\r\nUpgrade: websocket\r\nSec-WebSocket-Version: 13\r\nSec-WebSocket-Key: AAAAAAAAAAAAAAAAAAAAAA==\r\n\r\n",
+    b"GET /ws HTTP/1.1\r\nHost: a:1\r\nOrigin: https://a:1\r\nConnection: Upgrade\r\nUpgrade: websocket\r\nSec-WebSocket-Version: 13\r\nSec-WebSocket-Key: AAAAAAAAAAAAAAAAAAAAAA==\r\n\r\n",
+];
+
+fn check_origins(rt: &impl Abort, lab: &mut Lab) {
+    for request in &ORIGINS {
+        lab.whole(rt, request);
+        assert!(rt; lab.said.as_slice() == b"open\n".as_slice());
+        assert!(rt; lab.written.as_slice().starts_with(b"HTTP/1.1 101 "));
+    }
+}
 
 fn check_answers(rt: &impl Abort, lab: &mut Lab, requests: &[Request]) {
     for (request, front, end, is_over) in requests {
@@ -321,6 +363,7 @@ fn heads_too_long_or_too_short_are_refused(rt: &impl Abort, lab: &mut Lab) {
 pub fn check_requests(rt: &impl Abort, lab: &mut Lab) {
     lab.put(rt, b"/", Kind::Html, b"the page");
     check_answers(rt, lab, &REQUESTS);
+    check_origins(rt, lab);
     files_come_and_go(rt, lab);
     check_known(rt, lab, &KNOWN, b"HTTP/1.1 304 Not Modified\r\n", NO_PAGE);
     check_known(rt, lab, &UNKNOWN, WHOLE, b"the page");

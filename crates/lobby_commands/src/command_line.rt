@@ -6,7 +6,7 @@ use command_words::{
 };
 use server_calls::ServerAddress;
 use std::alloc::{AllocError, Global};
-use std::net::SocketAddr;
+use std::net::{IpAddr, SocketAddr};
 
 const HELP_OF_SERVE: &str = "\
 It listens on an address of this machine, prints the page's address, and serves the page
@@ -25,9 +25,12 @@ shows all, and /health with figures as Prometheus reads them. /live.pgn is the f
 It goes on until it is ended: kill it, by any signal. Nothing is lost by that.
 
 The line is not encrypted. On an address other than 127.0.0.1 whoever is on the way reads
-along, links too: docs/LOBBY.md has how to put nginx in front.
+along, links too: docs/LOBBY.md has how to put nginx in front. Name nginx's address by
+--proxy then, and have it tell each browser's own by X-Forwarded-For.
 
-Limits: 1,000 browsers at a time. A further connection is closed at once.
+Limits: 1,000 browsers at a time, of them 600 that have shown no link, 500 that watch, and
+32 of an address. Whoever comes when they are reached has another one closed: of those
+without a link who came first, and nobody who has shown one.
 
 Exit status: 1 with what is wrong on standard error; 2 for words that the program does not
 know.
@@ -96,6 +99,8 @@ pub struct Serving<'a> {
     pub page: &'a str,
     /// The names of hosts that are taken besides.
     pub hosts: Vec<&'a str>,
+    /// The address of the proxy that is believed who asks.
+    pub proxy: Option<IpAddr>,
     pub log: Option<&'a str>,
     /// The file of games that is served as `/live.pgn`.
     pub live: Option<&'a str>,
@@ -129,6 +134,13 @@ const HOST: OptionText = OptionText {
     name: "host",
     value: OptionValue::Texts("NAME"),
     help: "A name by which browsers reach it; it may be given several times",
+    is_required: false,
+};
+
+const PROXY: OptionText = OptionText {
+    name: "proxy",
+    value: OptionValue::Text("ADDRESS"),
+    help: "The address of a proxy in front, which tells by X-Forwarded-For who asks",
     is_required: false,
 };
 
@@ -192,7 +204,9 @@ const SERVE: WordText = WordText {
     name: "serve",
     about: "Serves the page and its players, over a game server",
     help: HELP_OF_SERVE,
-    options: &[PLAYERS, SERVER, AT_PORT, ADDRESS, PAGE, HOST, LIVE, LOG],
+    options: &[
+        PLAYERS, SERVER, AT_PORT, ADDRESS, PAGE, HOST, PROXY, LIVE, LOG,
+    ],
 };
 
 const PLAYER: WordText = WordText {
@@ -254,12 +268,21 @@ fn word_of<'a>(alloc: Global, matches: &ArgMatches<'a>) -> Result<Option<Word<'a
     }
 }
 
+// The address of the proxy, if one is named; none where it is no address.
+fn proxy_of(values: &ArgMatches<'_>) -> Option<Option<IpAddr>> {
+    match values.get_str("proxy") {
+        Some(address) => Some(Some(address.parse::<IpAddr>().ok()?.to_canonical())),
+        None => Some(None),
+    }
+}
+
 // What `serve` asks for; none where an address is none.
 fn serving_of<'a>(alloc: Global, values: &ArgMatches<'a>) -> Result<Option<Word<'a>>, AllocError> {
-    let (Some(players), Some(server), Some(address)) = (
+    let (Some(players), Some(server), Some(address), Some(proxy)) = (
         values.get_str("players"),
         server_address(values),
         own_address(values),
+        proxy_of(values),
     ) else {
         return Ok(None);
     };
@@ -268,6 +291,7 @@ fn serving_of<'a>(alloc: Global, values: &ArgMatches<'a>) -> Result<Option<Word<
         server,
         address: SocketAddr::new(address, values.get_one("port").unwrap_or(PORT)),
         page: values.get_str("page").unwrap_or("page"),
+        proxy,
         live: values.get_str("live"),
         log: values.get_str("log"),
         hosts: Vec::from_slice(alloc, values.get_strs("host").unwrap_or(&[]))?,

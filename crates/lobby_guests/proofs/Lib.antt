@@ -6,3 +6,5 @@ pub mod Making
 pub mod Taking
 pub mod Saying
 pub mod Logging
+pub mod Room
+pub mod Seats

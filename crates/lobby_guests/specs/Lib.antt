@@ -4,3 +4,7 @@ pub mod Held
 pub mod Making
 pub mod Talking
 pub mod Lines
+pub mod Places
+pub mod Origins
+pub mod Roles
+pub mod Seating

@@ -2,9 +2,12 @@
 ghost use Rattle.std.specs.Prelude.{ℕ, ◌≡◌, ◌↔◌, None, Some, false, IsTrue, OnOk};
 ghost use Rattle.lobby_desk.specs.Who.{IsReady, at_table};
 ghost use Rattle.lobby_guests.specs.Guests.{IsNewGuest, IsAsBefore, IsRead, IsHeardAs, IsHeard, IsAsked, MaySpeak, IsSaid, IsTold, AreTold, IsWritten, IsLookedAfter};
+ghost use Rattle.lobby_guests.specs.Seating.{role_of, place_of, Yields};
 
 use crate::counts::Asked;
+use crate::origin::Origin;
 use crate::pieces::{Gone, PIECE_ROOM, write_piece};
+use crate::places::{Place, Role, is_gone};
 use crate::said::say_to_desk;
 use crate::{Counts, KeepsLinks, Talk};
 use lobby_desk::Message;
@@ -19,9 +22,6 @@ const ASKED_AFTER: u64 = 30_000;
 
 /// After so many milliseconds without a byte of it a connection is closed.
 const CLOSED_AFTER: u64 = 75_000;
-
-/// So many milliseconds at most a connection has for HTTP.
-const HTTP_MOST: u64 = 60_000;
 
 /// So many bytes of an answer take a millisecond of the time of a connection that acts for nobody, and so many milliseconds its
 /// time may run ahead before its next message is taken.
@@ -38,6 +38,8 @@ pub struct Guest<S> {
     number: Option<u64>,
     /// The name of its socket among those that are watched.
     key: usize,
+    /// The address that it counts for, and whether it is a trusted proxy's, which tells another.
+    origin: Origin,
     can_read: bool,
     can_write: bool,
     /// Whether it may have a message that was not heard.
@@ -64,7 +66,14 @@ fn is_among(connections: &[u64], number: u64) -> bool
 
 impl<S> Guest<S> {
     /// A connection that begins. The keys are for the names of headers, which the peer chooses.
-    pub fn new(alloc: Global, keys: RandomState, stream: S, key: usize, at: u64) -> Guest<S>
+    pub fn new(
+        alloc: Global,
+        keys: RandomState,
+        stream: S,
+        key: usize,
+        origin: Origin,
+        at: u64,
+    ) -> Guest<S>
         ensures { IsNewGuest stream result }
     {
         Guest {
@@ -72,6 +81,7 @@ impl<S> Guest<S> {
             browser: Browser::new(alloc, keys),
             number: None,
             key,
+            origin,
             can_read: true,
             can_write: true,
             has_more: false,
@@ -149,6 +159,39 @@ impl<S> Guest<S> {
         ensures { result ≡ self.now.is_lost }
     {
         self.is_lost
+    }
+
+    // What it is to the lobby.
+    fn role(&self, talk: &Talk) -> Role
+        ensures { result ≡ role_of talk.now.desk self.now.is_lost self.now.number }
+    {
+        if self.is_lost {
+            return Role::Gone;
+        }
+        match self.number {
+            Some(number) => talk.role(number),
+            None => Role::Newcomer,
+        }
+    }
+
+    /// Its place.
+    pub fn place(&self, talk: &Talk) -> Place
+        ensures { result ≡ place_of talk.now.desk self.now }
+    {
+        Place {
+            address: self.origin.address,
+            role: self.role(talk),
+            since: self.came_at,
+        }
+    }
+
+    /// It is to be closed where this is its place and has nobody any more.
+    pub fn yield_to(&mut self, place: &Place)
+        ensures { Yields place.now self.old self.new }
+    {
+        if is_gone(place.role) {
+            self.is_lost = true;
+        }
     }
 
     // Whether the desk takes what comes next of it: that its socket is open, or a message where the one before it is answered.
@@ -285,8 +328,7 @@ impl<S> Guest<S> {
         self.is_asked = true;
     }
 
-    /// Where it is time, asks a browser that has been silent whether it is there, and lets one go that has been for too long,
-    /// or that has spoken HTTP for too long.
+    /// Where it is time, asks a browser that has been silent whether it is there, and lets one go that has been for too long.
     pub fn look_after(&mut self, is_time: bool, at: u64)
         ensures { IsLookedAfter self.old self.new }
     {
@@ -294,8 +336,7 @@ impl<S> Guest<S> {
             return;
         }
         let silent = at.saturating_sub(self.heard_at);
-        let is_web = self.number.is_none();
-        if silent >= CLOSED_AFTER || is_web && at.saturating_sub(self.came_at) >= HTTP_MOST {
+        if silent >= CLOSED_AFTER {
             self.is_lost = true;
         } else if silent >= ASKED_AFTER && !self.is_asked && self.browser.is_open() {
             self.ask();
@@ -326,6 +367,7 @@ impl<S: Read + Write> Guest<S> {
             Came::Bytes(count) => {
                 counts.came(&piece[..count]);
                 self.browser.take(site, &piece[..count]);
+                self.origin = self.origin.told(self.browser.forwarded());
                 self.heard_at = at;
                 self.is_asked = false;
                 self.has_more = true;

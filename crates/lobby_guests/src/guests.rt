@@ -9,7 +9,7 @@ ghost use Rattle.lobby_guests.specs.Guests.{IsAsBefore, IsServed, IsPlayersTurn,
 use crate::guest::Guest;
 use crate::made::finish_all;
 use crate::pieces::PIECE_ROOM;
-use crate::rounds::{Others, Round, Rounds};
+use crate::rounds::{ATTENDED_MOST, Others, Round, Rounds};
 use crate::{Counts, KeepsLinks, Talk};
 use lobby_desk::Message;
 use lobby_web::Site;
@@ -274,6 +274,11 @@ pub fn first_due<S>(guests: &[Guest<S>], at: u64) -> Option<u64> {
         };
     }
     first
+}
+
+/// Whether so many wait who were told no answer yet that a turn does not attend them all.
+pub fn is_crowded<S>(guests: &[Guest<S>], at: u64) -> bool {
+    guests.iter().filter(|guest| guest.is_due(true, at)).count() > ATTENDED_MOST
 }
 
 /// Looks after each, where it is time.

@@ -3,7 +3,7 @@ ghost use Rattle.std.specs.Prelude.{◌≡◌, ◌≤◌, ◌<◌, ◌+◌, true
 ghost use Rattle.lobby_guests.specs.Guests.{others_most};
 
 /// So many of them are attended in a turn at most, of those who have no socket yet and of those who have one.
-const ATTENDED_MOST: usize = 16;
+pub const ATTENDED_MOST: usize = 16;
 
 /// To so many of them something is written in a turn at most.
 const WRITTEN_MOST: usize = 64;

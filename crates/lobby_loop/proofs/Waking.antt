@@ -64,6 +64,10 @@ module _ {S : Type 0} where
       | inl none ↦ inl (none ∙ ap (λ gs. gs.items) same.guests)
       | inr more ↦ inr (more.0, more.1, more.2 ∙ ap (λ gs. gs.items ++ more.0 ∷ []) same.guests)
     ];
+    come = elim admits.come [
+      | inl none ↦ inl (none ∙ ap (λ gs. gs.items) same.guests)
+      | inr has_come ↦ inr has_come
+    ];
     talk = admits.talk ∙ same.talk;
     server = admits.server ∙ same.server;
     site = admits.site ∙ same.site;
@@ -73,6 +77,7 @@ module _ {S : Type 0} where
   pub turned_away : (stream : S) (a b c : Hall S) → IsHallAsBefore a b → IsHallAsBefore b c → Admits stream a c
   turned_away stream a b c same away = record {
     guests = inl (ap (λ gs. gs.items) (away.guests ∙ same.guests));
+    come = inl (ap (λ gs. gs.items) (away.guests ∙ same.guests));
     talk = away.talk ∙ same.talk;
     server = away.server ∙ same.server;
     site = away.site ∙ same.site;

@@ -1,5 +1,5 @@
 -- One turn of all that are connected.
-use Rattle.std.specs.Prelude.{ℕ, ◌≡◌, ◌⊎◌, ◌||◌, Bool, true, false, List, [], ◌∷◌, ◌++◌, Option, None, Some}
+use Rattle.std.specs.Prelude.{ℕ, ◌≡◌, ◌⊎◌, ◌||◌, Bool, true, false, List, [], ◌∷◌, ◌++◌, Option, None, Some, is_some, if◌then◌else◌}
 use Rattle.std.specs.List.{AllZip}
 use Rattle.lobby_roster.specs.declared.players.Player.{Player}
 use Rattle.lobby_desk.specs.Events.{Gone, Here, message_values}
@@ -11,6 +11,7 @@ use Rattle.lobby_guests.specs.declared.talk.Talk.{Talk}
 use Rattle.lobby_guests.specs.Talking.{Begins, MovesAnew}
 use Rattle.lobby_guests.specs.Guests.{IsNewGuest, AreAttended, AreDelivered, IsWritten, IsLookedAfter, AreParted}
 use Rattle.lobby_guests.specs.Held.{TakesIn, HandsOn, IsKept}
+use Rattle.lobby_guests.specs.Seating.{AreSeated}
 use Rattle.lobby_loop.specs.declared.hall.Hall.{Hall}
 
 -- What the server says is taken, where it is there.
@@ -67,6 +68,7 @@ IsServerAsBefore {S} (Some link) server =
 pub record Admits {S : Type 0} (stream : S) (old new : Hall S) : Type 0 where
   pub guests : (new.guests.items ≡ old.guests.items)
       ⊎ ((guest : Guest S) × IsNewGuest stream guest × (new.guests.items ≡ old.guests.items ++ guest ∷ []))
+  pub come : (new.guests.items ≡ old.guests.items) ⊎ (new.has_come ≡ true)
   pub talk : new.talk ≡ old.talk
   pub server : new.server ≡ old.server
   pub site : new.site ≡ old.site
@@ -81,6 +83,16 @@ pub record ServerComes {S : Type 0} (stream : S) (old new : Hall S) : Type 0 whe
   pub guests : new.guests ≡ old.guests
   pub site : new.site ≡ old.site
 
+-- the last moment of a turn at which the server was not there
+abbrev pub away_after : Bool → ℕ → ℕ → ℕ
+away_after is_here before at = if is_here then before else at
+
+-- Where somebody has come, each of those who were attended has a place by what the desk says, or is to be closed.
+abbrev pub HasPlaces : {S : Type 0} → Bool → ℕ → List (Guest S) → Hall S → Type 0
+HasPlaces {S} has_come at attended new =
+    has_come ≡ true →
+    (looked : List (Guest S)) × AllZip IsLookedAfter attended looked × AreSeated at new.away_at new.talk.desk looked new.guests.items
+
 -- What comes is taken in: the server is heard, and the desk is told where its connection is lost; then each browser is.
 pub record TakesAllIn {S : Type 0} (remaining : S → Option (List ℕ)) (at : ℕ) (old new : Hall S) : Type 0 where
   pub server_heard : Option (Link S)
@@ -93,6 +105,8 @@ pub record TakesAllIn {S : Type 0} (remaining : S → Option (List ℕ)) (at : �
   pub attended : List (Guest S)
   pub attends : AreAttended remaining old.site at old.guests.items attended parted new.talk
   pub looks : AllZip IsLookedAfter attended new.guests.items
+  pub places : HasPlaces old.has_come at attended new
+  pub away : new.away_at ≡ away_after (is_some new.server) old.away_at at
   pub site : new.site ≡ old.site
 
 -- What is to go is handed out: what the desk told is delivered, and what is to go is written, to the server and to each browser; and

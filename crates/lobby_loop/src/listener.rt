@@ -8,14 +8,14 @@ use mio::net::TcpListener;
 use mio::{Registry, Token};
 use server_calls::{ACCEPT_TRIES, AcceptFault, Call, accept_fault, watch_call};
 use std::io;
-use std::net::{Net, SocketAddr};
+use std::net::{IpAddr, Net, SocketAddr};
 
 /// What accepts connections, and watches them.
 pub trait Acceptor {
     type Stream: Drop;
 
-    /// Accepts a connection, if one is there, without waiting.
-    fn accept_one(&mut self) -> Result<Self::Stream, AcceptFault>;
+    /// Accepts a connection, if one is there, without waiting, with its peer's address.
+    fn accept_one(&mut self) -> Result<(Self::Stream, IpAddr), AcceptFault>;
 
     /// Watches a connection under this name; false where the system refuses that.
     fn watch(&mut self, stream: &mut Self::Stream, key: usize) -> bool;
@@ -51,13 +51,13 @@ pub struct LobbyAcceptor<'a> {
 impl Acceptor for LobbyAcceptor<'_> {
     type Stream = Call;
 
-    fn accept_one(&mut self) -> Result<Call, AcceptFault> {
-        let stream = match self.listener.accept() {
-            Ok((stream, _)) => stream,
+    fn accept_one(&mut self) -> Result<(Call, IpAddr), AcceptFault> {
+        let (stream, peer) = match self.listener.accept() {
+            Ok((stream, peer)) => (stream, peer.ip()),
             Err(error) => return Err(accept_fault(error.kind())),
         };
         match stream.set_nodelay(true) {
-            Ok(()) => Ok(Left(stream)),
+            Ok(()) => Ok((Left(stream), peer)),
             Err(_) => Err(AcceptFault::Lost),
         }
     }
@@ -83,13 +83,14 @@ fn take_in<A: Acceptor>(
     acceptor: &mut A,
     hall: &mut Hall<A::Stream>,
     mut stream: A::Stream,
+    peer: IpAddr,
     at: u64,
 )
     ensures { (came : A.Stream) × Admits came hall.old hall.new }
 {
     if let Some(key) = hall.next_key() {
         if acceptor.watch(&mut stream, key) {
-            hall.admit(stream, key, at);
+            hall.admit(stream, key, peer, at);
             return;
         }
     }
@@ -102,7 +103,7 @@ pub fn welcome<A: Acceptor>(acceptor: &mut A, hall: &mut Hall<A::Stream>, at: u6
 {
     for _ in 0..ACCEPT_TRIES {
         match acceptor.accept_one() {
-            Ok(stream) => take_in(acceptor, hall, stream, at),
+            Ok((stream, peer)) => take_in(acceptor, hall, stream, peer, at),
             Err(AcceptFault::Nobody) => return Welcomed::All,
             Err(AcceptFault::Lost) => {}
             Err(AcceptFault::Refused) => return Welcomed::Refused,

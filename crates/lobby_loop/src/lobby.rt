@@ -20,7 +20,7 @@ use server_calls::{Call, RETRY, ServerAddress, call, is_made};
 use std::alloc::{AllocError, Global};
 use std::hash::RandomState;
 use std::io;
-use std::net::Net;
+use std::net::{IpAddr, Net};
 use std::time::Duration;
 
 /// What came of a turn.
@@ -46,6 +46,11 @@ const PATIENCE: u64 = 5_000;
 // So many milliseconds the listener is left alone where the system has nothing for another connection.
 const REST: u64 = 1_000;
 
+// So many milliseconds those who come next wait for those who are there, until it is looked at again, and at most.
+const HOLD: u64 = 10;
+
+const HELD_MOST: u64 = 1_000;
+
 /// A lobby: its listener, its browsers, and its connection to the server.
 #[derive(Drop)]
 pub struct Lobby {
@@ -53,6 +58,8 @@ pub struct Lobby {
     // Whether a connection may wait there, and from when on it is asked.
     has_more: bool,
     ask_at: u64,
+    // Until when those who come next may wait there for those who are there.
+    held_until: u64,
     server: ServerAddress,
     // A connection to the server that is being made.
     call: Option<Call>,
@@ -123,8 +130,8 @@ fn earlier(a: Option<u64>, b: Option<u64>) -> Option<u64> {
 }
 
 impl Lobby {
-    /// A lobby whose server is at this address, which begins with entries paused, or not. The system's error where it cannot be
-    /// watched.
+    /// A lobby whose server is at this address, which begins with entries paused, or not, behind a trusted proxy of this address, if
+    /// there is one. The system's error where it cannot be watched.
     pub fn new(
         net: &impl Net,
         alloc: Global,
@@ -134,6 +141,7 @@ impl Lobby {
         site: Site,
         players: Vec<Player>,
         is_paused: bool,
+        proxy: Option<IpAddr>,
     ) -> io::Result<Lobby>
         ensures { IfOk result (λ lobby. BeginsHall site players.items is_paused lobby.hall) }
     {
@@ -142,11 +150,12 @@ impl Lobby {
             listener,
             has_more: true,
             ask_at: 0,
+            held_until: 0,
             server,
             call: None,
             call_until: 0,
             call_at: 0,
-            hall: Hall::new(alloc, keys, site, players, is_paused),
+            hall: Hall::new(alloc, keys, site, players, is_paused, proxy),
             poll,
             events,
         })
@@ -201,6 +210,18 @@ impl Lobby {
         ensures { Renews players.items self.old.hall self.new.hall }
     {
         self.hall.renew(players);
+    }
+
+    // Where many wait to be heard for the first time, who comes next waits at the listener, a second at most: else so many could come
+    // that these make room before they are heard.
+    fn hold(&mut self, at: u64)
+        ensures { self.new.hall ≡ self.old.hall }
+    {
+        if at < self.held_until && self.hall.is_crowded(at) {
+            self.ask_at = self.ask_at.max(at.saturating_add(HOLD));
+        } else {
+            self.held_until = at.saturating_add(HELD_MOST);
+        }
     }
 
     // Accepts who waits at the listener, and tells whether more may.
@@ -308,6 +329,7 @@ impl Lobby {
         ensures { OnOk result ((turn : IsLobbyTurn (either unknown unknown) (either unknown unknown) at self.old.hall self.new.hall)
             × Logs (L.logged log.old) (L.logged log.new) (texts_put turn.turns)) }
     {
+        self.hold(at);
         let has_reached = self.reach_server(net, at)?;
         let has_welcomed = self.welcome(at);
         let has_turned = self.hall.turn(at, log, links)?;

@@ -1,5 +1,5 @@
 //! How many games the server has, as its answer to `list` tells.
-use lobby_words::{cut_word, is_list, number_named, waiting_row};
+use lobby_words::{cut_word, is_list, number_named, seat_of};
 use std::alloc::{AllocError, Global};
 use std::str;
 
@@ -44,6 +44,15 @@ fn rows_of(first: &str) -> Option<u64> {
     Some(u64::from(number_named(rest)?))
 }
 
+// Whether a row `G WHITE BLACK ..` is of a game that waits: one seat alone is empty, and a name stands in the other.
+fn is_waiting(row: &str) -> bool {
+    let (number, rest) = cut_word(row);
+    let (white, rest) = cut_word(rest);
+    let (black, _) = cut_word(rest);
+    let seated = if white == "-" { black } else { white };
+    (white == "-" || black == "-") && seat_of(number_named(number), seated, false).is_some()
+}
+
 impl Listing {
     /// Nothing has come.
     pub fn new(alloc: Global) -> Listing {
@@ -66,7 +75,7 @@ impl Listing {
             },
             Some(before) => {
                 self.rows = self.rows.saturating_add(1);
-                let waits = waiting_row(line).is_some();
+                let waits = is_waiting(line);
                 Games {
                     all: before.all,
                     waiting: before.waiting.saturating_add(u64::from(waits)),

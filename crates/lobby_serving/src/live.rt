@@ -15,6 +15,9 @@ const PATH: &[u8] = b"/live.pgn";
 /// So many milliseconds lie at least between two looks at the file.
 const REST: u64 = 1_000;
 
+/// A file of more bytes is not served.
+const BYTES_MOST: u64 = 67_108_864;
+
 // Opens the file for writing too, though nothing is written: a pipe that was put there since it was looked at would else hold its
 // opening up until somebody writes into it. A lobby that may only read the file goes by the look.
 fn opened<R: Files>(rt: &R, file: &str) -> io::Result<R::File> {
@@ -26,14 +29,21 @@ fn opened<R: Files>(rt: &R, file: &str) -> io::Result<R::File> {
     }
 }
 
-// What a regular file has.
+// What a regular file has that is not too long. (It may have grown since it was looked at: one byte more tells.)
 fn read_regular<R: Files + AllocGlobal>(rt: &R, file: &str) -> io::Result<Vec<u8>> {
-    let mut opened = opened(rt, file)?;
-    if !opened.metadata()?.is_file() {
+    let opened = opened(rt, file)?;
+    let found = opened.metadata()?;
+    if !found.is_file() {
         return Err(io::Error::from(ErrorKind::InvalidInput));
     }
+    if found.len() > BYTES_MOST {
+        return Err(io::Error::from(ErrorKind::FileTooLarge));
+    }
     let mut bytes = Vec::new(rt.alloc());
-    opened.read_to_end(&mut bytes)?;
+    opened.take(BYTES_MOST + 1).read_to_end(&mut bytes)?;
+    if bytes.len() as u64 > BYTES_MOST {
+        return Err(io::Error::from(ErrorKind::FileTooLarge));
+    }
     Ok(bytes)
 }
 
@@ -49,6 +59,8 @@ pub struct Live<'a> {
     file: &'a str,
     seen: Option<Mark>,
     next_at: u64,
+    // Whether it was told that the file is too long.
+    is_told: bool,
 }
 
 impl<'a> Live<'a> {
@@ -58,19 +70,37 @@ impl<'a> Live<'a> {
             file,
             seen: None,
             next_at: 0,
+            is_told: false,
         }
     }
 
-    // What the file has is served from now on; nothing where it cannot be read.
-    fn read<R: Files + AllocGlobal>(
+    // That the file is too long, once until it is not.
+    fn tell<R: Eprint>(&mut self, rt: &R, is_long: bool) {
+        if is_long && !self.is_told {
+            let file = self.file;
+            let _ = eprintln!(rt; "{file} has more than 64 MiB: it is not served");
+        }
+        self.is_told = is_long;
+    }
+
+    // What the file has is served from now on; nothing where it cannot be read, or is too long.
+    fn read<R: Files + AllocGlobal + Eprint>(
         &mut self,
         rt: &R,
         lobby: &mut Lobby,
     ) -> Result<(), AllocError> {
         match read_regular(rt, self.file) {
-            Ok(bytes) => serve(rt.alloc(), lobby, bytes),
-            Err(_) => {
-                self.seen = None;
+            Ok(bytes) => {
+                self.tell(rt, false);
+                serve(rt.alloc(), lobby, bytes)
+            }
+            Err(error) => {
+                let is_long = error.kind() == ErrorKind::FileTooLarge;
+                self.tell(rt, is_long);
+                // (one that is too long is looked at again where it has changed)
+                if !is_long {
+                    self.seen = None;
+                }
                 lobby.take_off_file(PATH);
                 Ok(())
             }
@@ -78,7 +108,7 @@ impl<'a> Live<'a> {
     }
 
     /// Looks at the file, where the last look was a second ago, and reads it where it has changed.
-    pub fn look<R: Files + AllocGlobal>(
+    pub fn look<R: Files + AllocGlobal + Eprint>(
         &mut self,
         rt: &R,
         lobby: &mut Lobby,

@@ -29,7 +29,7 @@ struct Telling<'a, R> {
 }
 
 // So many milliseconds lie at least between two lines about connections that were turned away.
-const REST: u64 = 1_000;
+const REST: u64 = 60_000;
 
 impl<R: Eprint> Telling<'_, R> {
     // That the server came or went.
@@ -51,7 +51,9 @@ impl<R: Eprint> Telling<'_, R> {
         if count != self.turned_away && at >= self.next_at {
             self.turned_away = count;
             self.next_at = at.saturating_add(REST);
-            let _ = eprintln!(self.rt; "so many connections were turned away by now: {count}");
+            let _ = eprintln!(self.rt;
+                "so many connections were turned away or made room by now: {count}"
+            );
         }
     }
 }
@@ -141,6 +143,16 @@ fn tell_address<R: Print + Eprint>(rt: &R, address: SocketAddr) -> Result<()> {
     Ok(())
 }
 
+// That browsers behind a proxy on this machine cannot be told apart, where a host is named and no proxy.
+fn tell_proxy<R: Eprint>(rt: &R, serving: &Serving<'_>) -> Result<()> {
+    if serving.address.ip().is_loopback() && !serving.hosts.is_empty() && serving.proxy.is_none() {
+        eprintln!(rt;
+            "there is --host and no --proxy: browsers that come by a proxy on this machine count as one, without the limit of an address"
+        )?;
+    }
+    Ok(())
+}
+
 // Listens on an address.
 fn listener_on<R: Net>(rt: &R, address: SocketAddr) -> Result<LobbyListener> {
     LobbyListener::bind(rt, address).context(format_args!("listening on {address}"))
@@ -177,6 +189,7 @@ where
             site,
             known,
             is_paused,
+            serving.proxy,
         )?)
     }
 }
@@ -204,6 +217,7 @@ where
         log: &mut L,
     ) -> Result<()> {
         tell_address(self.rt, address)?;
+        tell_proxy(self.rt, self.serving)?;
         let mut beside = Beside::new(self.rt, self.serving, entries);
         let served = beside.take_turns(players, lobby, log);
         drop(beside);

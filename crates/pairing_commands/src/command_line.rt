@@ -111,7 +111,8 @@ pub struct Starting<'a> {
 #[derive(Clone, Copy)]
 pub struct Source<'a> {
     pub archive: Option<&'a str>,
-    pub server: Option<ServerAddress>,
+    /// Where the server listens, as it was said: an address (`ServerAddress::named`).
+    pub server: Option<&'a str>,
 }
 
 /// The round whose results are written.
@@ -395,14 +396,14 @@ fn round_of<'a>(values: &ArgMatches<'a>) -> Option<Round<'a>> {
 // Where results are looked for; none where an address is none, or there is no place.
 fn source_of<'a>(values: &ArgMatches<'a>) -> Option<Source<'a>> {
     let archive = values.get_str("archive");
-    let server = match values.get_str("server") {
-        Some(text) => Some(ServerAddress::named(text)?),
-        None => None,
-    };
+    let server = values.get_str("server");
     if archive.is_none() && server.is_none() {
         return None;
     }
-    Some(Source { archive, server })
+    match server {
+        Some(text) if ServerAddress::named(text).is_none() => None,
+        _ => Some(Source { archive, server }),
+    }
 }
 
 fn asking_of<'a>(values: &ArgMatches<'a>) -> Option<Word<'a>> {

@@ -213,11 +213,14 @@ fn archive_of<R: Files + AllocGlobal>(rt: &R, file: Option<&str>) -> Result<Vec<
 // The connection to the server, where one is named.
 fn link_of<R: Net<Stream = TcpStream> + AllocGlobal>(
     rt: &R,
-    server: Option<ServerAddress>,
+    server: Option<&str>,
 ) -> Result<Option<Link>> {
-    match server {
-        None => Ok(None),
+    let Some(text) = server else {
+        return Ok(None);
+    };
+    match ServerAddress::named(text) {
         Some(server) => Ok(Some(Link::open(rt, server)?)),
+        None => bail!("{text} is no address"),
     }
 }
 

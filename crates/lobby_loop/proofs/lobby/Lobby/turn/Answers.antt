@@ -1,11 +1,13 @@
 -- The server is reached or not, browsers come, and the hall has its turn.
+use Rattle.std.proofs.Common.{subst}
+use Rattle.lobby_loop.specs.Turning.{IsReached}
 use Rattle.lobby_loop.proofs.lobby.Lobby.turn.Goals as goal
 
 pub returns : goal.returns
 returns g c = (
   record {
     reached = c.reach_server.new.self.hall;
-    reaches = c.in_ok-has_reached.ensures;
+    reaches = subst (λ h. IsReached h c.reach_server.new.self.hall) c.hold.ensures c.in_ok-has_reached.ensures;
     streams = c.welcome-has_welcomed.ensures.0;
     welcomed = c.welcome-has_welcomed.new.self.hall;
     welcomes = c.welcome-has_welcomed.ensures.1;

@@ -1,0 +1,49 @@
+-- The places of connections.
+use Rattle.std.specs.Prelude.{ℕ, ◌≡◌, ◌||◌, Bool, true, false, List, [], ◌∷◌, Option, None, Some, map}
+use Rattle.std.specs.List.{AllZip}
+use Rattle.lobby_desk.specs.declared.desk.Desk.{Desk}
+use Rattle.lobby_guests.specs.declared.guest.Guest.{Guest}
+use Rattle.lobby_guests.specs.declared.places.Place.{Place}
+use Rattle.lobby_guests.specs.declared.places.Role.{Role}
+use Rattle.lobby_guests.specs.declared.places.Role.TheVariants.{Gone, Newcomer}
+use Rattle.lobby_guests.specs.Guests.{IsAsBefore}
+use Rattle.lobby_guests.specs.Places.{is_gone, judged, IsFair}
+use Rattle.lobby_guests.specs.Roles.{role_at}
+
+-- what a connection is that is to be closed or not, and has this number at the desk
+abbrev pub role_of : Desk → Bool → Option ℕ → Role
+role_of desk true number = Gone
+role_of desk false None = Newcomer
+role_of desk false (Some c) = role_at desk c
+
+-- a connection's place
+abbrev pub place_of : {S : Type 0} → Desk → Guest S → Place
+place_of desk guest = record { address = guest.origin.address; role = role_of desk guest.is_lost guest.number; since = guest.came_at }
+
+-- A connection goes where its place has nobody any more; nothing else changes.
+pub record Yields {S : Type 0} (place : Place) (old new : Guest S) : Type 0 where
+  pub before : IsAsBefore old new
+  pub lost : new.is_lost ≡ (old.is_lost || is_gone place.role)
+  pub origin : new.origin ≡ old.origin
+  pub came : new.came_at ≡ old.came_at
+
+abbrev pub AreYielding : {S : Type 0} → List Place → List (Guest S) → List (Guest S) → Type 0
+AreYielding [] [] [] = Unit {0}
+AreYielding (p ∷ ps) (g ∷ gs) (h ∷ hs) = Yields p g h × AreYielding ps gs hs
+AreYielding _ _ _ = ⊥
+
+-- By these places those go who are to make room.
+pub record YieldAt {S : Type 0} (at from : ℕ) (places : List Place) (old new : List (Guest S)) : Type 0 where
+  pub yields : AreYielding (judged at from places) old new
+  pub fair : IsFair at from places (judged at from places)
+
+-- Connections are judged: those are to be closed who are to make room, and nothing else changes.
+pub record AreSeated {S : Type 0} (at from : ℕ) (desk : Desk) (old new : List (Guest S)) : Type 0 where
+  pub before : AllZip IsAsBefore old new
+  pub judged_so : map (place_of desk) new ≡ judged at from (map (place_of desk) old)
+  pub fair : IsFair at from (map (place_of desk) old) (map (place_of desk) new)
+
+-- The same where it is due, and else nothing changes.
+pub record AreSeatedIf {S : Type 0} (is_due : Bool) (at from : ℕ) (desk : Desk) (old new : List (Guest S)) : Type 0 where
+  pub before : AllZip IsAsBefore old new
+  pub seats : is_due ≡ true → AreSeated at from desk old new

@@ -1,0 +1,214 @@
+//! Who has a place, and who makes room for whom.
+ghost use Rattle.std.specs.Prelude.{ℕ, ◌≡◌, ◌-◌, ◌&&◌, None, count_by, IfOk, OnOk};
+ghost use Rattle.lobby_guests.specs.Places.{is_gone, is_at, is_in, counted, count_of, leave, beyond, trim, make_room, room_at, room_for, each_room, in_time, most_nameless, judged, IsFair};
+
+use std::alloc::{AllocError, Global};
+
+/// How a connection stands.
+#[derive(Clone, Copy)]
+pub enum Role {
+    /// It is to be closed.
+    Gone,
+    /// It acts for a player.
+    Player,
+    /// It acts for nobody, and watches a game or is told of the table.
+    Watcher,
+    /// It acts for nobody, and watches nothing.
+    Newcomer,
+}
+
+/// A connection's place.
+#[derive(Clone, Copy)]
+pub struct Place {
+    /// The address that it counts for, if for any.
+    pub address: Option<u64>,
+    pub role: Role,
+    /// When it came, in milliseconds.
+    pub since: u64,
+}
+
+// Which connections are counted.
+#[derive(Clone, Copy)]
+enum Class {
+    Gone,
+    Players,
+    Nameless,
+    Watchers,
+    Newcomers,
+    /// Newcomers at a moment who came so many milliseconds before it.
+    Aged(u64, u64),
+}
+
+// A newcomer who is no watcher has so many milliseconds.
+const PATIENCE: u64 = 20_000;
+
+// One who came so many milliseconds ago makes room before a watcher does.
+const CHANCE: u64 = 5_000;
+
+const WATCHERS_MOST: usize = 500;
+
+const AN_ADDRESS_MOST: usize = 32;
+
+// So many nameless connections may be there beside so many that act for players.
+fn most_nameless(players: usize) -> usize
+    ensures { result ≡ most_nameless players }
+{
+    1_000usize.saturating_sub(players).min(600).max(40)
+}
+
+/// Whether a connection is to be closed.
+pub(crate) fn is_gone(role: Role) -> bool
+    ensures { result ≡ is_gone role }
+{
+    matches!(role, Role::Gone)
+}
+
+fn is_at(place: &Place, address: Option<u64>) -> bool
+    ensures { result ≡ is_at address place.now }
+{
+    match (address, place.address) {
+        (None, _) => true,
+        (Some(wanted), Some(found)) => found == wanted,
+        (Some(_), None) => false,
+    }
+}
+
+fn is_in(place: &Place, class: Class) -> bool
+    ensures { result ≡ is_in class place.now }
+{
+    match class {
+        Class::Gone => is_gone(place.role),
+        Class::Players => matches!(place.role, Role::Player),
+        Class::Nameless => matches!(place.role, Role::Watcher | Role::Newcomer),
+        Class::Watchers => matches!(place.role, Role::Watcher),
+        Class::Newcomers => matches!(place.role, Role::Newcomer),
+        Class::Aged(at, age) => {
+            matches!(place.role, Role::Newcomer) && at.saturating_sub(place.since) >= age
+        }
+    }
+}
+
+fn is_counted(place: &Place, address: Option<u64>, class: Class) -> bool
+    ensures { result ≡ counted address class place.now }
+{
+    is_at(place, address) && is_in(place, class)
+}
+
+fn count(places: &[Place], address: Option<u64>, class: Class) -> usize
+    ensures { result ≡ count_by (counted address class) places.now }
+{
+    places
+        .iter()
+        .filter(|place| is_counted(place, address, class))
+        .count()
+}
+
+// The first of them, so many at most, are to be closed.
+fn leave(places: &mut [Place], address: Option<u64>, class: Class, count: usize)
+    ensures { places.new ≡ leave (counted address class) count places.old }
+{
+    let mut left = count;
+    for place in places.iter_mut() {
+        if left > 0 && is_counted(place, address, class) {
+            place.role = Role::Gone;
+            left -= 1;
+        }
+    }
+}
+
+// All but the first of them, so many at most, are to be closed.
+fn leave_beyond(places: &mut [Place], address: Option<u64>, class: Class, most: usize)
+    ensures { places.new ≡ beyond (counted address class) most places.old }
+{
+    let mut left = most;
+    for place in places.iter_mut() {
+        if is_counted(place, address, class) {
+            if left > 0 {
+                left -= 1;
+            } else {
+                place.role = Role::Gone;
+            }
+        }
+    }
+}
+
+// The first of a class are to be closed, as many as are nameless beyond so many.
+fn trim(places: &mut [Place], address: Option<u64>, class: Class, most: usize)
+    ensures { places.new ≡ trim address class most places.old }
+{
+    let excess = count(places, address, Class::Nameless).saturating_sub(most);
+    leave(places, address, class, excess);
+}
+
+// Nameless connections are to be closed until so many are left: first newcomers who had their chance, then watchers, then the
+// other newcomers; of each who came first.
+fn make_room(places: &mut [Place], address: Option<u64>, most: usize, at: u64)
+    ensures { places.new ≡ make_room address most at places.old }
+{
+    trim(places, address, Class::Aged(at, CHANCE), most);
+    trim(places, address, Class::Watchers, most);
+    trim(places, address, Class::Newcomers, most);
+}
+
+// The same at an address.
+fn room_at(places: &mut [Place], address: Option<u64>, at: u64)
+    ensures { places.new ≡ room_at at address places.old }
+{
+    if let Some(address) = address {
+        make_room(places, Some(address), AN_ADDRESS_MOST, at);
+    }
+}
+
+// The same at the address of a nameless connection.
+fn room_for(places: &mut [Place], place: &Place, at: u64)
+    ensures { places.new ≡ room_for at place.now places.old }
+{
+    if is_in(place, Class::Nameless) {
+        room_at(places, place.address, at);
+    }
+}
+
+// The same at each address.
+fn each_room(places: &mut [Place], all: &[Place], at: u64)
+    ensures { places.new ≡ each_room at all.now places.old }
+{
+    for place in all {
+        room_for(places, place, at);
+    }
+}
+
+fn in_time(places: &mut [Place], at: u64, from: u64)
+    ensures { places.new ≡ in_time at from places.old }
+{
+    if at.saturating_sub(from) >= PATIENCE {
+        leave(places, None, Class::Aged(at, PATIENCE), places.len());
+    }
+}
+
+// Which of these connections are to be closed, and how many of them for want of room.
+fn judge_all(alloc: Global, places: &mut [Place], at: u64, from: u64) -> Result<usize, AllocError>
+    ensures judged { OnOk result (places.new ≡ judged at from places.old) }
+    ensures count { IfOk result (λ count. count ≡ count_of None Class.Gone places.new
+        - count_of None Class.Gone (in_time at from places.old)) }
+{
+    in_time(places, at, from);
+    let late = count(places, None, Class::Gone);
+    leave_beyond(places, None, Class::Watchers, WATCHERS_MOST);
+    let all = places.to_vec(alloc)?;
+    each_room(places, all.as_slice(), at);
+    let most = most_nameless(count(places, None, Class::Players));
+    make_room(places, None, most, at);
+    Ok(count(places, None, Class::Gone).saturating_sub(late))
+}
+
+/// Which of these connections, in the order in which they came, are to be closed at a moment, in milliseconds: these have
+/// `Role::Gone` then. Whoever came before the moment `from` has his time from then on. It answers how many are to be closed for
+/// want of room.
+pub fn judge(alloc: Global, places: &mut [Place], at: u64, from: u64) -> Result<usize, AllocError>
+    ensures judged { OnOk result (places.new ≡ judged at from places.old) }
+    ensures fair { OnOk result (IsFair at from places.old places.new) }
+    ensures count { IfOk result (λ count. count ≡ count_of None Class.Gone places.new
+        - count_of None Class.Gone (in_time at from places.old)) }
+{
+    judge_all(alloc, places, at, from)
+}
