@@ -91,7 +91,8 @@ export class TableView {
   async watchOwn() {
     if (this.root.hidden || !this.app.me() || !this.app.reachable()) return;
     for (const row of this.groups().own.slice(0, MOST_OWN)) {
-      if (this.app.watched.has(row.number)) continue;
+      // (one that was left for the table a moment ago is still watched, and its row knows no side yet)
+      if (this.app.watched.has(row.number) && row.side) continue;
       const answer = await this.app.watch(row.number);
       const standing = answer[0].startsWith('ok ') && readStanding(answer.slice(1));
       const now = this.rows.get(row.number);
