@@ -16,7 +16,7 @@ const WHAT = {
   flag: 'call', drop: 'order', claim: 'claim',
 };
 
-/** Whether a game that stands as `now` shows an act whose answer was lost (docs/PROTOCOL.md, "After a broken
+/** Whether a game that stands as `now` shows an act whose answer was lost (docs/client/PROTOCOL.md, "After a broken
  * connection"), null where that cannot be told; `act` has what was sent, and the ply and the opponent's time of then. */
 const SHOWS = {
   move: (now, act, game) => game.wasMade(act),

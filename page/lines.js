@@ -1,4 +1,4 @@
-// Reads the lines of docs/LOBBY.md and docs/PROTOCOL.md. Nothing here knows a rule of chess.
+// Reads the lines of docs/client/LOBBY.md and docs/client/PROTOCOL.md. Nothing here knows a rule of chess.
 
 export function linesOf(message) {
   const lines = message.split('\n');

@@ -2,7 +2,7 @@
 """The part `lives` of `line_player`'s stored run: `lives_rows.py stdin` prints its plans, `lives_rows.py stdout` what
 came of them.
 
-What came is worked out here by the calls of docs/DISK.md, and never taken from the program. An opening syncs and reads
+What came is worked out here by the calls of docs/design/DISK.md, and never taken from the program. An opening syncs and reads
 the two header slots and each sector of the journal; a commit of w sectors, of four entries at most, makes w writes, a
 sync, the header's write and a sync. A batch without an entry makes no call. The call that the device does not serve
 fails and is counted, the first write that fails is pending, and a commit shows after a stop just where its last sync was

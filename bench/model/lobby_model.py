@@ -1,5 +1,5 @@
 #!/usr/bin/python3
-"""A plain lobby: it speaks the protocol of docs/LOBBY.md to browsers, over a WebSocket on loopback, and serves the
+"""A plain lobby: it speaks the protocol of docs/client/LOBBY.md to browsers, over a WebSocket on loopback, and serves the
 files of page/ with the policy header. The game server behind it is the model of bench/model/model.py.
 
     lobby_model.py --players FILE [--journal FILE] [--port P] [--page FOLDER] [--control]

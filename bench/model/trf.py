@@ -1,5 +1,5 @@
 #!/usr/bin/env python3
-"""What chess_pairings writes, by docs/NIGHT.md, "A round": trf.py trf --players FILE --archive FILE --rounds CSV,GAMES .. prints
+"""What chess_pairings writes, by docs/use/NIGHT.md, "A round": trf.py trf --players FILE --archive FILE --rounds CSV,GAMES .. prints
 the report of a tournament. Of its other words there is no model."""
 
 import argparse
@@ -15,7 +15,7 @@ OPTIONS = {'012': 'name', '022': 'city', '032': 'federation', '042': 'begins', '
 
 
 def players_in(path):
-    """The full names of a players' file by the names (docs/CLUB.md, "Players"), of those who are no arbiters, in its order."""
+    """The full names of a players' file by the names (docs/use/CLUB.md, "Players"), of those who are no arbiters, in its order."""
     with open(path, encoding='utf-8', newline='\n') as file:
         lines = [line for line in file.read().split('\n') if line and not line.startswith('#')]
     rows = [line.split(' ', 3) for line in lines]

@@ -19,7 +19,7 @@ use chess_bits::{Colour, Kind, Square};
 use std::marker::Model;
 
 /// A valid chess position: the men, the side to move, castling rights, en passant target and counters
-/// (`docs/LAWS.md`, "Valid positions").
+/// (`docs/design/LAWS.md`, "Valid positions").
 #[derive(Clone, Copy)]
 pub struct Board {
     men: Men,

@@ -15,7 +15,7 @@ pub enum Article {
     A512,
     /// 5.2.1: stalemate.
     A521,
-    /// 5.2.2: a dead position. Only listed material is found (`docs/LAWS.md`).
+    /// 5.2.2: a dead position. Only listed material is found (`docs/design/LAWS.md`).
     A522,
     /// 5.2.3: the players agree on a draw.
     A523,

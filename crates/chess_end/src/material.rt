@@ -58,7 +58,7 @@ fn are_kings_and_bishops(men: &Men) -> bool
 
 /// Whether the men that are left are listed as dead material (FIDE article 5.2.2): both kings alone, the kings and one
 /// knight, or the kings and any number of bishops of either side, all on squares of one colour. The list is this
-/// project's own (`docs/LAWS.md`).
+/// project's own (`docs/design/LAWS.md`).
 pub fn is_listed_dead(board: &Board) -> bool
     ensures { IsTrue result ↔ IsListedDead board.now.placement }
 {

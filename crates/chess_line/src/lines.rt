@@ -39,7 +39,7 @@ fn read(text: &str) -> Option<Request>
 }
 
 /// What a line of at most 255 bytes asks for, given without the line feed at its end and without one carriage return
-/// before that. `None` exactly where it is longer, or has no form of the protocol's (`docs/PROTOCOL.md`).
+/// before that. `None` exactly where it is longer, or has no form of the protocol's (`docs/client/PROTOCOL.md`).
 pub fn parse(line: &[u8]) -> Option<Request>
     ensures some { IfSome result (IsLineOf line.now) }
     ensures none { IfNone result ((other : Request) → ¬ IsLineOf line.now other) }

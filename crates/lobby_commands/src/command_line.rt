@@ -25,7 +25,7 @@ shows all, and /health with figures as Prometheus reads them. /live.pgn is the f
 It goes on until it is ended: kill it, by any signal. Nothing is lost by that.
 
 The line is not encrypted. On an address other than 127.0.0.1 whoever is on the way reads
-along, links too: docs/LOBBY.md has how to put nginx in front. Name nginx's address by
+along, links too: docs/client/LOBBY.md has how to put nginx in front. Name nginx's address by
 --proxy then, and have it tell each browser's own by X-Forwarded-For.
 
 Limits: 1,000 browsers at a time, of them 600 that have shown no link, 500 that watch, and

@@ -14,7 +14,7 @@ It has the lobby at --lobby pair each board of --pairings, at the board's start,
 whose token or link --token-file has, a file that its owner alone may read; and notes in
 --round-file which game is which board's; it makes that file where there is none. It ends once
 each board has its game, and may be killed at any moment and given again: no board gets a second
-game, but in the cases of which docs/NIGHT.md tells. While the lobby or its server is not there
+game, but in the cases of which docs/use/NIGHT.md tells. While the lobby or its server is not there
 it waits for it.
 
 Where it cannot know which game is a board's, or whether it has one, it says so, leaves that

@@ -31,11 +31,11 @@ abbrev pub second_text : Option Period → ℕ → List ℕ
 second_text None increment = []
 second_text (Some p) increment = codes ":" ++ span_text p.seconds increment
 
--- the times as the tag TimeControl has them (docs/TEXTS.md, "PGN")
+-- the times as the tag TimeControl has them (docs/client/TEXTS.md, "PGN")
 unfoldable pub times_text : Times → List ℕ
 times_text t = moves_text t.period ++ (span_text t.initial t.increment ++ second_text t.period t.increment)
 
--- the times that the server takes (docs/PROTOCOL.md, "Answers")
+-- the times that the server takes (docs/client/PROTOCOL.md, "Answers")
 abbrev pub is_between : ℕ → ℕ → ℕ → Bool
 is_between low high n = nat_le low n && nat_le n high
 

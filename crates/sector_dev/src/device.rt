@@ -37,7 +37,7 @@ pub enum Fate {
     Unreadable,
 }
 
-/// Sectors of 512 bytes. Its clauses speak of the disk model: `docs/DISK.md` in words, `specs/Device.antt` for what a
+/// Sectors of 512 bytes. Its clauses speak of the disk model: `docs/design/DISK.md` in words, `specs/Device.antt` for what a
 /// caller can know, `specs/Calls.antt` for what each call does, `specs/Image.antt` for what a crash may leave. A sector
 /// is named by its number, which callers keep below `sectors()`.
 pub trait Device {

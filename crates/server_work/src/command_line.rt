@@ -85,7 +85,7 @@ prints
 
 const HELP_OF_RUN: &str = "\
 One session over the journal: each line of standard input gets its answer on standard
-output, as docs/PROTOCOL.md tells. What is answered by ok or fallen lasts, but for a
+output, as docs/client/PROTOCOL.md tells. What is answered by ok or fallen lasts, but for a
 name, which is the session's: it stands in the file before the answer is written.
 
   name NAME     who sends the lines that follow: 1 to 16 of A-Z a-z 0-9 _
