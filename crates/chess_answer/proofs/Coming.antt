@@ -181,7 +181,7 @@ opened-comes table at opening (Some p) is =
 
 player-comes : (table : TableState) (at : ℕ) (name : List ℕ) (parsed : Parsed) (a : Act) → IsTable table
     → IsParsed table a parsed → Enters (Comes table) (player_verdict table at name parsed a)
-player-comes table at name parsed (act.Open colour initial increment fen period) is says =
+player-comes table at name parsed (act.NewGame colour initial increment fen period) is says =
     let opening = opening_for colour initial increment period name in
     Enters-first_of (Comes table)
     (refuse (not (are_times initial increment period)) BadTime ∷
@@ -196,7 +196,7 @@ player-comes table at name parsed (act.Join game) is says =
     (refuse (is_joined g) Taken ∷ refuse (is_some (side_of name g)) SamePlayer ∷ [])
     (Enter (entry g.number at (event.Join name)))
     (tt, (tt, tt)) (λ none. comes table game at g (event.Join name) found tt))
-player-comes table at name parsed (act.Move game ply text) is says =
+player-comes table at name parsed (act.Play game ply text) is says =
     Enters-in_seat (Comes table) table name game (move_verdict table at ply parsed.move)
     (λ g side found. move-comes table game at ply text.bytes parsed.move g side is found says.1)
 player-comes table at name parsed (act.Offer game) is says =
@@ -221,7 +221,7 @@ player-comes table at name parsed (act.Claim game ply fifty text) is says =
 player-comes table at name parsed (act.Flag game) is says =
     Enters-in_seat (Comes table) table name game (flag_verdict at) (λ g side found.
     running table game at g [] (Refuse FlagUp) found tt (λ none. tt))
-player-comes table at name parsed (act.Drop game) is says =
+player-comes table at name parsed (act.Remove game) is says =
     Enters-in_seat (Comes table) table name game (drop_verdict at) (λ g side found.
     Enters-first_of (Comes table) (refuse (is_joined g && not (is_over g)) NotOver ∷ [])
     (Enter (entry g.number at event.Drop)) (tt, tt) (λ none. comes table game at g event.Drop found tt))
@@ -237,11 +237,11 @@ verdict-comes : (table : TableState) (command : Command) (parsed : Parsed) → I
     → IsParsed table command.act parsed → Enters (Comes table) (verdict table command parsed)
 verdict-comes table command parsed is says =
     Enters-first_of (Comes table)
-    (refuse (nat_lt 4611686018427387903 command.moment) BadMoment ∷
+    (refuse (nat_lt 4611686018427387903 command.at) BadMoment ∷
     refuse (not (is_read command.act) && is_none command.who) NoName ∷ [])
-    (player_verdict table (effective table command.moment) (name_or_none command.who) parsed command.act)
+    (player_verdict table (effective table command.at) (name_or_none command.who) parsed command.act)
     (tt, (tt, tt))
-    (λ none. player-comes table (effective table command.moment) (name_or_none command.who) parsed command.act is says)
+    (λ none. player-comes table (effective table command.at) (name_or_none command.who) parsed command.act is says)
 
 pub law : LawOfComing
 law = λ table e is may.

@@ -95,4 +95,4 @@ IsReadReply table at _ line body = ⊥
 
 -- the answer to a command that is a read
 abbrev pub IsReply : TableState → Command → List ℕ → List ℕ → Type 0
-IsReply table command line body = IsReadReply table (effective table command.moment) command.act line body
+IsReply table command line body = IsReadReply table (effective table command.at) command.act line body

@@ -143,7 +143,7 @@ impl Board {
     }
 
     /// Whether the king of the side to move is attacked (FIDE article 3.9.1).
-    pub fn is_in_check(&self) -> bool
+    pub fn in_check(&self) -> bool
         ensures { IsTrue result ↔ IsInCheck self.now.placement self.now.side }
     {
         is_in_check(&self.men, self.side)

@@ -103,7 +103,7 @@ impl Clock {
 
     /// Whether the flag of the side on move has fallen: the running turn is at least as long as the time held, before
     /// any increment of a move that would end it (our own choice; FIDE article 6.9 says what follows).
-    pub fn has_fallen(&self, at: u64) -> bool
+    pub fn fallen(&self, at: u64) -> bool
         requires running { self.now.is_stopped ≡ false }
         requires from_start { self.now.since ≤ at }
         ensures { IsTrue result ↔ HasFallen self.now at }

@@ -28,7 +28,7 @@ pub fn after_move(board: &Board, times: u32, quiet: u32) -> Option<Ending>
     ensures none { IfNone result (IsRunning board.now times quiet) }
 {
     if !has_legal(board) {
-        Some(if board.is_in_check() {
+        Some(if board.in_check() {
             Ending {
                 result: won_by(board.side().other()),
                 article: Article::A511,

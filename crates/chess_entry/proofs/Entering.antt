@@ -267,10 +267,10 @@ open-enters table at colour initial increment period name start e h =
 
 player-enters : (table : TableState) (at : ℕ) (name : List ℕ) (parsed : Parsed) (a : Act) (e : Entry) →
     player_verdict table at name parsed a ≡ Enter e → Opens table e ⊎ Acts table e
-player-enters table at name parsed (act.Open colour initial increment fen period) e h =
+player-enters table at name parsed (act.NewGame colour initial increment fen period) e h =
     inl (open-enters table at colour initial increment period name parsed.start e h)
 player-enters table at name parsed (act.Join game) e h = inr (join-enters table game at name e h)
-player-enters table at name parsed (act.Move game ply text) e h =
+player-enters table at name parsed (act.Play game ply text) e h =
     inr (in_seat-entered table name game at (λ at. move_verdict table at ply parsed.move) e
     (move-enters table ply parsed.move) h)
 player-enters table at name parsed (act.Offer game) e h =
@@ -286,7 +286,7 @@ player-enters table at name parsed (act.Claim game ply fifty text) e h =
     (claim-enters table ply fifty (is_some text) parsed.move) h)
 player-enters table at name parsed (act.Flag game) e h =
     inr (in_seat-entered table name game at flag_verdict e (flag-enters table) h)
-player-enters table at name parsed (act.Drop game) e h =
+player-enters table at name parsed (act.Remove game) e h =
     inr (in_seat-entered table name game at drop_verdict e (drop-enters table) h)
 player-enters table at name parsed (act.Show game) e h = absurd (no_read (find_game game table.games) e h)
 player-enters table at name parsed (act.Fen game) e h = absurd (no_read (find_game game table.games) e h)
@@ -297,6 +297,6 @@ player-enters table at name parsed act.List e h = absurd (cc)
 pub verdict-enters : (table : TableState) (command : Command) (parsed : Parsed) (e : Entry) →
     verdict table command parsed ≡ Enter e → Opens table e ⊎ Acts table e
 verdict-enters table command parsed e h =
-    let in_range = passed (nat_lt 4611686018427387903 command.moment) _ _ e h in
+    let in_range = passed (nat_lt 4611686018427387903 command.at) _ _ e h in
     let named = passed (not (is_read command.act) && is_none command.who) _ _ e in_range.1 in
-    player-enters table (effective table command.moment) (name_or_none command.who) parsed command.act e named.1
+    player-enters table (effective table command.at) (name_or_none command.who) parsed command.act e named.1

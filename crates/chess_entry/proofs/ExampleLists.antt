@@ -12,7 +12,7 @@ use Rattle.arrayvec.specs.ArrayString.{ArrayString}
 use Rattle.rec_codec.specs.declared.limits.Limits.{Limits}
 use Rattle.rec_codec.specs.declared.record.Event.TheVariants as event
 use Rattle.rec_codec.specs.declared.record.Entry.{Entry}
-use Rattle.rec_codec.specs.Name.{IsName}
+use Rattle.player_name.specs.Name.{IsName}
 use Rattle.rec_codec.specs.Records.{entry}
 use Rattle.chess_entry.specs.declared.commands.Act.{Act}
 use Rattle.chess_entry.specs.declared.commands.Act.TheVariants as act
@@ -27,10 +27,10 @@ limits = record { games = 10; plies = 100 }
 
 -- an act by "A", or by "B"
 by_a : ℕ → Act → Command
-by_a moment wanted = record { moment = moment; who = Some (65 ∷ []); act = wanted }
+by_a moment wanted = record { at = moment; who = Some (65 ∷ []); act = wanted }
 
 by_b : ℕ → Act → Command
-by_b moment wanted = record { moment = moment; who = Some (66 ∷ []); act = wanted }
+by_b moment wanted = record { at = moment; who = Some (66 ∷ []); act = wanted }
 
 a-named : IsName (65 ∷ [])
 a-named = record { some = omega arith; short = omega arith; bytes = refl }
@@ -78,7 +78,7 @@ unfolding board_opens
 open-entered = record {
   earlier = limits;
   within = within;
-  command = by_a 0 (act.Open White 60 2 None None);
+  command = by_a 0 (act.NewGame White 60 2 None None);
   named = a-named;
   entered = record { parsed = parsed (Some initial) None; is_parsed = (refl, refl); is = refl };
 }
@@ -169,7 +169,7 @@ unfolding opens e2e4-text
 move-entered = record {
   earlier = limits;
   within = within;
-  command = by_a 500 (act.Move 1 0 e2e4-text);
+  command = by_a 500 (act.Play 1 0 e2e4-text);
   named = a-named;
   entered = record { parsed = parsed None (Some e2e4); is_parsed = (refl, e2e4-named); is = refl };
 }

@@ -13,7 +13,7 @@ use Rattle.chess_end.specs.declared.ending.GameResult.{GameResult}
 use Rattle.chess_end.specs.declared.ending.Ending.{Ending}
 use Rattle.chess_clock.specs.TimeControl.{TimeControl, IsTimeControl}
 use Rattle.chess_clock.specs.Held.{given_for}
-use Rattle.rec_codec.specs.Name.{IsName}
+use Rattle.player_name.specs.Name.{IsName}
 use Rattle.chess_entry.specs.State.{GameState, ply_of, position_of, seat_of, is_joined, is_over}
 use Rattle.chess_entry.specs.Outcome.{ending_after}
 use Rattle.chess_entry.specs.Verdict.{is_finished_at}

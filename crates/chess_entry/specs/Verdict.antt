@@ -218,11 +218,11 @@ in_seat table name number verdict =
 
 -- what a player's act meets
 abbrev pub player_verdict : TableState → ℕ → List ℕ → Parsed → Act → Verdict
-player_verdict table at name parsed (act.Open colour initial increment fen period) =
+player_verdict table at name parsed (act.NewGame colour initial increment fen period) =
     open_verdict table at (opening_for colour initial increment period name) (are_times initial increment period)
     parsed.start
 player_verdict table at name parsed (act.Join game) = in_game (join_verdict at name) (find_game game table.games)
-player_verdict table at name parsed (act.Move game ply text) =
+player_verdict table at name parsed (act.Play game ply text) =
     in_seat table name game (move_verdict table at ply parsed.move)
 player_verdict table at name parsed (act.Offer game) = in_seat table name game (offer_verdict at)
 player_verdict table at name parsed (act.Accept game) = in_seat table name game (accept_verdict at)
@@ -231,7 +231,7 @@ player_verdict table at name parsed (act.Resign game) = in_seat table name game 
 player_verdict table at name parsed (act.Claim game ply fifty text) =
     in_seat table name game (claim_verdict table at ply fifty (is_some text) parsed.move)
 player_verdict table at name parsed (act.Flag game) = in_seat table name game (flag_verdict at)
-player_verdict table at name parsed (act.Drop game) = in_seat table name game (drop_verdict at)
+player_verdict table at name parsed (act.Remove game) = in_seat table name game (drop_verdict at)
 player_verdict table at name parsed (act.Show game) = in_game (λ _. Read) (find_game game table.games)
 player_verdict table at name parsed (act.Fen game) = in_game (λ _. Read) (find_game game table.games)
 player_verdict table at name parsed (act.Pgn game) = in_game (λ _. Read) (find_game game table.games)
@@ -252,15 +252,15 @@ name_or_none (Some name) = name
 -- 23 and 2 come first
 abbrev pub verdict : TableState → Command → Parsed → Verdict
 verdict table command parsed = first_of
-    (refuse (nat_lt 4611686018427387903 command.moment) BadMoment ∷
+    (refuse (nat_lt 4611686018427387903 command.at) BadMoment ∷
     refuse (not (is_read command.act) && is_none command.who) NoName ∷ [])
-    (player_verdict table (effective table command.moment) (name_or_none command.who) parsed command.act)
+    (player_verdict table (effective table command.at) (name_or_none command.who) parsed command.act)
 
 -- What the command's text tells on this table.
 abbrev pub IsParsed : TableState → Act → Parsed → Type 0
-IsParsed table (act.Open colour initial increment fen period) parsed =
+IsParsed table (act.NewGame colour initial increment fen period) parsed =
     IsStartParsed (bytes_of fen) parsed.start × (parsed.move ≡ None)
-IsParsed table (act.Move game ply text) parsed =
+IsParsed table (act.Play game ply text) parsed =
     (parsed.start ≡ None) × IsMoveParsed (find_game game table.games) (Some text.bytes) parsed.move
 IsParsed table (act.Claim game ply fifty text) parsed =
     (parsed.start ≡ None) × IsMoveParsed (find_game game table.games) (bytes_of text) parsed.move

@@ -1,5 +1,5 @@
 ghost use Rattle.std.specs.Prelude.{◌≡◌, IfSome};
-ghost use Rattle.rec_codec.specs.Name.{IsName};
+ghost use Rattle.player_name.specs.Name.{IsName};
 ghost use Rattle.chess_entry.specs.Verdict.{is_read};
 
 use arrayvec::ArrayString;
@@ -97,7 +97,7 @@ pub const GREATEST_MOMENT: u64 = 4_611_686_018_427_387_903;
 /// An act, the moment at which it came in milliseconds, and who asks, if that is known.
 #[derive(Clone, Copy)]
 pub struct Command {
-    pub moment: u64,
+    pub at: u64,
     pub who: Option<Name>,
     pub act: Act,
 }

@@ -12,7 +12,7 @@ use Rattle.chess_clock.specs.Held.{given_for}
 use Rattle.chess_clock.specs.ClockState.{on_move_after, TimesFit, HasFallen, time_of}
 use Rattle.chess_clock.proofs.Bounds.{given_for-at_most}
 use Rattle.chess_end.specs.declared.ending.Ending.{Ending}
-use Rattle.rec_codec.specs.Name.{IsName}
+use Rattle.player_name.specs.Name.{IsName}
 use Rattle.rec_codec.specs.declared.record.Opening.{Opening}
 use Rattle.chess_entry.specs.State.{SeatState, GameState, position_of, ply_of, seat_of, is_joined, is_over}
 use Rattle.chess_entry.specs.Outcome.{ending_after}

@@ -282,7 +282,7 @@ impl Game {
         requires { IsRunningAt self.now at }
         ensures { result ≡ has_fallen self.now at }
     {
-        self.sides.clock.has_fallen(at)
+        self.sides.clock.fallen(at)
     }
 
     /// Whether a claim is correct: for the position that stands, or the one that a stated move would bring. The move is

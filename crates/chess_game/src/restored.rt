@@ -3,7 +3,7 @@ ghost use Rattle.chess_bits.specs.declared.men.Colour.TheVariants.{White, Black}
 ghost use Rattle.chess_board.specs.declared.moves.Move.{Move};
 ghost use Rattle.chess_clock.specs.TimeControl.{time_control, IsTimeControl};
 ghost use Rattle.chess_clock.specs.Held.{given_for};
-ghost use Rattle.rec_codec.specs.Name.{IsName};
+ghost use Rattle.player_name.specs.Name.{IsName};
 ghost use Rattle.chess_entry.specs.State.{position_of, seat_of, is_joined, is_over};
 ghost use Rattle.chess_entry.specs.Follow.{completed};
 ghost use Rattle.chess_entry.specs.Bounds.{IsStart, IsByAct, Agrees, ending_by_last, claims_most, IsHeldWithin, IsQuiet, IsWaiting, AreDifferent};

@@ -7,8 +7,8 @@ use Rattle.std.proofs.lemmas.List.Elements.{All-head, All-tail}
 use Rattle.rec_codec.specs.declared.record.Entry.{Entry}
 use Rattle.chess_entry.specs.declared.commands.Command.{Command}
 use Rattle.chess_entry.specs.State.{TableState}
-use Rattle.chess_line.specs.declared.lines.Request.{Request}
-use Rattle.chess_line.specs.declared.lines.Request.TheVariants.{Called, Act}
+use Rattle.chess_line.specs.declared.lines.Line.{Line}
+use Rattle.chess_line.specs.declared.lines.Line.TheVariants.{Called, Act}
 use Rattle.chess_answer.specs.declared.reads.Reply.{Reply}
 use Rattle.chess_sessions.specs.declared.turn.TurnLine.{TurnLine}
 use Rattle.chess_sessions.specs.Session.{Said, said}
@@ -81,7 +81,7 @@ Later at commands taken before merged after =
     IsAnswered table commands replies entries after → AreAnswers at taken (map said replies) answers →
     AreAnsweredAfter before table merged answers after
 
-first-answered : (at session sid : ℕ) (line : Option Request) (name : Option (List ℕ)) (commands : List Command)
+first-answered : (at session sid : ℕ) (line : Option Line) (name : Option (List ℕ)) (commands : List Command)
     (taken : List TurnLine) (before merged : List Merged) (table after : TableState) (replies : List Reply)
     (entries : List Entry) (answers : List Said) → name ≡ name_from session None before →
     IsAnswered table (asked at name line ++ commands) replies entries after →
@@ -101,7 +101,7 @@ first-answered at session sid (Some (Act act)) name commands taken before merged
       (
         reply,
         h.first,
-        subst (λ who. IsOutcome table (record { moment = at; who = who; act = act }) reply h.first h.between) is h.outcome,
+        subst (λ who. IsOutcome table (record { at = at; who = who; act = act }) reply h.first h.between) is h.outcome,
         sym first,
       ),
       later h.between replies h.others k.2 h.rest (subst (λ rs. AreAnswers at taken rs k.2) (sym others) k.5),

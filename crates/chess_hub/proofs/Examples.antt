@@ -1,8 +1,8 @@
 -- Worked lists of calls, computed: which lines the turns take, whose they are, and what the texts are.
 use Rattle.std.specs.Prelude.{ℕ, ◌≡◌, true, false, List, [], ◌∷◌, ◌++◌, Option, Some, None, map, codes, refl}
 use Rattle.std.proofs.Common.{replicate}
-use Rattle.chess_line.specs.declared.lines.Request.{Request}
-use Rattle.chess_line.specs.declared.lines.Request.TheVariants.{Called}
+use Rattle.chess_line.specs.declared.lines.Line.{Line}
+use Rattle.chess_line.specs.declared.lines.Line.TheVariants.{Called}
 use Rattle.chess_sessions.specs.Session.{Said, farewell}
 use Rattle.chess_sessions.specs.Turn.{SessionLine, session_line, turn_lines}
 use Rattle.chess_sessions.specs.Answers.{alone}
@@ -14,7 +14,7 @@ ended : List ℕ → List ℕ
 ended text = text ++ 10 ∷ []
 
 -- a line of the merged list
-line : ℕ → ℕ → Option Request → Merged
+line : ℕ → ℕ → Option Line → Merged
 line session at read = record { session = session; at = at; line = read }
 
 -- what a turn takes of the sessions with these numbers

@@ -5,8 +5,8 @@ use Rattle.std.specs.List.Sorted.{IsStrictlyIncreasing}
 use Rattle.session_lines.specs.Lines.{lines_of, has_long_line}
 use Rattle.rec_codec.specs.declared.record.Entry.{Entry}
 use Rattle.chess_entry.specs.State.{TableState}
-use Rattle.chess_line.specs.declared.lines.Request.{Request}
-use Rattle.chess_line.specs.declared.lines.Request.TheVariants.{Called, Act}
+use Rattle.chess_line.specs.declared.lines.Line.{Line}
+use Rattle.chess_line.specs.declared.lines.Line.TheVariants.{Called, Act}
 use Rattle.chess_answer.specs.declared.reads.Reply.{Reply}
 use Rattle.chess_sessions.specs.Session.{Said, said, farewell, is_none_waiting}
 use Rattle.chess_sessions.specs.Turn.{Waiting, SessionLine, turn_lines, IsReading}
@@ -20,7 +20,7 @@ use Rattle.chess_hub.specs.Calls.{Call, Connected, Closed, Fed, Turned, Given, i
 pub record Merged : Type 0 where
   pub session : ℕ
   pub at : ℕ
-  pub line : Option Request
+  pub line : Option Line
 
 -- how many lines were taken of a session
 abbrev pub taken_count : ℕ → List Merged → ℕ
@@ -76,10 +76,10 @@ name_from session name (m ∷ merged) =
 
 -- The answer to a line of a session with this name, and the table after it: to an act by the verdict on the table
 -- before.
-abbrev pub IsLineAnswered : TableState → Option (List ℕ) → ℕ → Option Request → Said → TableState → Type 0
+abbrev pub IsLineAnswered : TableState → Option (List ℕ) → ℕ → Option Line → Said → TableState → Type 0
 IsLineAnswered table name at (Some (Act act)) answer after =
     (reply : Reply) × (entries : List Entry)
-    × IsOutcome table (record { moment = at; who = name; act = act }) reply entries after × (answer ≡ said reply)
+    × IsOutcome table (record { at = at; who = name; act = act }) reply entries after × (answer ≡ said reply)
 IsLineAnswered table name at (Some (Called given)) answer after =
     (own_answer at (Some (Called given)) ≡ Some answer.line) × (answer.body ≡ []) × (after ≡ table)
 IsLineAnswered table name at None answer after =

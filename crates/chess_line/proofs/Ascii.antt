@@ -8,15 +8,15 @@ use Rattle.std.proofs.lemmas.Fmt.{IsAscii-decimal}
 use Rattle.std.proofs.lemmas.List.Elements.{All-weaker}
 use Rattle.std.proofs.lemmas.Str.{IsAscii-append}
 use Rattle.std.proofs.lemmas.Str.Ascii.{IsAscii-from_all, IsAscii-nil, IsAscii-cons}
-use Rattle.rec_codec.proofs.NameLemmas.{IsAscii-name_bytes}
+use Rattle.player_name.proofs.NameLemmas.{IsAscii-name_bytes}
 use Rattle.chess_bits.specs.declared.men.Colour.{Colour}
 use Rattle.chess_bits.specs.declared.men.Colour.TheVariants.{White, Black}
 use Rattle.arrayvec.specs.ArrayString.{ArrayString}
 use Rattle.chess_entry.specs.declared.commands.Act.{Act}
 use Rattle.chess_entry.specs.declared.commands.Act.TheVariants as acts
 use Rattle.chess_entry.specs.Words.{colour_word}
-use Rattle.chess_line.specs.declared.lines.Request.{Request}
-use Rattle.chess_line.specs.declared.lines.Request.TheVariants as lines
+use Rattle.chess_line.specs.declared.lines.Line.{Line}
+use Rattle.chess_line.specs.declared.lines.Line.TheVariants as lines
 use Rattle.chess_line.specs.Fields.{IsNumber, IsField, IsRest, claim_word, times_text, AreTimes, optional}
 use Rattle.chess_line.specs.Line.{act_fields, line_fields, IsSayable, IsSayableLine, HasForm}
 
@@ -77,9 +77,9 @@ text_fields None h = tt
 text_fields (Some text) h = (field_ascii text.bytes h, tt)
 
 act_ascii : (act : Act) → IsSayable act → AreAscii (act_fields act)
-act_ascii (acts.Open colour initial increment fen period) h =
+act_ascii (acts.NewGame colour initial increment fen period) h =
     (plain (codes "open") refl, (colour_ascii colour, (times_ascii initial period h.0, (number_ascii increment h.1, rest_fields fen h.2))))
-act_ascii (acts.Move game ply text) h =
+act_ascii (acts.Play game ply text) h =
     (plain (codes "move") refl, (number_ascii game h.0, (number_ascii ply h.1, (field_ascii text.bytes h.2, tt))))
 act_ascii (acts.Claim game ply fifty text) h =
     (plain (codes "claim") refl, (number_ascii game h.0, (number_ascii ply h.1, (claim_ascii fifty, text_fields text h.2))))
@@ -90,14 +90,14 @@ act_ascii (acts.Accept game) h = (plain (codes "accept") refl, (number_ascii gam
 act_ascii (acts.Decline game) h = (plain (codes "decline") refl, (number_ascii game h, tt))
 act_ascii (acts.Resign game) h = (plain (codes "resign") refl, (number_ascii game h, tt))
 act_ascii (acts.Flag game) h = (plain (codes "flag") refl, (number_ascii game h, tt))
-act_ascii (acts.Drop game) h = (plain (codes "drop") refl, (number_ascii game h, tt))
+act_ascii (acts.Remove game) h = (plain (codes "drop") refl, (number_ascii game h, tt))
 act_ascii (acts.Show game) h = (plain (codes "show") refl, (number_ascii game h, tt))
 act_ascii (acts.Fen game) h = (plain (codes "fen") refl, (number_ascii game h, tt))
 act_ascii (acts.Pgn game) h = (plain (codes "pgn") refl, (number_ascii game h, tt))
 
-fields_ascii : (line : Request) → IsSayableLine line → AreAscii (line_fields line)
+fields_ascii : (line : Line) → IsSayableLine line → AreAscii (line_fields line)
 fields_ascii (lines.Called name) h = (plain (codes "name") refl, (IsAscii-name_bytes name h.bytes, tt))
 fields_ascii (lines.Act act) h = act_ascii act h
 
-pub line_ascii : (text : List ℕ) (line : Request) → HasForm text line → IsAscii text
+pub line_ascii : (text : List ℕ) (line : Line) → HasForm text line → IsAscii text
 line_ascii text line h = rw (h.spelled) (joined_ascii (line_fields line) (fields_ascii line h.sayable))

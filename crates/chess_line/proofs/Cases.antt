@@ -11,8 +11,8 @@ use Rattle.chess_entry.specs.Parsed.{bytes_of}
 use Rattle.chess_entry.specs.declared.commands.Act.{Act}
 use Rattle.chess_entry.specs.declared.commands.Act.TheVariants as acts
 use Rattle.chess_entry.specs.Words.{colour_word}
-use Rattle.chess_line.specs.declared.lines.Request.{Request}
-use Rattle.chess_line.specs.declared.lines.Request.TheVariants as lines
+use Rattle.chess_line.specs.declared.lines.Line.{Line}
+use Rattle.chess_line.specs.declared.lines.Line.TheVariants as lines
 use Rattle.chess_line.specs.Fields.{IsNumber, IsField, IsRest, claim_word, times_text, AreTimes, optional}
 use Rattle.chess_line.specs.Cut.{Unspaced, joined}
 use Rattle.chess_line.specs.Line.{act_fields, IsSayable, IsLineAfter, HasForm}
@@ -30,7 +30,7 @@ act_told word game =
     else if bytes_eq word (codes "decline") then Some (acts.Decline game)
     else if bytes_eq word (codes "resign") then Some (acts.Resign game)
     else if bytes_eq word (codes "flag") then Some (acts.Flag game)
-    else if bytes_eq word (codes "drop") then Some (acts.Drop game)
+    else if bytes_eq word (codes "drop") then Some (acts.Remove game)
     else if bytes_eq word (codes "show") then Some (acts.Show game)
     else if bytes_eq word (codes "fen") then Some (acts.Fen game)
     else if bytes_eq word (codes "pgn") then Some (acts.Pgn game)
@@ -52,7 +52,7 @@ is_told (acts.Accept g) word game s small e = told_by (codes "accept") acts.Acce
 is_told (acts.Decline g) word game s small e = told_by (codes "decline") acts.Decline word game g refl s small e
 is_told (acts.Resign g) word game s small e = told_by (codes "resign") acts.Resign word game g refl s small e
 is_told (acts.Flag g) word game s small e = told_by (codes "flag") acts.Flag word game g refl s small e
-is_told (acts.Drop g) word game s small e = told_by (codes "drop") acts.Drop word game g refl s small e
+is_told (acts.Remove g) word game s small e = told_by (codes "drop") acts.Remove word game g refl s small e
 is_told (acts.Show g) word game s small e = told_by (codes "show") acts.Show word game g refl s small e
 is_told (acts.Fen g) word game s small e = told_by (codes "fen") acts.Fen word game g refl s small e
 is_told (acts.Pgn g) word game s small e = told_by (codes "pgn") acts.Pgn word game g refl s small e
@@ -65,14 +65,14 @@ pub record Opening (rest : List ℕ) (act : Act) : Type 0 where
   pub increment : ℕ
   pub fen : Option ArrayString
   pub period : Option (ℕ × ℕ)
-  pub is : act ≡ acts.Open colour initial increment fen period
+  pub is : act ≡ acts.NewGame colour initial increment fen period
   pub times : AreTimes initial period
   pub number : IsNumber increment
   pub text : IfSome fen (λ text. IsRest text.bytes)
   pub spelled : rest ≡ join_with_byte 32 (colour_word colour ∷ times_text initial period ∷ decimal increment ∷ optional fen)
 
 pub opening_after : (rest : List ℕ) (act : Act) → IsLineAfter (codes "open") rest (lines.Act act) → Opening rest act
-opening_after rest (acts.Open colour initial increment fen period) h =
+opening_after rest (acts.NewGame colour initial increment fen period) h =
     let e = h.spelled in
     record {
       colour = colour;
@@ -141,9 +141,9 @@ unspaced text e = clear_without 32 text e
 
 pub game_after : (word rest : List ℕ) (act : Act) → Unspaced word → word ≢ codes "open" → word ≢ codes "move" → word ≢ codes "claim" →
     IsLineAfter word rest (lines.Act act) → OfGame word rest act
-game_after word rest (acts.Open colour initial increment fen period) h o m k is =
+game_after word rest (acts.NewGame colour initial increment fen period) h o m k is =
     absurd (o (same_parts 32 word (codes "open") rest _ h (unspaced (codes "open") refl) is.spelled).front)
-game_after word rest (acts.Move game ply text) h o m k is =
+game_after word rest (acts.Play game ply text) h o m k is =
     absurd (m (same_parts 32 word (codes "move") rest _ h (unspaced (codes "move") refl) is.spelled).front)
 game_after word rest (acts.Claim game ply fifty text) h o m k is =
     absurd (k (same_parts 32 word (codes "claim") rest _ h (unspaced (codes "claim") refl) is.spelled).front)
@@ -161,8 +161,8 @@ game_after word rest (acts.Resign g) h o m k is =
     of_game word rest (codes "resign") g (acts.Resign g) h (unspaced (codes "resign") refl) is.sayable is.sayable refl is.spelled
 game_after word rest (acts.Flag g) h o m k is =
     of_game word rest (codes "flag") g (acts.Flag g) h (unspaced (codes "flag") refl) is.sayable is.sayable refl is.spelled
-game_after word rest (acts.Drop g) h o m k is =
-    of_game word rest (codes "drop") g (acts.Drop g) h (unspaced (codes "drop") refl) is.sayable is.sayable refl is.spelled
+game_after word rest (acts.Remove g) h o m k is =
+    of_game word rest (codes "drop") g (acts.Remove g) h (unspaced (codes "drop") refl) is.sayable is.sayable refl is.spelled
 game_after word rest (acts.Show g) h o m k is =
     of_game word rest (codes "show") g (acts.Show g) h (unspaced (codes "show") refl) is.sayable is.sayable refl is.spelled
 game_after word rest (acts.Fen g) h o m k is =
@@ -171,30 +171,30 @@ game_after word rest (acts.Pgn g) h o m k is =
     of_game word rest (codes "pgn") g (acts.Pgn g) h (unspaced (codes "pgn") refl) is.sayable is.sayable refl is.spelled
 
 -- A line without a space is `list`.
-pub is_list : (word : List ℕ) (line : Request) → Unspaced word → HasForm word line → word ≡ codes "list"
+pub is_list : (word : List ℕ) (line : Line) → Unspaced word → HasForm word line → word ≡ codes "list"
 is_list word (lines.Called name) h is = absurd (no_parts 32 word (codes "name") name h is.spelled)
 is_list word (lines.Act acts.List) h is = is.spelled
-is_list word (lines.Act (acts.Open colour initial increment fen period)) h is = absurd (no_parts 32 word (codes "open") _ h is.spelled)
+is_list word (lines.Act (acts.NewGame colour initial increment fen period)) h is = absurd (no_parts 32 word (codes "open") _ h is.spelled)
 is_list word (lines.Act (acts.Join g)) h is = absurd (no_parts 32 word (codes "join") _ h is.spelled)
-is_list word (lines.Act (acts.Move g p t)) h is = absurd (no_parts 32 word (codes "move") _ h is.spelled)
+is_list word (lines.Act (acts.Play g p t)) h is = absurd (no_parts 32 word (codes "move") _ h is.spelled)
 is_list word (lines.Act (acts.Offer g)) h is = absurd (no_parts 32 word (codes "offer") _ h is.spelled)
 is_list word (lines.Act (acts.Accept g)) h is = absurd (no_parts 32 word (codes "accept") _ h is.spelled)
 is_list word (lines.Act (acts.Decline g)) h is = absurd (no_parts 32 word (codes "decline") _ h is.spelled)
 is_list word (lines.Act (acts.Resign g)) h is = absurd (no_parts 32 word (codes "resign") _ h is.spelled)
 is_list word (lines.Act (acts.Claim g p f t)) h is = absurd (no_parts 32 word (codes "claim") _ h is.spelled)
 is_list word (lines.Act (acts.Flag g)) h is = absurd (no_parts 32 word (codes "flag") _ h is.spelled)
-is_list word (lines.Act (acts.Drop g)) h is = absurd (no_parts 32 word (codes "drop") _ h is.spelled)
+is_list word (lines.Act (acts.Remove g)) h is = absurd (no_parts 32 word (codes "drop") _ h is.spelled)
 is_list word (lines.Act (acts.Show g)) h is = absurd (no_parts 32 word (codes "show") _ h is.spelled)
 is_list word (lines.Act (acts.Fen g)) h is = absurd (no_parts 32 word (codes "fen") _ h is.spelled)
 is_list word (lines.Act (acts.Pgn g)) h is = absurd (no_parts 32 word (codes "pgn") _ h is.spelled)
 
 -- a line after a word that is not `name`
-pub record ActAfter (word rest : List ℕ) (line : Request) : Type 0 where
+pub record ActAfter (word rest : List ℕ) (line : Line) : Type 0 where
   pub act : Act
   pub is : line ≡ lines.Act act
   pub after : IsLineAfter word rest (lines.Act act)
 
-pub act_after : (text word rest : List ℕ) (line : Request) → Unspaced word → word ≢ codes "name" → text ≡ word ++ (32 ∷ rest) →
+pub act_after : (text word rest : List ℕ) (line : Line) → Unspaced word → word ≢ codes "name" → text ≡ word ++ (32 ∷ rest) →
     HasForm text line → ActAfter word rest line
 act_after text word rest (lines.Called name) h n e is =
     absurd (n (same_parts 32 word (codes "name") rest name h (unspaced (codes "name") refl) (sym e ∙ is.spelled)).front)

@@ -1,7 +1,7 @@
 //! What follows the word of a line, read into acts.
 ghost use Rattle.std.specs.Prelude.{◌≡◌, ℕ, [], ◌∷◌, Some, IfSome, IsSomeAnd, codes, decimal};
 ghost use Rattle.chess_entry.specs.declared.commands.Act.{Act};
-ghost use Rattle.chess_line.specs.declared.lines.Request.TheVariants as lines;
+ghost use Rattle.chess_line.specs.declared.lines.Line.TheVariants as lines;
 ghost use Rattle.chess_line.specs.Fields.{IsNumber};
 ghost use Rattle.chess_line.specs.Cut.{Unspaced};
 ghost use Rattle.chess_line.specs.Line.{IsLineAfter, IsSayable, SameAct, act_fields};
@@ -25,7 +25,7 @@ fn game_act(word: &str, game: u32) -> Option<Act>
         "decline" => Some(Act::Decline { game }),
         "resign" => Some(Act::Resign { game }),
         "flag" => Some(Act::Flag { game }),
-        "drop" => Some(Act::Drop { game }),
+        "drop" => Some(Act::Remove { game }),
         "show" => Some(Act::Show { game }),
         "fen" => Some(Act::Fen { game }),
         "pgn" => Some(Act::Pgn { game }),
@@ -45,7 +45,7 @@ fn opening(rest: &str) -> Option<Act>
     let (increment, fen) = cut_word(rest);
     let increment = field_number(increment)?;
     let fen = optional_rest(fen)?;
-    Some(Act::Open {
+    Some(Act::NewGame {
         colour,
         initial,
         increment,
@@ -62,7 +62,7 @@ fn play(rest: &str) -> Option<Act>
     let (game, rest) = take_number(rest)?;
     let (ply, text) = take_number(rest)?;
     let text = field_text(text)?;
-    Some(Act::Move { game, ply, text })
+    Some(Act::Play { game, ply, text })
 }
 
 // What `claim` asks for.

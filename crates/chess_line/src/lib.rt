@@ -5,4 +5,4 @@ mod acts;
 mod fields;
 mod lines;
 
-pub use lines::{Request, parse};
+pub use lines::{Line, parse};

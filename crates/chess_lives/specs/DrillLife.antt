@@ -5,7 +5,7 @@ use Rattle.chess_bits.specs.declared.men.Colour.TheVariants.{White}
 use Rattle.sector_dev.specs.declared.device.Fate.{Fate}
 use Rattle.sector_dev.specs.declared.device.Fate.TheVariants.{Lost, Kept, Unreadable}
 use Rattle.chess_entry.specs.declared.commands.Act.{Act}
-use Rattle.chess_entry.specs.declared.commands.Act.TheVariants.{Open, Join, Move}
+use Rattle.chess_entry.specs.declared.commands.Act.TheVariants.{NewGame, Join, Play}
 use Rattle.chess_entry.specs.declared.commands.Command.{Command}
 use Rattle.chess_lives.specs.declared.plan.Life.{Life}
 use Rattle.chess_lives.specs.Lives.{batches_of}
@@ -14,7 +14,7 @@ use Rattle.chess_lives.specs.Lives.{batches_of}
 
 -- what a player asks at the drill's moment
 abbrev pub asked : List ℕ → Act → Command
-asked who act = record { moment = 1000; who = Some who; act = act }
+asked who act = record { at = 1000; who = Some who; act = act }
 
 abbrev pub ann : List ℕ
 ann = codes "ann"
@@ -24,19 +24,19 @@ bob = codes "bob"
 
 -- a move in the game that is opened
 abbrev pub played : List ℕ → ℕ → List ℕ → Command
-played who ply text = asked who (Move 1 ply (record { bytes = text; spare = [] }))
+played who ply text = asked who (Play 1 ply (record { bytes = text; spare = [] }))
 
 -- a command without the room that the text of its move leaves unused, which says nothing
 abbrev pub shown_act : Act → Act
-shown_act (Move game ply text) = Move game ply (record { bytes = text.bytes; spare = [] })
+shown_act (Play game ply text) = Play game ply (record { bytes = text.bytes; spare = [] })
 shown_act act = act
 
 abbrev pub shown : Command → Command
-shown command = record { moment = command.moment; who = command.who; act = shown_act command.act }
+shown command = record { at = command.at; who = command.who; act = shown_act command.act }
 
 -- ann opens a game of 300 seconds as White, and bob joins it
 abbrev pub opening_batch : List Command
-opening_batch = asked ann (Open White 300 0 None None) ∷ asked bob (Join 1) ∷ []
+opening_batch = asked ann (NewGame White 300 0 None None) ∷ asked bob (Join 1) ∷ []
 
 abbrev pub moves_batch : List Command
 moves_batch =

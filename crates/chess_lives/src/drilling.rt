@@ -1,6 +1,6 @@
 //! The drill: a batch of moves, stopped at each of its device calls.
 ghost use Rattle.std.specs.Prelude.{◌≡◌, ◌+◌, ◌-◌, ◌^◌, ◌<◌, ◌≤◌, ◌==◌, cond, min, IfOk, IfErr, map, length};
-ghost use Rattle.rec_codec.specs.Name.{IsName};
+ghost use Rattle.player_name.specs.Name.{IsName};
 ghost use Rattle.chess_lives.specs.Drill.{IsDrillPlan, IsCase, AreCases, IsTold, IsFaultInMemory};
 ghost use Rattle.chess_lives.specs.DrillLife.{asked, played, shown, opening_batch, moves_batch, stop_of, fate_of, fates_of};
 
@@ -66,7 +66,7 @@ fn command(who: &str, act: Act) -> Command
     ensures { IsName who.now → result ≡ asked who.now act }
 {
     Command {
-        moment: MOMENT,
+        at: MOMENT,
         who: Name::try_new(who),
         act,
     }
@@ -79,13 +79,13 @@ fn play(who: &str, ply: u32, text: &str) -> Command
         Ok(text) => text,
         Err(_) => Text::new(),
     };
-    command(who, Act::Move { game: 1, ply, text })
+    command(who, Act::Play { game: 1, ply, text })
 }
 
 fn opening(alloc: Global) -> Result<Vec<Command>, AllocError>
     ensures { IfOk result (λ batch. batch.items ≡ opening_batch) }
 {
-    let game = Act::Open {
+    let game = Act::NewGame {
         colour: Colour::White,
         initial: 300,
         increment: 0,

@@ -13,8 +13,8 @@ use Rattle.session_lines.proofs.Wholes.{kept-feed, kept-rest, unfinished-none}
 use Rattle.rec_codec.specs.declared.record.Entry.{Entry}
 use Rattle.chess_entry.specs.State.{TableState}
 use Rattle.chess_entry.specs.declared.commands.Command.{Command}
-use Rattle.chess_line.specs.declared.lines.Request.{Request}
-use Rattle.chess_line.specs.declared.lines.Request.TheVariants.{Called, Act}
+use Rattle.chess_line.specs.declared.lines.Line.{Line}
+use Rattle.chess_line.specs.declared.lines.Line.TheVariants.{Called, Act}
 use Rattle.chess_answer.specs.declared.reads.Reply.{Reply}
 use Rattle.chess_sessions.specs.declared.sessions.Session.{Session}
 use Rattle.chess_sessions.specs.declared.sessions.Sessions.{Sessions}
@@ -193,7 +193,7 @@ head-same : (x y : Said) (xs ys : List Said) → x ∷ xs ≡ y ∷ ys → x ≡
 head-same x y xs ys e = cc
 
 -- the answer to the one line of a batch that asks nothing of the table
-answered-alone : (t : TurnLine) (at : ℕ) (read : Option Request) (line : List ℕ) (answer : Said) → t.line ≡ read →
+answered-alone : (t : TurnLine) (at : ℕ) (read : Option Line) (line : List ℕ) (answer : Said) → t.line ≡ read →
     own_answer at read ≡ Some line → AreAnswers at (t ∷ []) [] (answer ∷ []) →
     (own_answer at read ≡ Some answer.line) × (answer.body ≡ [])
 answered-alone t at read line answer is own k =
@@ -207,20 +207,20 @@ answered-alone t at read line answer is own k =
     (own ∙ ap (λ (a : Said). Some a.line) (sym same), ap (λ (a : Said). a.body) same)
 
 -- the answer to the one line of a batch
-line-answered : (t : TurnLine) (at : ℕ) (name : Option (List ℕ)) (read : Option Request) (before after : TableState)
+line-answered : (t : TurnLine) (at : ℕ) (name : Option (List ℕ)) (read : Option Line) (before after : TableState)
     (replies : List Reply) (entries : List Entry) (answer : Said) → t.line ≡ read →
     IsAnswered before (asked at name read ++ []) replies entries after →
     AreAnswers at (t ∷ []) (map said replies) (answer ∷ []) → IsLineAnswered before name at read answer after
 line-answered t at name (Some (Act act)) before after [] entries answer is h k = absurd h
 line-answered t at name (Some (Act act)) before after (reply ∷ []) entries answer is h k =
-    let found = subst (λ (line : Option Request). MatchOption (own_answer at line)
+    let found = subst (λ (line : Option Line). MatchOption (own_answer at line)
     ((r : Said) × (others : List Said) × (rest : List Said) × (said reply ∷ [] ≡ r ∷ others)
     × (answer ∷ [] ≡ r ∷ rest) × AreAnswers at [] others rest)
     (λ l. (rest : List Said) × (answer ∷ [] ≡ alone l ∷ rest) × AreAnswers at [] (said reply ∷ []) rest)) is k in
     let (r, others, rest, first, second, none) = found in (
       reply,
       h.first,
-      subst (λ (x : TableState). IsOutcome before (record { moment = at; who = name; act = act }) reply h.first x)
+      subst (λ (x : TableState). IsOutcome before (record { at = at; who = name; act = act }) reply h.first x)
           (sym h.rest.same) h.outcome,
       head-same answer r [] rest second ∙ sym (head-same (said reply) r [] others first),
     )
@@ -314,7 +314,7 @@ turned-one at sid name part old new a u h e all =
 -- what a turn does for the one session
 pub record Turned (at : ℕ) (name : Option (List ℕ)) (text : List ℕ) (before after : TableState) (new : Sessions)
     (sid : ℕ) : Type 0 where
-  pub read : Option Request
+  pub read : Option Line
   pub reads : IsReading text read
   pub answer : Said
   pub answered : IsLineAnswered before name at read answer after
@@ -351,7 +351,7 @@ module _ (at sid : ℕ) (name : Option (List ℕ)) (part : List ℕ) (old : Sess
         reads = is.reads;
         answer = a.said;
         answered = line-answered t at name t.line before after turn.replies batch.entries a.said refl answered answers;
-        then = subst (λ (x : Option Request). IsAlone new sid (told (renamed (given_name at x) name) a.said)) line
+        then = subst (λ (x : Option Line). IsAlone new sid (told (renamed (given_name at x) name) a.said)) line
             (turned-one at sid name part old new a u h (ap (λ (x : TurnLine). x.sid) whose ∙ is.sid) all);
       }
 

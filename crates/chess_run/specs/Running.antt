@@ -7,7 +7,7 @@ use Rattle.chess_entry.specs.declared.commands.Command.{Command}
 use Rattle.sector_dev.specs.declared.device.Device.{Ghosts}
 use Rattle.sector_dev.specs.Device.{State}
 use Rattle.chess_entry.specs.State.{TableState}
-use Rattle.chess_line.specs.declared.lines.Request.{Request}
+use Rattle.chess_line.specs.declared.lines.Line.{Line}
 use Rattle.chess_sessions.specs.declared.sessions.Sessions.{Sessions}
 use Rattle.chess_sessions.specs.Session.{Said, SessionState, session_at}
 use Rattle.chess_sessions.specs.Turn.{IsReading}
@@ -73,7 +73,7 @@ pub record Serves {D : Type 0} (state : D → State) (sector_count failures : D 
 
 -- what holds of the commands that a line asks for
 pub record LineAsksFor (at : ℕ) (name : Option (List ℕ)) (line : List ℕ) (P : List Command → Type 0) : Type 0 where
-  pub read : Option Request
+  pub read : Option Line
   pub reads : IsReading line read
   pub those : P (asked at name read)
 
@@ -83,7 +83,7 @@ pub record AnswersLine {D M : Type 0} (state : D → State) (sector_count failur
     (old : Standing D M) (line text : List ℕ) (new : Standing D M) : Type 0 where
   pub at : ℕ
   pub next : gives old.moments at new.moments
-  pub read : Option Request
+  pub read : Option Line
   pub reads : IsReading line read
   pub answer : Said
   pub answered : IsLineAnswered old.store.table old.name at read answer new.store.table
@@ -98,7 +98,7 @@ pub record IsRefusedBatch {D M : Type 0} (state : D → State) (sector_count fai
     : Type 0 where
   pub at : ℕ
   pub next : gives old.moments at new.moments
-  pub read : Option Request
+  pub read : Option Line
   pub reads : IsReading line read
   pub refused : AreRefused fault old.store.header.seq old.store.failed old.store.table new.store.table
       (asked at old.name read)
@@ -193,7 +193,7 @@ pub record IsAsking (sessions : Sessions) (sid : ℕ) : Type 0 where
 -- its line was answered at this moment, and the answer was given to it
 pub record IsTold (at : ℕ) (name : Option (List ℕ)) (text : List ℕ) (answer : Said) (before after : TableState)
     (sessions : Sessions) (sid : ℕ) : Type 0 where
-  pub read : Option Request
+  pub read : Option Line
   pub reads : IsReading text read
   pub answered : IsLineAnswered before name at read answer after
   pub then : IsAlone sessions sid (waits (renamed (given_name at read) name))

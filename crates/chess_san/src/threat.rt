@@ -47,7 +47,7 @@ fn after(board: &Board, mv: Move) -> Board
 pub fn threat_on(board: &Board) -> Threat
     ensures { StandsUnder board.now result }
 {
-    if !board.is_in_check() {
+    if !board.in_check() {
         Threat::Nothing
     } else if has_legal(board) {
         Threat::Check

@@ -15,7 +15,7 @@ use Rattle.std.proofs.lemmas.Slice.Zip.{AllZip-long}
 use Rattle.std.proofs.Common.{get_or}
 use Rattle.std.specs.Prelude.{IfSome, IfNone, Result, Ok, Err, OnOk, is_ok, if◌then◌else◌}
 use Rattle.std.specs.Option.{MatchOption}
-use Rattle.chess_line.specs.declared.lines.Request.{Request}
+use Rattle.chess_line.specs.declared.lines.Line.{Line}
 use Rattle.chess_line.specs.Line.{IsLineOf}
 use Rattle.chess_sessions.specs.declared.sessions.Session.{Session}
 use Rattle.chess_sessions.specs.declared.turn.TurnLine.{TurnLine}
@@ -206,8 +206,8 @@ pub found : {B : Type 0} → (view : B → List ℕ) (o : Option B) (all left mo
 found view None all left more i e some none = nth-none all i (sym e ∙ none)
 found view (Some b) all left more i e some none = nth-some all i (view b) more (sym e ∙ some)
 
-pub reading : (text : List ℕ) (o : Option Request) → IfSome o (IsLineOf text) →
-    IfNone o ((line : Request) → ¬ IsLineOf text line) → IsReading text o
+pub reading : (text : List ℕ) (o : Option Line) → IfSome o (IsLineOf text) →
+    IfNone o ((line : Line) → ¬ IsLineOf text line) → IsReading text o
 reading text None some none = none
 reading text (Some line) some none = some
 

@@ -3,8 +3,8 @@ use Rattle.std.specs.Prelude.{ℕ, ◌≡◌, ◌==◌, nat_lt, Bool, if◌then�
 use Rattle.std.specs.Option.{MatchOption}
 use Rattle.chess_entry.specs.declared.commands.Command.{Command}
 use Rattle.chess_entry.specs.declared.refusals.Refusal.TheVariants.{BadLine, BadMoment}
-use Rattle.chess_line.specs.declared.lines.Request.{Request}
-use Rattle.chess_line.specs.declared.lines.Request.TheVariants.{Called, Act}
+use Rattle.chess_line.specs.declared.lines.Line.{Line}
+use Rattle.chess_line.specs.declared.lines.Line.TheVariants.{Called, Act}
 use Rattle.chess_answer.specs.Acts.{named_text}
 use Rattle.chess_answer.specs.Refusals.{refusal_text}
 use Rattle.chess_sessions.specs.declared.sessions.Sessions.{Sessions}
@@ -18,7 +18,7 @@ is_late at = nat_lt 4611686018427387903 at
 -- ---- names
 
 -- the name that a line gives its session, if it is accepted at this moment
-abbrev pub given_name : ℕ → Option Request → Option (List ℕ)
+abbrev pub given_name : ℕ → Option Line → Option (List ℕ)
 given_name at (Some (Called name)) = if is_late at then None else Some name
 given_name at (Some (Act act)) = None
 given_name at None = None
@@ -39,8 +39,8 @@ names_over at names (t ∷ lines) = names_over at (names_after at names t) lines
 -- ---- commands
 
 -- what a line asks of the table: an act by the session's name
-abbrev pub asked : ℕ → Option (List ℕ) → Option Request → List Command
-asked at who (Some (Act act)) = record { moment = at; who = who; act = act } ∷ []
+abbrev pub asked : ℕ → Option (List ℕ) → Option Line → List Command
+asked at who (Some (Act act)) = record { at = at; who = who; act = act } ∷ []
 asked at who (Some (Called name)) = []
 asked at who None = []
 
@@ -55,7 +55,7 @@ abbrev pub alone : List ℕ → Said
 alone line = record { line = line; body = [] }
 
 -- the answer to a line that asks nothing of the table
-abbrev pub own_answer : ℕ → Option Request → Option (List ℕ)
+abbrev pub own_answer : ℕ → Option Line → Option (List ℕ)
 own_answer at None = Some (refusal_text BadLine)
 own_answer at (Some (Called name)) = Some (if is_late at then refusal_text BadMoment else named_text name)
 own_answer at (Some (Act act)) = None

@@ -4,7 +4,7 @@ use Rattle.std.specs.Option.{MatchOption}
 use Rattle.std.specs.List.{filter_map, cons_option, AllZip}
 use Rattle.session_lines.specs.Lines.{lines_of}
 use Rattle.slab.specs.Slab.{Slab, entries}
-use Rattle.chess_line.specs.declared.lines.Request.{Request}
+use Rattle.chess_line.specs.declared.lines.Line.{Line}
 use Rattle.chess_line.specs.Line.{IsLineOf}
 use Rattle.chess_sessions.specs.declared.sessions.Session.{Session}
 use Rattle.chess_sessions.specs.declared.sessions.Sessions.{Sessions}
@@ -51,8 +51,8 @@ abbrev pub waiting_of : Sessions → List Waiting
 waiting_of s = waiting_in s.slab
 
 -- what a text asks for, if it has a form of the protocol
-abbrev pub IsReading : List ℕ → Option Request → Type 0
-IsReading text read = MatchOption read ((line : Request) → ¬ IsLineOf text line) (IsLineOf text)
+abbrev pub IsReading : List ℕ → Option Line → Type 0
+IsReading text read = MatchOption read ((line : Line) → ¬ IsLineOf text line) (IsLineOf text)
 
 -- a line of a turn is one of a session, read
 pub record IsTurnLine (line : SessionLine) (read : TurnLine) : Type 0 where

@@ -13,8 +13,8 @@ use crate::sessions::{Session, Sessions, Sid};
 use crate::turn::TurnLine;
 use chess_answer::{AnswerLine, Reply, named_line, refusal_line};
 use chess_entry::{Command, GREATEST_MOMENT, Refusal};
-use chess_line::Request;
-use rec_codec::Name;
+use chess_line::Line;
+use player_name::Name;
 use slab::Slab;
 use std::alloc::{AllocError, Global};
 use std::vec::IntoIter;
@@ -27,29 +27,29 @@ fn is_late(at: u64) -> bool
 }
 
 // The name that a line gives its session, if it is accepted.
-fn given_name(at: u64, line: &Option<Request>) -> Option<Name>
+fn given_name(at: u64, line: &Option<Line>) -> Option<Name>
     ensures { result ≡ given_name at line.now }
 {
     match line {
-        Some(Request::Called(name)) => { if is_late(at) { None } else { Some(*name) } }
+        Some(Line::Called(name)) => { if is_late(at) { None } else { Some(*name) } }
         _ => None,
     }
 }
 
 // The answer to a line that asks nothing of the table.
-fn own_answer(at: u64, line: &Option<Request>) -> Option<AnswerLine>
+fn own_answer(at: u64, line: &Option<Line>) -> Option<AnswerLine>
     ensures { option_map (λ answer. answer.bytes) result ≡ own_answer at line.now }
 {
     match line {
         None => Some(refusal_line(Refusal::BadLine)),
-        Some(Request::Called(name)) => {
+        Some(Line::Called(name)) => {
             if is_late(at) {
                 Some(refusal_line(Refusal::BadMoment))
             } else {
                 Some(named_line(name))
             }
         }
-        Some(Request::Act(_)) => None,
+        Some(Line::Act(_)) => None,
     }
 }
 
@@ -81,16 +81,16 @@ fn name_over(at: u64, lines: &[TurnLine], sid: Sid, before: Option<Name>) -> Opt
 fn push_command(
     at: u64,
     who: Option<Name>,
-    line: &Option<Request>,
+    line: &Option<Line>,
     commands: &mut Vec<Command>,
 ) -> Result<(), AllocError>
     ensures commands { OnOk result (commands.new.items ≡ commands.old.items ++ asked at who line.now) }
     ensures len { OnOk result (vec_len commands.new ≡ vec_len commands.old
         + (if is_none (own_answer at line.now) then 1 else 0)) }
 {
-    if let Some(Request::Act(act)) = line {
+    if let Some(Line::Act(act)) = line {
         commands.push(Command {
-            moment: at,
+            at,
             who,
             act: *act,
         })?;
@@ -99,7 +99,7 @@ fn push_command(
 }
 
 // The answer to a line: its own, or the first reply that is left.
-fn next_answer(alloc: Global, at: u64, line: &Option<Request>, left: &mut IntoIter<Reply>) -> Reply
+fn next_answer(alloc: Global, at: u64, line: &Option<Line>, left: &mut IntoIter<Reply>) -> Reply
     requires { IfNone (own_answer at line.now) (0 < length (into_iter_items left.old)) }
     ensures { MatchOption (own_answer at line.now)
         (into_iter_items left.old ≡ result ∷ into_iter_items left.new)

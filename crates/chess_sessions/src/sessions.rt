@@ -4,7 +4,7 @@ ghost use Rattle.session_lines.specs.Heard.{heard_more};
 ghost use Rattle.chess_sessions.specs.Session.{said, fresh, shown, session_at, session_count, Changes, IsUnchanged, due, first_due, given_one, is_done};
 
 use chess_answer::{AnswerLine, Reply};
-use rec_codec::Name;
+use player_name::Name;
 use session_lines::{FeedFault, Lines};
 use slab::Slab;
 use std::alloc::Global;

@@ -7,7 +7,7 @@ ghost use Rattle.chess_sessions.specs.Delivery.{AreOpen};
 ghost use Rattle.chess_sessions.specs.Turn.{AreTurnLines, MoreTurnLines, line_of, lines_at, turn_lines, waiting_of, waiting_in};
 
 use crate::sessions::{Session, Sessions, Sid};
-use chess_line::{Request, parse};
+use chess_line::{Line, parse};
 use session_lines::Lines;
 use slab::Slab;
 use std::alloc::AllocError;
@@ -16,7 +16,7 @@ use std::alloc::AllocError;
 #[derive(Clone, Copy)]
 pub struct TurnLine {
     pub sid: Sid,
-    pub line: Option<Request>,
+    pub line: Option<Line>,
 }
 
 // The line that has so many before it, of those that wait.

@@ -10,7 +10,7 @@ use Rattle.chess_entry.specs.declared.verdicts.Verdict.TheVariants.{Refuse, Ente
 use Rattle.chess_entry.specs.State.{TableState, find_game}
 use Rattle.chess_entry.specs.Verdict.{effective}
 use Rattle.rec_codec.specs.declared.record.Entry.{Entry}
-use Rattle.chess_line.specs.declared.lines.Request.TheVariants as lines
+use Rattle.chess_line.specs.declared.lines.Line.TheVariants as lines
 use Rattle.chess_line.specs.Line.{HasForm}
 use Rattle.chess_answer.specs.declared.reads.Reply.{Reply}
 use Rattle.chess_answer.specs.Reads.{IsReadReply, IsFenLine, show_text}
@@ -47,16 +47,16 @@ none_dear line cheap dear = absurd (let bad : true ≡ false = sym dear ∙ chea
 
 read_alone : (line : List ℕ) (act : Act) (table : TableState) (at : ℕ) (told body : List ℕ) → is_dear line ≡ false →
     HasForm (strip_last 13 line) (lines.Act act) → IsReadReply table at act told body → body ≡ []
-read_alone line (acts.Open colour initial increment fen period) table at told body cheap form reply = absurd reply
+read_alone line (acts.NewGame colour initial increment fen period) table at told body cheap form reply = absurd reply
 read_alone line (acts.Join game) table at told body cheap form reply = absurd reply
-read_alone line (acts.Move game ply text) table at told body cheap form reply = absurd reply
+read_alone line (acts.Play game ply text) table at told body cheap form reply = absurd reply
 read_alone line (acts.Offer game) table at told body cheap form reply = absurd reply
 read_alone line (acts.Accept game) table at told body cheap form reply = absurd reply
 read_alone line (acts.Decline game) table at told body cheap form reply = absurd reply
 read_alone line (acts.Resign game) table at told body cheap form reply = absurd reply
 read_alone line (acts.Claim game ply fifty text) table at told body cheap form reply = absurd reply
 read_alone line (acts.Flag game) table at told body cheap form reply = absurd reply
-read_alone line (acts.Drop game) table at told body cheap form reply = absurd reply
+read_alone line (acts.Remove game) table at told body cheap form reply = absurd reply
 read_alone line (acts.Show number) table at told body cheap form reply =
     some_alone (find_game number table.games) (λ game. told ≡ show_text game at) body reply
 read_alone line (acts.Fen number) table at told body cheap form reply =
@@ -69,7 +69,7 @@ read_alone line acts.List table at told body cheap form reply = none_dear line c
 becomes_alone : (line : List ℕ) (verdict : Verdict) (table after : TableState) (at : ℕ) (name : Option (List ℕ))
     (act : Act) (reply : Reply) (entries : List Entry) → is_dear line ≡ false →
     HasForm (strip_last 13 line) (lines.Act act) →
-    Becomes verdict table (record { moment = at; who = name; act = act }) reply entries after → string_bytes reply.body ≡ []
+    Becomes verdict table (record { at = at; who = name; act = act }) reply entries after → string_bytes reply.body ≡ []
 becomes_alone line (Refuse refusal) table after at name act reply entries cheap form becomes = becomes.0.alone
 becomes_alone line (Enter e) table after at name act reply entries cheap form becomes = elim becomes [
   | inl taken ↦ taken.alone

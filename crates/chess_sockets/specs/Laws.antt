@@ -2,7 +2,7 @@
 use Rattle.std.specs.Prelude.{ℕ, ◌≡◌, false, List, [], Option}
 use Rattle.std.specs.Io.BufRead.{strip_last}
 use Rattle.chess_entry.specs.State.{TableState}
-use Rattle.chess_line.specs.declared.lines.Request.{Request}
+use Rattle.chess_line.specs.declared.lines.Line.{Line}
 use Rattle.chess_sessions.specs.Session.{Said}
 use Rattle.chess_sessions.specs.Turn.{IsReading}
 use Rattle.chess_hub.specs.Sessions.{IsLineAnswered}
@@ -12,6 +12,6 @@ use Rattle.client_streams.specs.Portions.{is_dear}
 -- at whatever moment, of whatever table.
 abbrev pub LawOfShortAnswers : Type 0
 LawOfShortAnswers =
-    (line : List ℕ) (read : Option Request) (table after : TableState) (name : Option (List ℕ)) (at : ℕ) (answer : Said)
+    (line : List ℕ) (read : Option Line) (table after : TableState) (name : Option (List ℕ)) (at : ℕ) (answer : Said)
     → is_dear line ≡ false → IsReading (strip_last 13 line) read → IsLineAnswered table name at read answer after
     → answer.body ≡ []

@@ -114,12 +114,12 @@ pub read_enters_none : (table : TableState) (command : Command) (e : Entry) → 
 read_enters_none table command e is =
     let no_entry : is_read command.act ≡ true → ⊥ = λ read.
     subst IsNoEntry (sym is.is)
-    (refused_or (nat_lt 4611686018427387903 command.moment) BadMoment
+    (refused_or (nat_lt 4611686018427387903 command.at) BadMoment
     (if not (is_read command.act) && is_none command.who then Refuse NoName
-    else player_verdict table (effective table command.moment) (name_or_none command.who) is.parsed command.act)
+    else player_verdict table (effective table command.at) (name_or_none command.who) is.parsed command.act)
     (refused_or (not (is_read command.act) && is_none command.who) NoName
-    (player_verdict table (effective table command.moment) (name_or_none command.who) is.parsed command.act)
-    (read_none table (effective table command.moment) (name_or_none command.who) is.parsed command.act read))) in
+    (player_verdict table (effective table command.at) (name_or_none command.who) is.parsed command.act)
+    (read_none table (effective table command.at) (name_or_none command.who) is.parsed command.act read))) in
     false_from_ne_true (is_read command.act) no_entry
 
 -- The entries of a command are one at most, and none of a read.

@@ -141,7 +141,7 @@ one-parsed o text mv the other is =
     ∙ ap (λ (m : Option Move). parsed None m) (the.one other.move is.1)
 
 pub move-parsed : (table : TableState) (a : Act) (game ply : ℕ) (text : ArrayString) (o : Option GameState)
-    (mv : Option Move) → a ≡ act.Move game ply text → o ≡ find_game (game_of a) table.games
+    (mv : Option Move) → a ≡ act.Play game ply text → o ≡ find_game (game_of a) table.games
     → IsTheMove o (Some text.bytes) mv → IsTheParsed table a (parsed None mv)
 move-parsed table a game ply text o mv is found the =
     let here : IsTheMove (find_game game table.games) (Some text.bytes) mv =
@@ -163,19 +163,19 @@ claim-parsed table a game ply fifty text o mv is found the =
 -- what is neither made in a seat nor opens or joins a game is a read
 pub other-reads : (a : Act) → AsksNoSeat a
     → ((colour : Colour) (initial increment : ℕ) (fen : Option ArrayString) (period : Option (ℕ × ℕ))
-    → ¬ (a ≡ act.Open colour initial increment fen period))
+    → ¬ (a ≡ act.NewGame colour initial increment fen period))
     → ((game : ℕ) → ¬ (a ≡ act.Join game)) → is_read a ≡ true
-other-reads (act.Open colour initial increment fen period) none new join =
+other-reads (act.NewGame colour initial increment fen period) none new join =
     absurd (new colour initial increment fen period refl)
 other-reads (act.Join game) none new join = absurd (join game refl)
-other-reads (act.Move game ply text) none new join = absurd none
+other-reads (act.Play game ply text) none new join = absurd none
 other-reads (act.Offer game) none new join = absurd none
 other-reads (act.Accept game) none new join = absurd none
 other-reads (act.Decline game) none new join = absurd none
 other-reads (act.Resign game) none new join = absurd none
 other-reads (act.Claim game ply fifty text) none new join = absurd none
 other-reads (act.Flag game) none new join = absurd none
-other-reads (act.Drop game) none new join = absurd none
+other-reads (act.Remove game) none new join = absurd none
 other-reads (act.Show game) none new join = refl
 other-reads (act.Fen game) none new join = refl
 other-reads (act.Pgn game) none new join = refl
@@ -183,29 +183,29 @@ other-reads act.List none new join = refl
 
 -- ---- a command whose moment is in range
 
-in_range : (table : TableState) (command : Command) (t : Parsed) (v : Verdict) → command.moment ≤ 4611686018427387903
+in_range : (table : TableState) (command : Command) (t : Parsed) (v : Verdict) → command.at ≤ 4611686018427387903
     → (not (is_read command.act) && is_none command.who) ≡ false
-    → v ≡ player_verdict table (effective table command.moment) (name_or_none command.who) t command.act
+    → v ≡ player_verdict table (effective table command.at) (name_or_none command.who) t command.act
     → v ≡ verdict table command t
 in_range table command t v to named is =
-    is ∙ sym (skipped _ (Refuse BadMoment) _ (le-ltb 4611686018427387903 command.moment to)
+    is ∙ sym (skipped _ (Refuse BadMoment) _ (le-ltb 4611686018427387903 command.at to)
     ∙ skipped _ (Refuse NoName) _ named)
 
 -- a read is anybody's
-pub read-checked : (table : TableState) (command : Command) (t : Parsed) (v : Verdict) → command.moment ≤ 4611686018427387903
+pub read-checked : (table : TableState) (command : Command) (t : Parsed) (v : Verdict) → command.at ≤ 4611686018427387903
     → is_read command.act ≡ true
-    → v ≡ player_verdict table (effective table command.moment) (name_or_none command.who) t command.act
+    → v ≡ player_verdict table (effective table command.at) (name_or_none command.who) t command.act
     → v ≡ verdict table command t
 read-checked table command t v to reads is =
     in_range table command t v to (ap (λ (b : Bool). not b && is_none command.who) reads) is
 
 -- an act of a player with a name
 pub named-checked : (table : TableState) (command : Command) (t : Parsed) (v : Verdict) (at : ℕ) (name : List ℕ)
-    → command.moment ≤ 4611686018427387903 → command.who ≡ Some name → at ≡ max table.moment command.moment
+    → command.at ≤ 4611686018427387903 → command.who ≡ Some name → at ≡ max table.moment command.at
     → v ≡ player_verdict table at name t command.act → v ≡ verdict table command t
 named-checked table command t v at name to who moment is =
     in_range table command t v to
     (and_right (not (is_read command.act)) (is_none command.who) (ap (λ (o : Option (List ℕ)). is_none o) who))
     (is ∙ ap (λ (n : ℕ). player_verdict table n name t command.act) moment
-    ∙ ap (λ (o : Option (List ℕ)). player_verdict table (effective table command.moment) (name_or_none o) t command.act)
+    ∙ ap (λ (o : Option (List ℕ)). player_verdict table (effective table command.at) (name_or_none o) t command.act)
     (sym who))

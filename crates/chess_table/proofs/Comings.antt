@@ -20,7 +20,7 @@ use Rattle.chess_fen.proofs.Positions.{fen_of-IsFenOf}
 use Rattle.chess_notation.specs.Name.{square_name}
 use Rattle.chess_notation.specs.Coordinate.{IsPromotionText}
 use Rattle.chess_notation.specs.Naming.{Names}
-use Rattle.rec_codec.specs.Name.{IsName}
+use Rattle.player_name.specs.Name.{IsName}
 use Rattle.rec_codec.specs.Moves.{CanBecome}
 use Rattle.rec_codec.specs.declared.record.Claim.{Claim}
 use Rattle.rec_codec.specs.declared.record.Event.{Event}
@@ -164,7 +164,7 @@ module _ (table : TableState) (e : Entry) (from : table.moment ≤ e.moment) (to
   enters : (name : List ℕ) (a : Act) (t : Parsed) → IsName name → is_read a ≡ false → IsParsed table a t
       → player_verdict table e.moment name t a ≡ Enter e → IsEnteredOn table e
   enters name a t named acts tells h =
-      let command : Command = record { moment = e.moment; who = Some name; act = a } in
+      let command : Command = record { at = e.moment; who = Some name; act = a } in
       let early : nat_lt 4611686018427387903 e.moment ≡ false = grind (arith, nat_tests) in
       let known : (not (is_read a) && false) ≡ false = ap (λ (b : Bool). not b && false) acts in
       let same : max table.moment e.moment ≡ e.moment = omega arith in
@@ -242,7 +242,7 @@ module _ (table : TableState) (e : Entry) (from : table.moment ≤ e.moment) (to
         let move : Option Move = Some made.mv in
         let p = seated (joined_by (in_turn game side made.ply ++ for_move table game move) (move_entered game e.moment move) h)
         side in
-        enters p.name (act.Move e.game made.ply (as_text (text_of made.mv))) (parsed None move) p.named refl
+        enters p.name (act.Play e.game made.ply (as_text (text_of made.mv))) (parsed None move) p.named refl
         (refl, move_parsed made.mv legal)
         (at_seat p.name game side (move_verdict table e.moment made.ply move) found p.sits h)
     comes (event.Offer by) legal named h =
@@ -269,7 +269,7 @@ module _ (table : TableState) (e : Entry) (from : table.moment ≤ e.moment) (to
         (joined_by [] (Refuse FlagUp) h) h
     comes event.Drop legal named h =
         let p = somebody game on.game.opened.white_name on.game.opened.black_name on.game.opened.players in
-        enters p.1.name (act.Drop e.game) (parsed None None) p.1.named refl (refl, refl)
+        enters p.1.name (act.Remove e.game) (parsed None None) p.1.named refl (refl, refl)
         (at_seat p.1.name game p.0 (drop_verdict e.moment) found p.1.sits h)
 
   -- ---- a new game
@@ -277,5 +277,5 @@ module _ (table : TableState) (e : Entry) (from : table.moment ≤ e.moment) (to
   pub open-comes : (o : Opening) → IsName o.name → IsValid o.start → opening_verdict table e.moment o ≡ Enter e
       → IsEnteredOn table e
   open-comes o named valid h =
-      enters o.name (act.Open o.colour o.initial o.increment (Some (as_text (fen_of o.start))) o.period)
+      enters o.name (act.NewGame o.colour o.initial o.increment (Some (as_text (fen_of o.start))) o.period)
       (parsed (Some o.start) None) named refl ((valid, fen_of-IsFenOf (fen_of o.start) o.start refl), refl) h

@@ -12,7 +12,7 @@ use Rattle.chess_board.specs.declared.moves.Move.{Move}
 use Rattle.chess_board.specs.Position.{Position}
 use Rattle.chess_board.specs.Legal.{EachOf, IsLegal}
 use Rattle.chess_clock.specs.TimeControl.{IsTimeControl}
-use Rattle.rec_codec.specs.Name.{IsName}
+use Rattle.player_name.specs.Name.{IsName}
 use Rattle.rec_codec.specs.declared.record.Event.{Event}
 use Rattle.rec_codec.specs.declared.record.Event.TheVariants as event
 use Rattle.rec_codec.specs.declared.record.Entry.{Entry}
@@ -369,11 +369,11 @@ module _ (table : TableState) (is : IsTable table) (at : ℕ) (from : table.mome
 
   player-enters : (name : List ℕ) (parsed : Parsed) (a : Act) (e : Entry) → (is_read a ≡ false → IsName name)
       → IsParsed table a parsed → player_verdict table at name parsed a ≡ Enter e → Entered e
-  player-enters name parsed (act.Open colour initial increment fen period) e named tells h =
+  player-enters name parsed (act.NewGame colour initial increment fen period) e named tells h =
       let opened = open-enters colour initial increment period name (bytes_of fen) parsed.start e (named refl) tells.0 h in
       (opened.0, inl opened.1)
   player-enters name parsed (act.Join game) e named tells h = by_act e (join-enters game name e (named refl) h)
-  player-enters name parsed (act.Move game ply text) e named tells h =
+  player-enters name parsed (act.Play game ply text) e named tells h =
       by_act e (in_seat-enters name game (move_verdict table at ply parsed.move) e
       (move-enters game ply text.bytes parsed.move tells.1) h)
   player-enters name parsed (act.Offer game) e named tells h =
@@ -395,7 +395,7 @@ module _ (table : TableState) (is : IsTable table) (at : ℕ) (from : table.mome
       claim_text game ply fifty (Some text) tells = claim-enters game ply fifty (Some text.bytes) parsed.move tells
   player-enters name parsed (act.Flag game) e named tells h =
       by_act e (in_seat-enters name game (flag_verdict at) e (flag-enters game) h)
-  player-enters name parsed (act.Drop game) e named tells h =
+  player-enters name parsed (act.Remove game) e named tells h =
       by_act e (in_seat-enters name game (drop_verdict at) e (drop-enters game) h)
   player-enters name parsed (act.Show game) e named tells h = no_read (find_game game table.games) e h
   player-enters name parsed (act.Fen game) e named tells h = no_read (find_game game table.games) e h
@@ -533,11 +533,11 @@ Comes-entered table e is on =
     let command = on.command in
     let parsed = on.entered.parsed in
     let h : verdict table command parsed ≡ Enter e = sym on.entered.is in
-    let early = passed (nat_lt 4611686018427387903 command.moment) _ _ e h in
+    let early = passed (nat_lt 4611686018427387903 command.at) _ _ e h in
     let named = passed (not (is_read command.act) && is_none command.who) _ _ e early.1 in
-    let at = effective table command.moment in
+    let at = effective table command.at in
     let from : table.moment ≤ at = omega arith in
-    let asked : command.moment ≤ 4611686018427387903 = in_range-at command.moment early.0 in
+    let asked : command.at ≤ 4611686018427387903 = in_range-at command.at early.0 in
     let to : at ≤ 4611686018427387903 = omega (arith, is.moment) in
     let all = player-enters table is at from (name_or_none command.who) parsed command.act e
     (λ acts. name_of command.who on.named (known (is_read command.act) (is_none command.who) named.0 acts))

@@ -88,7 +88,7 @@ there o game found = ap (λ (x : Option GameState). is_some x) found
 
 player-reads : (table : TableState) (at : ℕ) (name : List ℕ) (parsed : Parsed) (a : Act)
     → OnRead (IsAnswered table a) (player_verdict table at name parsed a)
-player-reads table at name parsed (act.Open colour initial increment fen period) =
+player-reads table at name parsed (act.NewGame colour initial increment fen period) =
     first_of-reads ⊥
     (refuse (not (are_times initial increment period)) BadTime ∷
     refuse (not (is_start parsed.start)) BadFen ∷
@@ -101,7 +101,7 @@ player-reads table at name parsed (act.Join game) =
     (λ g found. first_of-reads ⊥
     (refuse (is_joined g) Taken ∷ refuse (is_some (side_of name g)) SamePlayer ∷ [])
     (Enter (entry g.number at (event.Join name))) (tt, (tt, tt)) tt)
-player-reads table at name parsed (act.Move game ply text) =
+player-reads table at name parsed (act.Play game ply text) =
     in_seat-reads table name game (move_verdict table at ply parsed.move)
     (λ g side. first_of-reads ⊥
     (while_running g at ++ (in_turn g side ply ++ for_move table g parsed.move)) (move_entered g at parsed.move)
@@ -131,7 +131,7 @@ player-reads table at name parsed (act.Claim game ply fifty text) =
 player-reads table at name parsed (act.Flag game) =
     in_seat-reads table name game (flag_verdict at) (λ g side. first_of-reads ⊥ (while_running g at) (Refuse FlagUp)
     (tt, (tt, (tt, tt))) tt)
-player-reads table at name parsed (act.Drop game) =
+player-reads table at name parsed (act.Remove game) =
     in_seat-reads table name game (drop_verdict at)
     (λ g side. first_of-reads ⊥ (refuse (is_joined g && not (is_over g)) NotOver ∷ [])
     (Enter (entry g.number at event.Drop)) (tt, tt) tt)
@@ -147,10 +147,10 @@ pub answered : (table : TableState) (command : Command) → IsRead table command
 answered table command read =
     subst (OnRead (IsAnswered table command.act)) (sym read.is)
     (first_of-reads (IsAnswered table command.act)
-    (refuse (nat_lt 4611686018427387903 command.moment) BadMoment ∷
+    (refuse (nat_lt 4611686018427387903 command.at) BadMoment ∷
     refuse (not (is_read command.act) && is_none command.who) NoName ∷ [])
-    (player_verdict table (effective table command.moment) (name_or_none command.who) read.parsed command.act) (tt, (tt, tt))
-    (player-reads table (effective table command.moment) (name_or_none command.who) read.parsed command.act))
+    (player_verdict table (effective table command.at) (name_or_none command.who) read.parsed command.act) (tt, (tt, tt))
+    (player-reads table (effective table command.at) (name_or_none command.who) read.parsed command.act))
 
 -- An act that is answered is one of these.
 pub no_other : (table : TableState) (a : Act) → IsAnswered table a → ((x : ℕ) → a ≡ act.Show x → ⊥)
@@ -159,13 +159,13 @@ no_other table (act.Show g) is show fen pgn list = show g refl
 no_other table (act.Fen g) is show fen pgn list = fen g refl
 no_other table (act.Pgn g) is show fen pgn list = pgn g refl
 no_other table act.List is show fen pgn list = list refl
-no_other table (act.Open colour initial increment start period) is show fen pgn list = is
+no_other table (act.NewGame colour initial increment start period) is show fen pgn list = is
 no_other table (act.Join g) is show fen pgn list = is
-no_other table (act.Move g ply text) is show fen pgn list = is
+no_other table (act.Play g ply text) is show fen pgn list = is
 no_other table (act.Offer g) is show fen pgn list = is
 no_other table (act.Accept g) is show fen pgn list = is
 no_other table (act.Decline g) is show fen pgn list = is
 no_other table (act.Resign g) is show fen pgn list = is
 no_other table (act.Claim g ply fifty text) is show fen pgn list = is
 no_other table (act.Flag g) is show fen pgn list = is
-no_other table (act.Drop g) is show fen pgn list = is
+no_other table (act.Remove g) is show fen pgn list = is

@@ -14,16 +14,16 @@ use Rattle.chess_table.specs.declared.judging.Asked.TheVariants as asked
 
 -- the number of the game that an act is of; 0 where it is of none
 abbrev pub game_of : Act → ℕ
-game_of (act.Open colour initial increment fen period) = 0
+game_of (act.NewGame colour initial increment fen period) = 0
 game_of (act.Join game) = game
-game_of (act.Move game ply text) = game
+game_of (act.Play game ply text) = game
 game_of (act.Offer game) = game
 game_of (act.Accept game) = game
 game_of (act.Decline game) = game
 game_of (act.Resign game) = game
 game_of (act.Claim game ply fifty text) = game
 game_of (act.Flag game) = game
-game_of (act.Drop game) = game
+game_of (act.Remove game) = game
 game_of (act.Show game) = game
 game_of (act.Fen game) = game
 game_of (act.Pgn game) = game
@@ -48,7 +48,7 @@ IsAskedBy act move asked =
 
 -- The act is not one that is made in a seat.
 abbrev pub AsksNoSeat : Act → Type 0
-AsksNoSeat (act.Open colour initial increment fen period) = Unit {0}
+AsksNoSeat (act.NewGame colour initial increment fen period) = Unit {0}
 AsksNoSeat (act.Join game) = Unit {0}
 AsksNoSeat (act.Show game) = Unit {0}
 AsksNoSeat (act.Fen game) = Unit {0}

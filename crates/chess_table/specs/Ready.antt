@@ -1,6 +1,6 @@
 -- What a game is to be like for an entry of it.
 use Rattle.std.specs.Prelude.{ℕ, ◌≡◌, List, Some, None, false}
-use Rattle.rec_codec.specs.Name.{IsName}
+use Rattle.player_name.specs.Name.{IsName}
 use Rattle.rec_codec.specs.declared.record.Event.{Event}
 use Rattle.rec_codec.specs.declared.record.Event.TheVariants as event
 use Rattle.rec_codec.specs.declared.record.Entry.{Entry}

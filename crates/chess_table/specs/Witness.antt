@@ -2,7 +2,7 @@
 use Rattle.std.specs.Prelude.{ℕ, ◌≡◌, Bool, true, false, Some, is_some}
 use Rattle.std.specs.Option.{ForSome}
 use Rattle.chess_board.specs.Legal.{IsLegal}
-use Rattle.rec_codec.specs.Name.{IsName}
+use Rattle.player_name.specs.Name.{IsName}
 use Rattle.rec_codec.specs.declared.record.Event.{Event}
 use Rattle.rec_codec.specs.declared.record.Event.TheVariants as event
 use Rattle.rec_codec.specs.declared.record.Entry.{Entry}

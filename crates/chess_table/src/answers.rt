@@ -37,7 +37,7 @@ impl Table {
             IsReply self.now command.now reply.line.bytes (string_bytes reply.body)) }
         ensures growing { OnErr result (HasBody command.now.act) }
     {
-        let at = self.moment().max(command.moment);
+        let at = self.moment().max(command.at);
         match &command.act {
             Act::Show { game } => Ok(Reply::alone(
                 self.allocator(),

@@ -2,7 +2,7 @@ ghost use Rattle.std.specs.Prelude.{◌≡◌, ◌≤◌, ◌↔◌, IsTrue, is_
 ghost use Rattle.std.specs.Option.{ForSome};
 ghost use Rattle.chess_board.specs.Position.{IsValid};
 ghost use Rattle.chess_board.specs.Legal.{IsLegal};
-ghost use Rattle.rec_codec.specs.Name.{IsName};
+ghost use Rattle.player_name.specs.Name.{IsName};
 ghost use Rattle.chess_entry.specs.State.{position_of};
 ghost use Rattle.chess_entry.specs.Verdict.{claim_verdict};
 ghost use Rattle.chess_entry.specs.Table.{IsEnteredOn};

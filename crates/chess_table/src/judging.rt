@@ -63,16 +63,16 @@ fn game_of(act: &Act) -> u32
     ensures { result ≡ game_of act.now }
 {
     match act {
-        Act::Open { .. } | Act::List => 0,
+        Act::NewGame { .. } | Act::List => 0,
         Act::Join { game }
-        | Act::Move { game, .. }
+        | Act::Play { game, .. }
         | Act::Offer { game }
         | Act::Accept { game }
         | Act::Decline { game }
         | Act::Resign { game }
         | Act::Claim { game, .. }
         | Act::Flag { game }
-        | Act::Drop { game }
+        | Act::Remove { game }
         | Act::Show { game }
         | Act::Fen { game }
         | Act::Pgn { game } => *game,
@@ -118,11 +118,11 @@ fn parsed_by(found: Option<&Game>, act: &Act) -> ParsedText
         → IsTheParsed table act.now (parsed result.start result.mv) }
 {
     match act {
-        Act::Open { fen, .. } => ParsedText {
+        Act::NewGame { fen, .. } => ParsedText {
             start: start_parsed(fen),
             mv: None,
         },
-        Act::Move { text, .. } => ParsedText {
+        Act::Play { text, .. } => ParsedText {
             start: None,
             mv: move_parsed(found, text),
         },
@@ -488,7 +488,7 @@ fn asked_by(act: &Act, mv: &Option<StoredMove>) -> Option<Asked>
     ensures none { IfNone result (AsksNoSeat act.now) }
 {
     match act {
-        Act::Move { ply, .. } => Some(Asked::Move { ply: *ply, mv: *mv }),
+        Act::Play { ply, .. } => Some(Asked::Move { ply: *ply, mv: *mv }),
         Act::Offer { .. } => Some(Asked::Offer),
         Act::Accept { .. } => Some(Asked::Accept),
         Act::Decline { .. } => Some(Asked::Decline),
@@ -505,7 +505,7 @@ fn asked_by(act: &Act, mv: &Option<StoredMove>) -> Option<Asked>
             mv: *mv,
         })),
         Act::Flag { .. } => Some(Asked::Flag),
-        Act::Drop { .. } => Some(Asked::Drop),
+        Act::Remove { .. } => Some(Asked::Drop),
         _ => None,
     }
 }
@@ -527,7 +527,7 @@ fn player_verdict(
         return seat_verdict(table, found, name, at, &asked);
     }
     match act {
-        Act::Open {
+        Act::NewGame {
             colour,
             initial,
             increment,
@@ -555,10 +555,10 @@ fn checked(table: &Table, found: Option<&Game>, command: &Command, named: &Parse
     requires began { IfSome found (λ game. game.now.moment ≤ table.now.moment) }
     ensures { result ≡ verdict table.now command.now (parsed named.now.start named.now.mv) }
 {
-    if command.moment > GREATEST_MOMENT {
+    if command.at > GREATEST_MOMENT {
         return Verdict::Refuse(Refusal::BadMoment);
     }
-    let at = table.moment().max(command.moment);
+    let at = table.moment().max(command.at);
     let Some(name) = command.who else {
         if command.act.is_read() {
             return read_verdict(found, &command.act);

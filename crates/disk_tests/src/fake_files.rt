@@ -1,7 +1,7 @@
 //! Devices on files that stand for the system's: on one of which nothing but a place is known, and on sectors in memory.
 use crate::files::{Call, last_kind, make};
 use crate::sectors::{byte_at, check_first, fill};
-use file_device::{FileDevice, PositionedFile, SectorFile, Standing};
+use sector_dev::{FileDevice, PositionedFile, SectorFile, Standing};
 use sector_dev::{CrashDevice, Device, MemoryDevice, OnceDevice};
 use std::io::{self, ErrorKind};
 use std::process::Abort;
@@ -15,7 +15,7 @@ struct FakeFile {
 
 impl PositionedFile for FakeFile {
     ghost use Rattle.std.specs.Prelude.{None};
-    ghost use Rattle.file_device.specs.Unknown.{unknown, unknown_is_coherent};
+    ghost use Rattle.sector_dev.specs.Unknown.{unknown, unknown_is_coherent};
 
     ghost state = { λ _. unknown };
 

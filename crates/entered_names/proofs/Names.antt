@@ -6,8 +6,8 @@ use Rattle.std.proofs.lemmas.Fmt.{decimal_digit, decimal_step}
 use Rattle.chess_entry.specs.declared.commands.Act.{Act as Asked}
 use Rattle.chess_entry.specs.declared.commands.Act.TheVariants as acts
 use Rattle.chess_entry.specs.declared.refusals.Refusal.TheVariants.{BadLine, BadMoment}
-use Rattle.chess_line.specs.declared.lines.Request.{Request}
-use Rattle.chess_line.specs.declared.lines.Request.TheVariants.{Called, Act}
+use Rattle.chess_line.specs.declared.lines.Line.{Line}
+use Rattle.chess_line.specs.declared.lines.Line.TheVariants.{Called, Act}
 use Rattle.chess_line.specs.Line.{act_fields}
 use Rattle.std.specs.List.{join_with_byte}
 use Rattle.chess_answer.specs.Acts.{named_text}
@@ -32,16 +32,16 @@ use Rattle.entered_names.specs.Names.{Taken, IsTaken, name_after, Told, told_fir
 
 act_words : (act : Asked) → says_name (join_with_byte 32 (act_fields act)) ≡ false
 unfolding sort_of is_read_word is_act_word is_play_word
-act_words (acts.Open colour initial increment fen period) = refl
+act_words (acts.NewGame colour initial increment fen period) = refl
 act_words (acts.Join game) = refl
-act_words (acts.Move game ply text) = refl
+act_words (acts.Play game ply text) = refl
 act_words (acts.Offer game) = refl
 act_words (acts.Accept game) = refl
 act_words (acts.Decline game) = refl
 act_words (acts.Resign game) = refl
 act_words (acts.Claim game ply fifty text) = refl
 act_words (acts.Flag game) = refl
-act_words (acts.Drop game) = refl
+act_words (acts.Remove game) = refl
 act_words (acts.Show game) = refl
 act_words (acts.Fen game) = refl
 act_words (acts.Pgn game) = refl
@@ -75,7 +75,7 @@ named_if at text name said true own is takes =
     absurd (false≢true (sym (ap (λ (s : Answer). takes_name (rest_of text) (text_of s)) own ∙ refused_moment (rest_of text)) ∙ takes))
 named_if at text name said false own is takes = ap Some is
 
-named_given : (at : ℕ) (text : List ℕ) (read : Option Request) (said : Answer) → IsReading text read →
+named_given : (at : ℕ) (text : List ℕ) (read : Option Line) (said : Answer) → IsReading text read →
     MatchOption (own_answer at read) (Unit {0}) (λ line. said ≡ alone line) → says_name text ≡ true →
     takes_name (rest_of text) (text_of said) ≡ true → given_name at read ≡ Some (rest_of text)
 named_given at text None said reads own is takes =
@@ -86,7 +86,7 @@ named_given at text (Some (Act act)) said reads own is takes =
     absurd (false≢true (sym (ap says_name reads.form.spelled ∙ act_words act) ∙ is))
 
 -- any other line leaves the session its name
-silent_given : (at : ℕ) (text : List ℕ) (read : Option Request) (name : Option (List ℕ)) → IsReading text read → says_name text ≡ false →
+silent_given : (at : ℕ) (text : List ℕ) (read : Option Line) (name : Option (List ℕ)) → IsReading text read → says_name text ≡ false →
     renamed (given_name at read) name ≡ name
 silent_given at text None name reads none = refl
 silent_given at text (Some (Called given)) name reads none =

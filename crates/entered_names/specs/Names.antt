@@ -2,8 +2,8 @@
 use Rattle.std.specs.Prelude.{ℕ, ◌≡◌, Bool, true, false, List, [], ◌∷◌, ◌++◌, Option, None, Some, if◌then◌else◌}
 use Rattle.std.specs.Option.{MatchOption}
 use Rattle.chess_entry.specs.declared.commands.Act.{Act as Asked}
-use Rattle.chess_line.specs.declared.lines.Request.{Request}
-use Rattle.chess_line.specs.declared.lines.Request.TheVariants.{Act}
+use Rattle.chess_line.specs.declared.lines.Line.{Line}
+use Rattle.chess_line.specs.declared.lines.Line.TheVariants.{Act}
 use Rattle.chess_sessions.specs.Session.{Said}
 use Rattle.chess_sessions.specs.Turn.{IsReading}
 use Rattle.chess_sessions.specs.Answers.{given_name, renamed, own_answer, alone, asked}
@@ -19,7 +19,7 @@ use Rattle.lobby_desk.specs.History.{Step, Sent, known_in, unanswered_in, IsLine
 -- A line that a session took: its text, what it asks for, the moment, and the answer to it.
 pub record Taken : Type 0 where
   pub text : List ℕ
-  pub read : Option Request
+  pub read : Option Line
   pub at : ℕ
   pub said : Said
 
@@ -76,7 +76,7 @@ pub record IsEnteredAs (IsLine IsName : List ℕ → Type 0) (sent : List Sent) 
   pub others : List Sent
   pub next : sent ≡ record { line = line; under = Some name } ∷ others
   pub entered : (taken : List Taken) (at : ℕ) (act : Asked) → AreTaken told taken →
-      asked at (name_after None taken) (Some (Act act)) ≡ record { moment = at; who = Some name; act = act } ∷ []
+      asked at (name_after None taken) (Some (Act act)) ≡ record { at = at; who = Some name; act = act } ∷ []
 
 -- the act of a message, and the opening of a pairing, which stands under White's name
 abbrev pub IsEnteredFor : Owed → List Sent → List Told → Type 0

@@ -6,7 +6,7 @@ use lobby_loop::{Acceptor, ActLog, Fault, Hall, KeepsLinks, NoActLog, NoLinks, W
 use lobby_players::relinked;
 use lobby_roster::{Linked, Player};
 use lobby_web::Kind;
-use rec_codec::Name;
+use player_name::Name;
 use server_calls::AcceptFault;
 use std::alloc::Global;
 use std::hash::RandomState;

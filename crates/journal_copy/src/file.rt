@@ -2,7 +2,7 @@
 ghost use Rattle.std.specs.Prelude.{◌≡◌};
 
 use crate::source::{Slots, Source};
-use file_device::FileDevice;
+use sector_dev::FileDevice;
 use sector_dev::DeviceFault;
 use std::fs::File;
 use std::io::{ErrorKind, Seek, SeekFrom};

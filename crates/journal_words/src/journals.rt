@@ -8,7 +8,7 @@ ghost use Rattle.server_work.specs.Faults.{IsOpenFault};
 ghost use Rattle.journal_words.specs.Faults.{IsBlankFault, IsFormatFault, IsWidenFault, MayWiden};
 
 use chess_store::{Store, StoreFault};
-use file_device::FileDevice;
+use sector_dev::FileDevice;
 use rec_codec::{Limits, need};
 use sector_dev::{Device, Got};
 use server_telling::{Teller, TellingDevice};

@@ -12,7 +12,7 @@ ghost use Rattle.rec_codec.specs.Limits.{IsInRange};
 
 use chess_entry::Command;
 use chess_store::{Store, StoreFault};
-use file_device::FileDevice;
+use sector_dev::FileDevice;
 use player_lines::commits::{CommitFault, Plan, make_commits};
 use player_lines::{Fault, LIMITS, read_command, read_limits, split};
 use rec_codec::{Limits, need};

@@ -8,7 +8,7 @@ use Rattle.std.proofs.lemmas.Bool.Decides.{nat_tests}
 use Rattle.std.proofs.lemmas.Fmt.{digits_decimal, length-decimal-le}
 use Rattle.std.proofs.lemmas.List.Folds.{list_all-append}
 use Rattle.std.proofs.lemmas.Str.Parse.{digit_at}
-use Rattle.rec_codec.specs.Name.{IsName, is_name_byte}
+use Rattle.player_name.specs.Name.{IsName, is_name_byte}
 use Rattle.lobby_words.specs.declared.words.Sort.TheVariants as sorts
 use Rattle.lobby_words.specs.Words.{is_message, is_message_byte, sort_of, is_read_word, is_act_word}
 use Rattle.lobby_desk.specs.Lines.{name_line, game_line, join_line}

@@ -3,7 +3,7 @@ use Rattle.std.specs.Prelude.{ℕ, ◌≡◌, List, [], ◌∷◌, ◌++◌, Opt
 use Rattle.lobby_words.specs.declared.planning.Plan.{Plan}
 use Rattle.lobby_words.specs.Words.{as_line, pair_line}
 use Rattle.lobby_words.specs.declared.planning.Plan.TheVariants as plans
-use Rattle.rec_codec.specs.Name.{IsName}
+use Rattle.player_name.specs.Name.{IsName}
 use Rattle.lobby_desk.specs.Refusals.{game_named}
 use Rattle.lobby_desk.specs.declared.server_line.ServerLine.{ServerLine}
 pub use Rattle.lobby_words.specs.Answers.{ended}

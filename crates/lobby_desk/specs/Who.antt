@@ -3,7 +3,7 @@ use Rattle.std.specs.Prelude.{ℕ, ◌≡◌, ◌⊎◌, Bool, true, false, not,
 use Rattle.std.specs.BTreeMap.{BTreeMap, get}
 use Rattle.std.specs.Ordering.{nat_cmp}
 use Rattle.std.specs.String.{string_bytes}
-use Rattle.rec_codec.specs.Name.{IsName}
+use Rattle.player_name.specs.Name.{IsName}
 use Rattle.lobby_words.specs.declared.planning.Plan.{Plan}
 use Rattle.lobby_words.specs.declared.planning.Plan.TheVariants as plans
 use Rattle.lobby_words.specs.declared.refusals.Refusal.{Refusal}

@@ -4,7 +4,7 @@ ghost use Rattle.lobby_desk.specs.declared.pairings.Pairing.{Pairing};
 ghost use Rattle.lobby_desk.specs.Pairings as spec;
 
 use lobby_words::{Refusal, Seat, ends_wait};
-use rec_codec::Name;
+use player_name::Name;
 use std::alloc::AllocError;
 
 /// A game that a pairing has opened, and the player for whom it is kept.

@@ -9,7 +9,7 @@ use crate::carrying::who_acts;
 use crate::desk::open_ones;
 use crate::visitors::Visitor;
 use lobby_roster::{Player, is_named, who_text};
-use rec_codec::Name;
+use player_name::Name;
 use std::alloc::{AllocError, Global};
 use std::collections::BTreeMap;
 

@@ -1,7 +1,7 @@
 //! The lobby's line to the server: the connection to it, with the name that was said last and whose answers come, and what the
 //! server has told by it.
 ghost use Rattle.std.specs.Prelude.{◌≡◌, ◌++◌, [], ◌∷◌, map, false, Some, None, IfOk, OnOk};
-ghost use Rattle.rec_codec.specs.Name.{IsName};
+ghost use Rattle.player_name.specs.Name.{IsName};
 ghost use Rattle.std.specs.String.{string_bytes};
 ghost use Rattle.lobby_desk.specs.Events.{owed_of, owed_last, owed_lines, Nobody, Naming, Behind, Asker, Pairer, ForAct};
 ghost use Rattle.lobby_desk.specs.Refusals.{game_named};
@@ -12,7 +12,7 @@ use crate::pairings::Pairing;
 use crate::refusals::{RefusedActs, game_named};
 use itoa::Buffer;
 use lobby_words::{Coming, Seat, is_said, pair_times};
-use rec_codec::Name;
+use player_name::Name;
 use std::alloc::{AllocError, Global};
 use std::collections::VecDeque;
 

@@ -11,7 +11,7 @@ use lobby_words::{
     Seat, actor, as_name, black_name, ends_wait, is_list, is_pair, joins_game, opens_game, seat_of,
     seats_in, tells_end,
 };
-use rec_codec::Name;
+use player_name::Name;
 use std::alloc::{AllocError, Global};
 
 // The most games of one player that wait, and that go on.

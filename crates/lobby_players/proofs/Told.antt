@@ -7,7 +7,7 @@ use Rattle.std.proofs.lemmas.List.Elements.{All-get_or}
 use Rattle.std.proofs.lemmas.List.Sums.{AllPass-from_list_all}
 use Rattle.hex.specs.Hex.{decode_sized, is_hex_digit}
 use Rattle.hex.proofs.HexLemmas.{IsOk-decode_sized}
-use Rattle.rec_codec.specs.Name.{IsName, is_name_byte}
+use Rattle.player_name.specs.Name.{IsName, is_name_byte}
 use Rattle.lobby_players.specs.File.{Entry, IsWord, HasFields, TellsOf, IsLineOf, role_text}
 use Rattle.lobby_players.proofs.Words.{first_word}
 

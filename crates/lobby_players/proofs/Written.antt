@@ -13,7 +13,7 @@ use Rattle.std.proofs.lemmas.Slice.Eq.{bytes_eq-Decides}
 use Rattle.text_parts.specs.Parts.{parts_of}
 use Rattle.hex.specs.Hex.{decode_sized, encode_lower, is_hex_digit}
 use Rattle.hex.proofs.HexLemmas.{IsOk-decode_sized}
-use Rattle.rec_codec.specs.Name.{IsName, is_name_byte}
+use Rattle.player_name.specs.Name.{IsName, is_name_byte}
 use Rattle.lobby_words.specs.Words.{word_of}
 use Rattle.lobby_words.specs.Answers.{ended}
 use Rattle.lobby_roster.specs.Lines.{bytes_of}

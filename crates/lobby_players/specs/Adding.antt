@@ -4,7 +4,7 @@ use Rattle.std.specs.Str.{bytes_eq}
 use Rattle.std.specs.List.{list_any}
 use Rattle.hex.specs.Hex.{encode_lower}
 use Rattle.sha2.specs.Sha256.{sha256}
-use Rattle.rec_codec.specs.Name.{IsName}
+use Rattle.player_name.specs.Name.{IsName}
 use Rattle.lobby_words.specs.Words.{word_of}
 use Rattle.lobby_roster.specs.Lines.{bytes_of}
 use Rattle.lobby_players.specs.declared.adding.Addition.{Addition}

@@ -5,7 +5,7 @@ use Rattle.std.specs.Str.{bytes_eq, str_to_ascii_lowercase, str_eq_ignore_ascii_
 use Rattle.std.specs.String.{string_bytes}
 use Rattle.text_parts.specs.Parts.{parts_of}
 use Rattle.hex.specs.Hex.{decode_sized}
-use Rattle.rec_codec.specs.Name.{IsName}
+use Rattle.player_name.specs.Name.{IsName}
 use Rattle.lobby_roster.specs.declared.players.Player.{Player}
 
 -- the lines of a text

@@ -14,7 +14,7 @@ use crate::lines::{is_alike, word};
 use crate::reading::{has_name, read_text, text_of};
 use crate::token::{forget, token_text};
 use lobby_roster::Player;
-use rec_codec::Name;
+use player_name::Name;
 use sha2::{Digest, Sha256};
 use std::alloc::{AllocError, Global};
 use text_parts::parts;

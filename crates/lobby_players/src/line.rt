@@ -8,7 +8,7 @@ ghost use Rattle.lobby_players.specs.File.{Entry, HasFields, TellsOf, IsLineOf, 
 
 use hex::FromHex;
 use lobby_roster::Player;
-use rec_codec::Name;
+use player_name::Name;
 use std::alloc::{AllocError, Global};
 
 // The fields of a line.

@@ -9,7 +9,7 @@ use crate::faults::{LineFault, PlayersFault, RereadFault};
 use crate::line::player_of;
 use crate::lines::{is_alike, is_silent};
 use lobby_roster::Player;
-use rec_codec::Name;
+use player_name::Name;
 use std::alloc::{AllocError, Global};
 use text_parts::parts;
 

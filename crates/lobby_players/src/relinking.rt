@@ -12,7 +12,7 @@ use crate::faults::LinkFault;
 use crate::reading::{has_sum, read_text, text_of};
 use crate::token::token_text;
 use lobby_roster::{Linked, Player, player_by_name};
-use rec_codec::Name;
+use player_name::Name;
 use sha2::{Digest, Sha256};
 use std::alloc::{AllocError, Global};
 

@@ -73,7 +73,7 @@ fn line_of(alloc: Global, board: &Board) -> Result<String, AllocError>
     ensures { IfOk result (λ text. TellsMoves (string_bytes text) board.now) }
 {
     let moves = legal_moves(board);
-    let is_check = board.is_in_check();
+    let is_check = board.in_check();
     let mut text = String::from_str(alloc, "moves ")?;
     text.push_str(check_text(is_check))?;
     push_moves(&mut text, moves.as_slice())?;

@@ -5,7 +5,7 @@ ghost use Rattle.std.specs.Str.{bytes_eq};
 ghost use Rattle.lobby_roster.specs.Players.{identity_of, is_token_digit, is_token, or_holder, holder_of_sum, holder_of, is_named};
 
 use lobby_words::Identity;
-use rec_codec::Name;
+use player_name::Name;
 use sha2::{Digest, Sha256};
 
 /// A player, as the players' file has it.

@@ -10,7 +10,7 @@ ghost use Rattle.lobby_roster.specs.Players.{role_text, player_row, row_of, know
 use crate::players::Player;
 use itoa::Buffer;
 use lobby_words::Identity;
-use rec_codec::Name;
+use player_name::Name;
 use std::alloc::{AllocError, Global};
 
 fn role_text(is_arbiter: bool) -> &'static str

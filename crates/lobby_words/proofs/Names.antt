@@ -1,7 +1,7 @@
 -- Whether a text is a name.
 use Rattle.std.proofs.Common.{ℕ, ◌≡◌, Bool, true, false, List, refl, arith}
 use Rattle.std.proofs.lemmas.Bool.Decides.{nat_tests}
-use Rattle.rec_codec.specs.Name.{IsName}
+use Rattle.player_name.specs.Name.{IsName}
 use Rattle.lobby_words.specs.Waiting.{is_name}
 
 pub name_is : (text : List ℕ) → IsName text → is_name text ≡ true

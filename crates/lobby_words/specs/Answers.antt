@@ -4,7 +4,7 @@ use Rattle.std.specs.List.{starts_with, ends_with, before_first}
 use Rattle.std.specs.Str.{bytes_eq}
 use Rattle.std.specs.String.{string_bytes}
 use Rattle.std.specs.declared.string.String.{String}
-use Rattle.rec_codec.specs.Name.{IsName}
+use Rattle.player_name.specs.Name.{IsName}
 use Rattle.lobby_words.specs.declared.coming.Coming.{Coming}
 use Rattle.lobby_words.specs.Words.{word_of, rest_of, line_said, u32_in, number_or_0}
 

@@ -3,7 +3,7 @@ use Rattle.std.specs.Prelude.{ℕ, Bool, true, false, [], ◌∷◌, ◌++◌, �
 use Rattle.std.specs.List.{list_all, list_any, flat_map, starts_with}
 use Rattle.std.specs.Str.{bytes_eq}
 use Rattle.text_parts.specs.Parts.{parts_of}
-use Rattle.rec_codec.specs.Name.{is_name_byte}
+use Rattle.player_name.specs.Name.{is_name_byte}
 use Rattle.lobby_words.specs.declared.listing.Seat.{Seat}
 use Rattle.lobby_words.specs.Words.{word_of, rest_of, line_said, u32_in}
 

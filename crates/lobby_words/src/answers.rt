@@ -1,11 +1,11 @@
 //! What the answers of the server say.
 ghost use Rattle.std.specs.Prelude.{codes, ◌≡◌, ◌==◌, IfSome, IfNone};
 ghost use Rattle.std.specs.List.{ends_with};
-ghost use Rattle.rec_codec.specs.Name.{IsName};
+ghost use Rattle.player_name.specs.Name.{IsName};
 ghost use Rattle.lobby_words.specs.Answers.{IsSeated, IsFirstSeated, IsSeatless, has_empty_seat, first_line, act_game, is_table_act, is_accepted, is_ended, is_no_game, is_over};
 
 use crate::words::{cut_word, line_said, number_named};
-use rec_codec::Name;
+use player_name::Name;
 use text_parts::before;
 
 // What stands before the first line feed.

@@ -3,7 +3,7 @@ ghost use Rattle.std.specs.Prelude.{◌≡◌, ◌++◌, true, IfOk, OnOk};
 ghost use Rattle.lobby_words.specs.Waiting.{opens_game, joins_game, ends_wait, seat_of, listed, seats_row, tells_end, is_list, seats_in};
 
 use crate::words::{cut_word, line_said, number_named};
-use rec_codec::Name;
+use player_name::Name;
 use std::alloc::{AllocError, Global};
 use text_parts::parts;
 

@@ -1,11 +1,11 @@
 //! The name under which lines go to the server: it is said before a line, where another was said last.
 ghost use Rattle.std.specs.Prelude.{◌≡◌};
-ghost use Rattle.rec_codec.specs.Name.{IsName};
+ghost use Rattle.player_name.specs.Name.{IsName};
 ghost use Rattle.lobby_words.specs.Naming as naming;
 
 use crate::answers::first_line;
 use crate::words::cut_word;
-use rec_codec::Name;
+use player_name::Name;
 
 /// Whether the name was said last.
 pub fn is_said(said: &Option<Name>, name: &Name) -> bool

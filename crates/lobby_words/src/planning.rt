@@ -5,7 +5,7 @@ ghost use Rattle.lobby_words.specs.Plans as plans;
 
 use crate::refusals::Refusal;
 use crate::words::{Sort, cut_word, is_message, number_named, sort_of};
-use rec_codec::Name;
+use player_name::Name;
 
 /// For whom a connection acts.
 #[derive(Clone, Copy)]

@@ -10,10 +10,10 @@ mod stored;
 
 use chess_answer::{AnswerLine, Reply, named_line, refusal_line};
 use chess_entry::{Command, Entry, GREATEST_MOMENT, Name, Refusal, Verdict, know_name};
-use chess_line::{Request, parse};
+use chess_line::{Line, parse};
 use chess_table::{Table, judge};
 use player_lines::{Fault, LIMITS, Sent, push_reply, read_limits, read_sent, split, text_line};
-use rec_bytes::write_record;
+use rec_codec::write_record;
 use rec_codec::{Limits, Record};
 use std::alloc::{AllocError, Global};
 use std::mem;
@@ -153,9 +153,9 @@ impl TablePlayer {
             return Ok(self.alone(refusal_line(Refusal::BadLine)));
         };
         match line {
-            Request::Called(name) => Ok(self.called(sent.at, &name)),
-            Request::Act(act) => self.acted(&Command {
-                moment: sent.at,
+            Line::Called(name) => Ok(self.called(sent.at, &name)),
+            Line::Act(act) => self.acted(&Command {
+                at: sent.at,
                 who: sent.who,
                 act,
             }),

@@ -4,7 +4,7 @@ use pairing_texts::{
     Fault, Outcome, Pairing, Row, RowFault, candidates, newest, note_of, note_text, read, results,
     times_of, times_text,
 };
-use rec_codec::Name;
+use player_name::Name;
 use std::alloc::Global;
 use std::process::Abort;
 

@@ -7,7 +7,7 @@ use Rattle.std.proofs.lemmas.Bool.{false≢true, and_parts, or_from, or_parts}
 use Rattle.std.proofs.lemmas.Bool.Decides.{Decides-eqb}
 use Rattle.std.proofs.lemmas.Slice.Eq.{bytes_eq-Decides}
 use Rattle.text_parts.proofs.Cuts.{Lacks, lacks_more, lacks_both, before_at, after_at}
-use Rattle.rec_codec.specs.Name.{is_name_byte}
+use Rattle.player_name.specs.Name.{is_name_byte}
 use Rattle.lobby_words.specs.Words.{number_or_0}
 use Rattle.lobby_words.specs.Waiting.{is_name}
 use Rattle.pairing_texts.specs.Times.{front_of}

@@ -7,7 +7,7 @@ use crate::faults::{Fault, RowFault};
 use crate::records::records_of;
 use crate::rows::{Game, Pairing, is_header, pairing_of};
 use csv::{Error, ErrorKind, StringRecord};
-use rec_codec::Name;
+use player_name::Name;
 use std::alloc::{AllocError, Global};
 
 fn has_black(game: Option<Game>, name: &Name) -> bool

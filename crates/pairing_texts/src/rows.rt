@@ -11,7 +11,7 @@ use crate::times::{Times, times_of};
 use csv::StringRecord;
 use jiff::Timestamp;
 use lobby_words::number_named;
-use rec_codec::Name;
+use player_name::Name;
 use std::alloc::{AllocError, Global};
 
 /// A game that is to be played.

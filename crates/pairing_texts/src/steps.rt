@@ -5,7 +5,7 @@ ghost use Rattle.pairing_texts.specs.Notes.{reached};
 ghost use Rattle.pairing_texts.specs.Steps as spec;
 
 use crate::notes::Stage;
-use rec_codec::Name;
+use player_name::Name;
 use std::alloc::{AllocError, Global};
 
 /// A game of the table, and who sits in it.

@@ -5,7 +5,7 @@ ghost use Rattle.rec_codec.specs.Limits.{IsInRange};
 
 use crate::fault::Fault;
 use chess_entry::{Command, Name};
-use chess_line::{Request, parse};
+use chess_line::{Line, parse};
 use rec_codec::{Limits, Version};
 use sector_dev::Fate;
 use std::alloc::Global;
@@ -104,8 +104,8 @@ pub fn read_command(text: &str) -> Result<Command, Fault> {
         return Err(Fault::Input);
     };
     match parse(sent.line.as_bytes()) {
-        Some(Request::Act(act)) => Ok(Command {
-            moment: sent.at,
+        Some(Line::Act(act)) => Ok(Command {
+            at: sent.at,
             who: sent.who,
             act,
         }),

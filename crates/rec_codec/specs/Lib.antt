@@ -1,7 +1,6 @@
 pub mod Field
 pub mod Limits
-pub mod Name
-pub mod NameInside
+pub mod NameField
 pub mod Moves
 pub mod MovesInside
 pub mod Flags

@@ -2,7 +2,7 @@
 use anyhow::Result;
 use lobby_roster::Player;
 use pairing_texts::Pairing;
-use rec_codec::Name;
+use player_name::Name;
 
 // The seconds below which an initial time is taken for minutes.
 const SHORT: u32 = 60;

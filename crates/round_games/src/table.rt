@@ -1,7 +1,7 @@
 //! What is told of the table.
 use anyhow::Result;
 use pairing_texts::{Row, Seats};
-use rec_codec::Name;
+use player_name::Name;
 use server_link::{Answer, Link, refused, row_of};
 use std::alloc::{AllocError, Global};
 use text_parts::parts;

@@ -6,7 +6,7 @@ use lobby_roster::Player;
 use pairing_commands::Source;
 use pairing_texts::{Note, Pairing, Seats, game_in, last_of};
 use pgn_tags::{is_move, is_tag, value_in, without_escapes};
-use rec_codec::Name;
+use player_name::Name;
 use round_games::{Shown, show_game};
 use server_calls::ServerAddress;
 use server_link::Link;

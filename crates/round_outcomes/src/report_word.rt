@@ -5,7 +5,7 @@ use lobby_players::players_of;
 use lobby_roster::Player;
 use pairing_commands::{Reporting, Round};
 use pairing_texts::Pairing;
-use rec_codec::Name;
+use player_name::Name;
 use round_games::{Paired, paired_of};
 use std::alloc::{AllocError, Global};
 use std::io::{self, Write};

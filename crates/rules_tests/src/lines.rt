@@ -1,6 +1,6 @@
 //! What no stored run shows of the lines of clients.
 use chess_entry::Act;
-use chess_line::{Request, parse};
+use chess_line::{Line, parse};
 use session_lines::Lines;
 
 // A line of 255 bytes is read, and one of 256 is not: `move 1 0 ` has nine.
@@ -25,7 +25,7 @@ fn lines_that_were_taken_are_given_up(rt: HostRuntime) {
 // The act of a line.
 fn act_of(line: &str) -> Option<Act> {
     match parse(line.as_bytes()) {
-        Some(Request::Act(act)) => Some(act),
+        Some(Line::Act(act)) => Some(act),
         _ => None,
     }
 }
@@ -36,7 +36,7 @@ fn is_move_line(line: &str, of_game: u32, at_ply: u32, of_text: &str) -> bool {
         return false;
     };
     match act {
-        Act::Move { game, ply, text } => {
+        Act::Play { game, ply, text } => {
             game == of_game && ply == at_ply && text.as_str() == of_text
         }
         _ => false,

@@ -43,6 +43,6 @@ fn moves_are_listed_and_counted(rt: HostRuntime) {
     for (text, count, is_check) in &COUNTED {
         let board = fen_read(text).expect(&rt, "a FEN");
         assert!(rt; legal_moves(&board).len() == *count as usize && count_moves(&board) == *count);
-        assert!(rt; has_legal(&board) == (*count > 0) && board.is_in_check() == *is_check);
+        assert!(rt; has_legal(&board) == (*count > 0) && board.in_check() == *is_check);
     }
 }

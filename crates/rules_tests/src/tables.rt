@@ -14,7 +14,7 @@ enum Asked {
 
 fn act_of(rt: &impl Abort, asked: &Asked) -> Act {
     match asked {
-        Asked::Open => Act::Open {
+        Asked::Open => Act::NewGame {
             colour: White,
             initial: 60,
             increment: 0,
@@ -22,7 +22,7 @@ fn act_of(rt: &impl Abort, asked: &Asked) -> Act {
             period: None,
         },
         Asked::Join => Act::Join { game: 1 },
-        Asked::Move(ply, text) => Act::Move {
+        Asked::Move(ply, text) => Act::Play {
             game: 1,
             ply: *ply,
             text: Text::from(text).ok().expect(rt, "a text"),
@@ -33,7 +33,7 @@ fn act_of(rt: &impl Abort, asked: &Asked) -> Act {
 // Why an act is refused, if it is; an entry is tested and entered.
 fn refusal(rt: &impl Abort, table: &mut Table, who: &str, asked: &Asked) -> Option<Refusal> {
     let command = Command {
-        moment: 1_000,
+        at: 1_000,
         who: Some(Name::try_new(who).expect(rt, "a name")),
         act: act_of(rt, asked),
     };

@@ -7,3 +7,6 @@ pub mod Runs
 pub mod Memory
 pub mod Replay
 pub mod InMemory
+pub mod Unknown
+pub mod File
+pub mod FileCalls

@@ -2,7 +2,7 @@
 ghost use Rattle.std.specs.Prelude.{◌≡◌};
 
 use crate::telling::Teller;
-use file_device::{FileDevice, PositionedFile};
+use sector_dev::{FileDevice, PositionedFile};
 use sector_dev::{Device, DeviceFault, Got};
 use std::io;
 

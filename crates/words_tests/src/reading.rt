@@ -19,7 +19,7 @@ const JOIN: Act = Act::Join { game: 1 };
 const RESIGN: Act = Act::Resign { game: 1 };
 
 fn opening(colour: Colour) -> Act {
-    Act::Open {
+    Act::NewGame {
         colour,
         initial: 300,
         increment: 2,
@@ -30,7 +30,7 @@ fn opening(colour: Colour) -> Act {
 
 fn command(who: &str, act: Act) -> Command {
     Command {
-        moment: 1_000,
+        at: 1_000,
         who: Name::try_new(who),
         act,
     }

@@ -2,7 +2,7 @@
 use chess_entry::Entry;
 use chess_table::{Table, TableFault, entry_record};
 use player_lines::Fault;
-use rec_bytes::{read_record, write_record};
+use rec_codec::{read_record, write_record};
 use rec_codec::{Limits, Record, Version};
 use std::alloc::Global;
 

@@ -101,9 +101,9 @@ returns-clause-every c = λ act h.
     let fen : option_map shown c.in_ok-fen.fen ≡ option_map shown o.fen = c.in_ok-fen.ensures.every o.fen o.text parts.rest in
     let fens = option_map shown o.fen in
     ap shown_act o.is
-    ∙ (ap (λ x. acts.Open x o.initial o.increment fens o.period) (sym colour)
-    ∙ (ap (λ x. acts.Open c.in_ok-colour-2.colour x o.increment fens o.period) (sym times.first)
-    ∙ (ap (λ x. acts.Open c.in_ok-colour-2.colour c.in_ok-initial.initial x fens o.period) (sym number)
-    ∙ (ap (λ x. acts.Open c.in_ok-colour-2.colour c.in_ok-initial.initial c.in_ok-increment.increment x o.period) (sym fen)
-    ∙ ap (λ x. acts.Open c.in_ok-colour-2.colour c.in_ok-initial.initial c.in_ok-increment.increment
+    ∙ (ap (λ x. acts.NewGame x o.initial o.increment fens o.period) (sym colour)
+    ∙ (ap (λ x. acts.NewGame c.in_ok-colour-2.colour x o.increment fens o.period) (sym times.first)
+    ∙ (ap (λ x. acts.NewGame c.in_ok-colour-2.colour c.in_ok-initial.initial x fens o.period) (sym number)
+    ∙ (ap (λ x. acts.NewGame c.in_ok-colour-2.colour c.in_ok-initial.initial c.in_ok-increment.increment x o.period) (sym fen)
+    ∙ ap (λ x. acts.NewGame c.in_ok-colour-2.colour c.in_ok-initial.initial c.in_ok-increment.increment
     (option_map shown c.in_ok-fen.fen) x) (sym times.second)))))

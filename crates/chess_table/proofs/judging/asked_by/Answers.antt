@@ -6,9 +6,9 @@ use Rattle.chess_table.specs.declared.judging.Claimed.{Claimed}
 use Rattle.chess_table.specs.Asked.{IsAskedBy}
 use Rattle.chess_table.proofs.judging.asked_by.Goals as goal
 
-pub returns-in-Move-clause-some : goal.returns-in-Move-clause-some
-returns-in-Move-clause-some c =
-    subst (λ (a : Act). IsAskedBy a c.args.mv.now (asked.Move c.in-Move.ply c.args.mv.now)) (sym c.in-Move.is)
+pub returns-in-Play-clause-some : goal.returns-in-Play-clause-some
+returns-in-Play-clause-some c =
+    subst (λ (a : Act). IsAskedBy a c.args.mv.now (asked.Move c.in-Play.ply c.args.mv.now)) (sym c.in-Play.is)
     (λ table at name start. refl)
 
 pub returns-in-Offer-clause-some : goal.returns-in-Offer-clause-some
@@ -31,9 +31,9 @@ pub returns-in-Flag-clause-some : goal.returns-in-Flag-clause-some
 returns-in-Flag-clause-some c =
     subst (λ (a : Act). IsAskedBy a c.args.mv.now asked.Flag) (sym c.in-Flag.is) (λ table at name start. refl)
 
-pub returns-in-Drop-clause-some : goal.returns-in-Drop-clause-some
-returns-in-Drop-clause-some c =
-    subst (λ (a : Act). IsAskedBy a c.args.mv.now asked.Drop) (sym c.in-Drop.is) (λ table at name start. refl)
+pub returns-in-Remove-clause-some : goal.returns-in-Remove-clause-some
+returns-in-Remove-clause-some c =
+    subst (λ (a : Act). IsAskedBy a c.args.mv.now asked.Drop) (sym c.in-Remove.is) (λ table at name start. refl)
 
 pub returns-in-Claim-clause-some : goal.returns-in-Claim-clause-some
 returns-in-Claim-clause-some c =

@@ -12,7 +12,7 @@ returns-then-is_read c =
     let tells = parsed c.args.named.now.start c.args.named.now.mv in
     read-checked table command tells c.read_verdict.result c.if-command-gt-GREATEST_MOMENT.false
     (sym c.is_read.ensures ∙ c.if-is_read.true)
-    (c.read_verdict.ensures table c.requires.found (effective table command.moment) (name_or_none command.who) tells)
+    (c.read_verdict.ensures table c.requires.found (effective table command.at) (name_or_none command.who) tells)
 
 pub returns : goal.returns
 returns c =
@@ -21,4 +21,4 @@ returns c =
     let tells = parsed c.args.named.now.start c.args.named.now.mv in
     named-checked table command tells c.player_verdict.result c.max-at.result c.in-Some.name
     c.if-command-gt-GREATEST_MOMENT.false c.in-Some.is
-    (c.max-at.ensures ∙ ap (λ (n : ℕ). max n command.moment) c.moment.ensures) c.player_verdict.ensures
+    (c.max-at.ensures ∙ ap (λ (n : ℕ). max n command.at) c.moment.ensures) c.player_verdict.ensures

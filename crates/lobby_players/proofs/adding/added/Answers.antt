@@ -3,7 +3,7 @@ use Rattle.std.specs.List.{list_any}
 use Rattle.sha2.specs.Sha256.{sha256}
 use Rattle.hex.specs.Hex.{decode_sized, encode_lower}
 use Rattle.std.proofs.Common.{◌≡◌, Ok}
-use Rattle.rec_codec.specs.Name.{IsName}
+use Rattle.player_name.specs.Name.{IsName}
 use Rattle.lobby_players.specs.File.{IsFileOf, has_name, entries_of}
 use Rattle.lobby_players.specs.Adding.{added_text, entry_added, entry_with}
 use Rattle.lobby_players.proofs.Written.{alike_told, taken_told, file_added}

@@ -11,8 +11,8 @@ returns c =
     let sign = c.check_text.result.now in
     let slice = c.as_slice.result.now in
     let items = c.legal_moves-moves.result.items in
-    tells (string_bytes c.push_moves.new.text) sign c.args.board.now items c.is_in_check-is_check.result
-    c.is_in_check-is_check.ensures c.legal_moves-moves.ensures
+    tells (string_bytes c.push_moves.new.text) sign c.args.board.now items c.in_check-is_check.result
+    c.in_check-is_check.ensures c.legal_moves-moves.ensures
     (All-same IsBetweenSquares items slice (sym c.as_slice.ensures.value) c.in_ok-push_moves.ensures.squares)
     c.check_text.ensures
     (c.in_ok-push_moves.ensures.bytes

@@ -1,5 +1,5 @@
 use Rattle.std.proofs.Common.{ℕ, ◌≡◌, List, Option, None, Some, IfSome, subst, ap, ◌∙◌}
-use Rattle.rec_codec.specs.Name.{IsName}
+use Rattle.player_name.specs.Name.{IsName}
 use Rattle.lobby_words.specs.Words.{word_of, rest_of}
 use Rattle.lobby_words.specs.Answers.{white_in, IsFirstSeated}
 use Rattle.lobby_words.proofs.answers.seated.Goals as goal

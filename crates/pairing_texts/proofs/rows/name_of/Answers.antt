@@ -1,6 +1,6 @@
 use Rattle.std.proofs.Common.{ℕ, ◌≡◌, Bool, List, Option, None, Some, IfSome, IfNone, ap, sym, ◌∙◌}
 use Rattle.std.specs.Prelude.{if◌then◌else◌}
-use Rattle.rec_codec.specs.Name.{IsName}
+use Rattle.player_name.specs.Name.{IsName}
 use Rattle.lobby_words.proofs.Names.{name_is, name_is_not}
 use Rattle.pairing_texts.specs.Rows.{name_in}
 use Rattle.pairing_texts.proofs.rows.name_of.Goals as goal

@@ -3,4 +3,4 @@ use Rattle.chess_game.proofs.games.Game.has_fallen.Goals as goal
 
 pub returns : goal.returns
 returns c =
-    fallen-answered c.self.inside c.args.self.now c.args.at c.has_fallen.result c.self.view_is c.self.invariant c.has_fallen.ensures
+    fallen-answered c.self.inside c.args.self.now c.args.at c.fallen.result c.self.view_is c.self.invariant c.fallen.ensures

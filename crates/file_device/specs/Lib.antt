@@ -1,3 +1,0 @@
-pub mod Unknown
-pub mod File
-pub mod Calls
