@@ -1,5 +1,6 @@
 use crate::castling::CastlingRights;
 use chess_bits::{Colour, Kind, Square};
+use thiserror::Error;
 
 /// What a board is made of, by square number (a1 is 0, h1 is 7, h8 is 63); it need not be valid.
 #[derive(Clone, Copy)]
@@ -13,21 +14,28 @@ pub struct Parts {
 }
 
 /// Why parts are no valid position: the first of these conditions that they break.
-#[derive(Clone, Copy, Debug, PartialEq, Eq)]
+#[derive(Clone, Copy, Debug, PartialEq, Eq, Error)]
 pub enum BadBoard {
     /// A side has no king, or more than one.
+    #[error("a side has no king, or more than one")]
     Kings,
     /// A side has more than 16 men.
+    #[error("a side has more than 16 men")]
     Pieces,
     /// A pawn stands on rank 1 or 8.
+    #[error("a pawn stands on rank 1 or 8")]
     Pawns,
     /// The side not to move is in check.
+    #[error("the side that is not to move is in check")]
     Check,
     /// A castling right whose king or rook is not at home.
+    #[error("there is a castling right, and its king or rook is not at home")]
     Rights,
     /// An en passant target that no pawn has just crossed.
+    #[error("there is an en passant target that no pawn has just crossed")]
     Target,
     /// The fullmove number is 0.
+    #[error("the fullmove number is 0")]
     Counter,
 }
 

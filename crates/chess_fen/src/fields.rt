@@ -12,24 +12,32 @@ use chess_bits::{Colour, Square};
 use chess_board::{BadBoard, CastlingRights};
 use chess_notation::square_named;
 use itoa::Buffer;
+use thiserror::Error;
 
 /// Why a text is no FEN of a valid position: the first fault, in this order.
-#[derive(Clone, Copy, Debug, PartialEq, Eq)]
+#[derive(Clone, Copy, Debug, PartialEq, Eq, Error)]
 pub enum FenError {
     /// It is not six fields that are not empty, with one space between.
+    #[error("a FEN is six fields with one space between")]
     Shape,
     /// The men are not eight ranks of eight squares in their one spelling.
+    #[error("the men are not eight ranks of eight squares in their one spelling")]
     Placement,
     /// The side to move is neither `w` nor `b`.
+    #[error("the side to move is neither `w` nor `b`")]
     Side,
     /// The castling rights are neither `-` nor letters of `KQkq` in that order.
+    #[error("the castling rights are neither `-` nor letters of `KQkq` in that order")]
     Castling,
     /// The target is neither `-` nor a square's name.
+    #[error("the en passant target is neither `-` nor a square")]
     Target,
     /// A counter is no decimal number up to 65,535 without leading zeros, or the fullmove number is 0.
+    #[error("a counter is no number up to 65535 without leading zeros, or the fullmove number is 0")]
     Counter,
     /// The position is not valid.
-    Board(BadBoard),
+    #[error("the position is not valid")]
+    Board(#[source] BadBoard),
 }
 
 /// The texts of a FEN's six fields.
