@@ -1,4 +1,6 @@
-use chess_sessions::ConnectFault;
+//! Why a hub refuses a call.
+
+use crate::sessions::ConnectFault;
 use chess_store::StoreFault;
 use session_lines::FeedFault;
 use std::alloc::AllocError;

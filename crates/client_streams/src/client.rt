@@ -1,7 +1,7 @@
 //! A connection and its session.
 ghost use Rattle.std.specs.Prelude.{◌≡◌, ◌≢◌, ◌≤◌, ◌++◌, ◌+◌, ◌-◌, ◌↔◌, ◌⊎◌, true, false, [], Some, None, IsTrue, IfSome, IfOk, OnOk, OnErr};
 ghost use Rattle.std.specs.Io.KnownBytes.{Keeps};
-ghost use Rattle.chess_sessions.specs.Session.{said, session_at, due, Changes};
+ghost use Rattle.chess_hub.specs.Session.{said, session_at, due, Changes};
 ghost use Rattle.client_streams.specs.Clients.{standing, IsOpen, OthersStay, IsSilent, IsHeardAt, IsEndSeen, GivesOn, TakesIn, HandsOut, bytes_of, to_go};
 ghost use Rattle.client_streams.specs.Closings.{IsSound, IsForeign, IsTrouble, WasRefused};
 ghost use Rattle.session_lines.specs.Lines.{IsUnfinished};
@@ -17,7 +17,7 @@ use crate::outgoing::{Outgoing, Sent};
 use crate::room::Room;
 use crate::wire::Wire;
 use chess_answer::Reply;
-use chess_sessions::{Sessions, Sid};
+use chess_hub::{Sessions, Sid};
 use session_lines::Came;
 use std::alloc::{AllocError, Global};
 use std::io::{Read, Write};

@@ -1,11 +1,11 @@
 //! Whether memory was refused for what a client sends.
 ghost use Rattle.std.specs.Prelude.{◌≡◌, ◌≤◌, [], true, false, None, length, IfSome, IsSomeAnd};
 ghost use Rattle.std.specs.Bool.{OnTrue, OnFalse};
-ghost use Rattle.chess_sessions.specs.Session.{session_at};
+ghost use Rattle.chess_hub.specs.Session.{session_at};
 ghost use Rattle.client_streams.specs.Clients.{IsOpen, OthersStay, HasHeard};
 ghost use Rattle.client_streams.specs.Portions.{IsPortion};
 
-use chess_sessions::{Sessions, Sid};
+use chess_hub::{Sessions, Sid};
 use session_lines::FeedFault;
 
 /// Whether memory was refused for what a client sends. Only `feed` tells.

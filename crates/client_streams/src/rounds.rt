@@ -1,7 +1,7 @@
 //! What a turn of a server does for all its clients, one after the other.
 ghost use Rattle.std.specs.Prelude.{◌≡◌, ◌≤◌, ◌<◌, ◌↔◌, ◌⊎◌, true, Some, None, IsTrue, IsSomeAnd, length};
 ghost use Rattle.std.specs.Bool.{OnTrue, OnFalse};
-ghost use Rattle.chess_sessions.specs.Session.{Changes, IsUnchanged};
+ghost use Rattle.chess_hub.specs.Session.{Changes, IsUnchanged};
 ghost use Rattle.session_lines.specs.Lines.{IsUnfinished};
 ghost use Rattle.client_streams.specs.Clients.{standing, IsOpen, IsSilent, IsLongest};
 ghost use Rattle.client_streams.specs.Incoming.{held};
@@ -12,7 +12,7 @@ use crate::client::Client;
 use crate::closing::Closing;
 use crate::incoming::PIECE_ROOM;
 use crate::room::Room;
-use chess_sessions::Sessions;
+use chess_hub::Sessions;
 use std::io::{Read, Write};
 
 /// When clients are read for.

@@ -10,7 +10,7 @@
 //!   are numbers with commas between, `-` for none.
 use crate::memory::{opened, store_in_memory};
 use chess_hub::{Hub, HubFault};
-use chess_run::{ListMoments, ReaderSource, RunFault, run};
+use chess_hub::{ListMoments, ReaderSource, RunFault, run};
 use chess_store::Store;
 use player_lines::escapes::bytes_of;
 use player_lines::streams::{Sink, Source, read_manner};

@@ -3,7 +3,7 @@ ghost use Rattle.std.specs.Prelude.{◌≡◌, IfErr};
 ghost use Rattle.server_playing.specs.Faults.{IsRunFault, of_run};
 
 use crate::clock::SteadyClock;
-use chess_run::{LineSource, Moments, ReaderSource, RunFault, run};
+use chess_hub::{LineSource, Moments, ReaderSource, RunFault, run};
 use sector_dev::Device;
 use server_telling::{INPUT, Teller, TellingDevice, TellingReader, TellingWriter};
 use server_work::{Fault, open_file, open_on, told};

@@ -4,7 +4,7 @@ ghost use Rattle.server_playing.specs.Faults.{IsServeFault};
 
 use crate::clock::{SteadyClock, milliseconds_since};
 use chess_hub::Hub;
-use chess_run::Moments;
+use chess_hub::Moments;
 use chess_sockets::{Server, Turned};
 use chess_store::Store;
 use sector_dev::Device;

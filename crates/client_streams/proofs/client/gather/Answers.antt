@@ -1,7 +1,7 @@
 -- Each answer that was given goes behind what waits.
 use Rattle.std.proofs.Common.{ℕ, ◌≡◌, ◌++◌, ◌∙◌, List, None, Some, refl}
 use Rattle.chess_answer.specs.declared.reads.Reply.{Reply}
-use Rattle.chess_sessions.specs.Session.{said, session_at}
+use Rattle.chess_hub.specs.Session.{said, session_at}
 use Rattle.client_streams.specs.Clients.{bytes_of}
 use Rattle.client_streams.specs.Sending.{waiting}
 use Rattle.client_streams.specs.Rounds.{AreGiven}

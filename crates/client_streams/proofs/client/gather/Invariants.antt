@@ -1,6 +1,6 @@
 -- Nothing that is to go was lost, and nothing else was touched.
 use Rattle.std.proofs.Common.{◌≡◌}
-use Rattle.chess_sessions.specs.Session.{session_at}
+use Rattle.chess_hub.specs.Session.{session_at}
 use Rattle.client_streams.specs.Clients.{IsOpen, OthersStay, to_go}
 use Rattle.client_streams.specs.Sending.{waiting}
 use Rattle.client_streams.specs.Rounds.{AreGiven}

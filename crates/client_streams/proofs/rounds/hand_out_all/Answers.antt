@@ -2,7 +2,7 @@
 use Rattle.std.proofs.Common.{◌<◌, List, length, subst, sym, ◌∙◌, arith}
 use Rattle.std.proofs.lemmas.Bool.{false≢true}
 use Rattle.std.proofs.lemmas.List.{with_items_is}
-use Rattle.chess_sessions.specs.Session.{IsUnchanged}
+use Rattle.chess_hub.specs.Session.{IsUnchanged}
 use Rattle.client_streams.specs.declared.client.Client.{Client}
 use Rattle.client_streams.specs.Rounds.{AreEach, IsWritten}
 use Rattle.client_streams.proofs.RoundLemmas.{unchanged-refl, written_after, done_none, done_further, done_all}

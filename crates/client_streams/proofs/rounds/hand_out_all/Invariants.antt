@@ -1,6 +1,6 @@
 -- Who was written to so far was, and the others are as they were.
 use Rattle.std.proofs.Common.{◌≡◌, ◌<◌, true, length}
-use Rattle.chess_sessions.specs.Session.{IsUnchanged}
+use Rattle.chess_hub.specs.Session.{IsUnchanged}
 use Rattle.client_streams.specs.Rounds.{IsWritten}
 use Rattle.client_streams.proofs.RoundLemmas.{IsDoneTo}
 use Rattle.client_streams.proofs.rounds.hand_out_all.Given as goal

@@ -5,7 +5,7 @@ use Rattle.session_lines.specs.Lines.{IsUnfinished}
 use Rattle.std.specs.Prelude.{IsSome, IsSomeAnd}
 use Rattle.std.specs.Io.KnownBytes.{Keeps}
 use Rattle.std.specs.Bool.{OnTrue}
-use Rattle.chess_sessions.specs.Session.{session_at, Changes}
+use Rattle.chess_hub.specs.Session.{session_at, Changes}
 use Rattle.client_streams.specs.Clients.{standing, IsSilent, IsHeldUp}
 use Rattle.client_streams.specs.Closings.{HasFailed, WasRefused, IsForeign, IsReason}
 use Rattle.client_streams.specs.Incoming.{held}

@@ -1,7 +1,7 @@
 -- What the session is given goes to the connection.
 use Rattle.std.proofs.Common.{ap, subst}
 use Rattle.std.specs.Prelude.{IsSome}
-use Rattle.chess_sessions.specs.Session.{session_at}
+use Rattle.chess_hub.specs.Session.{session_at}
 use Rattle.client_streams.proofs.RoundLemmas.{not_closed, skipped}
 use Rattle.client_streams.proofs.rounds.write_for.Goals as goal
 

@@ -1,6 +1,6 @@
 -- The session is given the portion, or nothing.
 use Rattle.std.proofs.Common.{◌∙◌, ℕ, List, IfSome, ap, inl, inr, length, length-append, refl, subst, sym, rules, arith}
-use Rattle.chess_sessions.specs.Session.{session_at}
+use Rattle.chess_hub.specs.Session.{session_at}
 use Rattle.std.proofs.lemmas.Bool.{false≢true, lt-ltb, le-ltb}
 use Rattle.client_streams.specs.Clients.{standing, GivesOn}
 use Rattle.client_streams.specs.Protocols.{AreOfAnotherProtocol}

@@ -2,7 +2,7 @@
 use Rattle.std.proofs.Common.{◌≡◌, ◌↔◌, ◌∙◌, ℕ, Bool, true, false, List, [], Option, None, IfSome, ap, inr, refl, subst, sym}
 use Rattle.std.specs.Prelude.{IsTrue}
 use Rattle.session_lines.specs.Lines.{IsUnfinished}
-use Rattle.chess_sessions.specs.Session.{Changes, session_at, due}
+use Rattle.chess_hub.specs.Session.{Changes, session_at, due}
 use Rattle.client_streams.specs.declared.closing.Closing.TheVariants.{NoMemory, End, Farewell}
 use Rattle.client_streams.specs.Clients.{IsOpen, HandsOut, to_go}
 use Rattle.client_streams.specs.Incoming.{held}

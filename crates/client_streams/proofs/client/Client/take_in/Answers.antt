@@ -1,7 +1,7 @@
 -- What came is held back, and then the session is given what stands in front.
 use Rattle.std.proofs.Common.{◌≡◌, ◌∙◌, ◌⊎◌, ℕ, List, Option, None, IfSome, inl, inr, ap, refl, subst, sym, arith}
 use Rattle.std.proofs.lemmas.Bool.{false≢true}
-use Rattle.chess_sessions.specs.Session.{Changes, session_at}
+use Rattle.chess_hub.specs.Session.{Changes, session_at}
 use Rattle.client_streams.specs.Clients.{Standing, standing, GivesOn, TakesIn}
 use Rattle.client_streams.specs.Closings.{WasRefused, IsTrouble}
 use Rattle.client_streams.specs.Incoming.{held}

@@ -1,5 +1,5 @@
 -- What was written stood at the front of all that is to go.
-use Rattle.chess_sessions.specs.Session.{session_at}
+use Rattle.chess_hub.specs.Session.{session_at}
 use Rattle.client_streams.specs.Sending.{waiting}
 use Rattle.client_streams.proofs.ClientLemmas.{hands-first, hands-lost, hands-both}
 use Rattle.client_streams.proofs.client.Client.write_out.Goals as goal
