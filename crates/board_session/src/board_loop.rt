@@ -7,7 +7,7 @@ ghost use Rattle.board_session.specs.Run.{IsBoardText, AppendsText, AppendsFront
 use crate::answer::answer;
 use chess_board::Board;
 use chess_fen::ShownBoard;
-use line_loop::{Answer, Answerer, LineSource, LoopFault, ReaderSource, answer_lines};
+use line_loop::{Answer, Answerer, LoopFault, Reads, answer_lines};
 use session_lines::without_return;
 use std::convert::Infallible;
 use std::io::{Read, Write};
@@ -70,23 +70,27 @@ fn start() -> AnsweredBoard
     }
 }
 
-// The same as `board`, of a source of lines.
-fn board_source<S: LineSource, W: Write>(source: &mut S, writer: &mut W) -> Result<(), BoardFault>
-    ensures whole { OnOk result (IfSome (S.remaining source.old)
+// The same as `board`, of a reader whose failure is marked.
+fn board_reads<R: Read, W: Write>(
+    reader: &mut R,
+    reads: &mut Reads,
+    writer: &mut W,
+) -> Result<(), BoardFault>
+    ensures whole { OnOk result (IfSome (R.remaining reader.old)
         (AppendsText (W.contents writer.old) (W.contents writer.new))) }
-    ensures front { OnErr result (IfSome (S.remaining source.old)
+    ensures front { OnErr result (IfSome (R.remaining reader.old)
         (AppendsFront (W.contents writer.old) (W.contents writer.new))) }
-    ensures answered { OnOk result (AnswersTaken (S.remaining source.old) (S.remaining source.new)
+    ensures answered { OnOk result (AnswersTaken (R.remaining reader.old) (R.remaining reader.new)
         (W.contents writer.old) (W.contents writer.new)) }
-    ensures read { IsErrOf result BoardFault.Read → AnswersTaken (S.remaining source.old) (S.remaining source.new)
+    ensures read { IsErrOf result BoardFault.Read → AnswersTaken (R.remaining reader.old) (R.remaining reader.new)
         (W.contents writer.old) (W.contents writer.new) }
-    ensures write { IsErrOf result BoardFault.Write → AnswersInPart (S.remaining source.old) (S.remaining source.new)
+    ensures write { IsErrOf result BoardFault.Write → AnswersInPart (R.remaining reader.old) (R.remaining reader.new)
         (W.contents writer.old) (W.contents writer.new) }
-    // `Read` comes exactly where the source failed.
-    ensures cause { BoardIsOfSource result (S.has_failed source.old) (S.has_failed source.new) }
+    // `Read` comes exactly where the reader failed, by its mark.
+    ensures cause { BoardIsOfSource result reads.old.has_failed reads.new.has_failed }
 {
     let answered = start();
-    let (_, ended) = answer_lines(answered, source, writer);
+    let (_, ended) = answer_lines(answered, reader, reads, writer);
     match ended {
         Ok(()) => Ok(()),
         Err(LoopFault::LineTooLong) => Ok(()),
@@ -120,6 +124,5 @@ pub fn board<R: Read, W: Write>(reader: &mut R, writer: &mut W) -> Result<(), Bo
     // An input calls for one text.
     ensures one { (input text other : List ℕ) → IsBoardText input text → IsBoardText input other → text ≡ other }
 {
-    let mut source = ReaderSource::new(reader);
-    board_source(&mut source, writer)
+    board_reads(reader, &mut Reads::new(), writer)
 }

@@ -130,7 +130,7 @@ pub record IsRunText {D M : Type 0} (state : D → State) (sector_count failures
   pub is : IsText (AnswersLine state sector_count failures gives) (stands store None moments) input text end
   pub appended : Appends old new text
 
--- `Read` comes exactly where the source failed; `before` and `after` say whether it has.
+-- `Read` comes exactly where the reader failed; `before` and `after` say whether it has.
 abbrev pub RunIsOfSource : Result (Unit {0}) RunFault → Bool → Bool → Type 0
 RunIsOfSource (Ok done) before after = after ≡ before
 RunIsOfSource (Err faults.Read) before after = after ≡ true

@@ -234,9 +234,8 @@ impl<D: Device> Hub<D> {
         self.sessions.ended(sid)
     }
 
-    /// Ends an open session, with all that waits of it. It takes no memory.
+    /// Ends a session, if it is open, with all that waits of it. It takes no memory.
     pub fn close(&mut self, sid: Sid)
-        requires { IsSome (session_at self.old.sessions sid) }
         ensures closed { Changes self.old.sessions self.new.sessions sid None }
         ensures store { self.new.store ≡ self.old.store }
         ensures refusals { self.new.refusals ≡ self.old.refusals }

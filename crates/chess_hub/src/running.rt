@@ -7,7 +7,7 @@ use crate::fault::HubFault;
 use crate::moments::Moments;
 use crate::talk::begin;
 use chess_store::Store;
-use line_loop::{LineSource, LoopFault, ReaderSource, answer_lines};
+use line_loop::{LoopFault, Reads, answer_lines};
 use sector_dev::Device;
 use std::alloc::Global;
 use std::io::{Read, Write};
@@ -41,29 +41,30 @@ impl From<LoopFault<HubFault>> for RunFault {
     }
 }
 
-// The same as `run`, of a source of lines.
-fn run_source<S: LineSource, W: Write, D: Device + Drop, M: Moments + Drop>(
+// The same as `run`, of a reader whose failure is marked.
+fn run_reads<R: Read, W: Write, D: Device + Drop, M: Moments + Drop>(
     alloc: Global,
-    source: &mut S,
+    reader: &mut R,
+    reads: &mut Reads,
     writer: &mut W,
     store: Store<D>,
     moments: M,
 ) -> Result<(), RunFault>
-    ensures whole { OnOk result (IfSome (S.remaining source.old) (IsRunText D.state D.sector_count D.failures M.gives
+    ensures whole { OnOk result (IfSome (R.remaining reader.old) (IsRunText D.state D.sector_count D.failures M.gives
         (kept store) moments (W.contents writer.old) (W.contents writer.new))) }
-    ensures long { IsErrOf result RunFault.LineTooLong → IfSome (S.remaining source.old) (IsRunText D.state
+    ensures long { IsErrOf result RunFault.LineTooLong → IfSome (R.remaining reader.old) (IsRunText D.state
         D.sector_count D.failures M.gives (kept store) moments (W.contents writer.old) (W.contents writer.new)) }
-    ensures ended { RunEnds D.state D.sector_count D.failures M.gives result (S.remaining source.old)
-        (S.remaining source.new) (W.contents writer.old) (W.contents writer.new) (kept store) moments }
-    ensures end { OnOk result (IsAtEnd (S.remaining source.new)) }
-    // `Read` comes exactly where the source failed.
-    ensures cause { RunIsOfSource result (S.has_failed source.old) (S.has_failed source.new) }
+    ensures ended { RunEnds D.state D.sector_count D.failures M.gives result (R.remaining reader.old)
+        (R.remaining reader.new) (W.contents writer.old) (W.contents writer.new) (kept store) moments }
+    ensures end { OnOk result (IsAtEnd (R.remaining reader.new)) }
+    // `Read` comes exactly where the reader failed, by its mark.
+    ensures cause { RunIsOfSource result reads.old.has_failed reads.new.has_failed }
 {
     let talk = match begin(alloc, store, moments) {
         Ok(talk) => talk,
         Err(fault) => return Err(RunFault::Hub(fault)),
     };
-    let (_, ended) = answer_lines(talk, source, writer);
+    let (_, ended) = answer_lines(talk, reader, reads, writer);
     ended?;
     Ok(())
 }
@@ -95,6 +96,5 @@ pub fn run<R: Read, W: Write, D: Device + Drop, M: Moments + Drop>(
         (R.remaining reader.new) (W.contents writer.old) (W.contents writer.new) (kept store) moments }
     ensures end { OnOk result (IsAtEnd (R.remaining reader.new)) }
 {
-    let mut source = ReaderSource::new(reader);
-    run_source(alloc, &mut source, writer, store, moments)
+    run_reads(alloc, reader, &mut Reads::new(), writer, store, moments)
 }

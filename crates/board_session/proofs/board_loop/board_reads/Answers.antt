@@ -1,7 +1,7 @@
 use Rattle.std.proofs.Common.{ap, ◌∙◌, Err}
 use Rattle.line_loop.specs.declared.answerer.LoopFault.TheVariants as loop
-use Rattle.board_session.proofs.RunLemmas.{one_text, text-from, at-fault, front-all, taken-long, front-part, taken-part}
-use Rattle.board_session.proofs.board_loop.board_source.Goals as goal
+use Rattle.board_session.proofs.RunLemmas.{text-from, at-fault, front-all, taken-long, front-part, taken-part}
+use Rattle.board_session.proofs.board_loop.board_reads.Goals as goal
 
 pub returns-in-Ok-clause-whole : goal.returns-in-Ok-clause-whole
 returns-in-Ok-clause-whole g c =
@@ -37,19 +37,3 @@ returns-in-Err-LineTooLong-clause-answered g c =
     taken-long _ _ _ _ _
     (at-fault _ _ c.in-Err-LineTooLong.field-0 loop.LineTooLong _ _ _ _ _ _ c.in-Err-LineTooLong.is
     (rw c.in-Err-LineTooLong.is at c.in-Err-LineTooLong.field-0-is) c.start-answered.ensures.initial c.answer_lines-ended.ensures.ended)
-
-pub returns-in-Err-Read-clause-one : goal.returns-in-Err-Read-clause-one
-returns-in-Err-Read-clause-one g c =
-    one_text
-
-pub returns-in-Err-Write-clause-one : goal.returns-in-Err-Write-clause-one
-returns-in-Err-Write-clause-one g c =
-    one_text
-
-pub returns-in-Ok-clause-one : goal.returns-in-Ok-clause-one
-returns-in-Ok-clause-one g c =
-    one_text
-
-pub returns-in-Err-LineTooLong-clause-one : goal.returns-in-Err-LineTooLong-clause-one
-returns-in-Err-LineTooLong-clause-one g c =
-    one_text
