@@ -11,17 +11,22 @@ use line_loop::{LoopFault, Reads, answer_lines};
 use sector_dev::Device;
 use std::alloc::Global;
 use std::io::{Read, Write};
+use thiserror::Error;
 
 /// Why a run ends before its input does.
-#[derive(Clone, Copy, Debug)]
+#[derive(Clone, Copy, Debug, PartialEq, Eq, Error)]
 pub enum RunFault {
     /// A read failed, or reads did not come to an end.
+    #[error("a read failed, or reads did not come to an end")]
     Read,
     /// A write failed.
+    #[error("a write failed")]
     Write,
     /// The hub refused a call.
-    Hub(HubFault),
+    #[error("a line was not answered")]
+    Hub(#[source] HubFault),
     /// A line was too long, and `bye LineTooLong` was written.
+    #[error("a line has more than 255 bytes")]
     LineTooLong,
 }
 
