@@ -72,20 +72,47 @@ fn are_shown_bytes(bytes: &[u8]) -> bool
     bytes.iter().all(|byte| is_shown_byte(*byte))
 }
 
+// The characters that are not seen, or change how others are, each row from the first to the last.
+const HIDDEN: [(char, char); 18] = [
+    ('\u{80}', '\u{9f}'),
+    ('\u{ad}', '\u{ad}'),
+    ('\u{34f}', '\u{34f}'),
+    ('\u{61c}', '\u{61c}'),
+    ('\u{115f}', '\u{1160}'),
+    ('\u{17b4}', '\u{17b5}'),
+    ('\u{180b}', '\u{180f}'),
+    ('\u{200b}', '\u{200f}'),
+    ('\u{2028}', '\u{202e}'),
+    ('\u{2060}', '\u{206f}'),
+    ('\u{3164}', '\u{3164}'),
+    ('\u{fe00}', '\u{fe0f}'),
+    ('\u{feff}', '\u{feff}'),
+    ('\u{ffa0}', '\u{ffa0}'),
+    ('\u{fff0}', '\u{fffb}'),
+    ('\u{1bca0}', '\u{1bca3}'),
+    ('\u{1d173}', '\u{1d17a}'),
+    ('\u{e0000}', '\u{e0fff}'),
+];
+
+// Whether a character is one of a row, from the first to the last.
+fn is_from_to(first: char, last: char, c: char) -> bool
+    ensures { result ≡ file.is_from_to first last c }
+{
+    first <= c && c <= last
+}
+
+// Whether a character is in one of these rows.
+fn is_among(rows: &[(char, char)], c: char) -> bool
+    ensures { result ≡ file.is_among rows.now c }
+{
+    rows.iter().any(|row| is_from_to(row.0, row.1, c))
+}
+
 // Whether a character is seen, and leaves others as they are.
 fn is_seen(c: char) -> bool
     ensures { result ≡ file.is_seen c }
 {
-    !matches!(
-        c,
-        '\u{80}'..='\u{9f}'
-            | '\u{61c}'
-            | '\u{200b}'..='\u{200f}'
-            | '\u{2028}'..='\u{202e}'
-            | '\u{2060}'
-            | '\u{2066}'..='\u{2069}'
-            | '\u{feff}'
-    )
+    !is_among(HIDDEN.as_slice(), c)
 }
 
 // Whether each character is.
