@@ -23,8 +23,9 @@ use Rattle.lobby_desk.specs.Lines.{bytes_of, lines_of, act_lines, join_line, sai
 use Rattle.lobby_words.specs.Answers.{IsSeated, IsFirstSeated, IsSeatless, has_empty_seat, act_game, answer}
 use Rattle.lobby_desk.specs.Watching.{games_of, unwatched, risen, is_full}
 use Rattle.lobby_desk.specs.Refusals.{game_named}
-use Rattle.lobby_desk.specs.Waiting.{is_crowded, is_busy}
-use Rattle.lobby_desk.specs.Pairings.{open_bar, join_bar}
+use Rattle.lobby_desk.specs.declared.waiting.Limits.{Limits}
+use Rattle.lobby_desk.specs.Waiting.{is_crowded, is_busy, is_spent, is_nearly_full}
+use Rattle.lobby_desk.specs.Pairings.{game_bar, open_bar, join_bar}
 use Rattle.lobby_desk.specs.Pace.{is_too_fast}
 pub use Rattle.lobby_desk.specs.Watching.{at_table}
 use Rattle.lobby_desk.specs.Events.{DeskInput, Opened, Closed, Said, Hurried, Heard, ServerTurned, Renewed, Linked, MessageValue, to_one, ForAct, Owed, Asker, Dropper, Pairer, owed_of, owed_lines, plan_asker, follower, following, asked_after, follows_heard, told_as}
@@ -167,7 +168,7 @@ abbrev pub IsReady : Desk → ℕ → Type 0
 IsReady desk c = (open_of desk c ≡ true) × (owes (known desk).owed c ≡ false)
 
 -- what is seen of a desk: the number of the connection that comes next, which are open, for whom each acts, the name that was
--- said last to the server, whether that is there, whether entries are paused, and what is known
+-- said last to the server, whether that is there, whether entries are paused, how many games may be, and what is known
 pub record View : Type 0 where
   pub next : ℕ
   pub is_open : ℕ → Bool
@@ -175,10 +176,11 @@ pub record View : Type 0 where
   pub said : Option (List ℕ)
   pub here : Bool
   pub paused : Bool
+  pub limits : Limits
   pub known : Known
 
 abbrev pub view : Desk → View
-view desk = record { next = desk.next; is_open = open_of desk; who = who_of desk; said = desk.line.said; here = desk.line.is_here; paused = desk.is_paused; known = known desk }
+view desk = record { next = desk.next; is_open = open_of desk; who = who_of desk; said = desk.line.said; here = desk.line.is_here; paused = desk.is_paused; limits = desk.limits; known = known desk }
 
 -- A desk that begins: no connection has come, and nothing was said. Entries are paused just where it is told so.
 pub record BeginsView (is_paused : Bool) (now : View) : Type 0 where
@@ -207,16 +209,22 @@ abbrev pub said_event : Bool → ℕ → List ℕ → DeskInput
 said_event true c text = Hurried c
 said_event false c text = Said c text
 
--- Why a message does not open a game, or does not join one, by the games that are known, where it would under this name: no game more
--- of this player may wait for a second one, or, but for an arbiter's message, go on; or no such game waits for him.
-abbrev pub name_bar : Known → Bool → List ℕ → List ℕ → Option Refusal
-name_bar k is_arbiter name text =
-    if opens_game text then open_bar (is_crowded k.seats k.owed name) (not is_arbiter && is_busy k.seats k.owed name)
-    else (if joins_game text then join_bar k.seats k.pairings (not is_arbiter && is_busy k.seats k.owed name) name (game_named text) else None)
+-- Why a message does not open a game, or does not join one, by the games that are known and the limits, where it would under this
+-- name: no game more of this player may wait for a second one; or, but for an arbiter's message, no more may go on or be left on the
+-- table, or the last places are for arbiters and pairings; or no such game waits for him.
+abbrev pub player_bar : Limits → Known → Bool → List ℕ → Option Refusal
+player_bar limits k is_arbiter name =
+    game_bar (not is_arbiter && is_busy limits k.seats k.owed name) (not is_arbiter && is_spent limits k.seats k.owed name)
 
-abbrev pub bar_of : Known → Option Identity → List ℕ → Option Refusal
-bar_of k None text = None
-bar_of k (Some who) text = name_bar k who.is_arbiter (actor who.name text) text
+abbrev pub name_bar : Limits → Known → Bool → List ℕ → List ℕ → Option Refusal
+name_bar limits k is_arbiter name text =
+    if opens_game text then open_bar (is_crowded limits k.seats k.owed name) (not is_arbiter && is_nearly_full limits k.seats k.owed)
+    (player_bar limits k is_arbiter name)
+    else (if joins_game text then join_bar k.seats k.pairings (player_bar limits k is_arbiter name) name (game_named text) else None)
+
+abbrev pub bar_of : Limits → Known → Option Identity → List ℕ → Option Refusal
+bar_of limits k None text = None
+bar_of limits k (Some who) text = name_bar limits k who.is_arbiter (actor who.name text) text
 
 -- who has the token that a message shows; nobody where it shows none
 abbrev pub holder_shown : List Player → List ℕ → Option Identity
@@ -232,7 +240,7 @@ standing_of desk c text = record {
   linked = known_name desk.players.items (rest_of text);
   is_here = desk.line.is_here;
   is_full = is_full desk.watches.items c (u32_in (rest_of text));
-  bar = bar_of (known desk) (who_of desk c) text;
+  bar = bar_of desk.limits (known desk) (who_of desk c) text;
   is_paused = opens_game text && desk.is_paused;
 }
 
@@ -253,7 +261,7 @@ pub record IsSaid (players : List Player) (old : View) (c : ℕ) (text : List �
   pub link : standing.linked ≡ known_name players (rest_of text)
   pub here : standing.is_here ≡ old.here
   pub full : standing.is_full ≡ is_full old.known.watches c (u32_in (rest_of text))
-  pub bar : standing.bar ≡ bar_of old.known (old.who c) text
+  pub bar : standing.bar ≡ bar_of old.limits old.known (old.who c) text
   pub paused : standing.is_paused ≡ (opens_game text && old.paused)
   pub plan : Plan
   pub planned : plan ≡ plan_of (is_message text) (sort_of text) standing (u32_in (rest_of text))
@@ -396,10 +404,11 @@ pub record IsKnown (event : DeskInput) (by : List ℕ) (lines : List (List ℕ))
   pub follows : new.follows ≡ follows_now event old
   pub misnamed : new.misnamed ≡ misnamed_now event old
 
--- a step: what comes in, the lines that go to the server, and what connections are told
+-- a step: what comes in, the lines that go to the server, and what connections are told; the limits stay
 pub record IsStep (players : List Player) (old : View) (event : DeskInput) (lines : List (List ℕ)) (tells : List MessageValue) (new : View) : Type 0 where
   pub done : IsDone players old event lines tells new
   pub opens : (c : ℕ) → new.is_open c ≡ open_now event c (old.is_open c)
+  pub limits : new.limits ≡ old.limits
   pub known : IsKnown event (speaker old.who event) lines old.is_open old.known new.known
   pub told : IsTold event lines tells old.is_open old.known
 
@@ -424,6 +433,7 @@ pub record Carried (old : Desk) (from : ℕ) (text : List ℕ) (plan : Plan) (un
   pub said_is : new.line.said ≡ said_after plan old.line.said
   pub here_is : new.line.is_here ≡ old.line.is_here
   pub paused_is : new.is_paused ≡ paused_after plan old.is_paused
+  pub limits_is : new.limits ≡ old.limits
   pub who_is : (c : ℕ) → who_of new c ≡ (if from == c then who_noted plan (who_of old c) else who_of old c)
   pub owed : (known new).owed ≡ (known old).owed ++ owed_lines (plan_asker plan from text) (lines_of plan old.line.said text)
   pub opens : (c : ℕ) → open_of new c ≡ (from == c || open_of old c)
@@ -444,6 +454,7 @@ pub record Carried (old : Desk) (from : ℕ) (text : List ℕ) (plan : Plan) (un
 pub record IsElseSame (old new : Desk) : Type 0 where
   pub here_is : new.line.is_here ≡ old.line.is_here
   pub paused_is : new.is_paused ≡ old.is_paused
+  pub limits_is : new.limits ≡ old.limits
   pub visitors : new.visitors ≡ old.visitors
   pub coming : new.line.coming ≡ old.line.coming
   pub last : new.line.last ≡ old.line.last
