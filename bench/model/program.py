@@ -53,8 +53,8 @@ def server_path():
 
 
 def take_programs(folder, *more):
-    """The programs under test, the server, the lobby and these, are those of this folder, by the names that ./build gives or
-    those of an archive."""
+    """The programs under test, the server, the lobby and these, are those of this folder, by the names that tools/build
+    gives, or those of an archive."""
     for name in ('chess_server', 'chess_lobby', *more):
         found = [path for path in (os.path.join(folder, name), os.path.join(folder, name.replace('_', '-')))
                  if os.path.isfile(path)]

@@ -1,4 +1,4 @@
--- What `act_line` asks of an entry holds of every entry that may come on a table.
+-- What `game_line` asks of an entry holds of every entry that may come on a table.
 use Rattle.std.specs.Prelude.{ℕ, ◌≡◌, ◌≤◌, ◌+◌, ◌==◌, ◌&&◌, not, nat_lt, Bool, true, false, if◌then◌else◌, List, [], ◌∷◌, ◌++◌, Option, Some, None, is_none, is_some}
 use Rattle.std.proofs.Common.{ap, sym, subst, ◌∙◌, refl, inl, inr, arith}
 use Rattle.std.proofs.lemmas.Bool.{leb-false, eqb-true, cases_Bool}

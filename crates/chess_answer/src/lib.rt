@@ -7,7 +7,7 @@ mod laws;
 mod reads;
 mod refusals;
 
-pub use acts::{act_line, named_line, opened_line, play_answered};
+pub use acts::{game_line, named_line, opened_line, play_answered};
 pub use fields::AnswerLine;
 pub use laws::law_of_coming;
 pub use reads::{Reply, fen_line, list_line, pgn_reply, show_line, write_row};

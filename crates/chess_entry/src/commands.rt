@@ -14,7 +14,7 @@ pub type Text = ArrayString<255>;
 pub enum Act {
     /// A new game, in which who asks has the colour. Times are in seconds; a second period is the moves before it and
     /// its seconds. Without a FEN the game starts from the initial position.
-    Open {
+    NewGame {
         colour: Colour,
         initial: u32,
         increment: u32,
@@ -26,7 +26,7 @@ pub enum Act {
         game: u32,
     },
     /// A move, named by a text, in a game of so many moves.
-    Move {
+    Play {
         game: u32,
         ply: u32,
         text: Text,
@@ -60,7 +60,7 @@ pub enum Act {
         game: u32,
     },
     /// A game that is over, or not joined, is taken off the table.
-    Drop {
+    Remove {
         game: u32,
     },
     /// How a game stands.

@@ -11,7 +11,10 @@ mod restoring;
 mod standing;
 mod table;
 
+pub use answers::{act_line, answer};
 pub use chess_answer::{AnswerLine, Reply, refusal_line};
+pub use chess_game::{Game, Times};
+pub use entering::{enter, enter_answered};
 pub use judging::judge;
 pub use records::{entry_record, record_entry};
 pub use restoring::TableFault;

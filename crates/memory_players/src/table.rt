@@ -11,7 +11,7 @@ mod stored;
 use chess_answer::{AnswerLine, Reply, named_line, refusal_line};
 use chess_entry::{Command, Entry, GREATEST_MOMENT, Name, Refusal, Verdict, know_name};
 use chess_line::{Line, parse};
-use chess_table::{Table, judge};
+use chess_table::{Table, answer, enter_answered, judge};
 use player_lines::{Fault, LIMITS, Sent, push_reply, read_limits, read_sent, split, text_line};
 use rec_codec::write_record;
 use rec_codec::{Limits, Record};
@@ -176,12 +176,12 @@ impl TablePlayer {
         know_name(&command.who);
         match judge(&self.table, command) {
             Verdict::Refuse(refusal) => Ok(self.alone(refusal_line(refusal))),
-            Verdict::Read => Ok(self.table.answer(command)?),
+            Verdict::Read => Ok(answer(&self.table, command)?),
             Verdict::Enter(entry) => {
                 if self.table.entries() == u64::MAX {
                     return Err(Fault::Input);
                 }
-                let line = self.table.enter_answered(&entry)?;
+                let line = enter_answered(&mut self.table, &entry)?;
                 self.keep(&entry)?;
                 Ok(self.alone(line))
             }

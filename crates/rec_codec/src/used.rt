@@ -69,7 +69,7 @@ pub fn name_at(bytes: &[u8], at: usize) -> Option<Name>
 }
 
 // The 38 bytes of a position, or zeros for none.
-#[tactic(auto, unfolding(rec_codec::specs::Position::position_bytes))]
+#[tactic(auto, unfolding(crate::specs::Position::position_bytes))]
 fn start_bytes(start: Option<Board>) -> [u8; 38]
     ensures bytes { result ≡ position_bytes start }
     ensures valid { IfSome start IsValid }

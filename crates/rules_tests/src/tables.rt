@@ -1,7 +1,7 @@
 //! A table whose limits are raised while games are played.
 use chess_bits::Colour::White;
 use chess_entry::{Act, Command, Name, Refusal, Text, Verdict};
-use chess_table::{Table, judge};
+use chess_table::{Table, enter, judge};
 use rec_codec::{Limits, Version};
 use std::process::Abort;
 
@@ -42,7 +42,7 @@ fn refusal(rt: &impl Abort, table: &mut Table, who: &str, asked: &Asked) -> Opti
         Verdict::Read => None,
         Verdict::Enter(entry) => {
             assert!(rt; table.would_enter(&entry) && table.entries() < u64::MAX);
-            assert!(rt; table.enter(entry).is_ok());
+            assert!(rt; enter(table, entry).is_ok());
             None
         }
     }

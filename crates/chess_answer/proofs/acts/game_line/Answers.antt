@@ -4,7 +4,7 @@ use Rattle.chess_board.specs.declared.moves.Move.{Move}
 use Rattle.rec_codec.specs.declared.record.Event.{Event}
 use Rattle.chess_game.specs.Turn.{IsPlayable}
 use Rattle.chess_answer.specs.Acts.{MayCome}
-use Rattle.chess_answer.proofs.acts.act_line.Goals as goal
+use Rattle.chess_answer.proofs.acts.game_line.Goals as goal
 
 pub claim_line-requires-in-Some : goal.claim_line-requires-in-Some
 claim_line-requires-in-Some c = λ m same.
