@@ -24,6 +24,7 @@ class Page {
   constructor() {
     this.player = null;
     this.players = new Map();
+    this.nameless = new Set();  // names that no player of the file has
     this.watched = new Set();          // games that the lobby was asked, or is to be asked, to tell of
     this.held = new Set();             // of these, those of which it has said that it does
     this.token = read(session, 'token') || read(local, 'token') || '';
@@ -228,6 +229,7 @@ class Page {
       return false;
     }
     this.table.load(readRows(answer.slice(2)));
+    this.learnNames();
     if (this.lostOpen) this.findOpened();
     this.findBegun();
     return true;
@@ -309,6 +311,18 @@ class Page {
     this.desk.playersTold();
   }
 
+  /** Without a link only who sits in a game is told: who sits down later is asked for then. */
+  async learnNames() {
+    if (this.player || this.asksNames) return;
+    const names = [...this.table.rows.values()].flatMap((row) => [row.white, row.black]);
+    if (!names.some((name) => name && !this.players.has(name) && !this.nameless.has(name))) return;
+    this.asksNames = true;
+    await this.askPlayers();
+    this.asksNames = false;
+    for (const name of names) if (name && !this.players.has(name)) this.nameless.add(name);
+    if (this.view === this.hall || this.view === this.desk) this.view.again();
+  }
+
   async login() {
     const token = this.token, answer = await this.wire.say(`login ${token}`);
     const found = /^ok login (\S+) (\S+) ?(.*)$/.exec(answer[0]), refusal = readRefusal(answer[0]);
@@ -318,6 +332,7 @@ class Page {
       this.signed = { token, name: this.player.name };
       this.before = '';
       this.keepNewer(token);
+      await this.askPlayers();
       byId('linked').hidden = !this.fromLink || read(local, 'token') === token;
       this.fromLink = false;
       this.tell('');

@@ -7,6 +7,7 @@ use Rattle.lobby_words.specs.declared.words.Sort.TheVariants as sorts
 use Rattle.lobby_words.specs.declared.refusals.Refusal.{Refusal}
 use Rattle.lobby_words.specs.declared.refusals.Refusal.TheVariants as refusals
 use Rattle.lobby_words.specs.declared.planning.Order.{Order}
+use Rattle.lobby_words.specs.declared.listing.Seat.{Seat}
 use Rattle.lobby_words.specs.declared.planning.Plan.{Plan}
 use Rattle.lobby_words.specs.declared.planning.Plan.TheVariants as plans
 use Rattle.lobby_words.specs.declared.planning.Standing.{Standing}
@@ -244,9 +245,9 @@ pub link_does : (P : Plan → Type 0) (who : Option Identity) (closes : Bool) (l
     ((o : Order) → P (plans.Order o)) → P (arbiter_plan who (order_plan closes linked))
 link_does P who closes linked none h = arbiter_does P who (order_plan closes linked) none (order_does P closes linked none h)
 
-pub players_does : (P : Plan → Type 0) (who : Option Identity) → ((r : Refusal) → P (plans.Refuse r)) → P plans.Players → P (players_plan who)
-players_does P None none h = none refusals.NoToken
-players_does P (Some who) none h = h
+pub players_does : (P : Plan → Type 0) (who : Option Identity) → P plans.Seated → P plans.Players → P (players_plan who)
+players_does P None seated h = seated
+players_does P (Some who) seated h = h
 
 pub login_does : (P : Plan → Type 0) (holder : Option Identity) → ((r : Refusal) → P (plans.Refuse r)) → ((one : Identity) → P (plans.Login one)) →
     P (login_plan holder)
@@ -290,7 +291,7 @@ planned true sorts.As s game c watches table = as_does (Stays c watches table) s
 planned true sorts.Pair s game c watches table = pair_does (Stays c watches table) s s.who (λ _. (refl, refl)) (λ _ _ _. (refl, refl))
 planned true sorts.Drop s game c watches table = dropped_does (Stays c watches table) s game (λ _. (refl, refl)) (λ _ _. (refl, refl))
 planned true sorts.Login s game c watches table = login_does (Stays c watches table) s.holder (λ _. (refl, refl)) (λ _. (refl, refl))
-planned true sorts.Players s game c watches table = players_does (Stays c watches table) s.who (λ _. (refl, refl)) (refl, refl)
+planned true sorts.Players s game c watches table = players_does (Stays c watches table) s.who (refl, refl) (refl, refl)
 planned true sorts.Who s game c watches table = arbiter_does (Stays c watches table) s.who plans.Who (λ _. (refl, refl)) (refl, refl)
 planned true sorts.Pause s game c watches table = arbiter_does (Stays c watches table) s.who plans.Pause (λ _. (refl, refl)) (refl, refl)
 planned true sorts.Resume s game c watches table = arbiter_does (Stays c watches table) s.who plans.Resume (λ _. (refl, refl)) (refl, refl)
@@ -322,25 +323,26 @@ act_sent : (b : Bool) (name text : List ℕ) (rest : List (List ℕ)) (c : ℕ) 
 act_sent true name text rest c tells h = h
 act_sent false name text rest c tells h = h
 
-pub answered_or_sent : (is_paused : Bool) (players : List Player) (is_open : ℕ → Bool) (acts_for : ℕ → Option Identity) (plan : Plan) (said : Option (List ℕ)) (text : List ℕ) (c : ℕ) (tells : List MessageValue) → IsAnswered is_paused players is_open acts_for plan c tells →
+pub answered_or_sent : (is_paused : Bool) (players : List Player) (seats : List Seat) (is_open : ℕ → Bool) (acts_for : ℕ → Option Identity) (plan : Plan) (said : Option (List ℕ)) (text : List ℕ) (c : ℕ) (tells : List MessageValue) → IsAnswered is_paused players seats is_open acts_for plan c tells →
     IsToldOrSent (lines_of plan said text) c tells
-answered_or_sent is_paused players is_open acts_for (plans.Refuse refusal) said text c tells h = (h.0, h.2)
-answered_or_sent is_paused players is_open acts_for plans.Read said text c tells h = h
-answered_or_sent is_paused players is_open acts_for (plans.Act who) said text c tells h = act_sent (is_said said who.name) who.name text (notice_lines (game_named text)) c tells h
-answered_or_sent is_paused players is_open acts_for (plans.ActAs who name) said text c tells h = act_sent (is_said said name) name (as_line text) (notice_lines (game_named text)) c tells h
-answered_or_sent is_paused players is_open acts_for (plans.Pair who white black) said text c tells h = act_sent (is_said said white) white (pair_line text) [] c tells h
-answered_or_sent is_paused players is_open acts_for (plans.Drop who game) said text c tells h = h
-answered_or_sent is_paused players is_open acts_for (plans.Login who) said text c tells h = (h.0, h.2)
-answered_or_sent is_paused players is_open acts_for plans.Players said text c tells h = (h.0, h.2)
-answered_or_sent is_paused players is_open acts_for plans.Who said text c tells h = (h.0, h.2)
-answered_or_sent is_paused players is_open acts_for plans.Pause said text c tells h = (h.0, h.2)
-answered_or_sent is_paused players is_open acts_for plans.Resume said text c tells h = (h.0, h.2)
-answered_or_sent is_paused players is_open acts_for (plans.Order order) said text c tells h = (h.0, h.2)
-answered_or_sent is_paused players is_open acts_for plans.Lobby said text c tells h = h
-answered_or_sent is_paused players is_open acts_for plans.LeaveLobby said text c tells h = (h.0, h.2)
-answered_or_sent is_paused players is_open acts_for (plans.Watch game) said text c tells h = h
-answered_or_sent is_paused players is_open acts_for (plans.Leave game) said text c tells h = (h.0, h.2)
-answered_or_sent is_paused players is_open acts_for (plans.Line game) said text c tells h = h
+answered_or_sent is_paused players seats is_open acts_for (plans.Refuse refusal) said text c tells h = (h.0, h.2)
+answered_or_sent is_paused players seats is_open acts_for plans.Read said text c tells h = h
+answered_or_sent is_paused players seats is_open acts_for (plans.Act who) said text c tells h = act_sent (is_said said who.name) who.name text (notice_lines (game_named text)) c tells h
+answered_or_sent is_paused players seats is_open acts_for (plans.ActAs who name) said text c tells h = act_sent (is_said said name) name (as_line text) (notice_lines (game_named text)) c tells h
+answered_or_sent is_paused players seats is_open acts_for (plans.Pair who white black) said text c tells h = act_sent (is_said said white) white (pair_line text) [] c tells h
+answered_or_sent is_paused players seats is_open acts_for (plans.Drop who game) said text c tells h = h
+answered_or_sent is_paused players seats is_open acts_for (plans.Login who) said text c tells h = (h.0, h.2)
+answered_or_sent is_paused players seats is_open acts_for plans.Players said text c tells h = (h.0, h.2)
+answered_or_sent is_paused players seats is_open acts_for plans.Seated said text c tells h = (h.0, h.2)
+answered_or_sent is_paused players seats is_open acts_for plans.Who said text c tells h = (h.0, h.2)
+answered_or_sent is_paused players seats is_open acts_for plans.Pause said text c tells h = (h.0, h.2)
+answered_or_sent is_paused players seats is_open acts_for plans.Resume said text c tells h = (h.0, h.2)
+answered_or_sent is_paused players seats is_open acts_for (plans.Order order) said text c tells h = (h.0, h.2)
+answered_or_sent is_paused players seats is_open acts_for plans.Lobby said text c tells h = h
+answered_or_sent is_paused players seats is_open acts_for plans.LeaveLobby said text c tells h = (h.0, h.2)
+answered_or_sent is_paused players seats is_open acts_for (plans.Watch game) said text c tells h = h
+answered_or_sent is_paused players seats is_open acts_for (plans.Leave game) said text c tells h = (h.0, h.2)
+answered_or_sent is_paused players seats is_open acts_for (plans.Line game) said text c tells h = h
 
 -- ---- who orders
 
@@ -386,7 +388,7 @@ planned_orders true sorts.As s game = as_does (OfOrder (Orders true sorts.As s))
 planned_orders true sorts.Pair s game = pair_does (OfOrder (Orders true sorts.Pair s)) s s.who (λ _. tt) (λ _ _ _. tt)
 planned_orders true sorts.Drop s game = dropped_does (OfOrder (Orders true sorts.Drop s)) s game (λ _. tt) (λ _ _. tt)
 planned_orders true sorts.Login s game = login_does (OfOrder (Orders true sorts.Login s)) s.holder (λ _. tt) (λ _. tt)
-planned_orders true sorts.Players s game = players_does (OfOrder (Orders true sorts.Players s)) s.who (λ _. tt) tt
+planned_orders true sorts.Players s game = players_does (OfOrder (Orders true sorts.Players s)) s.who tt tt
 planned_orders true sorts.Who s game = arbiter_does (OfOrder (Orders true sorts.Who s)) s.who plans.Who (λ _. tt) tt
 planned_orders true sorts.Pause s game = arbiter_does (OfOrder (Orders true sorts.Pause s)) s.who plans.Pause (λ _. tt) tt
 planned_orders true sorts.Resume s game = arbiter_does (OfOrder (Orders true sorts.Resume s)) s.who plans.Resume (λ _. tt) tt
@@ -415,6 +417,7 @@ is_order (plans.Pair who white black) order is = absurd (false≢true (ap is_som
 is_order (plans.Drop who game) order is = absurd (false≢true (ap is_some is))
 is_order (plans.Login who) order is = absurd (false≢true (ap is_some is))
 is_order plans.Players order is = absurd (false≢true (ap is_some is))
+is_order plans.Seated order is = absurd (false≢true (ap is_some is))
 is_order plans.Who order is = absurd (false≢true (ap is_some is))
 is_order plans.Pause order is = absurd (false≢true (ap is_some is))
 is_order plans.Resume order is = absurd (false≢true (ap is_some is))

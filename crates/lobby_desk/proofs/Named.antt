@@ -249,7 +249,7 @@ planned_fits players true sorts.Drop s game said text c is other =
     dropped_does (FitsPlan said text (Dropper c (name_of s.who) text)) s game (λ _. tt)
     (λ one g. (no_name (game_line (codes "show ") g) (show_reads g), tt))
 planned_fits players true sorts.Login s game said text c is other = login_does (FitsPlan said text (Asker c ForItself)) s.holder (λ _. tt) (λ _. tt)
-planned_fits players true sorts.Players s game said text c is other = players_does (FitsPlan said text (Asker c ForItself)) s.who (λ _. tt) tt
+planned_fits players true sorts.Players s game said text c is other = players_does (FitsPlan said text (Asker c ForItself)) s.who tt tt
 planned_fits players true sorts.Who s game said text c is other = arbiter_does (FitsPlan said text (Asker c ForItself)) s.who plans.Who (λ _. tt) tt
 planned_fits players true sorts.Pause s game said text c is other = arbiter_does (FitsPlan said text (Asker c ForItself)) s.who plans.Pause (λ _. tt) tt
 planned_fits players true sorts.Resume s game said text c is other = arbiter_does (FitsPlan said text (Asker c ForItself)) s.who plans.Resume (λ _. tt) tt

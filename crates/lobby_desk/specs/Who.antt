@@ -8,6 +8,7 @@ use Rattle.lobby_words.specs.declared.planning.Plan.{Plan}
 use Rattle.lobby_words.specs.declared.planning.Plan.TheVariants as plans
 use Rattle.lobby_words.specs.declared.refusals.Refusal.{Refusal}
 use Rattle.lobby_words.specs.declared.refusals.Refusal.TheVariants as refusals
+use Rattle.lobby_words.specs.declared.listing.Seat.{Seat}
 use Rattle.lobby_words.specs.declared.planning.Order.{Order}
 use Rattle.lobby_words.specs.declared.planning.Standing.{Standing}
 use Rattle.lobby_words.specs.declared.planning.Identity.{Identity}
@@ -17,7 +18,7 @@ use Rattle.lobby_desk.specs.declared.watching.Watch.{Watch}
 use Rattle.lobby_desk.specs.declared.desk.Desk.{Desk}
 use Rattle.lobby_words.specs.Words.{rest_of, as_name, black_name, actor, is_message, sort_of, u32_in, is_login_sort}
 use Rattle.lobby_words.specs.Waiting.{opens_game, joins_game}
-use Rattle.lobby_roster.specs.Players.{holder_of, known_name, renewed, login_text, players_text, present_names, who_text, IsRelinked}
+use Rattle.lobby_roster.specs.Players.{holder_of, known_name, renewed, login_text, players_text, seated_text, present_names, who_text, IsRelinked}
 use Rattle.lobby_words.specs.Plans.{refusal_text, plan_of, order_of}
 use Rattle.lobby_desk.specs.Lines.{bytes_of, lines_of, act_lines, join_line, said_after, notice_lines, IsNamed}
 use Rattle.lobby_words.specs.Answers.{IsSeated, IsFirstSeated, IsSeatless, has_empty_seat, act_game, answer}
@@ -113,6 +114,7 @@ abbrev pub is_own : Plan → Bool
 is_own (plans.Refuse refusal) = true
 is_own (plans.Login who) = true
 is_own plans.Players = true
+is_own plans.Seated = true
 is_own plans.Who = true
 is_own plans.Pause = true
 is_own plans.Resume = true
@@ -127,26 +129,27 @@ IsPresence is_paused players is_open acts_for text =
     (all : List ℕ) × ((c : ℕ) → at_table all c ≡ is_open c) × (text ≡ who_text is_paused (present_names acts_for all players))
 
 -- Such an answer, where entries are paused or not, these connections are open, and each acts for this player: a refusal says why;
--- the player is told, or all players are, or those who are there; what is left is named. An order is not carried out here.
-abbrev pub IsOwnText : Bool → List Player → (ℕ → Bool) → (ℕ → Option Identity) → Plan → List ℕ → Type 0
-IsOwnText is_paused players is_open acts_for (plans.Refuse refusal) text = text ≡ refusal_text refusal
-IsOwnText is_paused players is_open acts_for (plans.Login who) text = text ≡ login_text players who
-IsOwnText is_paused players is_open acts_for plans.Players text = text ≡ players_text players
-IsOwnText is_paused players is_open acts_for plans.Who text = IsPresence is_paused players is_open acts_for text
-IsOwnText is_paused players is_open acts_for plans.Pause text = text ≡ codes "ok pause entries\n"
-IsOwnText is_paused players is_open acts_for plans.Resume text = text ≡ codes "ok resume entries\n"
-IsOwnText is_paused players is_open acts_for (plans.Order order) text = text ≡ refusal_text refusals.NotWritten
-IsOwnText is_paused players is_open acts_for plans.LeaveLobby text = text ≡ codes "ok leave lobby\n"
-IsOwnText is_paused players is_open acts_for (plans.Leave game) text = text ≡ codes "ok leave " ++ decimal game ++ codes "\n"
-IsOwnText is_paused players is_open acts_for _ text = Unit {0}
+-- the player is told, or all players are, or those who have a seat, or are there; what is left is named. An order is not carried out here.
+abbrev pub IsOwnText : Bool → List Player → List Seat → (ℕ → Bool) → (ℕ → Option Identity) → Plan → List ℕ → Type 0
+IsOwnText is_paused players seats is_open acts_for (plans.Refuse refusal) text = text ≡ refusal_text refusal
+IsOwnText is_paused players seats is_open acts_for (plans.Login who) text = text ≡ login_text players who
+IsOwnText is_paused players seats is_open acts_for plans.Players text = text ≡ players_text players
+IsOwnText is_paused players seats is_open acts_for plans.Seated text = text ≡ seated_text seats players
+IsOwnText is_paused players seats is_open acts_for plans.Who text = IsPresence is_paused players is_open acts_for text
+IsOwnText is_paused players seats is_open acts_for plans.Pause text = text ≡ codes "ok pause entries\n"
+IsOwnText is_paused players seats is_open acts_for plans.Resume text = text ≡ codes "ok resume entries\n"
+IsOwnText is_paused players seats is_open acts_for (plans.Order order) text = text ≡ refusal_text refusals.NotWritten
+IsOwnText is_paused players seats is_open acts_for plans.LeaveLobby text = text ≡ codes "ok leave lobby\n"
+IsOwnText is_paused players seats is_open acts_for (plans.Leave game) text = text ≡ codes "ok leave " ++ decimal game ++ codes "\n"
+IsOwnText is_paused players seats is_open acts_for _ text = Unit {0}
 
-abbrev pub IsAnsweredIf : Bool → Bool → List Player → (ℕ → Bool) → (ℕ → Option Identity) → Plan → ℕ → List MessageValue → Type 0
-IsAnsweredIf true is_paused players is_open acts_for plan c tells =
-    (text : List ℕ) × IsOwnText is_paused players is_open acts_for plan text × (tells ≡ to_one c text ∷ [])
-IsAnsweredIf false is_paused players is_open acts_for plan c tells = tells ≡ []
+abbrev pub IsAnsweredIf : Bool → Bool → List Player → List Seat → (ℕ → Bool) → (ℕ → Option Identity) → Plan → ℕ → List MessageValue → Type 0
+IsAnsweredIf true is_paused players seats is_open acts_for plan c tells =
+    (text : List ℕ) × IsOwnText is_paused players seats is_open acts_for plan text × (tells ≡ to_one c text ∷ [])
+IsAnsweredIf false is_paused players seats is_open acts_for plan c tells = tells ≡ []
 
-abbrev pub IsAnswered : Bool → List Player → (ℕ → Bool) → (ℕ → Option Identity) → Plan → ℕ → List MessageValue → Type 0
-IsAnswered is_paused players is_open acts_for plan c tells = IsAnsweredIf (is_own plan) is_paused players is_open acts_for plan c tells
+abbrev pub IsAnswered : Bool → List Player → List Seat → (ℕ → Bool) → (ℕ → Option Identity) → Plan → ℕ → List MessageValue → Type 0
+IsAnswered is_paused players seats is_open acts_for plan c tells = IsAnsweredIf (is_own plan) is_paused players seats is_open acts_for plan c tells
 
 abbrev pub known : Desk → Known
 known desk = record {
@@ -267,7 +270,7 @@ pub record IsSaid (players : List Player) (old : View) (c : ℕ) (text : List �
   pub planned : plan ≡ plan_of (is_message text) (sort_of text) standing (u32_in (rest_of text))
   pub named : IsNamed plan
   pub lines_are : lines ≡ lines_of plan old.said text
-  pub answers : IsAnswered old.paused players old.is_open old.who plan c tells
+  pub answers : IsAnswered old.paused players old.known.seats old.is_open old.who plan c tells
   pub next_is : new.next ≡ old.next
   pub said_is : new.said ≡ said_after plan old.said
   pub here_is : new.here ≡ old.here
@@ -428,7 +431,7 @@ pub record Carried (old : Desk) (from : ℕ) (text : List ℕ) (plan : Plan) (un
   pub tells : List MessageValue
   pub sent : after ≡ before ++ bytes_of (lines_of plan old.line.said text)
   pub told : told_after ≡ told_before ++ tells
-  pub answers : IsAnswered old.is_paused old.players.items (open_of old) (who_of old) plan from tells
+  pub answers : IsAnswered old.is_paused old.players.items old.line.seats.items (open_of old) (who_of old) plan from tells
   pub named : IsNamed plan
   pub said_is : new.line.said ≡ said_after plan old.line.said
   pub here_is : new.line.is_here ≡ old.line.is_here

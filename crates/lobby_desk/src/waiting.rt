@@ -1,5 +1,5 @@
 //! The seats of players in the games on the server's table, as far as its answers have told.
-ghost use Rattle.std.specs.Prelude.{◌≡◌, ◌==◌, ◌+◌, ◌*◌, true, false, not, nat_le, map, OnOk};
+ghost use Rattle.std.specs.Prelude.{◌≡◌, ◌==◌, ◌+◌, ◌-◌, ◌*◌, ◌/◌, true, false, not, nat_le, map, OnOk};
 ghost use Rattle.std.specs.List.{count_by};
 ghost use Rattle.std.specs.String.{string_bytes};
 ghost use Rattle.lobby_words.specs.Waiting.{tells_end};

@@ -79,9 +79,9 @@ abbrev pub arbiter_plan : Option Identity → Plan → Plan
 arbiter_plan None plan = plans.Refuse refusals.NoToken
 arbiter_plan (Some who) plan = if who.is_arbiter then plan else plans.Refuse refusals.NotArbiter
 
--- who the players are: not without a token
+-- who the players are; without a token who of them sits in a game on the table
 abbrev pub players_plan : Option Identity → Plan
-players_plan None = plans.Refuse refusals.NoToken
+players_plan None = plans.Seated
 players_plan (Some who) = plans.Players
 
 -- the link of a player is changed, or closed: not where no player has the name

@@ -37,7 +37,9 @@ pub enum Plan {
     /// Who is seated in the game is asked for, and the message is passed on under a name of theirs.
     Drop(Identity, u32),
     Login(Identity),
+    /// Who the players are, and which of them sit in a game on the table.
     Players,
+    Seated,
     /// Which players are there.
     Who,
     /// No games are opened from now on, and games are again.
@@ -233,7 +235,7 @@ fn players_plan(who: &Option<Identity>) -> Plan
     ensures { result ≡ plans.players_plan who.now }
 {
     match who {
-        None => Plan::Refuse(Refusal::NoToken),
+        None => Plan::Seated,
         Some(_) => Plan::Players,
     }
 }
