@@ -223,15 +223,22 @@ fn each_own(places: &mut [Place], all: &[Place])
     }
 }
 
+// These connections: of those who act for one player who came first are to be closed, until 16 are left.
+fn own_all(alloc: Global, all: &[Place]) -> Result<Vec<Place>, AllocError>
+    ensures { IfOk result (λ places. places.items ≡ each_own all.now all.now) }
+{
+    let mut places = all.to_vec(alloc)?;
+    each_own(places.as_mut_slice(), all);
+    Ok(places)
+}
+
 /// These connections, in the order in which they came: of those who act for one player who came first are to be closed, until 16 are
 /// left.
 pub fn own(alloc: Global, all: &[Place]) -> Result<Vec<Place>, AllocError>
     ensures owned { IfOk result (λ places. places.items ≡ each_own all.now all.now) }
     ensures few { IfOk result (λ places. IsOwned all.now places.items) }
 {
-    let mut places = all.to_vec(alloc)?;
-    each_own(places.as_mut_slice(), all);
-    Ok(places)
+    own_all(alloc, all)
 }
 
 // Which of these connections are to be closed, and how many of them for want of room.
