@@ -8,3 +8,10 @@ pub mod WidenLemmas
 mod ShownLemmas
 mod SubmitLemmas
 mod RefusedLemmas
+pub mod LawfulEntries
+pub mod ServingLemmas
+pub mod LivesLemmas
+pub mod DeviceLemmas
+pub mod KeptLemmas
+pub mod InMemoryLemmas
+pub mod DrillLemmas

@@ -8,3 +8,11 @@ pub mod Creating
 pub mod Opening
 pub mod Submitting
 pub mod Widening
+pub mod Courses
+pub mod Lives
+pub mod Devices
+pub mod Stops
+pub mod Serving
+pub mod Laws
+pub mod Drill
+pub mod DrillLife

@@ -1,8 +1,8 @@
 use crate::StoreFault;
 
-/// A device that `create` or `open` hands back, and why.
+/// A device that `Store::create` or `Store::open` hands back, and why.
 #[derive(Drop)]
 pub struct Refused<D> {
-    pub device: D,
+    pub dev: D,
     pub fault: StoreFault,
 }

@@ -2,6 +2,7 @@
 use crate::peers::{Gives, Peer, Takes, made};
 use chess_hub::{Hub, HubFault};
 use chess_sockets::serve_clients;
+use chess_store::Store;
 use client_streams::{Client, Reading};
 use rec_codec::Limits;
 use sector_dev::MemoryDevice;
@@ -32,7 +33,7 @@ pub fn nobody(alloc: Global) -> Option<Crowd> {
 
 /// Such a hub on this device. `None` where memory is refused, or the device fails.
 pub fn nobody_over(alloc: Global, device: MemoryDevice) -> Option<Crowd> {
-    let Ok(store) = chess_store::create(alloc, device, LIMITS) else {
+    let Ok(store) = Store::create(alloc, device, LIMITS) else {
         return None;
     };
     Some(Crowd {

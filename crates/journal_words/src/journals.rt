@@ -38,7 +38,7 @@ fn create_on<D: Device + Drop>(alloc: Global, device: D, limits: Limits) -> Resu
     requires { IsInRange Two limits }
     ensures { IfErr result IsFormatFault }
 {
-    match chess_store::create(alloc, device, limits) {
+    match Store::create(alloc, device, limits) {
         Ok(_) => Ok(()),
         Err(refused) => Err(Fault::Store(refused.fault)),
     }
@@ -243,7 +243,7 @@ fn widen_store<D: Device>(store: &mut Store<D>, limits: Limits) -> Result<(), Fa
     if !may_widen(store.limits(), limits) {
         return Err(Fault::Limits);
     }
-    match chess_store::widen(store, limits) {
+    match store.widen(limits) {
         Ok(()) => Ok(()),
         Err(fault) => Err(Fault::Store(fault)),
     }

@@ -91,7 +91,7 @@ impl<'a> FilePlayer<'a> {
         if refused.fault != JournalFault::Exists {
             return Err(refused.fault);
         }
-        match open(self.rt.alloc(), refused.device) {
+        match open(self.rt.alloc(), refused.dev) {
             Ok(opened) => Ok(opened.journal),
             Err(refused) => Err(refused.fault),
         }
@@ -124,14 +124,14 @@ impl<'a> FilePlayer<'a> {
     fn store_on(&self, device: FileDevice, limits: Limits) -> Result<Store<FileDevice>, StoreFault>
         requires { IsInRange Two limits }
     {
-        let refused = match chess_store::create(self.rt.alloc(), device, limits) {
+        let refused = match Store::create(self.rt.alloc(), device, limits) {
             Ok(store) => return Ok(store),
             Err(refused) => refused,
         };
         if refused.fault != StoreFault::Exists {
             return Err(refused.fault);
         }
-        match chess_store::open(self.rt.alloc(), refused.device) {
+        match Store::open(self.rt.alloc(), refused.dev) {
             Ok(store) => Ok(store),
             Err(refused) => Err(refused.fault),
         }

@@ -70,7 +70,7 @@ fn store_on(alloc: Global, ground: &Ground) -> Result<Store<MemoryDevice>, Fault
     // Of an empty store an opening takes three calls.
     let mut device = store.into_device();
     device.arm(calls.saturating_add(3));
-    opened(alloc, chess_store::open(alloc, device))
+    opened(alloc, Store::open(alloc, device))
 }
 
 impl HubPlayer {

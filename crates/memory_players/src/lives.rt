@@ -6,7 +6,7 @@ mod texts;
 
 use crate::memory::store_in_memory;
 use chess_entry::Command;
-use chess_lives::{Life, Plan, lives};
+use chess_store::{Life, Plan, lives};
 use player_lines::{Fault, SMALL, Size, fates_of, read_calls, read_command, read_size, split};
 use std::alloc::Global;
 use texts::{drill_text, report_text};

@@ -22,5 +22,5 @@ pub fn store_in_memory(alloc: Global, size: &Size) -> Result<Store<MemoryDevice>
         return Err(Fault::Input);
     }
     let device = MemoryDevice::new(alloc, size.sectors)?;
-    opened(alloc, chess_store::create(alloc, device, size.limits))
+    opened(alloc, Store::create(alloc, device, size.limits))
 }

@@ -189,7 +189,7 @@ impl StorePlayer {
                 let text = journal_text(self.alloc, &opened);
                 (text, opened.journal.into_device())
             }
-            Err(refused) => (unread_text(self.alloc, refused.fault), refused.device),
+            Err(refused) => (unread_text(self.alloc, refused.fault), refused.dev),
         };
         self.put_ground(Ground::Device(device));
         text
@@ -223,7 +223,7 @@ impl StorePlayer {
         requires { IsInRange Two limits }
     {
         let device = self.armed(calls)?;
-        let made = chess_store::create(self.alloc, device, limits);
+        let made = Store::create(self.alloc, device, limits);
         self.take(made, "created")
     }
 
@@ -232,7 +232,7 @@ impl StorePlayer {
         let (ground, text) = match opened {
             Ok(store) => (Ground::Store(store), done_text(self.alloc, word)),
             Err(refused) => (
-                Ground::Device(refused.device.into_device()),
+                Ground::Device(refused.dev.into_device()),
                 fault_text(self.alloc, &refused.fault),
             ),
         };
@@ -242,7 +242,7 @@ impl StorePlayer {
 
     // The store that a device holds.
     fn open_on(&mut self, device: Device) -> Result<String, Fault> {
-        let opened = chess_store::open(self.alloc, device);
+        let opened = Store::open(self.alloc, device);
         self.take(opened, "opened")
     }
 
@@ -303,7 +303,7 @@ impl StorePlayer {
         if limits.games < present.games || limits.plies < present.plies {
             return Err(Fault::Input);
         }
-        match chess_store::widen(store, limits) {
+        match store.widen(limits) {
             Ok(()) => done_text(self.alloc, "widened"),
             Err(fault) => fault_text(self.alloc, &fault),
         }

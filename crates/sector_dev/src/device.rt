@@ -5,8 +5,11 @@ ghost use Rattle.sector_dev.specs.Device.{State, IsCoherent, IsUnchanged, IsStab
 ghost use Rattle.sector_dev.specs.Calls.{IsReadCall, IsWriteCall, IsSyncCall};
 ghost use Rattle.sector_dev.specs.Crash.{left_by, fates_of, IsOfDisk};
 
+use thiserror::Error;
+
 /// The device failed, or had no memory for a call.
-#[derive(Clone, Copy, Debug, PartialEq, Eq)]
+#[derive(Clone, Copy, Debug, PartialEq, Eq, Error)]
+#[error("the device failed, or had no memory for a call")]
 pub struct DeviceFault;
 
 /// What a read found.

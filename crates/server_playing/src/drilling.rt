@@ -2,8 +2,7 @@
 ghost use Rattle.std.specs.Prelude.{IfErr};
 ghost use Rattle.server_playing.specs.Faults.{IsDrillFault};
 
-use chess_lives::{Tally, drill};
-use chess_store::StoreFault;
+use chess_store::{StoreFault, Tally, drill};
 use server_telling::Teller;
 use server_work::{Fault, printed, told};
 use std::alloc::Global;

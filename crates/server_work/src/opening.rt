@@ -48,7 +48,7 @@ pub fn open_file<R: Files<File = File> + Eprint>(
 pub fn open_on<D: Device + Drop>(alloc: Global, device: D) -> Result<Store<D>, Fault>
     ensures { IfErr result IsOpenFault }
 {
-    match chess_store::open(alloc, device) {
+    match Store::open(alloc, device) {
         Ok(store) => Ok(store),
         Err(refused) => Err(Fault::Store(refused.fault)),
     }

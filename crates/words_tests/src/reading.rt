@@ -56,7 +56,7 @@ fn play(rt: &impl Abort, store: &mut Store<MemoryDevice>) {
 // A device with a journal of these games.
 fn played(rt: &impl Abort, alloc: Global) -> MemoryDevice {
     let device = MemoryDevice::new(alloc, 212).expect(rt, "memory");
-    let Ok(mut store) = chess_store::create(alloc, device, LIMITS) else {
+    let Ok(mut store) = Store::create(alloc, device, LIMITS) else {
         panic!(rt; "no journal");
     };
     play(rt, &mut store);

@@ -1,4 +1,5 @@
 //! That what is asked for reaches the server, over loopback.
+use chess_store::Store;
 use rec_codec::Limits;
 use sector_dev::MemoryDevice;
 use server_playing::{Door, serve_store};
@@ -101,7 +102,7 @@ const LIMITS: Limits = Limits {
 fn served(stop: &impl Abort, rt: &HostRuntime, silence: Option<u64>) -> (bool, bool) {
     let alloc: Global = rt.alloc();
     let device = MemoryDevice::new(alloc, 212).expect(stop, "memory");
-    let Ok(store) = chess_store::create(alloc, device, LIMITS) else {
+    let Ok(store) = Store::create(alloc, device, LIMITS) else {
         panic!(stop; "no journal");
     };
     let machine = on_loopback(rt).expect(stop, "a connection");

@@ -1,5 +1,5 @@
 //! What is written.
-use chess_lives::{Drilled, Report, Tally, drill};
+use chess_store::{Drilled, Report, Tally, drill};
 use player_lines::Fault;
 use std::alloc::{AllocError, Global};
 
