@@ -239,8 +239,19 @@ const SERVE: WordText = WordText {
     about: "Serves the page and its players, over a game server",
     help: HELP_OF_SERVE,
     options: &[
-        PLAYERS, SERVER, AT_PORT, ADDRESS, PAGE, HOST, PROXY, LIVE, LOG,
-        WAITING_MOST, PLAYING_MOST, OVER_MOST, GAMES,
+        PLAYERS,
+        SERVER,
+        AT_PORT,
+        ADDRESS,
+        PAGE,
+        HOST,
+        PROXY,
+        LIVE,
+        LOG,
+        WAITING_MOST,
+        PLAYING_MOST,
+        OVER_MOST,
+        GAMES,
     ],
 };
 
@@ -314,10 +325,8 @@ fn proxy_of(values: &ArgMatches<'_>) -> Option<Option<IpAddr>> {
 // Whether a host's name may be this: letters, digits, `-`, `_` and `.`, as an address of IPv4 is too.
 fn is_host_name(name: &str) -> bool {
     !name.is_empty()
-        && name
-            .as_bytes()
-            .iter()
-            .all(|byte| byte.is_ascii_alphanumeric() || matches!(*byte, b'-' | b'_' | b'.'))
+        && name.as_bytes().iter().all(|byte| byte.is_ascii_alphanumeric()
+            || matches!(*byte, b'-' | b'_' | b'.'))
 }
 
 // Whether a host is a name or an address, that of IPv6 in brackets.

@@ -294,14 +294,21 @@ fn over_if(one: &Seat, game: u32) -> Seat
     }
 }
 
+// A game is over from now on.
+fn end_all(seats: &mut [Seat], game: u32)
+    ensures { seats.new ≡ map (spec.over_if game) seats.old }
+{
+    for one in seats.iter_mut() {
+        *one = over_if(one, game);
+    }
+}
+
 // Notes that a game is over, if it is so.
 fn note_ended(seats: &mut Vec<Seat>, is_over: bool, game: u32)
     ensures { seats.new.items ≡ spec.seats_ended is_over game seats.old.items }
 {
     if is_over {
-        for one in seats.iter_mut() {
-            *one = over_if(one, game);
-        }
+        end_all(seats.as_mut_slice(), game);
     }
 }
 
