@@ -22,7 +22,7 @@ use Rattle.lobby_desk.specs.declared.watching.Watch.{Watch}
 use Rattle.lobby_words.specs.Words.{word_of, rest_of, as_name, as_line, black_name, pair_line, is_pair, line_said, is_message, sort_of, is_act_sort, is_as_sort, is_pair_sort, is_drop_sort, is_name_sort, is_login_sort, u32_in, or_0}
 use Rattle.lobby_words.specs.Plans.{asked, barred, entered_plan, act_plan, named_plan, as_plan, black_plan, white_plan, pair_plan, arbiter_plan, order_plan, drop_plan, login_plan, numbered_plan, plan_of}
 use Rattle.lobby_desk.specs.Lines.{lines_of, act_lines, said_after, name_line, game_line, join_line, is_said, notice_lines, IsNamed}
-use Rattle.lobby_words.specs.Answers.{is_accepted, first_line, act_game, is_whole, answer}
+use Rattle.lobby_words.specs.Answers.{is_accepted, first_line, act_game, answer}
 use Rattle.lobby_desk.specs.Refusals.{game_named}
 use Rattle.lobby_desk.specs.Watching.{watch_if, sit_if}
 use Rattle.lobby_desk.specs.Events.{DeskInput, Opened, Closed, Said, Hurried, Heard, ServerTurned, Renewed, Linked, MessageValue, ForItself, ForPositions, ForTable, ForGame, ForAct, Owed, Nobody, Naming, Asker, Dropper, Pairer, Followers, Behind, owed_last, owed_acted, owed_some, owed_lines, sort_asker, asker, followers_of, follower, Following, is_asked_behind, game_if, asked_after}
