@@ -1,7 +1,7 @@
 // A device as its callers see it: what a read gives, and what a crash may leave.
 ghost use Rattle.std.specs.Prelude.{◌≡◌, ◌<◌, ◌↔◌, List, ℕ, [], Option, Some, None};
 ghost use Rattle.sector_dev.specs.Image.{Sectors, Write};
-ghost use Rattle.sector_dev.specs.Device.{State, IsCoherent, IsUnchanged, IsStable, Elapses};
+ghost use Rattle.sector_dev.specs.Device.{State, IsCoherent, IsUnchanged, IsStable, Elapses, HasStopped};
 ghost use Rattle.sector_dev.specs.Calls.{IsReadCall, IsWriteCall, IsSyncCall};
 ghost use Rattle.sector_dev.specs.Crash.{left_by, fates_of, IsOfDisk};
 
@@ -131,7 +131,8 @@ pub trait CrashDevice: Device {
             → (Self.state self.old).image (Self.state self.new).reads }
         ensures stable { (Self.state self.old).keeps_model
             → stable self.new ≡ left_by (stable self.old) (pending self.old) fates.now }
-        ensures pending { (Self.state self.old).keeps_model → pending self.new ≡ [] };
+        ensures pending { (Self.state self.old).keeps_model → pending self.new ≡ [] }
+        ensures stops { (Self.state self.old).keeps_model → HasStopped (Self.state self.old) (Self.state self.new) };
 
     /// As `crash_as`, where the writes whose place in `keep` is true are `Kept` and the others `Lost`.
     fn crash(&mut self, keep: &[bool])
@@ -145,7 +146,8 @@ pub trait CrashDevice: Device {
             → (Self.state self.old).image (Self.state self.new).reads }
         ensures stable { (Self.state self.old).keeps_model
             → stable self.new ≡ left_by (stable self.old) (pending self.old) (fates_of keep.now) }
-        ensures pending { (Self.state self.old).keeps_model → pending self.new ≡ [] };
+        ensures pending { (Self.state self.old).keeps_model → pending self.new ≡ [] }
+        ensures stops { (Self.state self.old).keeps_model → HasStopped (Self.state self.old) (Self.state self.new) };
 
     /// The state is that of the stable values and the pending writes.
     ghost of_disk: { (device : Self) → (Self.state device).keeps_model
