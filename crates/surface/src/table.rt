@@ -1,0 +1,103 @@
+//! `chess_table`: a table, what commands meet on it, and the table as records.
+use arrayvec::ArrayString;
+use chess_bits::Colour;
+use chess_entry::{Command, Limits, Name, Verdict};
+use chess_line::{Line, parse};
+use chess_table::{
+    Reply, Table, TableFault, act_line, answer, enter, entry_record, judge, record_entry,
+    refusal_line,
+};
+use rec_codec::{Record, Version, write_record};
+use std::process::Abort;
+
+// Both knights go out and back twice; then each side claims wrongly, White with a move.
+static ROWS: [(&str, u64, &str, &str); 14] = [
+    ("ann", 1_000, "open white 300 0", "ok open 1"),
+    ("bob", 1_000, "join 1", "ok join 1 black"),
+    ("ann", 1_000, "move 1 0 Nf3", "ok move 1 1 Nf3"),
+    ("bob", 1_000, "move 1 1 Nf6", "ok move 1 2 Nf6"),
+    ("ann", 1_000, "move 1 2 Ng1", "ok move 1 3 Ng1"),
+    ("bob", 1_000, "move 1 3 Ng8", "ok move 1 4 Ng8"),
+    ("ann", 1_000, "move 1 4 Nf3", "ok move 1 5 Nf3"),
+    ("bob", 1_000, "move 1 5 Nf6", "ok move 1 6 Nf6"),
+    ("ann", 1_000, "move 1 6 Ng1", "ok move 1 7 Ng1"),
+    ("bob", 1_000, "move 1 7 Ng8", "ok move 1 8 Ng8"),
+    ("ann", 5_000, "claim 1 8 fifty e4", "ok claim 1 wrong 9 e4"),
+    ("bob", 6_000, "claim 1 9 three", "ok claim 1 wrong"),
+    ("bob", 6_000, "claim 1 9 fifty", "no 13 AlreadyClaimed"),
+    (
+        "bob",
+        6_000,
+        "show 1",
+        "ok show 1 ann bob 9 b 416000 419000 wb * -",
+    ),
+];
+
+fn command(rt: &impl Abort, who: &str, at: u64, line: &str) -> Command {
+    let act = match parse(line.as_bytes()) {
+        Some(Line::Act(act)) => act,
+        _ => panic!(rt; "no act"),
+    };
+    Command {
+        at,
+        who: Name::try_new(who),
+        act,
+    }
+}
+
+// The line that answers a command, which is entered where it becomes an entry.
+fn answered(rt: &impl Abort, table: &mut Table, command: &Command) -> ArrayString<160> {
+    match judge(table, command) {
+        Verdict::Refuse(refusal) => refusal_line(refusal),
+        Verdict::Read => {
+            let reply: Reply = answer(table, command).expect(rt, "memory");
+            assert!(rt; reply.body.is_empty());
+            reply.line
+        }
+        Verdict::Enter(entry) => {
+            let line = act_line(table, command, &entry);
+            assert!(rt; record_entry(&entry_record(&entry)).is_some());
+            assert!(rt; table.entries() < u64::MAX);
+            assert!(rt; enter(table, entry).is_ok());
+            line
+        }
+    }
+}
+
+// What is seen of the one game of a table.
+fn check_game(rt: &impl Abort, table: &Table) {
+    let counts = (table.games(), table.entries());
+    assert!(rt; counts == (1, 12));
+    let game = table.game_at(0).expect(rt, "a game");
+    assert!(rt; game.moves().len() == 9 && game.moment() == 5_000);
+    let left: [u32; 2] = [
+        game.left(Colour::White, 6_000),
+        game.left(Colour::Black, 6_000),
+    ];
+    assert!(rt; left == [416_000, 419_000]);
+}
+
+// Of these three records the head has the flags 31.
+fn check_records(rt: &impl Abort, records: &[Record]) {
+    assert!(rt; records.len() == 3);
+    assert!(rt; write_record(&records[1])[1] == 31);
+}
+
+#[test]
+fn a_table_and_its_records(rt: HostRuntime) {
+    let limits = Limits {
+        games: 4,
+        plies: 60,
+    };
+    assert!(rt; limits.is_in_range(Version::Two));
+    let mut table = Table::new(rt.alloc(), limits);
+    for (who, at, line, wanted) in &ROWS {
+        let asked = command(&rt, who, *at, line);
+        assert!(rt; answered(&rt, &mut table, &asked).as_str() == *wanted);
+    }
+    check_game(&rt, &table);
+    let records: Vec<Record> = table.to_records().expect(&rt, "memory");
+    check_records(&rt, &records);
+    let made: Result<Table, TableFault> = Table::from_records(rt.alloc(), limits, &records, &[]);
+    check_game(&rt, &made.ok().expect(&rt, "a table"));
+}

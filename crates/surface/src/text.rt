@@ -1,0 +1,60 @@
+//! `chess_text`: positions, moves and games as text.
+use arrayvec::ArrayString;
+use chess_board::{BadBoard, Board, Move};
+use chess_end::{Article, Ending, GameResult};
+use chess_text::{FenError, GameText, coordinate, fen_read, fen_write, is_playable, pgn};
+use std::process::Abort;
+
+static FAULTS: [(&str, FenError); 7] = [
+    ("", FenError::Shape),
+    ("8/8/44/8/8/8/8/8 w - - 0 1", FenError::Placement),
+    ("8/8/8/8/8/8/8/8 x - - 0 1", FenError::Side),
+    ("8/8/8/8/8/8/8/8 w QK - 0 1", FenError::Castling),
+    ("8/8/8/8/8/8/8/8 w - e9 0 1", FenError::Target),
+    ("8/8/8/8/8/8/8/8 w - - 00 1", FenError::Counter),
+    (
+        "8/8/8/8/8/8/8/8 w - - 0 1",
+        FenError::Board(BadBoard::Kings),
+    ),
+];
+
+#[test]
+fn texts_of_positions(rt: HostRuntime) {
+    for (text, fault) in &FAULTS {
+        let read: Result<Board, FenError> = fen_read(text);
+        assert!(rt; read.err() == Some(*fault));
+    }
+    let written: ArrayString<96> = fen_write(&Board::initial());
+    assert!(rt; written.as_str() == "rnbqkbnr/pppppppp/8/8/8/8/PPPPPPPP/RNBQKBNR w KQkq - 0 1");
+}
+
+const GAME: &str = "\
+[Event \"?\"]\n[Site \"?\"]\n[Date \"????.??.??\"]\n[Round \"?\"]\n[White \"ann\"]\n[Black \"bob\"]\n[Result \"0-1\"]\n\
+[Article \"5.1.1\"]\n[Termination \"normal\"]\n[TimeControl \"300+2\"]\n\n1. f3 e5 2. g4 Qh4# 0-1\n\n";
+
+fn named(rt: &impl Abort, text: &str) -> Move {
+    let mv: Option<Move> = coordinate(text);
+    mv.expect(rt, "a move")
+}
+
+#[test]
+fn the_text_of_a_game(rt: HostRuntime) {
+    let [first, second] = [named(&rt, "f2f3"), named(&rt, "e7e5")];
+    let moves = [first, second, named(&rt, "g2g4"), named(&rt, "d8h4")];
+    let game = GameText {
+        white: Some("ann"),
+        black: Some("bob"),
+        start: Board::initial(),
+        moves: &moves,
+        ending: Some(Ending {
+            result: GameResult::Black,
+            article: Article::A511,
+        }),
+        initial: 300,
+        increment: 2,
+        period: None,
+    };
+    assert!(rt; is_playable(&game.start, game.moves));
+    let text: String = pgn(rt.alloc(), &game).expect(&rt, "memory");
+    assert!(rt; text.as_str() == GAME);
+}
