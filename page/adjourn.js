@@ -3,7 +3,7 @@
 // can be done again.
 
 import { readPgn, readRefusal, readShow, readTimes, sideOf } from './lines.js';
-import { arrange, byId, copy, make, read, setText, write } from './make.js';
+import { arrange, byId, copy, focused, make, read, setText, write } from './make.js';
 import { AGREED, NO_GAME, OTHER, SIDES, arbiterWords, clockText, colourWord, resultWords, timesWords } from './words.js';
 
 const PREFIX = 'adjourned-';
@@ -256,7 +256,7 @@ export class Adjournments {
     const notes = this.notes();
     byId('adjourned-games').hidden = notes.length === 0;
     setText(byId('adjourned-count'), notes.length ? String(notes.length) : '');
-    const had = document.activeElement, at = had && had.dataset.key;
+    const had = focused(), at = had && had.dataset.key;
     const items = notes.map((note) => this.itemOf(note));
     arrange(byId('adjourned-list'), items);
     const again = at && !had.isConnected && byId('adjourned-list').querySelector(`[data-key="${at}"]`);

@@ -5,7 +5,7 @@ import { Picture } from './board.js';
 import { Clock } from './clock.js';
 import { isNoGame, placementOf, readLine, readRefusal, readShow, readStanding, readWho, squaresOf } from './lines.js';
 import { Links } from './links.js';
-import { arrange, byId, make, save, setText } from './make.js';
+import { arrange, byId, focused, make, save, setText } from './make.js';
 import { Pairing } from './pairing.js';
 import { Question } from './question.js';
 import { Waits } from './waits.js';
@@ -14,6 +14,8 @@ import { AGREED, NO_GAME, OTHER, SIDES, actWords, arbiterWords, colourWord, refu
 const MOST = 12;                     // games on a page: each that runs is watched
 const ASKS_WHO = 10000;
 const ASKS_TABLE = 4000;             // nobody tells of games that were opened or taken off past the lobby
+const STOPPED = 'New games are stopped: no player opens one, and who tries is told so. Games that wait can still be joined, and '
+  + 'arbiters pair on.';
 const RUNS = 0, WAITS = 1, OVER = 2; // the kinds of games, as they stand behind each other
 const ASKS_AGAIN = 4000;             // for a game that was not told
 const STAYS = 8000;                  // so long a game that has ended keeps its place,
@@ -49,8 +51,7 @@ export class ArbiterView {
     }
     byId('arbiter-back').addEventListener('click', () => this.page(-1));
     byId('arbiter-on').addEventListener('click', () => this.page(1));
-    byId('pause-entries').addEventListener('click', () => this.entries('pause'));
-    byId('resume-entries').addEventListener('click', () => this.entries('resume'));
+    byId('entries').addEventListener('click', () => this.entries(this.arePaused ? 'resume' : 'pause'));
     for (const id of ['pair-by-hand', 'players-and-links']) {
       byId(id).addEventListener('toggle', (event) => event.target.open && this.app.askPlayers());
     }
@@ -230,7 +231,7 @@ export class ArbiterView {
 
   /** Who has the keys of a card keeps them where it moves. */
   stand(roots) {
-    const had = document.activeElement;
+    const had = focused();
     arrange(this.list, roots);
     if (had !== document.activeElement && this.list.contains(had)) had.focus({ preventScroll: true });
   }
@@ -245,7 +246,8 @@ export class ArbiterView {
   // ---- a game
 
   add(number) {
-    const card = { number, board: new Picture(`Game ${number}`), clocks: {}, names: {}, away: {}, seats: {}, acts: {} };
+    const card = { number, board: new Picture(`Game ${number}`), clocks: {}, names: {}, away: {}, seats: {}, acts: {},
+      standing: null };
     const player = (side) => {
       const clock = make('span', { class: 'clock', role: 'timer' });
       card.clocks[side] = new Clock(clock, () => card.standing && setText(card.state, this.stateWords(card)));
@@ -525,10 +527,10 @@ export class ArbiterView {
   renderEntries() {
     const isOpen = this.app.wire.state.open;
     if (!isOpen) this.arePaused = null;
-    for (const id of ['pause-entries', 'resume-entries']) byId(id).disabled = !isOpen;
+    byId('entries').disabled = !isOpen || this.arePaused === null;
+    setText(byId('entries'), this.arePaused ? 'Allow new games' : 'Stop new games');
     byId('entries-state').classList.toggle('stopped', this.arePaused === true);
-    setText(byId('entries-state'), this.arePaused === null ? ''
-      : this.arePaused ? 'New games are stopped: arbiters alone open games.' : 'New games are allowed.');
+    setText(byId('entries-state'), this.arePaused === null ? '' : this.arePaused ? STOPPED : 'New games are allowed.');
   }
 
   note(text, kind = 'news') {

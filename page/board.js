@@ -1,20 +1,16 @@
 // The board: 64 squares that are clicked, dragged over or walked by keys, and the men above them. It knows the legal
 // moves that it was told and no rule beside them.
 
+import { Arrows } from './arrows.js';
 import { placementOf, sideOf } from './lines.js';
 import { make } from './make.js';
+import { pictureOf } from './pieces.js';
 import { kindWord, manWords } from './words.js';
 
 const FILES = 'abcdefgh';
-const KINDS = { p: 'pawn', n: 'knight', b: 'bishop', r: 'rook', q: 'queen', k: 'king' };
 const PROMOTIONS = 'qnrb';
 const WITH_A_PRESS = 500;            // milliseconds: a click so soon behind a press that has ended is of it
 const STEPS = { ArrowLeft: [0, -1], ArrowRight: [0, 1], ArrowUp: [-1, 0], ArrowDown: [1, 0] };
-
-export function pictureOf(letter) {
-  const name = `${letter === letter.toUpperCase() ? 'white' : 'black'}-${KINDS[letter.toLowerCase()]}.svg`;
-  return new URL(name, import.meta.url).pathname;
-}
 
 /** What stands still: a board that is only looked at. */
 export class Picture {
@@ -86,7 +82,8 @@ export class Picture {
   }
 
   picture(letter) {
-    const image = make('img', { class: 'man', src: pictureOf(letter), alt: '', draggable: false });
+    const image = make('img', { class: 'man', src: pictureOf(letter), 'data-letter': letter, alt: '',
+      draggable: false });
     this.layer.append(image);
     return image;
   }
@@ -117,13 +114,24 @@ function nearest(men, letter, name) {
   return found;
 }
 
-/** The board that is played on. `chosen(move)` is called with a move of those that were told; `says` speaks. */
+/** The square that a king reaches which is put down on its own rook, as many castle; else '' */
+function castled(men, from, name) {
+  const king = men.get(from), rook = men.get(name), isOwn = { K: 'R', k: 'r' }[king ? king.letter : ''];
+  if (!isOwn || !rook || rook.letter !== isOwn || from[1] !== name[1]) return '';
+  return (name > from ? 'g' : 'c') + from[1];
+}
+
+/** The board that is played on. `chosen(move)` is called with a move of those that were told; `planned(plan)` with one
+ * that is to be made next time, {from, to}, or null where it is taken back; `says` speaks. */
 export class Board extends Picture {
-  constructor(chosen, says) {
+  constructor({ chosen, planned, says }) {
     super('');
     this.chosen = chosen;
+    this.planned = planned;
     this.says = says;
     this.moves = new Map();            // square left -> moves
+    this.ahead = '';                   // the side whose men may be moved ahead of their turn
+    this.plan = null;
     this.held = '';
     this.drag = null;
     this.at = 60;                      // the square that the keys are on
@@ -143,6 +151,7 @@ export class Board extends Picture {
       .concat([56, 57, 58, 59, 60, 61, 62, 63].map((index) => this.edge(index, 'file-letter')));
     this.promotion = make('div', { class: 'promotion', role: 'group', 'aria-label': 'The pawn becomes', hidden: true });
     this.root.append(this.promotion);
+    this.arrows = new Arrows(this);
     this.listen();
     this.label();
   }
@@ -167,8 +176,10 @@ export class Board extends Picture {
     addEventListener('keydown', () => { this.usesPointer = false; }, true);
   }
 
-  /** As of a picture, and `moves`: the legal moves, none where nobody moves here. */
+  /** As of a picture, and `moves`: the legal moves, none where nobody moves here; `ahead`, the side whose men may be
+   * moved ahead of its turn, and `plan`, such a move. */
   show(view) {
+    if (this.fen !== view.fen) this.arrows.clear();
     if (this.turned !== Boolean(view.turned)) {
       this.endDrag();
       this.letGo();
@@ -180,9 +191,14 @@ export class Board extends Picture {
       this.moves.set(from, [...this.moves.get(from) || [], move]);
     }
     this.fen = view.fen;
+    this.ahead = view.ahead || '';
+    this.plan = view.plan || null;
     this.root.classList.toggle('live', this.moves.size > 0);
-    if (this.held && !this.moves.has(this.held)) this.letGo();
+    this.root.classList.toggle('ahead', this.ahead !== '');
+    this.stands(null);
+    if (this.held && !this.isMovable(this.held)) this.letGo();
     if (!this.held) this.closePromotion();
+    this.arrows.draw();
     this.label();
   }
 
@@ -195,6 +211,29 @@ export class Board extends Picture {
 
   targets(from) {
     return (this.moves.get(from) || []).map((move) => move.slice(2, 4));
+  }
+
+  /** Whether a man may be moved ahead of its turn. */
+  isAhead(name) {
+    const man = this.men.get(name);
+    return Boolean(man && this.ahead) && (man.letter === man.letter.toUpperCase()) === (this.ahead === 'w');
+  }
+
+  isMovable(name) {
+    return this.moves.has(name) || this.isAhead(name);
+  }
+
+  /** Where a man goes that is put down on a square; '' where it goes back. */
+  goal(from, name) {
+    if (this.isAhead(from)) return name === from ? '' : name;
+    const targets = this.targets(from);
+    return [name, castled(this.men, from, name)].find((one) => targets.includes(one)) || '';
+  }
+
+  /** The move of those that were told which a plan means, if there is one: a pawn becomes a queen. */
+  moveOf({ from, to }) {
+    const goal = this.goal(from, to), moves = (this.moves.get(from) || []).filter((move) => move.slice(2, 4) === goal);
+    return moves.find((move) => move[4] === 'q') || moves[0] || '';
   }
 
   hold(name) {
@@ -210,12 +249,24 @@ export class Board extends Picture {
 
   /** Puts the held man down on a square that it may reach. */
   putDown(name) {
+    if (this.isAhead(this.held)) {
+      const plan = { from: this.held, to: name };
+      this.letGo();
+      this.planned(plan);
+      return;
+    }
     const moves = this.moves.get(this.held).filter((move) => move.slice(2, 4) === name);
     if (moves.length > 1) this.askPromotion(name, moves);
     else this.choose(moves[0]);
   }
 
   choose(move) {
+    this.place(move);
+    this.chosen(move);
+  }
+
+  /** A man stands where a move puts it, until the board is shown anew. */
+  place(move) {
     const from = move.slice(0, 2), to = move.slice(2, 4);
     this.moves = new Map();
     this.letGo();
@@ -225,8 +276,18 @@ export class Board extends Picture {
     this.men.set(to, man);
     this.layer.classList.add('sliding');
     this.put(man, to);
+    this.stands(to);
     this.label();
-    this.chosen(move);
+  }
+
+  /** The square of a man that was put there and is not told yet. */
+  stands(name) {
+    const man = name && this.men.get(name);
+    this.layer.querySelectorAll('.untold').forEach((image) => image.classList.remove('untold'));
+    this.squares.forEach((square) => square.classList.remove('untold'));
+    if (!man) return;
+    man.image.classList.add('untold');
+    this.squareOf(name).classList.add('untold');
   }
 
   // ---- the pointer
@@ -240,7 +301,12 @@ export class Board extends Picture {
 
   press(event) {
     this.releasedAt = -Infinity;
-    if (event.button !== 0 || event.target.closest('.promotion')) return;
+    if (event.target.closest('.promotion')) return;
+    if (event.button === 2) this.arrows.begin(this.nameUnder(event), event);
+    if (event.button !== 0) return;
+    this.arrows.clear();
+    const hadPlan = this.plan;
+    if (hadPlan) this.planned(null);
     const wasPromoting = !this.promotion.hidden;
     this.closePromotion();
     const name = this.nameUnder(event);
@@ -248,9 +314,10 @@ export class Board extends Picture {
     event.preventDefault();
     this.isPressed = true;
     this.walkTo(this.squares.indexOf(this.squareOf(name)), true);
-    if (this.held && !wasPromoting && this.targets(this.held).includes(name)) {
-      this.putDown(name);
-    } else if (this.moves.has(name)) {
+    const goal = this.held && !wasPromoting && this.goal(this.held, name);
+    if (goal) {
+      this.putDown(goal);
+    } else if (this.isMovable(name) && !(hadPlan && name === hadPlan.to)) {
       this.drag = { man: this.men.get(name), name, again: this.held === name, x: event.clientX, y: event.clientY };
       this.hold(name);
       this.root.setPointerCapture(event.pointerId);
@@ -288,7 +355,7 @@ export class Board extends Picture {
 
   over(name) {
     this.squares.forEach((square) => square.classList.remove('over'));
-    if (name && this.targets(this.held).includes(name)) this.squareOf(name).classList.add('over');
+    if (name && this.goal(this.held, name)) this.squareOf(name).classList.add('over');
   }
 
   drop(event) {
@@ -300,10 +367,11 @@ export class Board extends Picture {
     this.drag = null;
     this.over('');
     drag.man.image.classList.remove('carried');
-    if (drag.carried && this.targets(drag.name).includes(name)) {
+    const goal = drag.carried && name && this.goal(drag.name, name);
+    if (goal) {
       this.layer.classList.remove('sliding');
-      this.put(drag.man, name);
-      this.putDown(name);
+      this.put(drag.man, this.isAhead(drag.name) ? drag.name : goal);
+      this.putDown(goal);
       return;
     }
     this.put(drag.man, drag.name);
@@ -338,6 +406,8 @@ export class Board extends Picture {
       this.walkTo(left + (start ? 0 : 7));
     } else if (event.key === 'Enter' || event.key === ' ') {
       this.enter(this.nameAt(row, column));
+    } else if (event.key === 'Escape' && this.plan && !this.held) {
+      this.planned(null);
     } else if (event.key === 'Escape' && this.held) {
       this.says(`${kindWord(this.men.get(this.held).letter)} put back`);
       this.letGo();
@@ -349,11 +419,15 @@ export class Board extends Picture {
   }
 
   enter(name) {
-    if (this.held && this.targets(this.held).includes(name)) {
-      this.putDown(name);
+    const goal = this.held && this.goal(this.held, name);
+    if (goal) {
+      this.putDown(goal);
     } else if (this.held === name) {
       this.says('put back');
       this.letGo();
+    } else if (this.isAhead(name)) {
+      this.hold(name);
+      this.says(`${kindWord(this.men.get(name).letter)} on ${name} held, for your next move`);
     } else if (this.moves.has(name)) {
       this.hold(name);
       const targets = [...new Set(this.targets(name))];
@@ -435,7 +509,9 @@ export class Board extends Picture {
       const row = index >> 3, column = index & 7, name = this.nameAt(row, column), man = this.men.get(name);
       const target = targets.has(name), words = [name];
       if (man) words.push(manWords(man.letter));
+      const isPlanned = Boolean(this.plan) && (name === this.plan.from || name === this.plan.to);
       if (name === this.held) words.push('held');
+      if (isPlanned) words.push('your next move');
       if (target) words.push(man ? 'can be taken' : 'can be reached');
       if (square.classList.contains('check')) words.push('in check');
       if (square.classList.contains('last')) words.push('last move');
@@ -447,6 +523,8 @@ export class Board extends Picture {
       square.classList.toggle('target', target && !man);
       square.classList.toggle('taking', target && Boolean(man));
       square.classList.toggle('movable', this.moves.has(name));
+      square.classList.toggle('ahead', this.isAhead(name));
+      square.classList.toggle('planned', isPlanned);
       square.tabIndex = index === this.at ? 0 : -1;
     });
     for (const { index, text, place } of this.edges) text.textContent = this.nameAt(index >> 3, index & 7)[place];

@@ -12,6 +12,7 @@ export class Clock {
     this.fallen = fallen;
     this.lowered = lowered;
     this.label = '';
+    this.left = this.at = 0;
     this.set({ left: 0, at: 0, running: false });
   }
 

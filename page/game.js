@@ -3,8 +3,9 @@
 import { Board } from './board.js';
 import { Clock } from './clock.js';
 import { placementOf, readLine, readPgn, readRefusal, readStanding, readTimes, sideOf, squaresOf } from './lines.js';
-import { byId, copy, make, save, say, setText } from './make.js';
+import { byId, copy, focused, make, save, say, setText } from './make.js';
 import { drawActions, drawFacts, drawMoves, drawOutcome, drawPlayers } from './sheet.js';
+import { asksFirst } from './settings.js';
 import { sound } from './sound.js';
 import {
   FLAG_UP, NOT_YOUR_MOVE, NO_GAME, OTHER, OVER, SIDES, WRONG_PLY, clockWords, colourWord, enteredWords, kindWord, manWords,
@@ -35,6 +36,7 @@ const SHOWS = {
 const ASKS_AGAIN = 5000;             // for a game that was not told
 const TAKEN_OFF = 'This game was taken off the table.';
 const PENALTY = 120000;              // milliseconds that a wrong claim gives to the opponent
+const LOOKS_SLOW = 1000, SAID_SLOW = 4000;        // after so long without an answer
 
 export class GameView {
   /** app: {wire, me(), nameWords(name), go(route)}. */
@@ -44,13 +46,17 @@ export class GameView {
     this.number = 0;
     this.pending = null;               // the ply of a move that was made on the board and is not answered
     this.lostJoin = 0;                 // the game of a join at the table whose answer was lost
-    this.board = new Board((move) => this.moveOnBoard(move), say);
+    this.plan = null;                  // a move for the next turn, {from, to}
+    this.proposed = '';                // a move that stands on the board, and is sent once it is agreed to
+    this.isSlow = false;               // whether what was sent is not answered soon
+    this.board = new Board({ chosen: (move) => this.moveOnBoard(move), planned: (plan) => this.planned(plan),
+      says: say });
     byId('board').append(this.board.root);
     this.players = { far: byId('far'), near: byId('near') };
     this.clocks = {};
     for (const place of ['far', 'near']) {
       this.clocks[place] = new Clock(this.players[place].querySelector('.clock'), () => this.flagFell(place),
-        () => this.seat() === this.sideAt(place) && say('20 seconds left.'));
+        () => this.seat() === this.sideAt(place) && this.isLow());
     }
     this.listen();
   }
@@ -67,9 +73,12 @@ export class GameView {
     on('decline', () => this.act('decline'));
     on('resign', () => this.askResign());
     on('claim', () => this.askClaim());
+    on('play-it', () => this.playProposed());
+    on('take-it-back', () => this.takeBack());
+    byId('proposed').addEventListener('keydown', (event) => event.key === 'Escape' && this.takeBack());
     on('join', () => this.act('join'));
     on('drop', () => this.askDrop());
-    on('again', () => this.again());
+    on('again', () => this.rematch());
     on('copy-invitation', () => this.invitationCopied());
     on('copy-fen', () => this.share('FEN', async () => this.fenShown()));
     on('copy-pgn', () => this.share('PGN', () => this.pgnText()));
@@ -100,6 +109,7 @@ export class GameView {
       this.close();
       Object.assign(this, { number, standing: null, line: [], tags: {}, gone: false });
       Object.assign(this, { back: null, turned: null, unsure: null, pending: null, wasTaken: false, wasAway: false });
+      Object.assign(this, { plan: null, proposed: '' });
       this.note('');
       this.suggest(null);
       byId('move-text').value = '';
@@ -143,7 +153,7 @@ export class GameView {
       return;
     }
     const standing = ours(watched) && readStanding(watched.slice(1));
-    if (standing) this.stand(standing);
+    if (standing && this.stand(standing)) this.over();
     const line = ours(await asked[1]);
     if (line) this.line = readLine(line.slice(1));
     const pgn = ours(await asked[2]);
@@ -162,9 +172,9 @@ export class GameView {
 
   /** Once more in a while: of a game that was not told, nobody says when it can be. */
   refreshLater() {
-    clearTimeout(this.again);
+    clearTimeout(this.asksLater);
     const number = this.number;
-    this.again = setTimeout(() => this.number === number && this.refresh(), ASKS_AGAIN);
+    this.asksLater = setTimeout(() => this.number === number && this.refresh(), ASKS_AGAIN);
   }
 
   async askLine() {
@@ -174,19 +184,24 @@ export class GameView {
     this.render();
   }
 
+  /** Takes how the game stands now; whether it has ended by that. */
   stand(standing) {
-    const before = this.standing;
-    if (!standing || standing.ply !== this.pending) this.pending = null;
+    const before = this.standing, ended = Boolean(standing && before && before.article !== standing.article);
+    if (!standing || standing.article || standing.ply !== this.pending) {
+      Object.assign(this, { pending: null, proposed: '' });
+    }
+    if (!standing || standing.article) this.plan = null;
     this.standing = standing && { ...standing, at: performance.now() };
     this.gone = !standing;
-    if (standing && before && before.article !== standing.article) this.over();
+    if (ended) this.note('');
     if (!standing || standing.article || standing.ply !== this.claimAt) byId('claim-dialog').close();
     if (!standing || standing.article) byId('resign-dialog').close();
+    return ended;
   }
 
   /** A notice of this game: an act was accepted. */
   notice({ by, sent, arbiter }, answer, standing) {
-    this.stand(standing);
+    const ended = this.stand(standing);
     if (!standing) {
       this.wasTaken = true;
       say(TAKEN_OFF);
@@ -195,6 +210,7 @@ export class GameView {
     }
     this.follow(sent, answer);
     this.tell(by, sent, answer, arbiter);
+    if (ended) this.over();            // (a mate is said behind its move)
     this.render();
   }
 
@@ -219,8 +235,9 @@ export class GameView {
     const side = this.standing.white === by ? 'w' : 'b';
     if (moved) {
       say(`${colourWord(side)}: ${sanWords(moved[1])}`);
-      sound(moved[1].includes('x') ? 'take' : 'move');
+      sound(/[+#]$/.test(moved[1]) ? 'check' : moved[1].includes('x') ? 'take' : 'move');
     }
+    if (this.standing.offer && !own && (word === 'offer' || word === 'claim') && this.seat()) sound('offer');
     if (answer.startsWith('fallen')) say('The flag has fallen.');
     else if (arbiter) this.news(`The arbiter, ${this.app.nameWords(arbiter)}, has entered ${enteredWords(word)} for ${
       own ? 'you' : name}.`);
@@ -239,7 +256,12 @@ export class GameView {
     const words = resultWords(this.standing.result, this.standing.article);
     if (words.result) say(`${words.result} ${words.reason}.`);
     sound('end');
-    this.note('');
+  }
+
+  /** One's own clock has come to be low. */
+  isLow() {
+    say('20 seconds left.');
+    sound('low');
   }
 
   note(text, kind = 'refused') {
@@ -272,12 +294,56 @@ export class GameView {
     return this.started() && !this.standing.article;
   }
 
+  /** Whether an offer of the opponent's stands. */
+  isOffered() {
+    const seat = this.seat();
+    return this.running() && seat !== '' && this.standing.offer.includes(OTHER[seat]);
+  }
+
   myTurn() {
     return this.running() && this.seat() === this.standing.side;
   }
 
   moveOnBoard(move) {
     this.pending = this.busy ? null : this.standing.ply;
+    if (!asksFirst() || this.busy) {
+      this.move(move);
+      return;
+    }
+    this.proposed = move;
+    this.render();
+    byId('play-it').focus();
+  }
+
+  playProposed() {
+    const move = this.proposed;
+    this.proposed = '';
+    if (move) this.move(move);
+  }
+
+  takeBack() {
+    Object.assign(this, { proposed: '', pending: null });
+    this.render();
+  }
+
+  /** A move for the next turn, or none any more. */
+  planned(plan) {
+    this.plan = plan;
+    say(plan ? `Your next move: ${plan.from} to ${plan.to}.` : 'Your next move is taken back.');
+    this.render();
+  }
+
+  /** It is one's turn: the move that was planned is sent where it is among those that were told. */
+  playPlan() {
+    const move = this.board.moveOf(this.plan), { from, to } = this.plan;
+    this.plan = null;
+    if (!move) {
+      this.news(`Your move from ${from} to ${to} cannot be made now.`);
+      this.renderBoard();
+      return;
+    }
+    this.board.place(move);
+    this.pending = this.standing.ply;
     this.move(move);
   }
 
@@ -314,9 +380,12 @@ export class GameView {
     this.note('');
     this.busy = true;
     this.render();
+    const slow = [LOOKS_SLOW, SAID_SLOW].map((after) => setTimeout(() => this.slows(act, after), after));
     const answer = await this.app.wire.say(line);
-    this.busy = false;
+    slow.forEach(clearTimeout);
+    this.busy = this.isSlow = false;
     if (this.number !== number) return;
+    if (this.noteKind === 'slow') this.note('');
     const refusal = readRefusal(answer[0]);
     this.answered(answer[0].startsWith('ok '));
     if (refusal) {
@@ -328,6 +397,16 @@ export class GameView {
       this.refresh();
     } else if (answer[0] === 'unsent') {
       this.note('There is no connection. Nothing was sent.');
+    }
+    this.render();
+  }
+
+  /** What was sent is not answered soon. */
+  slows(act, after) {
+    this.isSlow = true;
+    if (after === SAID_SLOW) {
+      this.note(`Your ${WHAT[act.word]} has not been answered for ${after / 1000} seconds: it may not have arrived. The `
+        + 'clock runs on.', 'slow');
     }
     this.render();
   }
@@ -430,7 +509,7 @@ export class GameView {
   }
 
   /** A new game of the same times, with the colours changed. */
-  async again() {
+  async rematch() {
     const times = readTimes(this.tags.TimeControl || '');
     if (!times) return;
     const period = times.moves ? `${times.moves}/${times.initial}:${times.second}` : times.initial;
@@ -466,6 +545,10 @@ export class GameView {
   }
 
   goTo(ply) {
+    if (this.proposed) {
+      focused().blur();                // (the keys go on through the moves)
+      this.takeBack();
+    }
     const place = Math.max(0, Math.min(ply, this.last()));
     this.back = place === this.last() ? null : place;
     this.render();
@@ -542,6 +625,8 @@ export class GameView {
     if (document.activeElement === byId('main')) this.app.toHeading();
     if (focused && !focused.getClientRects().length) this.keepFocus();
     this.app.titled(this.title());
+    this.app.turns.offer(!this.started() && this.seat() !== '');
+    this.app.turned(this.myTurn() ? `${this.number} ${standing.ply}` : '', this.turnWords());
   }
 
   /** What had the keys is not there any more. */
@@ -553,18 +638,27 @@ export class GameView {
   title() {
     const { white, black } = this.standing;
     const names = `${white || '…'} – ${black || '…'}`;
+    if (this.isOffered()) return `Draw offered: ${names}`;
     if (this.myTurn()) return `Your turn: ${names}`;
     return this.running() ? names : `${names}, ${this.standing.article ? this.standing.result : 'waiting'}`;
   }
 
+  turnWords() {
+    const { white, black } = this.standing, other = this.seat() === 'w' ? black : white;
+    return `Game ${this.number} against ${this.app.nameWords(other)}: your turn.`;
+  }
+
   renderBoard() {
     const shown = this.shown(), move = this.line[shown] || {}, now = this.back === null;
+    this.board.root.classList.toggle('sending', this.isSlow);
     if (now && this.pending === this.standing.ply) return;       // the man stands where it was put, until the answer
-    const live = now && this.myTurn() && !this.busy && this.app.reachable();
+    const free = now && this.running() && !this.busy && this.app.reachable(), live = free && this.myTurn();
     this.board.show({
       fen: this.fenShown(), last: move, check: now ? this.standing.check : /[+#]$/.test(move.san || ''),
-      moves: live ? this.standing.moves : [], turned: this.isTurned(),
+      moves: live ? this.standing.moves : [], ahead: free && !live ? this.seat() : '', plan: now && this.plan,
+      turned: this.isTurned(),
     });
+    if (live && this.plan) this.playPlan();
   }
 
   startSide() {

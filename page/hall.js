@@ -180,7 +180,7 @@ export class HallView {
   }
 
   /** There is no such game. */
-  refused() {}
+  refused(_number) {}
 
   notice(number, sent, answer, standing) {
     if (this.root.hidden) return;

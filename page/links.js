@@ -52,7 +52,7 @@ export class Links {
       this.refused(answer[0], 'Make a link once more: it takes the place of one that was made.');
       return;
     }
-    if (name === this.app.me()) this.app.takeNewToken(found[2]);
+    if (name === this.app.me()) this.app.who.takeNewToken(found[2]);
     this.closed.delete(name);
     this.render();
     setText(byId('link-words'), `The personal link of ${full}, shown this once. Who opens it plays as ${full}.`);

@@ -13,8 +13,14 @@ export function make(tag, properties = {}, ...children) {
   return element;
 }
 
+/** @returns {any} the element with this id, whatever kind it is of */
 export function byId(id) {
   return document.getElementById(id);
+}
+
+/** @returns {any} the element that has the keys */
+export function focused() {
+  return document.activeElement;
 }
 
 /** Sets a text only where it is another, so that nothing is read aloud twice. */

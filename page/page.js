@@ -1,46 +1,38 @@
-// The page: who is here, which view is open, and the connection that all of it shares.
+// The page: which view is open, and the connection that all of it shares.
 
 import { ArbiterView } from './arbiter.js';
 import { GameView } from './game.js';
 import { HallView, wholeScreen } from './hall.js';
 import { isNoGame, readAct, readPlayers, readRefusal, readRows, readStanding } from './lines.js';
-import { byId, make, read, say, setText, write } from './make.js';
-import { setSound, wantsSound } from './sound.js';
+import { byId, make, say, setText } from './make.js';
+import { hasLetters, listenToSettings } from './settings.js';
 import { TableView } from './table.js';
+import { Turns } from './turns.js';
+import { Who } from './who.js';
 import { Wire } from './wire.js';
-import { BAD_TOKEN, refusalWords } from './words.js';
+import { refusalWords } from './words.js';
 
-const TOKEN = /^[0-9a-f]{32}$/;
 const MOST_WATCHED = 14, LEAVE_AFTER = 3000;      // the lobby lets a connection watch 16 games
 const ASKS_ANEW = 15000;           // for games that were opened on the server past the lobby: nobody tells of them
 const ASKS_AGAIN = 3000;           // for the table, where it was not told
-const TRIES_LINK = 20000;          // whether the link is known again
-const TAKEN_AWAY = 'Your personal link does not hold at the moment: an arbiter has made another one or closed it, or the '
-  + 'list of players is being changed. You are watching. This page keeps the link, and tries it again. To play on with a '
-  + 'new one, open it, or ask your arbiter for it.';
-const session = () => sessionStorage, local = () => localStorage;
 
 class Page {
   constructor() {
-    this.player = null;
     this.players = new Map();
     this.watched = new Set();          // games that the lobby was asked, or is to be asked, to tell of
     this.held = new Set();             // of these, those of which it has said that it does
-    this.token = read(session, 'token') || read(local, 'token') || '';
-    write(session, 'token', this.token || null);
     this.begun = new Set();            // one's own games that had begun, or of which it was said
-    this.fromLink = false;
-    this.before = '';                  // the token in whose place the one of a link was taken
-    this.signed = { token: '', name: '' };      // who has signed in here last, by which token
-    this.takeLink(window.personalLink);
-    delete window.personalLink;
+    this.who = new Who(this);
+    this.turns = new Turns();
+    if (window['personalLink']) this.who.open(window['personalLink']);
+    delete window['personalLink'];
     const address = new URL('ws', location.href.split('#')[0]);
     address.protocol = address.protocol === 'https:' ? 'wss:' : 'ws:';
     address.search = '';
     this.view = null;
     this.wire = new Wire(address.href, {
       opened: (server) => this.opened(server), notice: (lines) => this.notice(lines), changed: () => this.changed(),
-      unnamed: () => this.unnamed(),
+      unnamed: () => this.who.unnamed(),
     });
     this.table = new TableView(this);
     this.game = new GameView(this);
@@ -50,64 +42,44 @@ class Page {
     this.route();
     this.changed();
     setInterval(() => this.askAnew(), ASKS_ANEW);
-    setInterval(() => this.tryLink(), TRIES_LINK);
   }
 
   listen() {
     addEventListener('hashchange', () => this.route());
     byId('try-now').addEventListener('click', () => this.wire.retry());
-    byId('theme').addEventListener('click', () => this.nextTheme());
     byId('help').addEventListener('click', () => byId('help-dialog').showModal());
     byId('to-content').addEventListener('click', () => this.toContent());
-    byId('keep').addEventListener('change', (event) => this.keep(event.target.checked));
-    byId('keep-it').addEventListener('click', () => this.keep(true));
-    byId('keep-not').addEventListener('click', () => this.keep(false));
-    byId('sign-out').addEventListener('click', () => this.signOut());
-    byId('forget-link').addEventListener('click', () => this.signOut());
-    this.tabs = window.BroadcastChannel ? new BroadcastChannel('signed-out') : { postMessage: () => {} };
-    this.tabs.onmessage = (event) => event.data === this.token && this.signOut();
     byId('projector').addEventListener('click', () => this.go(`/hall/${this.game.number}`));
     byId('big-screen').addEventListener('click', () => wholeScreen());
-    byId('link-form').addEventListener('submit', (event) => {
-      event.preventDefault();
-      const field = byId('link-text'), text = field.value.trim().split('#').pop();
-      field.value = '';
-      byId('who').open = false;
-      if (!this.takeLink(text)) this.tell('That is no personal link.');
-      else this.wire.renew();
-    });
     addEventListener('keydown', (event) => this.key(event));
     document.addEventListener('visibilitychange', () => {
       if (!document.hidden && this.view === this.game) this.game.refresh();
     });
-    byId('letters').addEventListener('change', (event) => write(local, 'letters', event.target.checked ? null : 'off'));
-    byId('letters').checked = read(local, 'letters') !== 'off';
-    byId('sounds').addEventListener('change', (event) => setSound(event.target.checked));
-    byId('sounds').checked = wantsSound();
     // (else who scrolls over a number changes it)
     const leave = (event) => event.target.matches('[type=number]:focus') && event.target.blur();
     addEventListener('wheel', leave, { passive: true });
-    this.renderTheme();
-    document.addEventListener('pointerdown', (event) => this.closeWho(event.target));
-    byId('who').addEventListener('keydown', (event) => event.key === 'Escape' && this.closeWho(null));
+    listenToSettings();
+    for (const menu of [byId('who'), byId('settings')]) {
+      document.addEventListener('pointerdown', (event) => this.closeMenu(menu, event.target));
+      menu.addEventListener('keydown', (event) => event.key === 'Escape' && this.closeMenu(menu, null));
+    }
   }
 
-  /** The menu closes where anything else is touched. */
-  closeWho(touched) {
-    const who = byId('who');
-    if (!who.open || touched && who.contains(touched)) return;
-    who.open = false;
-    if (!touched) who.querySelector('summary').focus();
+  /** A menu closes where anything else is touched. */
+  closeMenu(menu, touched) {
+    if (!menu.open || touched && menu.contains(touched)) return;
+    menu.open = false;
+    if (!touched) menu.querySelector('summary').focus();
   }
 
   // ---- what the views ask for
 
   me() {
-    return this.player ? this.player.name : '';
+    return this.who.me();
   }
 
   isArbiter() {
-    return Boolean(this.player && this.player.role === 'arbiter');
+    return Boolean(this.who.player && this.who.player.role === 'arbiter');
   }
 
   /** Whether what is sent now comes to the game server. */
@@ -126,6 +98,16 @@ class Page {
 
   titled(text) {
     document.title = `${text} · Chess club`;
+  }
+
+  /** It is one's turn, by a key that each turn has for its own; or it is not, by an empty one. */
+  turned(key, words) {
+    this.turns.set(key, words);
+  }
+
+  /** Somebody else is here, or nobody. */
+  shows() {
+    if (this.view && this.view.render) this.view.render();
   }
 
   /** Watches a game; the answer. What the view needs no more is left a little later, so that who goes to and fro asks
@@ -175,7 +157,7 @@ class Page {
     const fragment = location.hash.slice(1);
     if (fragment && !fragment.startsWith('/')) {
       history.replaceState(null, '', location.pathname + location.search + '#/');
-      if (this.takeLink(fragment)) this.wire.renew();
+      if (this.who.open(fragment)) this.wire.renew();
     }
     const found = /^\/(game|hall)\/(\d{1,10})$/.exec(fragment);
     const number = found ? Number(found[2]) : 0;
@@ -188,13 +170,14 @@ class Page {
     }
     const isOther = this.view && (this.view !== view || number && number !== this.game.number);
     this.view = view;
+    this.turns.offer(false);
     view.open(number);
     if (isOther) this.toHeading();
     this.leaveLater();
     this.atTable();
     byId('invited').hidden = true;
     for (const link of document.querySelectorAll('.top nav a')) {
-      if (link.hash === (number ? '' : view.hash || '#/')) link.setAttribute('aria-current', 'page');
+      if (link.getAttribute('href') === (number ? '' : view.hash || '#/')) link.setAttribute('aria-current', 'page');
       else link.removeAttribute('aria-current');
     }
     scrollTo(0, 0);
@@ -203,7 +186,7 @@ class Page {
 
   /** Who plays, and who looks at the table or the hall, is told of the table; a watcher of one game is not. */
   async atTable() {
-    const wanted = Boolean(this.player) || this.view !== this.game;
+    const wanted = Boolean(this.me()) || this.view !== this.game;
     if (!this.wire.state.open || wanted === this.isAtTable) return;
     this.isAtTable = wanted;
     if (!wanted) this.wire.say('leave lobby', true);
@@ -235,7 +218,7 @@ class Page {
 
   /** Who is in sight, and plays no game here, asks for the table anew. */
   async askAnew() {
-    if (!document.hidden && this.player && !this.isPlaying()) await this.askTable();
+    if (!document.hidden && this.me() && !this.isPlaying()) await this.askTable();
   }
 
   /** The table anew, unless its answer is still to come. */
@@ -260,9 +243,9 @@ class Page {
     const own = [...this.table.rows.values()].filter(({ white, black, result }) => white && black && result === '*'
       && (white === me || black === me)).reverse();
     const begun = this.begunFor === me && own.find(({ number }) => !this.begun.has(number));
-    const row = begun || this.arrives && this.view === this.table && own[0];
+    const row = begun || this.who.arrives && this.view === this.table && own[0];
     this.begunFor = me;
-    this.arrives = false;
+    this.who.arrives = false;
     own.forEach(({ number }) => this.begun.add(number));
     if (row) this.begin(row.number, `Your game ${row.number} against ${
       this.nameWords(row.white === me ? row.black : row.white)} ${begun ? 'has begun' : 'goes on'}`);
@@ -279,6 +262,7 @@ class Page {
       this.go(`/game/${number}`);
     }
     say(`${words}.`);
+    this.turns.tell(`${words}.`);
   }
 
   findOpened() {
@@ -294,12 +278,11 @@ class Page {
   /** The lobby has answered: who we are, who is who, and what is shown, all once more. */
   async opened(server) {
     this.isAtTable = undefined;
-    if (this.token) await this.login();
+    await this.who.login();
     if (server !== 'here') return;
     await this.askPlayers();
     await this.atTable();
     if (this.view === this.game) this.game.refresh();
-    this.renderWho();
   }
 
   /** Who is who: the file of the players may be another meanwhile. */
@@ -307,77 +290,6 @@ class Page {
     const answer = await this.wire.say('players');
     if (answer[0].startsWith('ok players')) this.players = readPlayers(answer.slice(1));
     this.desk.playersTold();
-  }
-
-  async login() {
-    const token = this.token, answer = await this.wire.say(`login ${token}`);
-    const found = /^ok login (\S+) (\S+) ?(.*)$/.exec(answer[0]), refusal = readRefusal(answer[0]);
-    if (token !== this.token) return;
-    if (found) {
-      this.player = { name: found[1], role: found[2], full: found[3] || found[1] };
-      this.signed = { token, name: this.player.name };
-      this.before = '';
-      this.keepNewer(token);
-      byId('linked').hidden = !this.fromLink || read(local, 'token') === token;
-      this.fromLink = false;
-      this.tell('');
-    } else if (refusal && refusal.number === BAD_TOKEN) {
-      await this.unknown(token, this.signed.token === token ? TAKEN_AWAY : refusalWords(refusal));
-      return;
-    }
-    this.renderWho();
-    if (this.view) this.view.render && this.view.render();
-  }
-
-  /** The lobby takes this connection for nobody's, though it had signed in. */
-  async unnamed() {
-    if (!this.player || this.asksAgain) return;
-    this.asksAgain = true;
-    await this.login();
-    this.asksAgain = false;
-    if (!this.player && this.view.render) this.view.render();
-  }
-
-  /** One's own link is another one now: kept where the one before it was. */
-  takeNewToken(token) {
-    const kept = read(local, 'token') === this.token;
-    this.token = token;
-    write(session, 'token', token);
-    if (kept) write(local, 'token', token);
-    this.login();
-  }
-
-  /** A player has one link at a time: where another of the same player's was kept, it holds no more, and this one is. */
-  keepNewer(token) {
-    const kept = read(local, 'token');
-    if (kept === token) write(local, 'token-of', this.player.name);
-    else if (kept && read(local, 'token-of') === this.player.name) write(local, 'token', token);
-  }
-
-  /** The lobby does not know the token. It says so too while its file of players is not whole: so the token stays, and is
-   * tried again. But in the place of one that was just opened stands the one before it, and in that of an older one the
-   * player's own that is kept. */
-  async unknown(token, words) {
-    const kept = read(local, 'token-of') === this.signed.name ? read(local, 'token') : '';
-    const opened = this.fromLink, other = opened ? this.before : kept;
-    this.player = null;
-    this.before = '';
-    if (other && other !== token) {
-      this.fromLink = false;
-      this.token = other;
-      write(session, 'token', other);
-      await this.login();
-      if (this.player && !opened) return;
-    }
-    this.tell(words);
-    this.renderWho();
-  }
-
-  /** Whether the link is known again. */
-  async tryLink() {
-    if (!this.token || this.player || !this.wire.state.open) return;
-    await this.login();
-    if (this.player) await this.askPlayers();
   }
 
   notice(lines) {
@@ -431,8 +343,8 @@ class Page {
     }
     byId('no-server').hidden = !(open && server === 'gone');
     document.body.classList.toggle('offline', !open || server === 'gone');
-    if (this.view && this.view.render) this.view.render();
-    this.renderWho();
+    this.shows();
+    this.who.render();
   }
 
   /** What stands in the lobby's place may tell why, as that the disk is full. */
@@ -443,67 +355,12 @@ class Page {
     if (why && !this.wire.state.open) setText(byId('lost-words'), `${why} Trying again`);
   }
 
-  // ---- who is here
-
-  /** Takes the token of a personal link, and keeps it in this tab. */
-  takeLink(text) {
-    if (!text || !TOKEN.test(text)) return false;
-    if (text !== this.token) this.before = this.token;
-    this.token = text;
-    this.player = null;
-    this.fromLink = true;
-    this.arrives = true;
-    write(session, 'token', text);
-    return true;
-  }
-
-  /** Whether this browser keeps the token, too; this tab has it as long as it is open. */
-  keep(lasting) {
-    byId('linked').hidden = true;
-    if (lasting || read(local, 'token') === this.token) this.keepHere(lasting);
-    this.renderWho();
-  }
-
-  keepHere(lasting) {
-    write(local, 'token', lasting ? this.token : null);
-    write(local, 'token-of', lasting && this.player ? this.player.name : null);
-  }
-
-  forget() {
-    write(session, 'token', null);
-    if (read(local, 'token') === this.token) this.keepHere(false);
-    this.token = '';
-    this.player = null;
-    byId('linked').hidden = true;
-  }
-
-  /** Here, and in every tab that acts for the same player; what was said of the link goes too. */
-  signOut() {
-    if (this.token) this.tabs.postMessage(this.token);
-    this.forget();
-    this.tell('');
-    byId('who').open = false;
-    this.wire.renew();
-    this.renderWho();
-  }
-
-  renderWho() {
-    const player = this.player;
-    setText(byId('who-name'), player ? player.full : 'Watching');
-    byId('to-arbiter').hidden = !this.isArbiter();
-    byId('signed-in').hidden = !player;
-    byId('signed-out').hidden = Boolean(player);
-    byId('forget-link').hidden = !this.token;
-    byId('keep').checked = Boolean(this.token) && read(local, 'token') === this.token;
-    if (player) setText(byId('who-words'), `${player.full} (${player.name}), ${player.role}`);
-  }
-
   tell(text) {
     byId('told').hidden = !text;
     setText(byId('told'), text);
   }
 
-  // ---- keys and light
+  // ---- keys
 
   key(event) {
     if (event.altKey || event.ctrlKey || event.metaKey || document.querySelector('dialog[open]')) return;
@@ -517,7 +374,7 @@ class Page {
       '?': () => byId('help-dialog').showModal(),
     };
     const act = acts[event.key];
-    if (!act || event.key.length === 1 && !byId('letters').checked) return;
+    if (!act || event.key.length === 1 && !hasLetters()) return;
     event.preventDefault();
     act();
   }
@@ -533,23 +390,6 @@ class Page {
     if (this.view === this.game) this.game.board.focus();
     else byId('main').focus();
   }
-
-  nextTheme() {
-    const now = document.documentElement.dataset.theme || '', next = { '': 'light', light: 'dark', dark: '' }[now];
-    if (next) document.documentElement.dataset.theme = next;
-    else delete document.documentElement.dataset.theme;
-    write(local, 'theme', next || null);
-    this.renderTheme();
-  }
-
-  renderTheme() {
-    setText(byId('theme-words'), themeWords());
-    byId('theme').title = `Colours: ${themeWords()}`;
-  }
-}
-
-function themeWords() {
-  return { light: 'light', dark: 'dark' }[document.documentElement.dataset.theme] || 'as the system has them';
 }
 
 new Page();

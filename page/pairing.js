@@ -3,7 +3,7 @@
 // game is opened.
 
 import { readPgn, readRefusal, readRows, readShow, timesOfOpen } from './lines.js';
-import { byId, make, read, setText, write } from './make.js';
+import { byId, focused, make, read, setText, write } from './make.js';
 import { TimesField } from './times.js';
 import { NO_FEN, NO_GAME, arbiterWords } from './words.js';
 
@@ -108,7 +108,7 @@ export class Pairing {
       this.busy = false;
       this.render();
     }
-    const at = document.activeElement;
+    const at = focused();
     if (at && at !== document.body && !at.disabled && at.getClientRects().length) return;
     const next = ['pair-again', 'pair-leave', 'pair-open'].map(byId);
     const found = next.find((one) => one.getClientRects().length && !one.disabled);

@@ -1,8 +1,9 @@
 // How a game is drawn around its board: names and clocks, the moves, what can be done, how it stands.
 
-import { readTimes, sideOf } from './lines.js';
+import { placementOf, readTimes, sideOf } from './lines.js';
 import { byId, make, setText } from './make.js';
-import { OTHER, SIDES, colourWord, resultWords, sanWords, timesInFull, timesWords } from './words.js';
+import { drawTaken } from './material.js';
+import { SIDES, colourWord, kindWord, resultWords, sanWords, timesInFull, timesWords } from './words.js';
 
 export function drawPlayers(game) {
   const standing = game.standing, times = readTimes(game.tags.TimeControl || '');
@@ -19,6 +20,7 @@ export function drawPlayers(game) {
     const period = standing.article ? '' : periodWords(times, standing.ply, game.startSide(), side);
     setText(root.querySelector('.period'), period);
     setText(root.querySelector('.score'), scoreOf(standing.result, side));
+    drawTaken(root.querySelector('.taken'), side, game.line[0] ? game.line[0].fen : standing.fen, game.fenShown());
     const clock = game.clocks[place];
     clock.label = `${colourWord(side)}’s clock`;
     clock.set({ left: standing.left[side], at: standing.at, running: turn });
@@ -83,12 +85,15 @@ export function drawActions(game) {
     byId(id).hidden = !shown;
     byId(id).disabled = !(enabled && can);
   };
-  const offered = runs && seat && standing.offer.includes(OTHER[seat]);
+  const offered = game.isOffered();
   show('offer', runs && seat && !offered, !standing.offer);
   setText(byId('offer').querySelector('.words'), standing.offer.includes(seat) && seat ? 'Draw offered' : 'Offer draw');
   byId('offered').hidden = !offered;
   show('accept', offered);
   show('decline', offered);
+  byId('proposed').hidden = !game.proposed;
+  setText(byId('proposed-words'), game.proposed ? `Play ${moveWords(game)}?` : '');
+  show('play-it', game.proposed);
   show('claim', runs && seat, game.myTurn());
   show('resign', runs && seat);
   show('copy-invitation', !game.started() && seat);
@@ -97,6 +102,13 @@ export function drawActions(game) {
   show('again', standing.article && seat && game.tags.TimeControl);
   byId('move-form').hidden = !(runs && seat);
   byId('actions').hidden = ![...byId('actions').children].some((one) => !one.hidden);
+}
+
+/** The move that waits to be agreed to: `knight g1–f3`. */
+function moveWords(game) {
+  const { proposed } = game, from = proposed.slice(0, 2), man = placementOf(game.standing.fen).get(from);
+  const kind = proposed[4] ? `, becomes a ${kindWord(proposed[4])}` : '';
+  return `${man ? kindWord(man) : ''} ${from}–${proposed.slice(2, 4)}${kind}`;
 }
 
 export function drawOutcome(game) {
@@ -116,9 +128,13 @@ export function drawOutcome(game) {
   } else if (game.back !== null) {
     head = 'An earlier position';
     more = 'The game goes on: go to the last move to play.';
+  } else if (game.isSlow) {
+    head = 'Sending …';
+    more = 'The lobby has not answered yet.';
   } else if (game.seat()) {
     head = game.myTurn() ? 'Your turn' : 'Waiting for your opponent';
     more = standing.check ? 'Check!' : '';
+    if (game.plan) more = `Then ${game.plan.from}–${game.plan.to}: a click takes it back.`;
   } else {
     head = `${colourWord(standing.side)} to move`;
     more = standing.check ? 'Check!' : '';

@@ -133,6 +133,8 @@ export class TableView {
       if (!this.used.has(key)) this.items.delete(key);
     }
     const yours = groups.own.filter((row) => this.mayMove(row)).length;
+    this.app.turns.offer(Boolean(me));
+    this.app.turned(yours ? `table ${yours}` : '', 'It is your turn.');
     this.app.titled(yours ? `Your turn in ${yours} ${yours === 1 ? 'game' : 'games'}` : 'Games');
   }
 

@@ -88,7 +88,7 @@ export class Waits {
         found.push({ row, kind: 'offer', words });
       }
     }
-    return found.sort((a, b) => (a.kind > b.kind) - (a.kind < b.kind) || a.row.number - b.row.number);
+    return found.sort((a, b) => a.kind.localeCompare(b.kind) || a.row.number - b.row.number);
   }
 
   render() {

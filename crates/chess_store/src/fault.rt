@@ -45,7 +45,7 @@ impl From<JournalFault> for StoreFault {
             JournalFault::TooSmall => StoreFault::TooSmall,
             JournalFault::NotOurs => StoreFault::NotOurs,
             JournalFault::Damaged => StoreFault::Damaged,
-            JournalFault::Device => StoreFault::Device { pending: 0 },
+            JournalFault::DeviceFault => StoreFault::Device { pending: 0 },
             JournalFault::NoMemory => StoreFault::NoMemory,
             JournalFault::Worn => StoreFault::Worn,
             JournalFault::Failed => StoreFault::Failed,

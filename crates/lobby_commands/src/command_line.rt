@@ -6,7 +6,7 @@ use command_words::{
 };
 use server_calls::ServerAddress;
 use std::alloc::{AllocError, Global};
-use std::net::{IpAddr, SocketAddr};
+use std::net::{IpAddr, Ipv6Addr, SocketAddr};
 
 const HELP_OF_SERVE: &str = "\
 It listens on an address of this machine, prints the page's address, and serves the page
@@ -133,7 +133,7 @@ const PAGE: OptionText = OptionText {
 const HOST: OptionText = OptionText {
     name: "host",
     value: OptionValue::Texts("NAME"),
-    help: "A name by which browsers reach it; it may be given several times",
+    help: "A name or an address by which browsers reach it, with a port or without; it may be given several times",
     is_required: false,
 };
 
@@ -245,7 +245,7 @@ pub fn read_words<'a>(alloc: Global, words: &'a [String]) -> Result<Word<'a>, Er
 }
 
 const FAULT: &str =
-    "an address is none: that of a page begins with http:// or https://, and has no # and no space";
+    "an address is none: that of a page begins with http:// or https://, and has no # and no space; a host is a name or an address, with a port or without";
 
 fn word_given<'a>(
     alloc: Global,
@@ -276,13 +276,60 @@ fn proxy_of(values: &ArgMatches<'_>) -> Option<Option<IpAddr>> {
     }
 }
 
+// Whether a host's name may be this: letters, digits, `-`, `_` and `.`, as an address of IPv4 is too.
+fn is_host_name(name: &str) -> bool {
+    !name.is_empty()
+        && name
+            .as_bytes()
+            .iter()
+            .all(|byte| byte.is_ascii_alphanumeric() || matches!(*byte, b'-' | b'_' | b'.'))
+}
+
+// Whether a host is a name or an address, that of IPv6 in brackets.
+fn is_bare_host(host: &str) -> bool {
+    match host.strip_prefix('[') {
+        None => is_host_name(host),
+        Some(rest) => match rest.strip_suffix(']') {
+            None => false,
+            Some(address) => address.parse::<Ipv6Addr>().is_ok(),
+        },
+    }
+}
+
+// Whether a port is a number from 1 on, in digits alone.
+fn is_port(port: &str) -> bool {
+    let are_digits = port.as_bytes().iter().all(|byte| byte.is_ascii_digit());
+    are_digits && port.parse::<u16>().is_ok_and(|port| port > 0)
+}
+
+// Whether a browser may name this host: a name or an address, with a port or without.
+fn is_host(host: &str) -> bool {
+    is_bare_host(host)
+        || match host.rsplit_once(':') {
+            None => false,
+            Some((host, port)) => is_bare_host(host) && is_port(port),
+        }
+}
+
+// The hosts that are taken besides, if each is one.
+fn hosts_of<'v, 'a>(values: &'v ArgMatches<'a>) -> Option<&'v [&'a str]> {
+    let hosts = values.get_strs("host").unwrap_or(&[]);
+    for host in hosts {
+        if !is_host(host) {
+            return None;
+        }
+    }
+    Some(hosts)
+}
+
 // What `serve` asks for; none where an address is none.
 fn serving_of<'a>(alloc: Global, values: &ArgMatches<'a>) -> Result<Option<Word<'a>>, AllocError> {
-    let (Some(players), Some(server), Some(address), Some(proxy)) = (
+    let (Some(players), Some(server), Some(address), Some(proxy), Some(hosts)) = (
         values.get_str("players"),
         server_address(values),
         own_address(values),
         proxy_of(values),
+        hosts_of(values),
     ) else {
         return Ok(None);
     };
@@ -294,7 +341,7 @@ fn serving_of<'a>(alloc: Global, values: &ArgMatches<'a>) -> Result<Option<Word<
         proxy,
         live: values.get_str("live"),
         log: values.get_str("log"),
-        hosts: Vec::from_slice(alloc, values.get_strs("host").unwrap_or(&[]))?,
+        hosts: Vec::from_slice(alloc, hosts)?,
     })))
 }
 

@@ -1,6 +1,6 @@
 -- The players' file.
 use Rattle.std.specs.Prelude.{ℕ, ◌≡◌, ◌≢◌, ◌-◌, Bool, true, false, ◌&&◌, ◌||◌, ◌==◌, not, nat_le, List, [], ◌∷◌, ◌++◌, length, codes, Ok, EachIndex, slice_index, map, filter, chars}
-use Rattle.std.specs.List.{AllZip, AllPairs, list_all}
+use Rattle.std.specs.List.{AllZip, AllPairs, list_all, list_any}
 use Rattle.std.specs.Str.{bytes_eq, str_to_ascii_lowercase, str_eq_ignore_ascii_case}
 use Rattle.std.specs.String.{string_bytes}
 use Rattle.text_parts.specs.Parts.{parts_of}
@@ -35,13 +35,18 @@ is_shown_byte b = nat_le 32 b && not (b == 127)
 abbrev pub is_from_to : ℕ → ℕ → ℕ → Bool
 is_from_to first last c = nat_le first c && nat_le c last
 
--- A character that is not seen, or that changes how others are: the controls behind DEL; those that set the direction
--- of writing, join or part letters, or break a line (U+061C, U+200B to U+200F, U+2028 to U+202E, U+2060, U+2066 to
--- U+2069); and U+FEFF.
+-- The characters that are not seen, or that change how others are, each row from the first to the last: the controls behind
+-- DEL; what breaks a line (U+2028, U+2029) or stands for a note beside it (U+FFF9 to U+FFFB); and all that Unicode has shown
+-- as nothing (its property Default_Ignorable_Code_Point), as what joins or parts letters, sets the direction of writing or
+-- chooses a form, the fillers of Hangul, and tags.
+abbrev pub hidden : List (ℕ × ℕ)
+hidden =
+    (0x80, 0x9f) ∷ (0xad, 0xad) ∷ (0x34f, 0x34f) ∷ (0x61c, 0x61c) ∷ (0x115f, 0x1160) ∷ (0x17b4, 0x17b5) ∷ (0x180b, 0x180f)
+    ∷ (0x200b, 0x200f) ∷ (0x2028, 0x202e) ∷ (0x2060, 0x206f) ∷ (0x3164, 0x3164) ∷ (0xfe00, 0xfe0f) ∷ (0xfeff, 0xfeff)
+    ∷ (0xffa0, 0xffa0) ∷ (0xfff0, 0xfffb) ∷ (0x1bca0, 0x1bca3) ∷ (0x1d173, 0x1d17a) ∷ (0xe0000, 0xe0fff) ∷ []
+
 abbrev pub is_hidden : ℕ → Bool
-is_hidden c =
-    is_from_to 128 159 c || c == 1564 || is_from_to 8203 8207 c || is_from_to 8232 8238 c || c == 8288 || is_from_to 8294 8297 c
-    || c == 65279
+is_hidden c = list_any (λ row. is_from_to row.0 row.1 c) hidden
 
 abbrev pub is_seen : ℕ → Bool
 is_seen c = not (is_hidden c)

@@ -1,25 +1,29 @@
 use anyhow::{Result, bail};
-use night_files::{OWNERS_MODE, folder_of};
+use night_files::{OWNERS_MODE, folder_of, new_file};
 use std::alloc::Global;
-use std::fs::{File, OpenFile, OpenOptions, Permissions};
+use std::fs::{File, OpenFile, Permissions};
 use std::io::Write;
-use std::os::unix::fs::{OpenOptionsExt, PermissionsExt};
+use std::os::unix::fs::PermissionsExt;
 use std::rt::Files;
 use std::{fs, io};
 
 /// The bytes of a file that is there. It fails where it is no regular file: to read of a pipe or a device may last
-/// for ever.
+/// for ever, and in the place of a symbolic link another file would be put, by the lock of another folder.
 pub fn read_regular<R: Files + AllocGlobal>(rt: &R, file: &str) -> Result<Vec<u8>> {
-    if !fs::metadata(rt, file)?.is_file() {
+    let found = fs::symlink_metadata(rt, file)?;
+    if found.is_symlink() {
+        bail!("{file} is a symbolic link: name the file itself");
+    }
+    if !found.is_file() {
         bail!("{file} is no regular file");
     }
     Ok(fs::read(rt, file)?)
 }
 
-/// The bytes of a file; none where there is no file. It fails where it is no regular file, and with other errors of
-/// the system.
+/// The bytes of a file; none where there is no file. It fails where it is no regular file, as a symbolic link, and with
+/// other errors of the system.
 pub fn read_file<R: Files + AllocGlobal>(rt: &R, file: &str) -> Result<Vec<u8>> {
-    match fs::metadata(rt, file) {
+    match fs::symlink_metadata(rt, file) {
         Err(error) if error.kind() == io::ErrorKind::NotFound => Ok(Vec::new(rt.alloc())),
         _ => read_regular(rt, file),
     }
@@ -45,14 +49,10 @@ fn remove<R: Files>(rt: &R, file: &str) -> io::Result<()> {
     }
 }
 
-// Writes a file that was not there, and that its owner alone may read until it is whole, and then those of
-// `permissions`. One that a stop has left behind, or that another has put there, goes first, and none is opened: a
-// new one is made (`O_EXCL`).
+// Writes a new file, that its owner alone may read until it is whole, and then those of `permissions`. What has the name
+// goes first.
 fn write_new<R: Files>(rt: &R, file: &str, permissions: Permissions, text: &str) -> io::Result<()> {
-    remove(rt, file)?;
-    let mut options = OpenOptions::new();
-    options.write(true).create_new(true).mode(OWNERS_MODE);
-    let mut new = options.open(rt, file)?;
+    let mut new = new_file(rt, file, OWNERS_MODE)?;
     new.write_all(text.as_bytes())?;
     new.set_permissions(permissions)?;
     new.sync_all()

@@ -10,7 +10,7 @@ ghost use Rattle.lobby_players.specs.Relinking.{IsFileRelinked, IsLinkFault, ent
 use crate::adding::{Addition, text_with};
 use crate::faults::LinkFault;
 use crate::reading::{has_sum, read_text, text_of};
-use crate::token::token_text;
+use crate::token::{forget, token_text};
 use lobby_roster::{Linked, Player, player_by_name};
 use player_name::Name;
 use sha2::{Digest, Sha256};
@@ -148,6 +148,7 @@ pub fn relinked(
     let shown = token_text(alloc, token)?;
     let sum = Sha256::digest(shown.as_str());
     if has_sum(known, &sum) {
+        forget(shown);
         return Err(LinkFault::TokenTaken);
     }
     let new = text_linked(alloc, text, player, name, &sum)?;

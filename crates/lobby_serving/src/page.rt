@@ -14,6 +14,13 @@ fn path_of(alloc: Global, name: &str) -> Result<Vec<u8>> {
     Ok(path.into_bytes())
 }
 
+// The bytes of a file of the page. It fails where it is no regular file: to open a pipe may last for ever.
+fn bytes_of<R: Files + AllocGlobal>(rt: &R, entry: &DirEntry<R>) -> Result<Vec<u8>> {
+    let name = entry.file_name();
+    anyhow::ensure!(fs::metadata(rt, entry.path())?.is_file(), "{name} is no regular file");
+    Ok(fs::read(rt, entry.path())?)
+}
+
 // A file of a folder, where its name has the ending of one that is of the page.
 fn file_of<R: Files + AllocGlobal>(
     rt: &R,
@@ -23,7 +30,7 @@ fn file_of<R: Files + AllocGlobal>(
     let Some(kind) = Kind::of(entry.file_name().as_bytes()) else {
         return Ok(None);
     };
-    let bytes = fs::read(rt, entry.path()).context(format_args!("reading {folder}"))?;
+    let bytes = bytes_of(rt, entry).context(format_args!("reading {folder}"))?;
     let bytes = Bytes::from_vec(bytes)?;
     let path = path_of(rt.alloc(), entry.file_name())?;
     Ok(Some(File::new(rt.alloc(), path, kind, bytes)?))
@@ -51,6 +58,24 @@ fn push_host(hosts: &mut Vec<Vec<u8>>, alloc: Global, host: &str, port: u16) -> 
     Ok(())
 }
 
+// Whether a port stands behind a host: a colon that is none of an address in brackets.
+fn has_port(name: &str) -> bool {
+    match name.rsplit_once(':') {
+        Some((_, port)) => !port.ends_with(']'),
+        None => false,
+    }
+}
+
+// A host by a name: as it is, and where it has no port with this one too.
+fn push_name(hosts: &mut Vec<Vec<u8>>, alloc: Global, name: &str, port: u16) -> Result<()> {
+    if !has_port(name) {
+        push_host(hosts, alloc, name, port)?;
+    }
+    let name = String::from_str(alloc, name)?;
+    hosts.push(name.into_bytes())?;
+    Ok(())
+}
+
 // Puts the hosts that are taken behind others.
 fn push_hosts(
     hosts: &mut Vec<Vec<u8>>,
@@ -64,9 +89,7 @@ fn push_hosts(
     push_host(hosts, alloc, "127.0.0.1", port)?;
     push_host(hosts, alloc, "localhost", port)?;
     for name in names {
-        push_host(hosts, alloc, name, port)?;
-        let name = String::from_str(alloc, name)?;
-        hosts.push(name.into_bytes())?;
+        push_name(hosts, alloc, name, port)?;
     }
     Ok(())
 }
@@ -77,7 +100,8 @@ fn has_page<R: Files + AllocGlobal>(rt: &R, folder: &str) -> Result<bool> {
     Ok(fs::exists(rt, page.as_str())?)
 }
 
-/// The site of a folder's files, which is listened for on an address. It fails where the folder has no page.
+/// The site of a folder's files, which is listened for on an address. It fails where the folder has no page, or where one of those
+/// files is no regular one.
 pub fn site_of<R: Files + AllocGlobal + Clone + Drop>(
     rt: &R,
     folder: &str,

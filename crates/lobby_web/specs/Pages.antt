@@ -1,6 +1,7 @@
 -- What a site has: its hosts and its files.
 use Rattle.std.specs.Prelude.{ℕ, ◌≡◌, ◌≢◌, ◌-◌, Bool, List, [], ◌∷◌, ◌++◌, Option, bytes_eq, codes, drop, find, if◌then◌else◌, length, take}
 use Rattle.std.specs.List.{list_any, position}
+use Rattle.http1.specs.Text.{eq_ignore_case}
 use Rattle.lobby_web.specs.declared.site.Site.{Site}
 use Rattle.lobby_web.specs.declared.site.File.{File}
 use Rattle.lobby_web.specs.declared.site.Kind.{Kind}
@@ -23,9 +24,10 @@ abbrev pub without_port : List ℕ → List ℕ → List ℕ
 without_port port host =
     if bytes_eq (drop (length host - length port) host) port then take (length host - length port) host else host
 
--- Two hosts are one by a scheme whose port this is: a host without a port has that one (RFC 9110, 4.2.1 and 4.2.2).
+-- Two hosts are one by a scheme whose port this is: a host without a port has that one (RFC 9110, 4.2.1 and 4.2.2), and
+-- small and capital letters are the same in a host (4.2.3).
 abbrev pub is_same_host : List ℕ → List ℕ → List ℕ → Bool
-is_same_host port one other = bytes_eq (without_port port one) (without_port port other)
+is_same_host port one other = eq_ignore_case (without_port port one) (without_port port other)
 
 -- the host is one of those that are taken, by HTTP, whose port is 80
 abbrev pub has_host : Site → List ℕ → Bool

@@ -1,12 +1,15 @@
 -- What is read from a request.
-use Rattle.std.specs.Prelude.{ℕ, Bool, not, ◌&&◌, ◌||◌, List, [], ◌∷◌, ◌++◌, Option, None, Some, is_some, bytes_eq, codes, length, take, drop, nat_lt, nat_le, ◌-◌, ◌==◌, slice_get, reverse, if◌then◌else◌}
+use Rattle.std.specs.Prelude.{ℕ, Bool, true, false, not, ◌&&◌, ◌||◌, List, [], ◌∷◌, ◌++◌, Option, None, Some, is_some, unwrap_or, bytes_eq, codes, length, take, drop, nat_lt, nat_le, ◌-◌, ◌==◌, slice_get, reverse, if◌then◌else◌}
 use Rattle.std.specs.List.{list_all}
 use Rattle.std.specs.Char.{is_ascii_digit}
 use Rattle.http.specs.declared.request.Request.{Request}
+use Rattle.http.specs.declared.version.Version.{Version}
+use Rattle.http.specs.declared.version.Http.{Http}
+use Rattle.http.specs.declared.version.Http.TheVariants.{Http09, Http10, Http11, H2, H3}
 use Rattle.http.specs.Request.{head_of}
 use Rattle.http_header.specs.FieldValue.{FieldValue}
 use Rattle.http_header.specs.HeaderMap.{get, get_all}
-use Rattle.http_uri.specs.Uri.{uri_authority, uri_path}
+use Rattle.http_uri.specs.Uri.{uri_authority, uri_path, uri_scheme}
 use Rattle.http1.specs.Fields.{known_fields}
 use Rattle.http1.specs.Text.{eq_ignore_case}
 use Rattle.httparse.specs.Grammar.{trim_ows}
@@ -32,9 +35,21 @@ count_of r name = length (get_all (head_of r).headers name)
 abbrev pub last_field : Request (List ℕ) → List ℕ → List ℕ
 last_field r name = let values = get_all (head_of r).headers name in bytes_of (slice_get values (length values - 1))
 
--- It names a host that is taken, and no other in its target.
+-- the host that it names: that of its target, where it has one, and then whatever the field Host says (RFC 9112, 3.2.2)
+abbrev pub host_of : Request (List ℕ) → List ℕ
+host_of r = unwrap_or (uri_authority (head_of r).uri) (field r (codes "host"))
+
+-- the scheme of its target; nothing where it has none
+abbrev pub scheme_of : Request (List ℕ) → List ℕ
+scheme_of r = unwrap_or (uri_scheme (head_of r).uri) []
+
+-- Its target is a path, or an address of http, and not of another scheme, or a host alone.
+abbrev pub is_by_http : Request (List ℕ) → Bool
+is_by_http r = not (is_some (uri_authority (head_of r).uri)) || eq_ignore_case (scheme_of r) (codes "http")
+
+-- It names a host that is taken.
 abbrev pub is_taken : Site → Request (List ℕ) → Bool
-is_taken site r = not (is_some (uri_authority (head_of r).uri)) && has_host site (field r (codes "host"))
+is_taken site r = is_by_http r && has_host site (host_of r)
 
 -- An origin is this scheme and this host.
 abbrev pub is_page_of : List ℕ → List ℕ → List ℕ → List ℕ → Bool
@@ -45,17 +60,29 @@ is_page_of scheme port host origin =
 abbrev pub is_from_page : Request (List ℕ) → Bool
 is_from_page r =
     nat_le (count_of r (codes "origin")) 1
-    && (is_page_of (codes "http://") (codes ":80") (field r (codes "host")) (field r (codes "origin"))
-    || is_page_of (codes "https://") (codes ":443") (field r (codes "host")) (field r (codes "origin")))
+    && (is_page_of (codes "http://") (codes ":80") (host_of r) (field r (codes "origin"))
+    || is_page_of (codes "https://") (codes ":443") (host_of r) (field r (codes "origin")))
 
 -- `Connection` lists `upgrade`
 abbrev pub lists_upgrade : List ℕ → Bool
 lists_upgrade connection = (known_fields ((codes "connection", connection) ∷ [])).connection_upgrade
 
+abbrev pub is_11 : Http → Bool
+is_11 Http09 = false
+is_11 Http10 = false
+is_11 Http11 = true
+is_11 H2 = false
+is_11 H3 = false
+
+-- HTTP/1.1: a request of HTTP/1.0 asks for no other protocol, whatever its fields say (RFC 9110, 7.8).
+abbrev pub is_1_1 : Version → Bool
+is_1_1 version = is_11 version.0
+
 -- It asks to go on as a WebSocket of version 13.
 abbrev pub asks_upgrade : Request (List ℕ) → Bool
 asks_upgrade r =
-    bytes_eq (head_of r).method (codes "GET")
+    is_1_1 (head_of r).version
+    && bytes_eq (head_of r).method (codes "GET")
     && lists_upgrade (field r (codes "connection"))
     && eq_ignore_case (field r (codes "upgrade")) (codes "websocket")
     && bytes_eq (field r (codes "sec-websocket-version")) (codes "13")

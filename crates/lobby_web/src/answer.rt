@@ -11,13 +11,13 @@ ghost use Rattle.http_header.specs.FieldValue.{is_visible_text};
 ghost use Rattle.http1.specs.Fields.{elements};
 ghost use Rattle.http_server.specs.Response.{IsBlank, IsResponse, fields_of};
 ghost use Rattle.lobby_web.specs.Media.{media_type};
-ghost use Rattle.lobby_web.specs.Requests.{field, last_field, forwarded_text, count_of, is_page_of, path_of, is_from_page, lists_upgrade, asks_upgrade, only_reads, is_number, names_game, is_board, served_path};
+ghost use Rattle.lobby_web.specs.Requests.{field, last_field, forwarded_text, count_of, host_of, scheme_of, is_by_http, is_taken, is_1_1, is_page_of, path_of, is_from_page, lists_upgrade, asks_upgrade, only_reads, is_number, names_game, is_board, served_path};
 ghost use Rattle.lobby_web.specs.Answering.{guards, guarded, readers, file_fields, same_fields, is_tag_of, is_known, IsTold, IsFileAnswer, IsOtherMethodAnswer, IsSwitch, IsKeyAnswer, IsSocketAnswer, IsPageAnswer, IsAnswer};
 
 use crate::listed::{Elements, last_element};
 use crate::site::{File, Kind, Site, is_same_host};
 use bytes::{BufMut, Bytes};
-use http::{HeaderName, HeaderValue, Request, StatusCode};
+use http::{HeaderName, HeaderValue, Request, StatusCode, Version};
 use http_server::{Response, Service};
 use http1::fields::KnownFields;
 use http1::text::eq_ignore_case;
@@ -60,6 +60,40 @@ fn count_of(request: &Request<Bytes>, name: &str) -> usize
     request.headers().get_all(name).iter().count()
 }
 
+// The host that a request names: that of its target, where it has one, and else what `Host` says.
+fn host_of(request: &Request<Bytes>) -> &[u8]
+    ensures { result.now ≡ host_of request.now }
+{
+    match request.uri().authority() {
+        Some(authority) => authority.as_str().as_bytes(),
+        None => field(request, "host"),
+    }
+}
+
+// The scheme of a request's target. Nothing where it has none.
+fn scheme_of(request: &Request<Bytes>) -> &[u8]
+    ensures { result.now ≡ scheme_of request.now }
+{
+    match request.uri().scheme_str() {
+        Some(scheme) => scheme.as_bytes(),
+        None => &[],
+    }
+}
+
+// Whether a request's target is a path, or an address of http.
+fn is_by_http(request: &Request<Bytes>) -> bool
+    ensures { result ≡ is_by_http request.now }
+{
+    request.uri().authority().is_none() || eq_ignore_case(scheme_of(request), b"http")
+}
+
+// Whether a request names a host that is taken.
+fn is_taken(site: &Site, request: &Request<Bytes>) -> bool
+    ensures { result ≡ is_taken site.now request.now }
+{
+    is_by_http(request) && site.has_host(host_of(request))
+}
+
 // Whether an origin is this scheme, whose port this is, and this host.
 fn is_page_of(scheme: &[u8], port: &[u8], host: &[u8], origin: &[u8]) -> bool
     ensures { result ≡ is_page_of scheme.now port.now host.now origin.now }
@@ -74,7 +108,7 @@ fn is_page_of(scheme: &[u8], port: &[u8], host: &[u8], origin: &[u8]) -> bool
 fn is_from_page(request: &Request<Bytes>) -> bool
     ensures { result ≡ is_from_page request.now }
 {
-    let host = field(request, "host");
+    let host = host_of(request);
     let origin = field(request, "origin");
     let is_page = is_page_of(b"http://", b":80", host, origin)
         || is_page_of(b"https://", b":443", host, origin);
@@ -97,11 +131,19 @@ fn has_method(request: &Request<Bytes>, name: &[u8]) -> bool
     request.method().as_str().as_bytes() == name
 }
 
+// Whether a version is HTTP/1.1.
+fn is_1_1(version: Version) -> bool
+    ensures { result ≡ is_1_1 version }
+{
+    version == Version::HTTP_11
+}
+
 // Whether a request asks to go on as a WebSocket.
 fn asks_upgrade(request: &Request<Bytes>) -> bool
     ensures { result ≡ asks_upgrade request.now }
 {
-    has_method(request, b"GET")
+    is_1_1(request.version())
+        && has_method(request, b"GET")
         && lists_upgrade(field(request, "connection"))
         && eq_ignore_case(field(request, "upgrade"), b"websocket")
         && field(request, "sec-websocket-version") == b"13".as_slice()
@@ -424,7 +466,7 @@ fn answer(
     requires { IsBlank response.old }
     ensures { OnOk result (IsAnswer site.now request.now response.new) }
 {
-    if request.uri().authority().is_some() || !site.has_host(field(request, "host")) {
+    if !is_taken(site, request) {
         return tell(
             response,
             StatusCode::FORBIDDEN,

@@ -4,6 +4,7 @@ ghost use Rattle.std.specs.Option.{option_copied};
 ghost use Rattle.lobby_web.specs.Pages.{tag_of, without_port, is_same_host};
 
 use bytes::Bytes;
+use http1::text::eq_ignore_case;
 use sha2::{Digest, Sha256};
 use std::alloc::{AllocError, Global};
 
@@ -125,18 +126,19 @@ fn without_port<'a>(port: &[u8], host: &'a [u8]) -> &'a [u8]
     }
 }
 
-/// Whether two hosts are one by a scheme whose port this is, as `:80`: a host without a port has that one.
+/// Whether two hosts are one by a scheme whose port this is, as `:80`: a host without a port has that one, and small and capital
+/// letters are the same.
 pub(crate) fn is_same_host(port: &[u8], one: &[u8], other: &[u8]) -> bool
     ensures { result ≡ is_same_host port.now one.now other.now }
 {
-    without_port(port, one) == without_port(port, other)
+    eq_ignore_case(without_port(port, one), without_port(port, other))
 }
 
 impl Site {
     ghost use Rattle.lobby_web.specs.Pages.{has_host, file_at, place_of, Changes, IsSameSite};
 
-    /// A site of these files. A host is what `Host` has to say, byte for byte and with its port, as `127.0.0.1:8080`; one without
-    /// a port has port 80. Of two files with one path the first is served.
+    /// A site of these files. A host is one that a request has to name, with its port, as `127.0.0.1:8080`; one without a port has
+    /// port 80, and small and capital letters are the same. Of two files with one path the first is served.
     pub fn new(hosts: Vec<Vec<u8>>, files: Vec<File>) -> Site
         ensures hosts { result.hosts ≡ hosts }
         ensures files { result.files ≡ files }
@@ -144,7 +146,7 @@ impl Site {
         Site { hosts, files }
     }
 
-    /// Whether a `Host` is taken.
+    /// Whether a host is taken.
     pub(crate) fn has_host(&self, host: &[u8]) -> bool
         ensures { result ≡ has_host self.now host.now }
     {

@@ -103,8 +103,8 @@ pub trait CrashDevice: Device {
     fn failure_count(&self) -> u64
         ensures { result ≡ Self.failures self.now };
 
-    /// The next `calls` calls of `read`, `write` and `sync` are served, unless they fail for another reason, and every
-    /// later one fails, until a crash or until the device is armed again. Nothing else changes.
+    /// The next `calls` calls of `read`, `write`, `sync` and `barrier` are served, unless they fail for another reason, and
+    /// every later one fails, until a crash or until the device is armed again. Nothing else changes.
     fn arm(&mut self, calls: u64)
         ensures sectors { Self.sector_count self.new ≡ Self.sector_count self.old }
         ensures model { (Self.state self.new).keeps_model ↔ (Self.state self.old).keeps_model }
@@ -118,8 +118,8 @@ pub trait CrashDevice: Device {
         ensures pending { (Self.state self.old).keeps_model → pending self.new ≡ pending self.old };
 
     /// A crash that gives each pending write its fate, by place; a missing place is `Lost`. Of the writes to one sector
-    /// the last that is not lost decides. Then nothing is pending, and calls are not limited any more. Time begins
-    /// anew: moments from before it mean nothing after it.
+    /// the last that is not lost decides. Then nothing is pending, calls are not limited any more, and the device has
+    /// stopped once more. Time begins anew: moments from before it mean nothing after it.
     fn crash_as(&mut self, fates: &[Fate])
         ensures sectors { Self.sector_count self.new ≡ Self.sector_count self.old }
         ensures model { (Self.state self.new).keeps_model ↔ (Self.state self.old).keeps_model }

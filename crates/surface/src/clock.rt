@@ -2,7 +2,7 @@
 use chess_bits::Colour::{Black, White};
 use chess_clock::Clock;
 
-// 60 s, 2 s a move and 30 s more after the first, from 0 on: White moves after 10 s; then Black has 1 ms left, and no more.
+// 60 s, 2 s a move and 30 s more after the first, from 0 on. White moves after 10 s; then Black's time runs out.
 #[test]
 fn a_second_period(rt: HostRuntime) {
     let mut clock = Clock::new(60, 2, White, 0, Some((1, 30)));

@@ -1,6 +1,6 @@
-//! The public surface of the core, crate by crate: each call that a caller is promised is made here once by its crate's name, with
-//! the types that are promised, so that a call that is gone or is given another shape is no longer compiled. What is asserted are
-//! worked examples of the rules. What else the calls answer, their clauses say.
+//! The public surface of the core, crate by crate: each call that a caller is promised is made here once by its
+//! crate's name, with the types that are promised, so that a call that is gone, or has another shape, is no longer
+//! compiled. What is asserted are worked examples of the rules. What else the calls answer, their clauses say.
 #![tactic(auto)]
 
 #[cfg(test)]
@@ -13,6 +13,8 @@ mod board;
 mod clock;
 #[cfg(test)]
 mod codec;
+#[cfg(test)]
+mod device;
 #[cfg(test)]
 mod end;
 #[cfg(test)]

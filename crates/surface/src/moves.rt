@@ -4,8 +4,8 @@ use chess_board::{Board, Move};
 use chess_moves::{has_legal, legal, legal_moves};
 use chess_text::{coordinate, fen_read};
 
-// Positions, a move, and whether it is legal: en passant uncovers the king along the rank; an attacked b1 does not prevent castling;
-// a pawn that does not become anything on the last rank makes no move.
+// Positions, a move, and whether it is legal: en passant uncovers the king along the rank; an attacked b1 does not
+// prevent castling; a pawn that becomes nothing on the last rank makes no move.
 static MOVES: [(&str, &str, bool); 3] = [
     ("8/8/8/K1pP3r/8/8/8/7k w - c6 0 1", "d5c6", false),
     ("4k3/8/8/8/8/8/1r6/R3K3 w Q - 0 1", "e1c1", true),

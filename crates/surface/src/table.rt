@@ -83,6 +83,17 @@ fn check_records(rt: &impl Abort, records: &[Record]) {
     assert!(rt; write_record(&records[1])[1] == 31);
 }
 
+// For 8 games.
+fn widen(rt: &impl Abort, table: &mut Table) {
+    let more = Limits {
+        games: 8,
+        plies: 60,
+    };
+    let limits: Limits = table.limits();
+    assert!(rt; limits.games <= 8 && limits.plies <= 60 && more.is_in_range(Version::Two));
+    table.widen(more);
+}
+
 #[test]
 fn a_table_and_its_records(rt: HostRuntime) {
     let limits = Limits {
@@ -96,6 +107,7 @@ fn a_table_and_its_records(rt: HostRuntime) {
         assert!(rt; answered(&rt, &mut table, &asked).as_str() == *wanted);
     }
     check_game(&rt, &table);
+    widen(&rt, &mut table);
     let records: Vec<Record> = table.to_records().expect(&rt, "memory");
     check_records(&rt, &records);
     let made: Result<Table, TableFault> = Table::from_records(rt.alloc(), limits, &records, &[]);

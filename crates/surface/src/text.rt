@@ -5,16 +5,18 @@ use chess_end::{Article, Ending, GameResult};
 use chess_text::{FenError, GameText, coordinate, fen_read, fen_write, is_playable, pgn};
 use std::process::Abort;
 
+// Each has faults of later kinds too, down to a board without kings. `perft` tells both faults of a target alike, and so
+// those of a counter.
 static FAULTS: [(&str, FenError); 7] = [
     ("", FenError::Shape),
     ("8/8/44/8/8/8/8/8 w - - 0 1", FenError::Placement),
     ("8/8/8/8/8/8/8/8 x - - 0 1", FenError::Side),
     ("8/8/8/8/8/8/8/8 w QK - 0 1", FenError::Castling),
     ("8/8/8/8/8/8/8/8 w - e9 0 1", FenError::Target),
-    ("8/8/8/8/8/8/8/8 w - - 00 1", FenError::Counter),
+    ("8/8/8/8/8/8/8/8 w - - 0 0", FenError::Counter),
     (
-        "8/8/8/8/8/8/8/8 w - - 0 1",
-        FenError::Board(BadBoard::Kings),
+        "rnbqkbnr/pppppppp/8/8/8/8/PPPPPPPP/RNBQKBNR w KQkq e6 0 1",
+        FenError::Board(BadBoard::Target),
     ),
 ];
 
