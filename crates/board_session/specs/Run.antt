@@ -32,7 +32,7 @@ abbrev pub AnswersInPart : Option (List ℕ) → Option (List ℕ) → Option (L
 AnswersInPart before after old new = (taken : List ℕ) × (front : List ℕ) × (rest : List ℕ)
     × Consumes before after taken × IsBoardText taken (front ++ rest) × (0 < length rest) × Appends old new front
 
--- `Read` comes exactly where the source failed; `before` and `after` say whether it has.
+-- `Read` comes exactly where the reader failed; `before` and `after` say whether it has.
 abbrev pub BoardIsOfSource : Result (Unit {0}) BoardFault → Bool → Bool → Type 0
 BoardIsOfSource (Ok done) before after = after ≡ before
 BoardIsOfSource (Err Read) before after = after ≡ true

@@ -1,4 +1,4 @@
-//! Answers the lines of a source on a writer, over one board.
+//! Answers the lines of a reader on a writer, over one board.
 ghost use Rattle.std.specs.Prelude.{◌≡◌, ℕ, List, IfSome, OnOk, OnErr, IsErrOf};
 ghost use Rattle.chess_board.specs.Position.{IsValid};
 ghost use Rattle.chess_board.specs.Initial.{initial};
@@ -7,10 +7,10 @@ ghost use Rattle.board_session.specs.Run.{IsBoardText, AppendsText, AppendsFront
 use crate::answer::answer;
 use chess_board::Board;
 use chess_fen::ShownBoard;
-use line_loop::{Answer, Answerer, LineSource, LoopFault, answer_lines};
+use line_loop::{Answer, Answerer, LoopFault, Reads, answer_lines};
 use session_lines::without_return;
 use std::convert::Infallible;
-use std::io::Write;
+use std::io::{Read, Write};
 use std::marker::Model;
 use thiserror::Error;
 
@@ -70,33 +70,27 @@ fn start() -> AnsweredBoard
     }
 }
 
-/// Answers the lines of the source, from the initial position on, until the source ends or a line is too long.
-pub fn board<S: LineSource, W: Write>(source: &mut S, writer: &mut W) -> Result<(), BoardFault>
-    // What is written is the text that the input calls for, and nothing else.
-    ensures whole { OnOk result (IfSome (S.remaining source.old)
+// The same as `board`, of a reader whose failure is marked.
+fn board_reads<R: Read, W: Write>(
+    reader: &mut R,
+    reads: &mut Reads,
+    writer: &mut W,
+) -> Result<(), BoardFault>
+    ensures whole { OnOk result (IfSome (R.remaining reader.old)
         (AppendsText (W.contents writer.old) (W.contents writer.new))) }
-
-    // At a fault it is a front of that text.
-    ensures front { OnErr result (IfSome (S.remaining source.old)
+    ensures front { OnErr result (IfSome (R.remaining reader.old)
         (AppendsFront (W.contents writer.old) (W.contents writer.new))) }
-
-    // Also of a source that does not tell its bytes: all lines that were read are answered, but where a write failed,
-    // and then something that they call for is not written.
-    ensures answered { OnOk result (AnswersTaken (S.remaining source.old) (S.remaining source.new)
+    ensures answered { OnOk result (AnswersTaken (R.remaining reader.old) (R.remaining reader.new)
         (W.contents writer.old) (W.contents writer.new)) }
-    ensures read { IsErrOf result BoardFault.Read → AnswersTaken (S.remaining source.old) (S.remaining source.new)
+    ensures read { IsErrOf result BoardFault.Read → AnswersTaken (R.remaining reader.old) (R.remaining reader.new)
         (W.contents writer.old) (W.contents writer.new) }
-    ensures write { IsErrOf result BoardFault.Write → AnswersInPart (S.remaining source.old) (S.remaining source.new)
+    ensures write { IsErrOf result BoardFault.Write → AnswersInPart (R.remaining reader.old) (R.remaining reader.new)
         (W.contents writer.old) (W.contents writer.new) }
-
-    // `Read` comes exactly where the source failed.
-    ensures cause { BoardIsOfSource result (S.has_failed source.old) (S.has_failed source.new) }
-
-    // An input calls for one text.
-    ensures one { (input text other : List ℕ) → IsBoardText input text → IsBoardText input other → text ≡ other }
+    // `Read` comes exactly where the reader failed, by its mark.
+    ensures cause { BoardIsOfSource result reads.old.has_failed reads.new.has_failed }
 {
     let answered = start();
-    let (_, ended) = answer_lines(answered, source, writer);
+    let (_, ended) = answer_lines(answered, reader, reads, writer);
     match ended {
         Ok(()) => Ok(()),
         Err(LoopFault::LineTooLong) => Ok(()),
@@ -104,4 +98,31 @@ pub fn board<S: LineSource, W: Write>(source: &mut S, writer: &mut W) -> Result<
         Err(LoopFault::Write) => Err(BoardFault::Write),
         Err(LoopFault::Unanswered(fault)) => match fault {},
     }
+}
+
+/// Answers the lines of the reader, from the initial position on, until the reader ends or a line is too long. `Read`: a
+/// read failed, or 4,294,967,295 pieces were read (one that a signal interrupts is made again, and counts once). `Write`:
+/// a write failed. It takes no memory.
+pub fn board<R: Read, W: Write>(reader: &mut R, writer: &mut W) -> Result<(), BoardFault>
+    // What is written is the text that the input calls for, and nothing else.
+    ensures whole { OnOk result (IfSome (R.remaining reader.old)
+        (AppendsText (W.contents writer.old) (W.contents writer.new))) }
+
+    // At a fault it is a front of that text.
+    ensures front { OnErr result (IfSome (R.remaining reader.old)
+        (AppendsFront (W.contents writer.old) (W.contents writer.new))) }
+
+    // Also of a reader that does not tell its bytes: all lines that were read are answered, but where a write failed,
+    // and then something that they call for is not written.
+    ensures answered { OnOk result (AnswersTaken (R.remaining reader.old) (R.remaining reader.new)
+        (W.contents writer.old) (W.contents writer.new)) }
+    ensures read { IsErrOf result BoardFault.Read → AnswersTaken (R.remaining reader.old) (R.remaining reader.new)
+        (W.contents writer.old) (W.contents writer.new) }
+    ensures write { IsErrOf result BoardFault.Write → AnswersInPart (R.remaining reader.old) (R.remaining reader.new)
+        (W.contents writer.old) (W.contents writer.new) }
+
+    // An input calls for one text.
+    ensures one { (input text other : List ℕ) → IsBoardText input text → IsBoardText input other → text ≡ other }
+{
+    board_reads(reader, &mut Reads::new(), writer)
 }

@@ -6,4 +6,3 @@ mod board_loop;
 mod line;
 
 pub use board_loop::{BoardFault, board};
-pub use line_loop::{LineSource, ReaderSource};

@@ -10,9 +10,9 @@ use Rattle.chess_entry.specs.State.{TableState}
 use Rattle.chess_line.specs.declared.lines.Line.{Line}
 use Rattle.chess_line.specs.declared.lines.Line.TheVariants.{Called, Act}
 use Rattle.chess_answer.specs.declared.reads.Reply.{Reply}
-use Rattle.chess_sessions.specs.declared.turn.TurnLine.{TurnLine}
-use Rattle.chess_sessions.specs.Session.{Said, said}
-use Rattle.chess_sessions.specs.Answers.{alone, given_name, renamed, names_after, asked, commands_of, own_answer, AreAnswers}
+use Rattle.chess_hub.specs.declared.turn.TurnLine.{TurnLine}
+use Rattle.chess_hub.specs.Session.{Said, said}
+use Rattle.chess_hub.specs.Answers.{alone, given_name, renamed, names_after, asked, commands_of, own_answer, AreAnswers}
 use Rattle.chess_store.specs.Batch.{IsAnswered, IsOutcome}
 use Rattle.chess_hub.specs.Calls.{Call, is_open, which}
 use Rattle.chess_hub.specs.Sessions.{Merged, name_from, AreAnsweredAfter}

@@ -7,9 +7,9 @@ use Rattle.std.proofs.lemmas.List.Sums.{sum_by-cons, sum_by-append, sum_by-take-
 use Rattle.std.proofs.lemmas.Option.{slice_get_past}
 use Rattle.slab.specs.Slab.{Slab, get, entries_from}
 use Rattle.session_lines.specs.Lines.{lines_of}
-use Rattle.chess_sessions.specs.declared.sessions.Session.{Session}
-use Rattle.chess_sessions.specs.declared.turn.TurnLine.{TurnLine}
-use Rattle.chess_sessions.specs.Turn.{SessionLine, session_line, lines_at, rounds, turn_lines, waiting, waiting_in, AreTurnLines}
+use Rattle.chess_hub.specs.declared.sessions.Session.{Session}
+use Rattle.chess_hub.specs.declared.turn.TurnLine.{TurnLine}
+use Rattle.chess_hub.specs.Turn.{SessionLine, session_line, lines_at, rounds, turn_lines, waiting, waiting_in, AreTurnLines}
 
 -- how many lines are of a session
 abbrev pub lines_count : ℕ → List SessionLine → ℕ

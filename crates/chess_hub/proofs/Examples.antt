@@ -3,9 +3,9 @@ use Rattle.std.specs.Prelude.{ℕ, ◌≡◌, true, false, List, [], ◌∷◌, 
 use Rattle.std.proofs.Common.{replicate}
 use Rattle.chess_line.specs.declared.lines.Line.{Line}
 use Rattle.chess_line.specs.declared.lines.Line.TheVariants.{Called}
-use Rattle.chess_sessions.specs.Session.{Said, farewell}
-use Rattle.chess_sessions.specs.Turn.{SessionLine, session_line, turn_lines}
-use Rattle.chess_sessions.specs.Answers.{alone}
+use Rattle.chess_hub.specs.Session.{Said, farewell}
+use Rattle.chess_hub.specs.Turn.{SessionLine, session_line, turn_lines}
+use Rattle.chess_hub.specs.Answers.{alone}
 use Rattle.chess_hub.specs.Calls.{Call, Connected, Closed, Fed, Turned, Given, is_open, which, given_to}
 use Rattle.chess_hub.specs.Sessions.{Merged, waiting_lines, name_from, is_done_in, session_text}
 

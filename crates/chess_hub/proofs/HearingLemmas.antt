@@ -12,7 +12,7 @@ use Rattle.session_lines.specs.Lines.{is_feed, HasNoFeed, parts_of, is_too_long,
 use Rattle.session_lines.specs.Heard.{Heard, heard, heard_more, ended_bytes, kept_of, IsWhole, IsFirstLine}
 use Rattle.session_lines.proofs.LineLemmas.{lines-feed}
 use Rattle.session_lines.proofs.Wholes.{whole-none, whole-line, whole-append}
-use Rattle.chess_sessions.specs.Delivery.{DropsLine, DropsLines}
+use Rattle.chess_hub.specs.Delivery.{DropsLine, DropsLines}
 
 -- ---- what is kept of an input has its lines
 

@@ -10,15 +10,15 @@ use Rattle.slab.specs.Slab.{get, entries}
 use Rattle.session_lines.specs.Lines.{lines_of, has_long_line}
 use Rattle.session_lines.specs.Heard.{heard_more}
 use Rattle.chess_entry.specs.State.{TableState}
-use Rattle.chess_sessions.specs.declared.sessions.Session.{Session}
-use Rattle.chess_sessions.specs.declared.sessions.Sessions.{Sessions}
-use Rattle.chess_sessions.specs.declared.turn.TurnLine.{TurnLine}
-use Rattle.chess_sessions.proofs.RoomLemmas.{shown-some}
-use Rattle.chess_sessions.specs.Session.{Said, SessionState, shown, session_at, fresh, Changes, due, farewell, first_due, given_one, is_none_waiting}
-use Rattle.chess_sessions.specs.Turn.{Waiting, SessionLine, turn_lines, waiting, waiting_of, AreTurnLines}
-use Rattle.chess_sessions.specs.Answers.{name_of, name_at}
-use Rattle.chess_sessions.specs.Delivery.{Answered, own, HasAnswered}
-use Rattle.chess_sessions.proofs.TurnLineLemmas.{open-turn, open-read}
+use Rattle.chess_hub.specs.declared.sessions.Session.{Session}
+use Rattle.chess_hub.specs.declared.sessions.Sessions.{Sessions}
+use Rattle.chess_hub.specs.declared.turn.TurnLine.{TurnLine}
+use Rattle.chess_hub.proofs.RoomLemmas.{shown-some}
+use Rattle.chess_hub.specs.Session.{Said, SessionState, shown, session_at, fresh, Changes, due, farewell, first_due, given_one, is_none_waiting}
+use Rattle.chess_hub.specs.Turn.{Waiting, SessionLine, turn_lines, waiting, waiting_of, AreTurnLines}
+use Rattle.chess_hub.specs.Answers.{name_of, name_at}
+use Rattle.chess_hub.specs.Delivery.{Answered, own, HasAnswered}
+use Rattle.chess_hub.proofs.TurnLineLemmas.{open-turn, open-read}
 use Rattle.chess_hub.specs.Calls.{Call, Connected, Closed, Fed, Turned, Given, is_open, begun_count, which, input_of, given_to}
 use Rattle.chess_hub.specs.Sessions.{Merged, AreOpenIn, IsMergedAs, AreMerged, AreAnsweredAfter, taken_count, name_from, answers_to, lines_left, waiting_lines, session_text}
 use Rattle.chess_hub.specs.Turning.{HasTurned}

@@ -8,3 +8,11 @@ pub mod TextLemmas
 pub mod SessionLemmas
 pub mod LawLemmas
 mod Examples
+pub mod TurnLineLemmas
+pub mod RoundLemmas
+pub mod DeliveryLemmas
+pub mod NameLemmas
+pub mod RoomLemmas
+pub mod RunLemmas
+pub mod TalkLemmas
+pub mod RunLawLemmas

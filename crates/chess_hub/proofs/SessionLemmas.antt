@@ -5,8 +5,8 @@ use Rattle.std.proofs.lemmas.Bool.{and_parts}
 use Rattle.std.proofs.lemmas.List.{nil_from_length}
 use Rattle.session_lines.specs.Lines.{lines_of, has_long_line}
 use Rattle.session_lines.specs.Heard.{Heard, heard_more}
-use Rattle.chess_sessions.specs.Session.{Said, SessionState, fresh, farewell, is_none_waiting, is_done, farewell_due, due, after_one, given_one, first_due}
-use Rattle.chess_sessions.specs.Delivery.{Answered, HasAnswered, DropsLines, name_over}
+use Rattle.chess_hub.specs.Session.{Said, SessionState, fresh, farewell, is_none_waiting, is_done, farewell_due, due, after_one, given_one, first_due}
+use Rattle.chess_hub.specs.Delivery.{Answered, HasAnswered, DropsLines, name_over}
 use Rattle.chess_hub.specs.Sessions.{Merged, taken_count, name_from, answers_to}
 use Rattle.chess_hub.proofs.CallLemmas.{View}
 use Rattle.chess_hub.proofs.HearingLemmas.{IsHearing, hearing-none, hearing-waits, hearing-more, hearing-drops, hearing-count}

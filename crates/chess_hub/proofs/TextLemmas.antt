@@ -6,9 +6,9 @@ use Rattle.std.proofs.lemmas.Bool.{cases_Bool, eqb-true, ne_eqb}
 use Rattle.std.proofs.lemmas.List.Elements.{All-head, All-tail}
 use Rattle.std.proofs.lemmas.List.Sums.{sum_by-cons, sum_by-append}
 use Rattle.chess_entry.specs.State.{TableState}
-use Rattle.chess_sessions.specs.Session.{Said}
-use Rattle.chess_sessions.specs.Answers.{given_name, renamed}
-use Rattle.chess_sessions.specs.Delivery.{Answered, own, name_over}
+use Rattle.chess_hub.specs.Session.{Said}
+use Rattle.chess_hub.specs.Answers.{given_name, renamed}
+use Rattle.chess_hub.specs.Delivery.{Answered, own, name_over}
 use Rattle.chess_hub.specs.Calls.{Call, is_open, which}
 use Rattle.chess_hub.specs.Sessions.{Merged, taken_count, name_from, answers_to, AreAnsweredAfter}
 use Rattle.chess_hub.proofs.CallLemmas.{same-session}

@@ -11,9 +11,9 @@ use Rattle.chess_entry.specs.declared.commands.Command.{Command}
 use Rattle.chess_entry.specs.State.{TableState}
 use Rattle.chess_entry.specs.Table.{IsTable}
 use Rattle.chess_answer.specs.declared.reads.Reply.{Reply}
-use Rattle.chess_sessions.specs.declared.sessions.Sessions.{Sessions}
-use Rattle.chess_sessions.specs.Session.{SessionState, session_at, IsUnchanged}
-use Rattle.chess_sessions.specs.Delivery.{Answered, AllAnswered, HasAnswered, own}
+use Rattle.chess_hub.specs.declared.sessions.Sessions.{Sessions}
+use Rattle.chess_hub.specs.Session.{SessionState, session_at, IsUnchanged}
+use Rattle.chess_hub.specs.Delivery.{Answered, AllAnswered, HasAnswered, own}
 use Rattle.chess_store.specs.declared.fault.StoreFault.{StoreFault}
 use Rattle.chess_store.specs.declared.fault.StoreFault.TheVariants as store
 use Rattle.chess_store.specs.Batch.{IsAnswered, IsWornOut, change_count}

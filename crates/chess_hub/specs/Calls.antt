@@ -1,7 +1,7 @@
 -- What sessions were called for, told by the calls alone: who began and who closed, who sent which bytes, where the
 -- turns fell, and who was given what. The newest call stands first.
 use Rattle.std.specs.Prelude.{ℕ, suc, ◌==◌, ◌||◌, ◌&&◌, not, Bool, false, if◌then◌else◌, List, [], ◌∷◌, ◌++◌}
-use Rattle.chess_sessions.specs.Session.{Said}
+use Rattle.chess_hub.specs.Session.{Said}
 
 pub data Call : Type 0 where
   -- a session began, under this number

@@ -4,3 +4,10 @@ pub mod Calls
 pub mod Sessions
 pub mod Law
 pub mod Storing
+pub mod Session
+pub mod Turn
+pub mod Answers
+pub mod Delivery
+pub mod Moments
+pub mod Running
+pub mod RunLaw

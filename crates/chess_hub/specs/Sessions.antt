@@ -8,9 +8,9 @@ use Rattle.chess_entry.specs.State.{TableState}
 use Rattle.chess_line.specs.declared.lines.Line.{Line}
 use Rattle.chess_line.specs.declared.lines.Line.TheVariants.{Called, Act}
 use Rattle.chess_answer.specs.declared.reads.Reply.{Reply}
-use Rattle.chess_sessions.specs.Session.{Said, said, farewell, is_none_waiting}
-use Rattle.chess_sessions.specs.Turn.{Waiting, SessionLine, turn_lines, IsReading}
-use Rattle.chess_sessions.specs.Answers.{given_name, renamed, own_answer}
+use Rattle.chess_hub.specs.Session.{Said, said, farewell, is_none_waiting}
+use Rattle.chess_hub.specs.Turn.{Waiting, SessionLine, turn_lines, IsReading}
+use Rattle.chess_hub.specs.Answers.{given_name, renamed, own_answer}
 use Rattle.chess_store.specs.Batch.{IsOutcome}
 use Rattle.chess_hub.specs.Calls.{Call, Connected, Closed, Fed, Turned, Given, is_open, which, input_of}
 

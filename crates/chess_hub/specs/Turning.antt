@@ -8,12 +8,12 @@ use Rattle.chess_entry.specs.declared.commands.Command.{Command}
 use Rattle.chess_entry.specs.State.{TableState}
 use Rattle.chess_entry.specs.Table.{IsTable}
 use Rattle.chess_answer.specs.declared.reads.Reply.{Reply}
-use Rattle.chess_sessions.specs.declared.sessions.Sessions.{Sessions}
-use Rattle.chess_sessions.specs.declared.turn.TurnLine.{TurnLine}
-use Rattle.chess_sessions.specs.Session.{said}
-use Rattle.chess_sessions.specs.Turn.{AreTurnLines, turn_lines, waiting_of}
-use Rattle.chess_sessions.specs.Answers.{name_at, commands_of, AreAnswers}
-use Rattle.chess_sessions.specs.Delivery.{Answered, AllAnswered}
+use Rattle.chess_hub.specs.declared.sessions.Sessions.{Sessions}
+use Rattle.chess_hub.specs.declared.turn.TurnLine.{TurnLine}
+use Rattle.chess_hub.specs.Session.{said}
+use Rattle.chess_hub.specs.Turn.{AreTurnLines, turn_lines, waiting_of}
+use Rattle.chess_hub.specs.Answers.{name_at, commands_of, AreAnswers}
+use Rattle.chess_hub.specs.Delivery.{Answered, AllAnswered}
 use Rattle.chess_store.specs.declared.fault.StoreFault.{StoreFault}
 use Rattle.chess_store.specs.declared.fault.StoreFault.TheVariants as store
 use Rattle.chess_store.specs.Means.{MeansEither, IsKept}

@@ -1,19 +1,26 @@
-use chess_sessions::ConnectFault;
+//! Why a hub refuses a call.
+
+use crate::sessions::ConnectFault;
 use chess_store::StoreFault;
 use session_lines::FeedFault;
 use std::alloc::AllocError;
+use thiserror::Error;
 
 /// Why a hub refuses a call.
-#[derive(Clone, Copy, Debug, PartialEq, Eq)]
+#[derive(Clone, Copy, Debug, PartialEq, Eq, Error)]
 pub enum HubFault {
     /// There are as many sessions as there may be.
+    #[error("all 64 places are taken")]
     Busy,
     /// Memory was refused.
+    #[error("memory was refused to a session")]
     NoMemory,
     /// A line of the session was too long.
+    #[error("a line has more than 255 bytes")]
     LineTooLong,
     /// The store refused a batch.
-    Store(StoreFault),
+    #[error("the store refused what the lines of a turn ask")]
+    Store(#[source] StoreFault),
 }
 
 impl HubFault {

@@ -1,19 +1,20 @@
 //! A hub.
 ghost use Rattle.std.specs.Prelude.{ℕ, ◌≡◌, ◌≤◌, ◌↔◌, true, false, [], Some, None, Err, length, option_map, IsTrue, IsSome, IfSome, IfOk, IfErr, OnOk, OnErr, IsErrOf};
 ghost use Rattle.session_lines.specs.Heard.{heard_more};
-ghost use Rattle.chess_sessions.specs.Answers.{name_at, commands_of};
-ghost use Rattle.chess_sessions.specs.Delivery.{HaveRoom, asking_count};
-ghost use Rattle.chess_sessions.specs.Turn.{AreTurnLines, turn_lines, waiting_of};
-ghost use Rattle.chess_sessions.specs.Session.{said, fresh, session_at, session_count, Changes, IsUnchanged, due, first_due, given_one};
+ghost use Rattle.chess_hub.specs.Answers.{name_at, commands_of};
+ghost use Rattle.chess_hub.specs.Delivery.{HaveRoom, asking_count};
+ghost use Rattle.chess_hub.specs.Turn.{AreTurnLines, turn_lines, waiting_of};
+ghost use Rattle.chess_hub.specs.Session.{said, fresh, session_at, session_count, Changes, IsUnchanged, due, first_due, given_one};
 ghost use Rattle.chess_store.specs.Batch.{AreAnswered};
 ghost use Rattle.chess_hub.specs.Faults.{IsConnectFault, IsFeedFault, refusals_after};
 ghost use Rattle.chess_hub.specs.Storing.{StoreMayBeAsked, StoreRefuses, StoreLasts, StoreTried};
 ghost use Rattle.chess_hub.specs.Turning.{HasTurned, AsksFor, IsTurnFault};
 
 use crate::fault::HubFault;
+use crate::sessions::{Sessions, Sid};
+use crate::turn::TurnLine;
 use chess_answer::Reply;
 use chess_entry::Command;
-use chess_sessions::{Sessions, Sid, TurnLine};
 use chess_store::Store;
 use sector_dev::Device;
 use std::alloc::{AllocError, Global};
@@ -22,8 +23,7 @@ use std::alloc::{AllocError, Global};
 #[derive(Drop)]
 pub struct Hub<D: Device> {
     alloc: Global,
-    /// The sessions. All but a turn's work is theirs alone, and may be asked of them here.
-    pub sessions: Sessions,
+    sessions: Sessions,
     store: Store<D>,
     /// To how many turns memory was refused.
     refusals: u64,
@@ -110,13 +110,6 @@ impl<D: Device> Hub<D> {
             store,
             refusals: 0,
         }
-    }
-
-    /// The store. The sessions end.
-    pub fn into_store(self) -> Store<D>
-        ensures { result ≡ self.store }
-    {
-        self.store
     }
 
     /// To how many turns memory was refused, so that they answered `NoMemory` or `Store(NoMemory)`; at most 2^64 - 1.
@@ -224,6 +217,15 @@ impl<D: Device> Hub<D> {
         self.sessions.waiting(sid)
     }
 
+    /// Whether anything is due to an open session that it was not given: an answer, or `bye LineTooLong`. It takes no
+    /// memory.
+    pub fn is_due(&self, sid: Sid) -> bool
+        requires { IsSome (session_at self.now.sessions sid) }
+        ensures { IfSome (session_at self.now.sessions sid) (λ s. result ≡ false ↔ (due s ≡ [])) }
+    {
+        self.sessions.is_due(sid)
+    }
+
     /// Whether an open session was given `bye LineTooLong`. It takes no memory.
     pub fn ended(&self, sid: Sid) -> bool
         requires { IsSome (session_at self.now.sessions sid) }
@@ -232,9 +234,8 @@ impl<D: Device> Hub<D> {
         self.sessions.ended(sid)
     }
 
-    /// Ends an open session, with all that waits of it. It takes no memory.
+    /// Ends a session, if it is open, with all that waits of it. It takes no memory.
     pub fn close(&mut self, sid: Sid)
-        requires { IsSome (session_at self.old.sessions sid) }
         ensures closed { Changes self.old.sessions self.new.sessions sid None }
         ensures store { self.new.store ≡ self.old.store }
         ensures refusals { self.new.refusals ≡ self.old.refusals }

@@ -6,8 +6,8 @@ use Rattle.std.proofs.lemmas.Bool.{or_cases}
 use Rattle.std.proofs.lemmas.List.{length-append}
 use Rattle.std.proofs.lemmas.List.Elements.{All-nil, All-cons, All-append}
 use Rattle.chess_entry.specs.State.{TableState}
-use Rattle.chess_sessions.specs.declared.sessions.Sessions.{Sessions}
-use Rattle.chess_sessions.specs.Session.{Said, Changes, IsUnchanged}
+use Rattle.chess_hub.specs.declared.sessions.Sessions.{Sessions}
+use Rattle.chess_hub.specs.Session.{Said, Changes, IsUnchanged}
 use Rattle.chess_hub.specs.Calls.{Call, Closed, Fed, Given}
 use Rattle.chess_hub.specs.Law.{HubState, Steps, Stays}
 use Rattle.client_streams.specs.declared.client.Client.{Client}

@@ -15,7 +15,7 @@ use Rattle.chess_line.specs.Line.{HasForm}
 use Rattle.chess_answer.specs.declared.reads.Reply.{Reply}
 use Rattle.chess_answer.specs.Reads.{IsReadReply, IsFenLine, show_text}
 use Rattle.chess_store.specs.Batch.{Becomes}
-use Rattle.chess_sessions.specs.Session.{Said}
+use Rattle.chess_hub.specs.Session.{Said}
 use Rattle.client_streams.specs.Portions.{is_dear}
 use Rattle.chess_sockets.specs.Laws.{LawOfShortAnswers}
 

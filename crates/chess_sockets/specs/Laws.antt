@@ -3,8 +3,8 @@ use Rattle.std.specs.Prelude.{ℕ, ◌≡◌, false, List, [], Option}
 use Rattle.std.specs.Io.BufRead.{strip_last}
 use Rattle.chess_entry.specs.State.{TableState}
 use Rattle.chess_line.specs.declared.lines.Line.{Line}
-use Rattle.chess_sessions.specs.Session.{Said}
-use Rattle.chess_sessions.specs.Turn.{IsReading}
+use Rattle.chess_hub.specs.Session.{Said}
+use Rattle.chess_hub.specs.Turn.{IsReading}
 use Rattle.chess_hub.specs.Sessions.{IsLineAnswered}
 use Rattle.client_streams.specs.Portions.{is_dear}
 

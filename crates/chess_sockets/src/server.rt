@@ -7,6 +7,7 @@ ghost use Rattle.chess_hub.specs.Turning.{MayBeAsked, TurnLasts, TurnTried};
 ghost use Rattle.chess_sockets.specs.Serving.{state_of, Welcomes, IsWelcomed, IsAskedFor, HasServed, HasGoneRound, open_in};
 ghost use Rattle.chess_sockets.specs.Turns.{EndsServing, IsRefusal, IsTurnRefusal};
 
+use crate::fault::ServerFault;
 use chess_hub::{Hub, HubFault};
 use client_streams::{Client, Reading, hand_out_all, take_in_all};
 use sector_dev::Device;
@@ -14,7 +15,6 @@ use server_calls::{
     AcceptOutcome, Connection, Listens, LocalListener, Watch, descriptor, may_wait, next_connection,
 };
 use std::alloc::Global;
-use std::io;
 use std::io::{Read, Write};
 use std::net::{Net, TcpListener, TcpStream};
 
@@ -137,36 +137,35 @@ pub fn serve_clients<S: Read + Write, D: Device>(
         → TurnLasts result (D.state hub.old.store.journal.device) (D.state hub.new.store.journal.device)
         hub.new.store.journal.header hub.new.store.journal.compaction hub.old.store.table hub.new.store.table }
 {
-    let has_read = take_in_all(clients, &mut hub.sessions, reading);
+    let has_read = take_in_all(clients, hub, reading);
     if let Err(fault) = hub.turn(reading.at, LINES) {
         return Err(fault);
     }
-    let has_written = hand_out_all(clients, &mut hub.sessions);
+    let has_written = hand_out_all(clients, hub);
     Ok(has_read | has_written)
 }
 
 impl<D: Device, S: Read + Write + From<Connection> + Drop> Server<D, S> {
-    /// Listens on a port of 127.0.0.1, of port 0 on one that the system chooses, and serves as `new` does. The system's error
-    /// where it cannot be bound or watched; the hub is then given up.
+    /// Listens on a port of 127.0.0.1, of port 0 on one that the system chooses, and serves as `new` does, where no client
+    /// is closed for silence. `Socket` where it cannot be bound or watched; the hub is then given up.
     pub fn bind<R: Net<Listener = TcpListener, Stream = TcpStream>>(
         net: &R,
         alloc: Global,
         port: u16,
-        silence: Option<u64>,
         hub: Hub<D>,
-    ) -> io::Result<Server<D, S>>
+    ) -> Result<Server<D, S>, ServerFault>
     where
         D: Drop,
         ensures hub { IfOk result (λ server. server.hub ≡ hub) }
         ensures nobody { IfOk result (λ server. server.clients.items ≡ []) }
-        ensures silence { IfOk result (λ server. server.silence ≡ silence) }
+        ensures silence { IfOk result (λ server. server.silence ≡ None) }
         ensures away { IfOk result (λ server. server.turned_away ≡ 0) }
     {
         let listener = LocalListener::bind(net, port)?;
-        Server::new(net, alloc, listener, silence, hub)
+        Server::new(net, alloc, listener, None, hub)
     }
 
-    /// Serves who connects to this listener. The system's error where that cannot be watched; the hub is then given up. A
+    /// Serves who connects to this listener. `Socket` where that cannot be watched; the hub is then given up. A
     /// client from which nothing came for `silence` milliseconds, and for which nothing waits, is closed; without that none
     /// is closed for silence.
     pub fn new(
@@ -175,7 +174,7 @@ impl<D: Device, S: Read + Write + From<Connection> + Drop> Server<D, S> {
         listener: LocalListener,
         silence: Option<u64>,
         hub: Hub<D>,
-    ) -> io::Result<Server<D, S>>
+    ) -> Result<Server<D, S>, ServerFault>
     where
         D: Drop,
         ensures hub { IfOk result (λ server. server.hub ≡ hub) }
@@ -211,13 +210,6 @@ impl<D: Device, S: Read + Write + From<Connection> + Drop> Server<D, S> {
         ensures { result ≡ self.now.turned_away }
     {
         self.turned_away
-    }
-
-    /// The hub, with its sessions as they stand. The connections are closed.
-    pub fn into_hub(self) -> Hub<D>
-        ensures { result ≡ self.hub }
-    {
-        self.hub
     }
 
     // Accepts at most one connection, and tells whether one came; after calm rests none, unless one may wait. One that came

@@ -3,8 +3,8 @@ use Rattle.std.proofs.Common.{◌≡◌, ℕ, Bool, true, false, List, [], ◌�
 use Rattle.std.specs.Prelude.{◌&&◌, ◌||◌, not, if◌then◌else◌, IsSome, option_map}
 use Rattle.session_lines.specs.Heard.{Heard}
 use Rattle.chess_answer.specs.declared.reads.Reply.{Reply}
-use Rattle.chess_sessions.specs.declared.sessions.Sessions.{Sessions}
-use Rattle.chess_sessions.specs.Session.{Said, said, SessionState, session_at, Changes, due, first_due, given_one, farewell, is_done}
+use Rattle.chess_hub.specs.declared.sessions.Sessions.{Sessions}
+use Rattle.chess_hub.specs.Session.{Said, said, SessionState, session_at, Changes, due, first_due, given_one, farewell, is_done}
 use Rattle.client_streams.specs.Clients.{OthersStay, bytes_of, bytes_of_all, to_go, HandsOut}
 use Rattle.client_streams.specs.Sending.{HandsOn}
 use Rattle.client_streams.proofs.SendLemmas.{hands-behind, hands-trans}

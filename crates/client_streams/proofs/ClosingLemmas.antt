@@ -3,7 +3,7 @@ use Rattle.std.proofs.Common.{◌≡◌, ◌↔◌, Bool, true, false, ℕ, List
 use Rattle.std.specs.Prelude.{Result, Ok, Err, OnErr, IsTrue, IsSome}
 use Rattle.std.proofs.lemmas.Bool.{cases_Bool, false≢true}
 use Rattle.session_lines.specs.Lines.{IsUnfinished}
-use Rattle.chess_sessions.specs.Session.{SessionState, due}
+use Rattle.chess_hub.specs.Session.{SessionState, due}
 use Rattle.client_streams.specs.declared.client.Client.{Client}
 use Rattle.client_streams.specs.declared.closing.Closing.{Closing}
 use Rattle.client_streams.specs.declared.closing.Closing.TheVariants as closings

@@ -1,5 +1,5 @@
 -- How other protocols begin.
-use Rattle.std.proofs.Common.{◌≡◌, ◌↔◌, ◌∙◌, ◌<◌, ◌≤◌, ◌+◌, ℕ, Bool, true, false, List, [], ◌∷◌, ◌++◌, Option, Some, None, length, get_or, take, drop, refl, ap, sym, subst, inl, inr, arith, append_assoc, take-append-drop}
+use Rattle.std.proofs.Common.{◌≡◌, ◌↔◌, ◌∙◌, ◌<◌, ◌≤◌, ◌+◌, ℕ, Bool, true, false, List, [], ◌∷◌, ◌++◌, Option, Some, None, length, get_or, take, drop, refl, ap, sym, subst, inl, inr, arith, append_assoc, take-append-drop, length-append}
 use Rattle.std.specs.Prelude.{IsTrue, is_some, eqb, codes}
 use Rattle.std.specs.List.{starts_with}
 use Rattle.std.proofs.lemmas.Bool.{cases_Bool, false≢true}
@@ -7,19 +7,43 @@ use Rattle.std.proofs.lemmas.Bool.Decides.{Decides-eqb}
 use Rattle.std.proofs.lemmas.List.{length-take-le}
 use Rattle.std.proofs.lemmas.List.Elements.{All-head, All-tail}
 use Rattle.std.proofs.lemmas.Slice.Eq.{starts_is}
-use Rattle.memchr.specs.Find.{OccursAt, FindsNeedle}
 use Rattle.session_lines.specs.Lines.{is_feed, HasNoFeed, IsUnfinished}
 use Rattle.client_streams.specs.Protocols.{IsRequest, BeginHttp, BeginTls, AreOfAnotherProtocol}
 use Rattle.client_streams.proofs.PortionLemmas.{line-taken}
 
--- the version stands in a line where it is found
-pub request_found : (line : List ℕ) (found : Option ℕ) → FindsNeedle line (codes " HTTP/") 0 found →
-    IsTrue (is_some found) ↔ IsRequest line
-request_found line None none = (
-  λ is. absurd (false≢true is),
-  λ (at, occurs). absurd (none at (omega arith) (let fits = occurs.fits in omega (arith, fits)) occurs),
-)
-request_found line (Some at) (before, occurs) = (λ is. (at, occurs), λ request. refl)
+-- ---- the version
+
+-- it stands where bytes begin with it
+pub request_here : (line : List ℕ) → starts_with eqb line (codes " HTTP/") ≡ true → IsRequest line
+request_here line starts = record {
+  before = [];
+  after = drop 6 line;
+  cut = (starts_is Decides-eqb line (codes " HTTP/") true (sym starts)).0 refl;
+}
+
+behind : (b : ℕ) (line before after : List ℕ) → starts_with eqb (b ∷ line) (codes " HTTP/") ≡ false →
+    b ∷ line ≡ before ++ (codes " HTTP/" ++ after) → IsRequest line
+behind b line [] after not cut =
+    absurd (false≢true (sym not
+    ∙ (starts_is Decides-eqb (b ∷ line) (codes " HTTP/") (starts_with eqb (b ∷ line) (codes " HTTP/")) refl).1 after cut))
+behind b line (c ∷ before) after not cut = record { before = before; after = after; cut = cc }
+
+-- and else behind their first byte
+pub request_behind : (b : ℕ) (line : List ℕ) → starts_with eqb (b ∷ line) (codes " HTTP/") ≡ false →
+    IsRequest (b ∷ line) → IsRequest line
+request_behind b line not request = behind b line request.before request.after not request.cut
+
+pub request_before : (b : ℕ) (line : List ℕ) → IsRequest line → IsRequest (b ∷ line)
+request_before b line request = record {
+  before = b ∷ request.before;
+  after = request.after;
+  cut = ap (λ (l : List ℕ). b ∷ l) request.cut;
+}
+
+-- in no bytes it does not stand
+pub no_request : {P : Type 0} → IsRequest [] → P
+no_request request =
+    absurd (omega (arith, simp length-append at (ap (λ (l : List ℕ). length l) request.cut)))
 
 -- ---- the first line
 

@@ -10,8 +10,8 @@ use Rattle.std.proofs.lemmas.List.{take_more, take_more_set, take_all, length-se
 use Rattle.session_lines.specs.Lines.{IsUnfinished}
 use Rattle.session_lines.specs.Heard.{Heard}
 use Rattle.chess_answer.specs.declared.reads.Reply.{Reply}
-use Rattle.chess_sessions.specs.declared.sessions.Sessions.{Sessions}
-use Rattle.chess_sessions.specs.Session.{Said, said, SessionState, session_at, Changes, IsUnchanged, due, first_due, given_one, farewell, is_done}
+use Rattle.chess_hub.specs.declared.sessions.Sessions.{Sessions}
+use Rattle.chess_hub.specs.Session.{Said, said, SessionState, session_at, Changes, IsUnchanged, due, first_due, given_one, farewell, is_done}
 use Rattle.client_streams.specs.declared.client.Client.{Client}
 use Rattle.client_streams.specs.Clients.{Standing, standing, OthersStay, IsSilent, IsHeardAt, IsEndSeen, IsHeldUp, HasWaitedOn, HasSpokenOn, GivesOn, TakesIn, HandsOut, bytes_of_all, to_go}
 use Rattle.client_streams.specs.declared.closing.Closing.{Closing}

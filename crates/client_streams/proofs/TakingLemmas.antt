@@ -5,7 +5,7 @@ use Rattle.std.proofs.lemmas.Bool.{cases_Bool, false≢true}
 use Rattle.std.specs.Io.KnownBytes.{Keeps}
 use Rattle.std.proofs.KnownBytes.{Consumes-nil, Consumes-kept}
 use Rattle.std.proofs.Math.Seq.{drop-append_seam}
-use Rattle.chess_sessions.specs.Session.{SessionState}
+use Rattle.chess_hub.specs.Session.{SessionState}
 use Rattle.session_lines.specs.Lines.{IsUnfinished}
 use Rattle.client_streams.specs.Clients.{Standing, HasHeard, IsHeldUp, HasWaitedOn, HasSpokenOn, GivesOn, TakesIn}
 use Rattle.client_streams.specs.Protocols.{AreOfAnotherProtocol}

@@ -4,8 +4,8 @@ use Rattle.std.specs.Io.KnownBytes.{Consumes, IsAtEnd}
 use Rattle.std.specs.List.{All}
 use Rattle.session_lines.specs.Lines.{IsUnfinished}
 use Rattle.session_lines.specs.Heard.{heard_more}
-use Rattle.chess_sessions.specs.declared.sessions.Sessions.{Sessions}
-use Rattle.chess_sessions.specs.Session.{Said, SessionState, session_at, due}
+use Rattle.chess_hub.specs.declared.sessions.Sessions.{Sessions}
+use Rattle.chess_hub.specs.Session.{Said, SessionState, session_at, due}
 use Rattle.client_streams.specs.declared.client.Client.{Client}
 use Rattle.client_streams.specs.Portions.{is_dear, IsDearLine, IsPortion, AreMost}
 use Rattle.client_streams.specs.Protocols.{AreOfAnotherProtocol}

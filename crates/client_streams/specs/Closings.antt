@@ -1,7 +1,7 @@
 -- Why the session of a client is closed.
 use Rattle.std.specs.Prelude.{ℕ, ◌≡◌, ◌⊎◌, true, false, List, [], Option, Some, None, IfSome, IsSomeAnd}
 use Rattle.session_lines.specs.Lines.{IsUnfinished}
-use Rattle.chess_sessions.specs.Session.{SessionState, due}
+use Rattle.chess_hub.specs.Session.{SessionState, due}
 use Rattle.client_streams.specs.declared.client.Client.{Client}
 use Rattle.client_streams.specs.declared.closing.Closing.{Closing}
 use Rattle.client_streams.specs.declared.closing.Closing.TheVariants.{Fault, NoMemory, OtherProtocol, Silence, End, Farewell}

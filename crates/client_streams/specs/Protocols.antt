@@ -1,11 +1,12 @@
 -- How other protocols than this one begin.
 use Rattle.std.specs.Prelude.{ℕ, ◌≡◌, ◌⊎◌, List, ◌∷◌, ◌++◌, codes}
-use Rattle.memchr.specs.Find.{OccursAt}
 use Rattle.session_lines.specs.Lines.{IsUnfinished}
 
 -- This line is a request of HTTP: the version stands in it behind a space, as in each (RFC 9112, 3).
-abbrev pub IsRequest : List ℕ → Type 0
-IsRequest line = (at : ℕ) × OccursAt line (codes " HTTP/") at
+pub record IsRequest (line : List ℕ) : Type 0 where
+  pub before : List ℕ
+  pub after : List ℕ
+  pub cut : line ≡ before ++ (codes " HTTP/" ++ after)
 
 -- These bytes begin with a line that is a request of HTTP, and not too long.
 pub record BeginHttp (bytes : List ℕ) : Type 0 where

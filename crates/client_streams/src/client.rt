@@ -1,7 +1,7 @@
 //! A connection and its session.
 ghost use Rattle.std.specs.Prelude.{◌≡◌, ◌≢◌, ◌≤◌, ◌++◌, ◌+◌, ◌-◌, ◌↔◌, ◌⊎◌, true, false, [], Some, None, IsTrue, IfSome, IfOk, OnOk, OnErr};
 ghost use Rattle.std.specs.Io.KnownBytes.{Keeps};
-ghost use Rattle.chess_sessions.specs.Session.{said, session_at, due, Changes};
+ghost use Rattle.chess_hub.specs.Session.{said, session_at, due, Changes};
 ghost use Rattle.client_streams.specs.Clients.{standing, IsOpen, OthersStay, IsSilent, IsHeardAt, IsEndSeen, GivesOn, TakesIn, HandsOut, bytes_of, to_go};
 ghost use Rattle.client_streams.specs.Closings.{IsSound, IsForeign, IsTrouble, WasRefused};
 ghost use Rattle.session_lines.specs.Lines.{IsUnfinished};
@@ -17,7 +17,8 @@ use crate::outgoing::{Outgoing, Sent};
 use crate::room::Room;
 use crate::wire::Wire;
 use chess_answer::Reply;
-use chess_sessions::{Sessions, Sid};
+use chess_hub::{Hub, Sid};
+use sector_dev::Device;
 use session_lines::Came;
 use std::alloc::{AllocError, Global};
 use std::io::{Read, Write};
@@ -123,29 +124,31 @@ impl<S> Client<S> {
     }
 
     /// Closes its session, for this reason.
-    pub(crate) fn close(&mut self, sessions: &mut Sessions, closing: Closing)
-        ensures closed { Changes sessions.old sessions.new self.old.sid None }
+    pub(crate) fn close<D: Device>(&mut self, hub: &mut Hub<D>, closing: Closing)
+        ensures closed { Changes hub.old.sessions hub.new.sessions self.old.sid None }
         ensures told { self.new.closing ≡ Some closing }
         ensures marks { (self.new.wire ≡ self.old.wire) × (self.new.outgoing ≡ self.old.outgoing) }
         ensures peer { (self.new.sid ≡ self.old.sid) × (self.new.has_ended ≡ self.old.has_ended)
             × (self.new.is_quiet ≡ self.old.is_quiet) × (held self.new.incoming ≡ held self.old.incoming)
             × (waiting self.new.outgoing ≡ waiting self.old.outgoing) × (self.new.wire.stream ≡ self.old.wire.stream)
             × (self.new.heard_at ≡ self.old.heard_at) × (standing self.new ≡ standing self.old) }
+        ensures store { hub.new.store ≡ hub.old.store }
+        ensures refusals { hub.new.refusals ≡ hub.old.refusals }
     {
-        sessions.close(self.sid);
+        hub.close(self.sid);
         self.closing = Some(closing);
     }
 
     /// Whether nothing came from it for so many milliseconds, by this moment, and nothing waits for it.
-    pub(crate) fn is_silent(&self, sessions: &Sessions, at: u64, most: u64) -> bool
-        requires { IsOpen sessions.now self.now.sid }
-        ensures { IsTrue result ↔ IsSilent self.now sessions.now at most }
+    pub(crate) fn is_silent<D: Device>(&self, hub: &Hub<D>, at: u64, most: u64) -> bool
+        requires { IsOpen hub.now.sessions self.now.sid }
+        ensures { IsTrue result ↔ IsSilent self.now hub.now.sessions at most }
     {
         self.heard_at <= at
             && at - self.heard_at >= most
             && self.outgoing.is_empty()
-            && sessions.waiting(self.sid) == 0
-            && !sessions.is_due(self.sid)
+            && hub.waiting(self.sid) == 0
+            && !hub.is_due(self.sid)
             && self.incoming.is_unfinished()
     }
 }
@@ -170,24 +173,26 @@ struct Gathered {
 
 // Puts the answers of a session behind what waits to be written: all, or 4,294,967,295. Where memory is refused an answer
 // may be lost, and then the session is to be closed.
-fn gather(
-    sessions: &mut Sessions,
+fn gather<D: Device>(
+    hub: &mut Hub<D>,
     sid: Sid,
     outgoing: &mut Outgoing,
 ) -> Result<Gathered, AllocError>
-    requires { IsOpen sessions.old sid }
-    ensures open { IsOpen sessions.new sid }
-    ensures same { OnOk result (to_go (session_at sessions.new sid) (waiting outgoing.new)
-        ≡ to_go (session_at sessions.old sid) (waiting outgoing.old)) }
+    requires { IsOpen hub.old.sessions sid }
+    ensures open { IsOpen hub.new.sessions sid }
+    ensures same { OnOk result (to_go (session_at hub.new.sessions sid) (waiting outgoing.new)
+        ≡ to_go (session_at hub.old.sessions sid) (waiting outgoing.old)) }
     ensures all { IfOk result (λ gathered. gathered.is_all ≡ true
-        → IfSome (session_at sessions.new sid) (λ s. due s ≡ [])) }
-    ensures given { AreGiven sid sessions.old sessions.new }
+        → IfSome (session_at hub.new.sessions sid) (λ s. due s ≡ [])) }
+    ensures given { AreGiven sid hub.old.sessions hub.new.sessions }
     ensures refused { OnErr result (outgoing.new.was_refused ≡ true) }
-    ensures others { OthersStay sessions.old sessions.new sid }
+    ensures others { OthersStay hub.old.sessions hub.new.sessions sid }
+    ensures store { hub.new.store ≡ hub.old.store }
+    ensures refusals { hub.new.refusals ≡ hub.old.refusals }
 {
     let mut any = false;
     for _ in 0..u32::MAX {
-        let Some(reply) = sessions.output(sid) else {
+        let Some(reply) = hub.output(sid) else {
             return Ok(Gathered { any, is_all: true });
         };
         push(outgoing, &reply)?;
@@ -262,28 +267,30 @@ impl<S: Read + Write> Client<S> {
     // Gives the session a portion of what is held back for it, unless something of it waits, or a line asks for much and the
     // turn has no room for it. Where memory is refused the session is closed, and so is, with nothing given to it, that of a
     // peer that begins as another protocol does.
-    fn hand_on(&mut self, sessions: &mut Sessions, room: &mut Room)
-        requires { IsOpen sessions.old self.old.sid }
-        ensures gives { IfSome (session_at sessions.old self.old.sid) (λ s. GivesOn room.old.lines room.new.lines
+    fn hand_on<D: Device>(&mut self, hub: &mut Hub<D>, room: &mut Room)
+        requires { IsOpen hub.old.sessions self.old.sid }
+        ensures gives { IfSome (session_at hub.old.sessions self.old.sid) (λ s. GivesOn room.old.lines room.new.lines
             room.old.longest (waiting self.old.outgoing) (held self.old.incoming) (held self.new.incoming)
-            (standing self.old) (standing self.new) s (session_at sessions.new self.old.sid)) }
+            (standing self.old) (standing self.new) s (session_at hub.new.sessions self.old.sid)) }
         ensures longest { room.new.longest ≡ room.old.longest }
         ensures peer { (self.new.sid ≡ self.old.sid) × (waiting self.new.outgoing ≡ waiting self.old.outgoing) }
         ensures quiet { self.new.is_quiet ≡ self.old.is_quiet }
         ensures heard { self.new.heard_at ≡ self.old.heard_at }
         ensures ended { self.new.has_ended ≡ self.old.has_ended }
         ensures stream { self.new.wire.stream ≡ self.old.wire.stream }
-        ensures reason { session_at sessions.new self.old.sid ≡ None → IsTrouble self.new }
-        ensures refused { session_at sessions.new self.old.sid ≡ None
+        ensures reason { session_at hub.new.sessions self.old.sid ≡ None → IsTrouble self.new }
+        ensures refused { session_at hub.new.sessions self.old.sid ≡ None
             → (room.new.lines ≡ room.old.lines) ⊎ WasRefused self.new }
-        ensures foreign { IsForeign self.old → session_at sessions.new self.old.sid ≡ None }
-        ensures others { OthersStay sessions.old sessions.new self.old.sid }
+        ensures foreign { IsForeign self.old → session_at hub.new.sessions self.old.sid ≡ None }
+        ensures others { OthersStay hub.old.sessions hub.new.sessions self.old.sid }
+        ensures store { hub.new.store ≡ hub.old.store }
+        ensures refusals { hub.new.refusals ≡ hub.old.refusals }
     {
         if self.is_foreign() {
-            self.close(sessions, Closing::OtherProtocol);
+            self.close(hub, Closing::OtherProtocol);
             return;
         }
-        if sessions.waiting(self.sid) > 0 {
+        if hub.waiting(self.sid) > 0 {
             return;
         }
         let portion = self.incoming.portion();
@@ -292,7 +299,7 @@ impl<S: Read + Write> Client<S> {
             return;
         }
         let count = portion.len();
-        if self.memory.feed(sessions, self.sid, portion) {
+        if self.memory.feed(hub, self.sid, portion) {
             self.waited = 0;
             self.has_spoken |= count > 0;
             self.incoming.give_up(count);
@@ -307,18 +314,18 @@ impl<S: Read + Write> Client<S> {
     /// much, where the turn has room for it, or up to 16 that don't. The session is closed after a fault, where memory is
     /// refused for it, and, with nothing given to it, where the peer begins as HTTP or TLS does. It tells whether there may
     /// be more to do.
-    pub(crate) fn take_in(
+    pub(crate) fn take_in<D: Device>(
         &mut self,
-        sessions: &mut Sessions,
+        hub: &mut Hub<D>,
         at: u64,
         piece: &mut [u8; PIECE_ROOM],
         room: &mut Room,
     ) -> bool
-        requires { IsOpen sessions.old self.old.sid }
-        ensures taken { IfSome (session_at sessions.old self.old.sid) (λ s. TakesIn room.old.lines room.new.lines
+        requires { IsOpen hub.old.sessions self.old.sid }
+        ensures taken { IfSome (session_at hub.old.sessions self.old.sid) (λ s. TakesIn room.old.lines room.new.lines
             room.old.longest (S.remaining self.old.wire.stream) (S.remaining self.new.wire.stream)
             (waiting self.old.outgoing) (held self.old.incoming) (held self.new.incoming) (standing self.old)
-            (standing self.new) s (session_at sessions.new self.old.sid)) }
+            (standing self.new) s (session_at hub.new.sessions self.old.sid)) }
         ensures longest { room.new.longest ≡ room.old.longest }
         ensures peer { (self.new.sid ≡ self.old.sid) × (waiting self.new.outgoing ≡ waiting self.old.outgoing) }
         ensures heard { IsHeardAt (S.remaining self.old.wire.stream) (S.remaining self.new.wire.stream) at self.old.heard_at
@@ -327,61 +334,65 @@ impl<S: Read + Write> Client<S> {
         // Who has sent something is asked for more.
         ensures quiet { self.new.is_quiet ≡ true → (result ≡ false)
             × Keeps (S.remaining self.old.wire.stream) (S.remaining self.new.wire.stream)
-            × (held self.new.incoming ≡ held self.old.incoming) × (sessions.new ≡ sessions.old)
+            × (held self.new.incoming ≡ held self.old.incoming) × (hub.new.sessions ≡ hub.old.sessions)
             × (room.new.lines ≡ room.old.lines) × (standing self.new ≡ standing self.old)
             × IsUnfinished (held self.new.incoming) }
         // Of who doesn't take its answers nothing is read, and nothing that it sent goes on.
         ensures unread { waiting self.old.outgoing ≢ [] → (self.new.wire.stream ≡ self.old.wire.stream)
-            × (held self.new.incoming ≡ held self.old.incoming) × (sessions.new ≡ sessions.old) }
-        ensures reason { session_at sessions.new self.old.sid ≡ None → IsTrouble self.new }
+            × (held self.new.incoming ≡ held self.old.incoming) × (hub.new.sessions ≡ hub.old.sessions) }
+        ensures reason { session_at hub.new.sessions self.old.sid ≡ None → IsTrouble self.new }
         // Of those that are closed only one that memory was refused for takes room.
-        ensures refused { session_at sessions.new self.old.sid ≡ None
+        ensures refused { session_at hub.new.sessions self.old.sid ≡ None
             → (room.new.lines ≡ room.old.lines) ⊎ WasRefused self.new }
-        ensures others { OthersStay sessions.old sessions.new self.old.sid }
+        ensures others { OthersStay hub.old.sessions hub.new.sessions self.old.sid }
+        ensures store { hub.new.store ≡ hub.old.store }
+        ensures refusals { hub.new.refusals ≡ hub.old.refusals }
     {
         self.is_quiet = false;
         if !self.outgoing.is_empty() {
             return false;
         }
         if !self.incoming.is_unfinished() {
-            self.hand_on(sessions, room);
+            self.hand_on(hub, room);
             return true;
         }
         match self.read_more(at, piece) {
             Came::Nothing => return false,
-            Came::Bytes(_) | Came::Interrupted => self.hand_on(sessions, room),
+            Came::Bytes(_) | Came::Interrupted => self.hand_on(hub, room),
             Came::End => {}
-            Came::Fault => self.close(sessions, Closing::Fault),
+            Came::Fault => self.close(hub, Closing::Fault),
         }
         true
     }
 
     // Writes what waits and what the session is due, as far as the peer takes it. Where memory is refused an answer may be
     // lost.
-    fn write_out(&mut self, sessions: &mut Sessions) -> Result<Wrote, AllocError>
-        requires { IsOpen sessions.old self.old.sid }
-        ensures open { IsOpen sessions.new self.old.sid }
+    fn write_out<D: Device>(&mut self, hub: &mut Hub<D>) -> Result<Wrote, AllocError>
+        requires { IsOpen hub.old.sessions self.old.sid }
+        ensures open { IsOpen hub.new.sessions self.old.sid }
         ensures hands { OnOk result (HandsOut (S.contents self.old.wire.stream) (S.contents self.new.wire.stream)
-            (to_go (session_at sessions.old self.old.sid) (waiting self.old.outgoing))
-            (to_go (session_at sessions.new self.old.sid) (waiting self.new.outgoing))) }
+            (to_go (session_at hub.old.sessions self.old.sid) (waiting self.old.outgoing))
+            (to_go (session_at hub.new.sessions self.old.sid) (waiting self.new.outgoing))) }
         ensures refused { OnErr result (HandsOut (S.contents self.old.wire.stream) (S.contents self.new.wire.stream)
-            (to_go (session_at sessions.old self.old.sid) (waiting self.old.outgoing)) None) }
+            (to_go (session_at hub.old.sessions self.old.sid) (waiting self.old.outgoing)) None) }
         ensures all { IfOk result (λ wrote. wrote.sent ≡ Sent.All → waiting self.new.outgoing ≡ []) }
         ensures due { IfOk result (λ wrote. wrote.sent ≡ Sent.All
-            → IfSome (session_at sessions.new self.old.sid) (λ s. due s ≡ [])) }
+            → IfSome (session_at hub.new.sessions self.old.sid) (λ s. due s ≡ [])) }
         ensures failed { IfOk result (λ wrote. wrote.sent ≡ Sent.Fault → self.new.wire.has_failed ≡ true) }
         ensures memory { OnErr result (self.new.outgoing.was_refused ≡ true) }
-        ensures given { AreGiven self.old.sid sessions.old sessions.new }
+        ensures given { AreGiven self.old.sid hub.old.sessions hub.new.sessions }
         ensures peer { (self.new.sid ≡ self.old.sid) × (self.new.has_ended ≡ self.old.has_ended)
             × (self.new.is_quiet ≡ self.old.is_quiet) × (held self.new.incoming ≡ held self.old.incoming)
             × (self.new.heard_at ≡ self.old.heard_at) × (standing self.new ≡ standing self.old) }
-        ensures others { OthersStay sessions.old sessions.new self.old.sid }
+        ensures others { OthersStay hub.old.sessions hub.new.sessions self.old.sid }
+        ensures store { hub.new.store ≡ hub.old.store }
+        ensures refusals { hub.new.refusals ≡ hub.old.refusals }
     {
         let sent = self.outgoing.write_to(&mut self.wire);
         if sent != Sent::All {
             return Ok(Wrote { any: false, sent });
         }
-        let gathered = match gather(sessions, self.sid, &mut self.outgoing) {
+        let gathered = match gather(hub, self.sid, &mut self.outgoing) {
             Ok(gathered) => gathered,
             Err(refused) => return Err(refused),
         };
@@ -394,14 +405,14 @@ impl<S: Read + Write> Client<S> {
 
     // Whether the session is over, after a write. Where the peer sends no more, that is once its whole lines are answered.
     // After its farewell it is once nothing comes, or after 255 turns.
-    fn is_over(&mut self, sessions: &Sessions, wrote: Wrote) -> bool
-        requires { IsOpen sessions.now self.old.sid }
+    fn is_over<D: Device>(&mut self, hub: &Hub<D>, wrote: Wrote) -> bool
+        requires { IsOpen hub.now.sessions self.old.sid }
         ensures fault { wrote.sent ≡ Sent.Fault → result ≡ true }
         ensures part { wrote.sent ≡ Sent.Part → result ≡ false }
-        ensures answered { wrote.sent ≡ Sent.All → IfSome (session_at sessions.now self.old.sid)
+        ensures answered { wrote.sent ≡ Sent.All → IfSome (session_at hub.now.sessions self.old.sid)
             (λ s. s.has_left ≡ false → (IsTrue result ↔ ((self.old.has_ended ≡ true) × (wrote.any ≡ false)
             × (s.heard.bytes ≡ []) × IsUnfinished (held self.old.incoming)))) }
-        ensures left { wrote.sent ≡ Sent.All → IfSome (session_at sessions.now self.old.sid)
+        ensures left { wrote.sent ≡ Sent.All → IfSome (session_at hub.now.sessions self.old.sid)
             (λ s. s.has_left ≡ true → (self.new.patience ≡ self.old.patience - 1) × (IsTrue result
             ↔ ((self.old.has_ended ≡ true) ⊎ (self.old.is_quiet ≡ true) ⊎ (self.old.patience ≤ 1)))) }
         ensures marks { self.new.wire ≡ self.old.wire }
@@ -413,31 +424,31 @@ impl<S: Read + Write> Client<S> {
         match wrote.sent {
             Sent::Fault => true,
             Sent::Part => false,
-            Sent::All if sessions.ended(self.sid) => {
+            Sent::All if hub.ended(self.sid) => {
                 self.patience = self.patience.saturating_sub(1);
                 self.has_ended || self.is_quiet || self.patience == 0
             }
             Sent::All => {
                 self.has_ended
                     && !wrote.any
-                    && sessions.waiting(self.sid) == 0
+                    && hub.waiting(self.sid) == 0
                     && self.incoming.is_unfinished()
             }
         }
     }
 
     // Why the session is over, where it is, after a write.
-    fn reason(&self, sessions: &Sessions, wrote: Wrote) -> Closing
-        requires { IsOpen sessions.now self.now.sid }
+    fn reason<D: Device>(&self, hub: &Hub<D>, wrote: Wrote) -> Closing
+        requires { IsOpen hub.now.sessions self.now.sid }
         ensures fault { wrote.sent ≡ Sent.Fault → result ≡ Closing.Fault }
-        ensures farewell { wrote.sent ≡ Sent.All → IfSome (session_at sessions.now self.now.sid)
+        ensures farewell { wrote.sent ≡ Sent.All → IfSome (session_at hub.now.sessions self.now.sid)
             (λ s. s.has_left ≡ true → result ≡ Closing.Farewell) }
-        ensures end { wrote.sent ≡ Sent.All → IfSome (session_at sessions.now self.now.sid)
+        ensures end { wrote.sent ≡ Sent.All → IfSome (session_at hub.now.sessions self.now.sid)
             (λ s. s.has_left ≡ false → result ≡ Closing.End) }
     {
         if wrote.sent == Sent::Fault {
             Closing::Fault
-        } else if sessions.ended(self.sid) {
+        } else if hub.ended(self.sid) {
             Closing::Farewell
         } else {
             Closing::End
@@ -448,22 +459,24 @@ impl<S: Read + Write> Client<S> {
     /// and where memory is refused for it; where the peer sends no more, once its whole lines are answered; and after its
     /// farewell to a line that is too long, once nothing comes behind that line, or after 255 turns. It tells whether there
     /// was anything to do.
-    pub(crate) fn hand_out(&mut self, sessions: &mut Sessions) -> bool
-        requires { IsOpen sessions.old self.old.sid }
-        ensures given { IsHandedOut S.contents self.old self.new sessions.old sessions.new }
+    pub(crate) fn hand_out<D: Device>(&mut self, hub: &mut Hub<D>) -> bool
+        requires { IsOpen hub.old.sessions self.old.sid }
+        ensures given { IsHandedOut S.contents self.old self.new hub.old.sessions hub.new.sessions }
         ensures peer { (self.new.sid ≡ self.old.sid) × (self.new.has_ended ≡ self.old.has_ended)
             × (self.new.is_quiet ≡ self.old.is_quiet) × (held self.new.incoming ≡ held self.old.incoming)
             × (self.new.heard_at ≡ self.old.heard_at) × (standing self.new ≡ standing self.old) }
-        ensures others { OthersStay sessions.old sessions.new self.old.sid }
+        ensures others { OthersStay hub.old.sessions hub.new.sessions self.old.sid }
+        ensures store { hub.new.store ≡ hub.old.store }
+        ensures refusals { hub.new.refusals ≡ hub.old.refusals }
     {
         let was_stuck = !self.outgoing.is_empty();
-        let Ok(wrote) = self.write_out(sessions) else {
-            self.close(sessions, Closing::NoMemory);
+        let Ok(wrote) = self.write_out(hub) else {
+            self.close(hub, Closing::NoMemory);
             return true;
         };
-        if self.is_over(sessions, wrote) {
-            let reason = self.reason(sessions, wrote);
-            self.close(sessions, reason);
+        if self.is_over(hub, wrote) {
+            let reason = self.reason(hub, wrote);
+            self.close(hub, reason);
             return true;
         }
         wrote.is_work(was_stuck)

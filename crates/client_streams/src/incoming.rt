@@ -8,7 +8,6 @@ ghost use Rattle.client_streams.specs.Pieces.{Brings, Takes};
 
 use crate::wire::Wire;
 use arrayvec::ArrayVec;
-use memchr::memmem;
 use session_lines::{Came, LINE_ROOM, first_feed};
 use std::io::Read;
 
@@ -40,7 +39,14 @@ const TLS_HANDSHAKE: u8 = 22;
 fn is_request(line: &[u8]) -> bool
     ensures { IsTrue result ↔ IsRequest line.now }
 {
-    memmem::find(line, b" HTTP/").is_some()
+    let mut rest = line;
+    while let Some((_, after)) = rest.split_first() {
+        if rest.starts_with(b" HTTP/") {
+            return true;
+        }
+        rest = after;
+    }
+    false
 }
 
 // Whether bytes begin with a handshake of TLS, or a line that is a request of HTTP.

@@ -14,9 +14,9 @@ use Rattle.chess_answer.specs.Acts.{named_text}
 use Rattle.chess_answer.specs.Fields.{with_fields}
 use Rattle.chess_answer.specs.Refusals.{refusal_text, row_of, ply_fields}
 use Rattle.std.specs.Option.{MatchOption}
-use Rattle.chess_sessions.specs.Session.{Said as Answer}
-use Rattle.chess_sessions.specs.Turn.{IsReading}
-use Rattle.chess_sessions.specs.Answers.{is_late, given_name, renamed, own_answer, alone, asked}
+use Rattle.chess_hub.specs.Session.{Said as Answer}
+use Rattle.chess_hub.specs.Turn.{IsReading}
+use Rattle.chess_hub.specs.Answers.{is_late, given_name, renamed, own_answer, alone, asked}
 use Rattle.lobby_roster.specs.declared.players.Player.{Player}
 use Rattle.lobby_words.specs.Words.{word_of, rest_of, as_name, pair_line, sort_of, is_read_word, is_act_word, is_play_word, is_name_sort}
 use Rattle.lobby_words.specs.Naming.{takes_name}

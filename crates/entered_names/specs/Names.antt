@@ -4,9 +4,9 @@ use Rattle.std.specs.Option.{MatchOption}
 use Rattle.chess_entry.specs.declared.commands.Act.{Act as Asked}
 use Rattle.chess_line.specs.declared.lines.Line.{Line}
 use Rattle.chess_line.specs.declared.lines.Line.TheVariants.{Act}
-use Rattle.chess_sessions.specs.Session.{Said}
-use Rattle.chess_sessions.specs.Turn.{IsReading}
-use Rattle.chess_sessions.specs.Answers.{given_name, renamed, own_answer, alone, asked}
+use Rattle.chess_hub.specs.Session.{Said}
+use Rattle.chess_hub.specs.Turn.{IsReading}
+use Rattle.chess_hub.specs.Answers.{given_name, renamed, own_answer, alone, asked}
 use Rattle.lobby_roster.specs.declared.players.Player.{Player}
 use Rattle.lobby_words.specs.Words.{as_name, pair_line}
 use Rattle.lobby_words.specs.Answers.{ended, answer}

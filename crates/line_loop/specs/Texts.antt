@@ -102,7 +102,7 @@ pub record AnswersInPart {S F : Type 0} (Answers : S → List ℕ → List ℕ �
   pub some : 0 < length lost
   pub appended : Appends old new front
 
--- `Read` comes exactly where the source failed; `before` and `after` say whether it has.
+-- `Read` comes exactly where the reader failed; `before` and `after` say whether it has.
 abbrev pub IsOfSource : {F : Type 0} → Result (Unit {0}) (LoopFault F) → Bool → Bool → Type 0
 IsOfSource (Ok _) before after = after ≡ before
 IsOfSource (Err faults.Read) before after = after ≡ true

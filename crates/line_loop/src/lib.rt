@@ -8,4 +8,4 @@ mod source;
 
 pub use answerer::{Answer, Answerer, LoopFault};
 pub use loops::answer_lines;
-pub use source::{LineSource, ReaderSource, SourceFault};
+pub use source::Reads;

@@ -1,4 +1,4 @@
-//! The loop over the lines of a source.
+//! The loop over the lines of a reader.
 ghost use Rattle.std.specs.Prelude.{ℕ, ◌≡◌, List, [], ◌∷◌, ◌++◌, IfSome, OnOk, IsErrOf};
 ghost use Rattle.std.specs.Io.KnownBytes.{Appends, IsAtEnd};
 ghost use Rattle.session_lines.specs.Lines.{HasNoFeed, IsUnfinished};
@@ -7,10 +7,10 @@ ghost use Rattle.line_loop.specs.Turns.{Takes, moment_of};
 
 use crate::answerer::{Answer, Answerer, LoopFault};
 use crate::outlet::{Ready, WriteFault, hand_out, say, say_answer};
-use crate::source::{LineSource, SourceFault};
+use crate::source::{ReadFault, Reads, next_piece};
 use arrayvec::{ArrayString, ArrayVec};
 use session_lines::{LINE_ROOM, first_feed};
-use std::io::Write;
+use std::io::{Read, Write};
 
 /// Whether more lines are answered.
 #[derive(Clone, Copy)]
@@ -147,22 +147,23 @@ impl<A: Answerer> LoopState<A> {
     }
 
     // Takes all that comes, until a line is too long or finds no answer.
-    fn answer_all<S: LineSource, W: Write>(
+    fn answer_all<R: Read, W: Write>(
         &mut self,
-        source: &mut S,
+        reader: &mut R,
+        reads: &mut Reads,
         writer: &mut W,
     ) -> Result<(), LoopFault<A::Fault>>
         requires asked { A.is_ready self.old.answerer }
         requires empty { self.old.line.items ≡ [] }
         requires nothing { self.old.ready.bytes ≡ [] }
-        ensures ended { Ended A.answers A.breaks result (S.remaining source.old) (S.remaining source.new)
+        ensures ended { Ended A.answers A.breaks result (R.remaining reader.old) (R.remaining reader.new)
             (W.contents writer.old) (W.contents writer.new) self.old.answerer self.new.answerer }
-        ensures end { OnOk result (IsAtEnd (S.remaining source.new)) }
-        ensures cause { IsOfSource result (S.has_failed source.old) (S.has_failed source.new) }
+        ensures end { OnOk result (IsAtEnd (R.remaining reader.new)) }
+        ensures cause { IsOfSource result reads.old.has_failed reads.new.has_failed }
     {
         let mut piece = [0u8; PIECE_ROOM];
         loop {
-            match source.next_piece(&mut piece) {
+            match next_piece(reader, reads, &mut piece) {
                 Ok(0) => return Ok(()),
                 Ok(count) => match self.answer_piece(&piece[..count], writer) {
                     Ok(Flow::Open) => {}
@@ -170,40 +171,41 @@ impl<A: Answerer> LoopState<A> {
                     Ok(Flow::Broken(fault)) => return Err(LoopFault::Unanswered(fault)),
                     Err(WriteFault) => return Err(LoopFault::Write),
                 },
-                Err(SourceFault) => return Err(LoopFault::Read),
+                Err(ReadFault) => return Err(LoopFault::Read),
             }
         }
     }
 }
 
-/// Answers the lines of the source on the writer until the source ends, a line is too long or one finds no answer, and
+/// Answers the lines of the reader on the writer until the reader ends, a line is too long or one finds no answer, and
 /// hands who answers back. A piece has at most 4,096 bytes; the answers to its lines are gathered and written once all
 /// are answered, before that only as often as they outgrow 65,536 bytes. Between the bytes of a line any number of pieces
 /// may come; a rest without a line feed is no line. After a line that is too long the farewell is written. `Read` exactly
-/// where the source failed.
-pub fn answer_lines<A: Answerer + Drop, S: LineSource, W: Write>(
+/// where the reader failed, by its mark.
+pub fn answer_lines<A: Answerer + Drop, R: Read, W: Write>(
     answerer: A,
-    source: &mut S,
+    reader: &mut R,
+    reads: &mut Reads,
     writer: &mut W,
 ) -> (A, Result<(), LoopFault<A::Fault>>)
     requires asked { A.is_ready answerer }
-    // Of a source that tells its bytes: what is written is the text of the whole input.
-    ensures whole { OnOk result.1 (IfSome (S.remaining source.old) (λ input. (text : List ℕ)
+    // Of a reader that tells its bytes: what is written is the text of the whole input.
+    ensures whole { OnOk result.1 (IfSome (R.remaining reader.old) (λ input. (text : List ℕ)
         × IsText A.answers answerer input text result.0 × Appends (W.contents writer.old) (W.contents writer.new) text)) }
-    ensures long { IsErrOf result.1 LoopFault.LineTooLong → IfSome (S.remaining source.old) (λ input. (text : List ℕ)
+    ensures long { IsErrOf result.1 LoopFault.LineTooLong → IfSome (R.remaining reader.old) (λ input. (text : List ℕ)
         × IsText A.answers answerer input text result.0 × Appends (W.contents writer.old) (W.contents writer.new) text) }
 
-    // Also of a source that does not.
-    ensures ended { Ended A.answers A.breaks result.1 (S.remaining source.old) (S.remaining source.new)
+    // Also of a reader that does not.
+    ensures ended { Ended A.answers A.breaks result.1 (R.remaining reader.old) (R.remaining reader.new)
         (W.contents writer.old) (W.contents writer.new) answerer result.0 }
-    ensures end { OnOk result.1 (IsAtEnd (S.remaining source.new)) }
-    ensures cause { IsOfSource result.1 (S.has_failed source.old) (S.has_failed source.new) }
+    ensures end { OnOk result.1 (IsAtEnd (R.remaining reader.new)) }
+    ensures cause { IsOfSource result.1 reads.old.has_failed reads.new.has_failed }
 {
     let mut state = LoopState {
         answerer,
         line: ArrayVec::new(),
         ready: Ready::new(),
     };
-    let ended = state.answer_all(source, writer);
+    let ended = state.answer_all(reader, reads, writer);
     (state.answerer, ended)
 }

@@ -1,105 +1,71 @@
-//! Where lines come from.
-ghost use Rattle.std.specs.Prelude.{ℕ, ◌≡◌, ◌≤◌, ◌+◌, ◌-◌, ◌^◌, Bool, List, Option, true, false, OnOk, OnErr};
+//! Where bytes come from.
+ghost use Rattle.std.specs.Prelude.{ℕ, ◌≡◌, ◌+◌, ◌-◌, ◌^◌, true, false, OnOk, OnErr};
 ghost use Rattle.std.specs.Io.KnownBytes.{ReadConsumes};
 ghost use Rattle.std.specs.Io.{ReadsAtMost};
 
 use std::io::{ErrorKind, Read};
 
-/// A source failed.
+/// A reader has failed.
 #[derive(Clone, Copy)]
-pub struct SourceFault;
+pub(crate) struct ReadFault;
 
-/// Gives bytes, piece by piece, and remembers whether it failed.
-pub trait LineSource {
-    /// The bytes that it has yet to give, where they are known.
-    ghost remaining: { Self → Option (List ℕ) };
-
-    /// Whether it has failed.
-    ghost has_failed: { Self → Bool };
-
-    /// It gives at most so many pieces more.
-    ghost pieces_left: { Self → ℕ };
-
-    /// The next bytes: none at the end, or where there is no room for any. A fault comes only where the source failed,
-    /// and nothing is lost by it.
-    fn next_piece(&mut self, piece: &mut [u8]) -> Result<usize, SourceFault>
-        ensures bound { ReadsAtMost result piece.new }
-        ensures bytes { ReadConsumes (remaining self.old) (remaining self.new) result piece.new }
-        ensures works { OnOk result (has_failed self.new ≡ has_failed self.old) }
-        ensures failed { OnErr result (has_failed self.new ≡ true) }
-        ensures fewer { OnOk result (pieces_left self.new + 1 ≤ pieces_left self.old) };
-}
-
-/// A reader as a source. A read that a signal interrupts is made again. It has failed once another read failed,
-/// 4,294,967,295 pieces were given, or so many reads on end were interrupted.
+/// What is known of a reader that is read to its end. std's reads leave no trace of a failure in their clauses; here it is
+/// marked.
 #[derive(Drop)]
-pub struct ReaderSource<R> {
-    reader: R,
+pub struct Reads {
+    /// Whether a read failed, 4,294,967,295 pieces were read, or so many reads on end were interrupted.
     has_failed: bool,
-    /// So many pieces may still be asked for.
+    /// So many pieces may still be read.
     left: u32,
 }
 
-impl<R> ReaderSource<R> {
-    /// A source that has not failed.
-    pub fn new(reader: R) -> Self
-        ensures reader { result.reader ≡ reader }
+impl Reads {
+    /// Nothing was read yet.
+    pub fn new() -> Reads
         ensures works { result.has_failed ≡ false }
         ensures left { result.left ≡ 2 ^ 32 - 1 }
     {
-        ReaderSource {
-            reader,
+        Reads {
             has_failed: false,
             left: u32::MAX,
         }
     }
 
-    // It has failed.
-    fn fail(&mut self) -> SourceFault
-        ensures failed { self.new.has_failed ≡ true }
-        ensures reader { self.new.reader ≡ self.old.reader }
+    // The reader has failed.
+    fn fail(&mut self) -> ReadFault
+        ensures { self.new.has_failed ≡ true }
     {
         self.has_failed = true;
-        SourceFault
-    }
-
-    /// Whether it has failed.
-    pub fn has_failed(&self) -> bool
-        ensures { result ≡ self.now.has_failed }
-    {
-        self.has_failed
+        ReadFault
     }
 }
 
-impl<R: Read> LineSource for ReaderSource<R> {
-    ghost remaining = { λ source. R.remaining source.reader };
-
-    ghost has_failed = { λ source. source.has_failed };
-
-    ghost pieces_left = { λ source. source.left };
-
-    // It gives exactly one piece fewer at each; the other clauses are the trait's.
-    fn next_piece(&mut self, piece: &mut [u8]) -> Result<usize, SourceFault>
-        ensures bound { ReadsAtMost result piece.new }
-        ensures bytes { ReadConsumes (R.remaining self.old.reader) (R.remaining self.new.reader) result piece.new }
-        ensures works { OnOk result (self.new.has_failed ≡ self.old.has_failed) }
-        ensures failed { OnErr result (self.new.has_failed ≡ true) }
-        ensures fewer { OnOk result (self.new.left + 1 ≡ self.old.left) }
-    {
-        if self.left == 0 {
-            return Err(self.fail());
-        }
-        self.left -= 1;
-        for _ in 0..u32::MAX {
-            match self.reader.read(piece) {
-                Ok(count) => return Ok(count),
-                Err(error) => {
-                    if error.kind() != ErrorKind::Interrupted {
-                        return Err(self.fail());
-                    }
+/// The next bytes of a reader: none at the end, or where there is no room for any. A read that a signal interrupts is made
+/// again. A fault comes only where the reader failed, and nothing is lost by it.
+pub(crate) fn next_piece<R: Read>(
+    reader: &mut R,
+    reads: &mut Reads,
+    piece: &mut [u8],
+) -> Result<usize, ReadFault>
+    ensures bound { ReadsAtMost result piece.new }
+    ensures bytes { ReadConsumes (R.remaining reader.old) (R.remaining reader.new) result piece.new }
+    ensures works { OnOk result (reads.new.has_failed ≡ reads.old.has_failed) }
+    ensures failed { OnErr result (reads.new.has_failed ≡ true) }
+    ensures fewer { OnOk result (reads.new.left + 1 ≡ reads.old.left) }
+{
+    if reads.left == 0 {
+        return Err(reads.fail());
+    }
+    reads.left -= 1;
+    for _ in 0..u32::MAX {
+        match reader.read(piece) {
+            Ok(count) => return Ok(count),
+            Err(error) => {
+                if error.kind() != ErrorKind::Interrupted {
+                    return Err(reads.fail());
                 }
             }
         }
-        Err(self.fail())
     }
+    Err(reads.fail())
 }

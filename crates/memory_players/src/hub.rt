@@ -9,8 +9,7 @@
 //!   `BYTES`, so many at a time; `BYTES!COUNT`, which fails after so many; `~` before it, interrupted before each. MOMENTS
 //!   are numbers with commas between, `-` for none.
 use crate::memory::{opened, store_in_memory};
-use chess_hub::{Hub, HubFault};
-use chess_run::{ListMoments, ReaderSource, RunFault, run};
+use chess_hub::{Hub, HubFault, ListMoments, RunFault, run};
 use chess_store::Store;
 use player_lines::escapes::bytes_of;
 use player_lines::streams::{Sink, Source, read_manner};
@@ -134,12 +133,11 @@ impl HubPlayer {
 // How a run over a store ends, from a source to a sink at these moments.
 fn run_from(
     alloc: Global,
-    source: Source<'_>,
+    mut source: Source<'_>,
     sink: &mut Sink,
     store: Store<MemoryDevice>,
     moments: &[u64],
 ) -> Result<(), RunFault> {
-    let mut source = ReaderSource::new(source);
     run(alloc, &mut source, sink, store, ListMoments::new(moments))
 }
 

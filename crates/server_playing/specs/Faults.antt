@@ -3,8 +3,8 @@ use Rattle.std.specs.Prelude.{⊤}
 use Rattle.chess_store.specs.Faults as store
 use Rattle.chess_sockets.specs.Turns as sockets
 use Rattle.chess_store.specs.Drill as drill
-use Rattle.chess_run.specs.declared.running.RunFault.{RunFault}
-use Rattle.chess_run.specs.declared.running.RunFault.TheVariants as run
+use Rattle.chess_hub.specs.declared.running.RunFault.{RunFault}
+use Rattle.chess_hub.specs.declared.running.RunFault.TheVariants as run
 use Rattle.server_work.specs.declared.ends.Fault.{Fault}
 use Rattle.server_work.specs.declared.ends.Fault.TheVariants as faults
 

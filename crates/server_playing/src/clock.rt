@@ -1,7 +1,7 @@
 //! The moments of what is played.
 ghost use Rattle.std.specs.Prelude.{◌≡◌, ◌+◌, ◌-◌, ◌^◌, min};
 
-use chess_run::Moments;
+use chess_hub::Moments;
 use server_calls::milliseconds;
 use std::rt::Clock;
 use std::time::Instant;

@@ -3,7 +3,7 @@ ghost use Rattle.std.specs.Prelude.{◌≡◌, IfErr};
 ghost use Rattle.server_playing.specs.Faults.{IsRunFault, of_run};
 
 use crate::clock::SteadyClock;
-use chess_run::{LineSource, Moments, ReaderSource, RunFault, run};
+use chess_hub::{Moments, RunFault, run};
 use sector_dev::Device;
 use server_telling::{INPUT, Teller, TellingDevice, TellingReader, TellingWriter};
 use server_work::{Fault, open_file, open_on, told};
@@ -24,30 +24,30 @@ pub(crate) fn fault_of_run(fault: RunFault) -> Fault
     }
 }
 
-// Answers the lines of a source on a writer, over the games of the journal on a device.
-fn play_on<D: Device + Drop, S: LineSource, W: Write, M: Moments + Drop>(
+// Answers the lines of a reader on a writer, over the games of the journal on a device.
+fn play_on<D: Device + Drop, I: Read, W: Write, M: Moments + Drop>(
     alloc: Global,
     device: D,
-    source: &mut S,
+    reader: &mut I,
     writer: &mut W,
     moments: M,
 ) -> Result<(), Fault>
     ensures { IfErr result IsRunFault }
 {
     let store = open_on(alloc, device)?;
-    match run(alloc, source, writer, store, moments) {
+    match run(alloc, reader, writer, store, moments) {
         Ok(()) => Ok(()),
         Err(fault) => Err(fault_of_run(fault)),
     }
 }
 
 // The same of the journal in a file.
-fn play_journal<R, S: LineSource, W: Write>(
+fn play_journal<R, I: Read, W: Write>(
     rt: &R,
     alloc: Global,
     teller: &Teller<'_, R>,
     journal: &str,
-    source: &mut S,
+    reader: &mut I,
     writer: &mut W,
 ) -> Result<(), Fault>
 where
@@ -56,7 +56,7 @@ where
 {
     let file = open_file(rt, teller, journal)?;
     let device = TellingDevice::new(file, teller, journal);
-    play_on(alloc, device, source, writer, SteadyClock::new(rt))
+    play_on(alloc, device, reader, writer, SteadyClock::new(rt))
 }
 
 // What is at fault where a run breaks off.
@@ -81,8 +81,8 @@ where
     ensures { IfErr result IsRunFault }
 {
     let teller = Teller::new(rt, false);
-    let mut source = ReaderSource::new(TellingReader::new(input, &teller));
+    let mut reader = TellingReader::new(input, &teller);
     let mut writer = TellingWriter::new(output, &teller);
-    let played = play_journal(rt, alloc, &teller, journal, &mut source, &mut writer);
+    let played = play_journal(rt, alloc, &teller, journal, &mut reader, &mut writer);
     told(&teller, at_fault(journal, played), played)
 }

@@ -3,9 +3,8 @@ ghost use Rattle.std.specs.Prelude.{◌≡◌, IfOk, IfErr};
 ghost use Rattle.server_playing.specs.Faults.{IsServeFault};
 
 use crate::clock::{SteadyClock, milliseconds_since};
-use chess_hub::Hub;
-use chess_run::Moments;
-use chess_sockets::{Server, Turned};
+use chess_hub::{Hub, Moments};
+use chess_sockets::{Server, ServerFault, Turned};
 use chess_store::Store;
 use sector_dev::Device;
 use server_calls::LocalListener;
@@ -108,7 +107,7 @@ fn begun<R: Eprint + Net, D: Device + Drop>(
     let Door { listener, place } = door;
     match Server::new(rt, alloc, listener, silence, hub) {
         Ok(server) => Ok(server),
-        Err(error) => {
+        Err(ServerFault::Socket(error)) => {
             teller.place_failed(&place, &error);
             Err(Fault::Socket)
         }

@@ -3,7 +3,7 @@ ghost use Rattle.std.specs.Prelude.{IfErr};
 ghost use Rattle.server_work.specs.Faults.{IsBoardFault};
 
 use crate::ends::{Fault, fault_of_board};
-use board_session::{ReaderSource, board};
+use board_session::board;
 use server_telling::{Teller, TellingReader, TellingWriter};
 use std::io::{Read, Write};
 
@@ -16,9 +16,9 @@ pub fn play_board<R: Eprint, I: Read, O: Write>(
     ensures { IfErr result IsBoardFault }
 {
     let teller = Teller::new(rt, false);
-    let mut source = ReaderSource::new(TellingReader::new(input, &teller));
+    let mut reader = TellingReader::new(input, &teller);
     let mut writer = TellingWriter::new(output, &teller);
-    match board(&mut source, &mut writer) {
+    match board(&mut reader, &mut writer) {
         Ok(()) => Ok(()),
         Err(fault) => Err(fault_of_board(fault)),
     }

@@ -1,5 +1,5 @@
 //! The loop over readers and writers that give and take little, or fail.
-use board_session::{BoardFault, ReaderSource, board};
+use board_session::{BoardFault, board};
 use std::alloc::Global;
 use std::io::{self, Error, ErrorKind, Read, Write};
 use std::process::Abort;
@@ -94,19 +94,19 @@ fn bytes_of(rt: &impl Abort, alloc: Global, (count, text, end): Text) -> Vec<u8>
 fn check_case(rt: &impl Abort, alloc: Global, case: &Case) {
     let (input, output, [read, write], fails, breaks, wanted, writes) = *case;
     let input = bytes_of(rt, alloc, input);
-    let mut source = ReaderSource::new(Trickle {
+    let mut reader = Trickle {
         rest: input.as_slice(),
         most: read,
         failure: fails,
-    });
+    };
     let mut writer = Sink {
         taken: Vec::new(alloc),
         most: write,
         writes: 0,
         failure: breaks,
     };
-    let ended = board(&mut source, &mut writer);
-    assert!(rt; ended == wanted && source.has_failed() == (ended == Err(BoardFault::Read)));
+    let ended = board(&mut reader, &mut writer);
+    assert!(rt; ended == wanted);
     assert!(rt; writer.taken.as_slice() == bytes_of(rt, alloc, output).as_slice());
     assert!(rt; writes.unwrap_or(writer.writes) == writer.writes);
 }
@@ -158,7 +158,7 @@ static TEXTS: [(Text, Text); 23] = [
 // Bytes are read as they stand, and answers are written behind one another.
 fn check_bytes(rt: &impl Abort, alloc: Global) {
     let mut written: Vec<u8> = Vec::new(alloc);
-    let ended = board(&mut ReaderSource::new(b"\n".as_slice()), &mut written);
+    let ended = board(&mut b"\n".as_slice(), &mut written);
     assert!(rt; ended == Ok(()) && written.as_slice() == BAD_LINE);
 }
 

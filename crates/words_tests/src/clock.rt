@@ -1,5 +1,5 @@
 //! The moments of a clock whose system's clock jumps.
-use chess_run::Moments;
+use chess_hub::Moments;
 use server_playing::SteadyClock;
 use std::cell::Cell;
 use std::io;

@@ -1,7 +1,7 @@
 use Rattle.std.proofs.Common.{◌∙◌, List, length, ap, subst}
-use Rattle.chess_sessions.specs.declared.turn.TurnLine.{TurnLine}
-use Rattle.chess_sessions.specs.Answers.{name_at, commands_of}
-use Rattle.chess_sessions.specs.Delivery.{HaveRoom}
+use Rattle.chess_hub.specs.declared.turn.TurnLine.{TurnLine}
+use Rattle.chess_hub.specs.Answers.{name_at, commands_of}
+use Rattle.chess_hub.specs.Delivery.{HaveRoom}
 use Rattle.chess_hub.proofs.hub.gather.Goals as goal
 
 pub returns-clause-commands : goal.returns-clause-commands

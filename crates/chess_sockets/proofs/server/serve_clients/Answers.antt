@@ -1,5 +1,6 @@
--- The store is asked by the hub's turn alone; what is done for the clients is done to the sessions alone.
-use Rattle.std.proofs.Common.{◌≡◌, Bool, Err, length, ap, refl}
+-- The store is asked by the hub's turn alone; what is done for the clients is done to the sessions alone, and leaves the
+-- store as it is.
+use Rattle.std.proofs.Common.{◌≡◌, ◌∙◌, Bool, Err, length, ap, refl, sym}
 use Rattle.std.proofs.lemmas.Result.{IfErr-at_err}
 use Rattle.chess_hub.specs.Faults.{CountsFault}
 use Rattle.chess_hub.specs.Turning.{AsksFor, AreRefused, IsTurnFault}
@@ -13,23 +14,24 @@ use Rattle.chess_sockets.proofs.server.serve_clients.Goals as goal
 pub returns-clause-served : goal.returns-clause-served
 returns-clause-served g c =
     let old = c.args.hub.now in
-    let heard = c.take_in_all-has_read.new.sessions in
+    let heard = c.take_in_all-has_read.new.hub in
     let answered = c.turn.new.self in
-    let written = c.hand_out_all-has_written.new.sessions in
+    let written = c.hand_out_all-has_written.new.hub.sessions in
     let read = c.take_in_all-has_read.new.clients.items in
-    record {
+    rw (c.hand_out_all-has_written.ensures.store, sym c.take_in_all-has_read.ensures.store)
+    (record {
       read = read;
       answered = state_of answered.sessions answered.store.table;
       answers = record {
-        heard = state_of heard old.store.table;
-        reads = are_read old.store.table g.S.Read.remaining c.args.reading.silence c.args.reading.at c.args.clients.now.items read old.sessions heard
+        heard = state_of heard.sessions heard.store.table;
+        reads = are_read heard.store.table g.S.Read.remaining c.args.reading.silence c.args.reading.at c.args.clients.now.items read old.sessions heard.sessions
             c.take_in_all-has_read.ensures.read;
         turned = of_answered c.turn.result tt c.in_default.is c.turn.ensures.turned;
         works = of_answered c.turn.result tt c.in_default.is c.turn.ensures.works;
       };
       writes = are_written answered.store.table g.S.Write.contents read c.hand_out_all-has_written.new.clients.items
           answered.sessions written c.hand_out_all-has_written.ensures.written;
-    }
+    })
 
 -- ---- whether there is more to do
 
@@ -42,27 +44,29 @@ returns-clause-more g c = λ is. some_there c.take_in_all-has_read.result c.hand
 
 pub returns-in-Err-clause-lasts : goal.returns-in-Err-clause-lasts
 returns-in-Err-clause-lasts g c =
-    let s = c.args.hub.now.store in
+    let s = c.take_in_all-has_read.new.hub.store in
     let n = c.turn.new.self.store in
     let state = g.D.Device.state in
-    λ kept. lasts_refused c.turn.result c.in-Err.fault (state s.journal.device) (state n.journal.device)
-    n.journal.header n.journal.compaction s.table n.table c.in-Err.is (c.turn.ensures.lasts kept)
+    rw (sym c.take_in_all-has_read.ensures.store)
+    (λ kept. lasts_refused c.turn.result c.in-Err.fault (state s.journal.device) (state n.journal.device)
+    n.journal.header n.journal.compaction s.table n.table c.in-Err.is (c.turn.ensures.lasts kept))
 
 pub returns-clause-lasts : goal.returns-clause-lasts
 returns-clause-lasts g c =
-    let s = c.args.hub.now.store in
+    let s = c.take_in_all-has_read.new.hub.store in
     let n = c.turn.new.self.store in
     let state = g.D.Device.state in
-    λ kept. lasts_over c.turn.result tt _ (state s.journal.device) (state n.journal.device) n.journal.header
-    n.journal.compaction s.table n.table c.in_default.is (c.turn.ensures.lasts kept)
+    rw (c.hand_out_all-has_written.ensures.store, sym c.take_in_all-has_read.ensures.store)
+    (λ kept. lasts_over c.turn.result tt _ (state s.journal.device) (state n.journal.device) n.journal.header
+    n.journal.compaction s.table n.table c.in_default.is (c.turn.ensures.lasts kept))
 
 -- ---- why it ends serving
 
 pub returns-in-Err-clause-fault : goal.returns-in-Err-clause-fault
 returns-in-Err-clause-fault g c =
-    let s = c.args.hub.now.store in
+    let s = c.take_in_all-has_read.new.hub.store in
     let n = c.turn.new.self.store in
-    let heard = c.take_in_all-has_read.new.sessions in
+    let heard = c.take_in_all-has_read.new.hub.sessions in
     turn_ends (n ≡ s) c.args.reading.at heard s.journal.header.seq s.failed s.table n.table c.in-Err.fault
     (IfErr-at_err (λ fault. IsTurnFault fault (n ≡ s) (λ refused. AsksFor c.args.reading.at 64 heard
     (AreRefused refused s.journal.header.seq s.failed s.table n.table))) c.in-Err.is c.turn.ensures.fault)
@@ -70,32 +74,39 @@ returns-in-Err-clause-fault g c =
 pub returns-in-Err-clause-refused : goal.returns-in-Err-clause-refused
 returns-in-Err-clause-refused g c =
     let old = c.args.hub.now in
-    let s = old.store in
+    let s = c.take_in_all-has_read.new.hub.store in
     let n = c.turn.new.self.store in
-    let heard = c.take_in_all-has_read.new.sessions in
+    let heard = c.take_in_all-has_read.new.hub.sessions in
     let read = c.take_in_all-has_read.new.clients.items in
-    turn_refusal (n ≡ s) c.args.reading.at heard s.journal.header.seq s.failed s.table n.table _ c.args.reading.silence
+    rw (sym c.take_in_all-has_read.ensures.store)
+    (turn_refusal (n ≡ s) c.args.reading.at heard s.journal.header.seq s.failed s.table n.table _ c.args.reading.silence
     c.args.clients.now.items read (state_of old.sessions s.table) (state_of c.turn.new.self.sessions n.table) s.table
     (are_read s.table g.S.Read.remaining c.args.reading.silence c.args.reading.at c.args.clients.now.items read old.sessions heard c.take_in_all-has_read.ensures.read)
     (of_refused c.turn.result c.in-Err.fault c.in-Err.is c.turn.ensures.unchanged) refl refl
     (λ e. ap (λ s. s.table) e) c.in-Err.fault
     (IfErr-at_err (λ fault. IsTurnFault fault (n ≡ s) (λ refused. AsksFor c.args.reading.at 64 heard
-    (AreRefused refused s.journal.header.seq s.failed s.table n.table))) c.in-Err.is c.turn.ensures.fault)
+    (AreRefused refused s.journal.header.seq s.failed s.table n.table))) c.in-Err.is c.turn.ensures.fault))
 
 -- ---- the count of failures
 
 pub returns-in-Err-clause-cause_err : goal.returns-in-Err-clause-cause_err
 returns-in-Err-clause-cause_err g c =
     let failures = g.D.Device.failures in
-    IfErr-at_err (λ fault. CountsFault fault (failures c.args.hub.now.store.journal.device)
-    (failures c.turn.new.self.store.journal.device)) c.in-Err.is c.turn.ensures.tried.cause_err
+    rw (sym c.take_in_all-has_read.ensures.store)
+    (IfErr-at_err (λ fault. CountsFault fault (failures c.take_in_all-has_read.new.hub.store.journal.device)
+    (failures c.turn.new.self.store.journal.device)) c.in-Err.is c.turn.ensures.tried.cause_err)
 
 -- ---- the count of refusals
 
 pub returns-in-Err-clause-counts : goal.returns-in-Err-clause-counts
-returns-in-Err-clause-counts g c = counts_refused {T = Bool} c.turn.result (Err c.in-Err.fault) c.in-Err.fault
-    c.in-Err.fault c.args.hub.now.refusals c.turn.new.self.refusals c.in-Err.is refl refl c.turn.ensures.counts
+returns-in-Err-clause-counts g c =
+    rw (sym c.take_in_all-has_read.ensures.refusals)
+    (counts_refused {T = Bool} c.turn.result (Err c.in-Err.fault) c.in-Err.fault
+    c.in-Err.fault c.take_in_all-has_read.new.hub.refusals c.turn.new.self.refusals c.in-Err.is refl refl c.turn.ensures.counts)
 
 pub returns-clause-counts : goal.returns-clause-counts
-returns-clause-counts g c = counts_done c.turn.result tt c.args.hub.now.refusals c.turn.new.self.refusals
-    c.in_default.is c.turn.ensures.counts
+returns-clause-counts g c =
+    c.hand_out_all-has_written.ensures.refusals
+    ∙ counts_done c.turn.result tt c.take_in_all-has_read.new.hub.refusals c.turn.new.self.refusals c.in_default.is
+    c.turn.ensures.counts
+    ∙ c.take_in_all-has_read.ensures.refusals

@@ -1,8 +1,8 @@
 -- One client more is written to.
-use Rattle.std.proofs.Common.{◌<◌, List, length, subst, sym, ◌∙◌, arith}
+use Rattle.std.proofs.Common.{◌<◌, List, length, refl, subst, sym, ◌∙◌, arith}
 use Rattle.std.proofs.lemmas.Bool.{false≢true}
 use Rattle.std.proofs.lemmas.List.{with_items_is}
-use Rattle.chess_sessions.specs.Session.{IsUnchanged}
+use Rattle.chess_hub.specs.Session.{IsUnchanged}
 use Rattle.client_streams.specs.declared.client.Client.{Client}
 use Rattle.client_streams.specs.Rounds.{AreEach, IsWritten}
 use Rattle.client_streams.proofs.RoundLemmas.{unchanged-refl, written_after, done_none, done_further, done_all}
@@ -11,9 +11,11 @@ use Rattle.client_streams.proofs.rounds.hand_out_all.Goals as goal
 pub loop-client-init : goal.loop-client-init
 loop-client-init g c = record {
   done = done_none IsUnchanged unchanged-refl (IsWritten g.S.Write.contents) c.args.clients.now.items
-      c.deref_mut-client-items.result.now c.args.sessions.now c.args.sessions.now c.deref_mut-client-items.ensures.value
-      (unchanged-refl c.args.sessions.now);
+      c.deref_mut-client-items.result.now c.args.hub.now.sessions c.args.hub.now.sessions c.deref_mut-client-items.ensures.value
+      (unchanged-refl c.args.hub.now.sessions);
   more = λ is. absurd (false≢true is);
+  store = refl;
+  refusals = refl;
 }
 
 pub bounds-client-items-client-index : goal.bounds-client-items-client-index
@@ -31,8 +33,10 @@ loop-client-preserved g c =
     record {
       done = done_further IsUnchanged unchanged-refl (IsWritten g.S.Write.contents) (written_after g.S.Write.contents)
           c.args.clients.now.items items c.loop-client.client-index c.client-item.result c.write_for-any.new.client
-          c.args.sessions.now c.loop-client.sessions c.write_for-any.new.sessions lt so_far.done c.write_for-any.ensures;
+          c.args.hub.now.sessions c.loop-client.hub.sessions c.write_for-any.new.hub.sessions lt so_far.done c.write_for-any.ensures.written;
       more = λ is. omega (arith, lt, so_far.done.whole);
+      store = c.write_for-any.ensures.store ∙ so_far.store;
+      refusals = c.write_for-any.ensures.refusals ∙ so_far.refusals;
     }
 
 pub returns-clause-written : goal.returns-clause-written
@@ -40,8 +44,8 @@ returns-clause-written g c =
     let clients = c.args.clients.now in
     let items = c.loop-client.client-items in
     let so_far = c.loop-client.invariant.done in
-    let old = c.args.sessions.now in
-    let new = c.loop-client.sessions in
+    let old = c.args.hub.now.sessions in
+    let new = c.loop-client.hub.sessions in
     let Done = IsWritten g.S.Write.contents in
     subst (λ (l : List (Client g.row.S.Denot)). AreEach IsUnchanged Done clients.items l old new)
     (sym (with_items_is clients items (so_far.whole ∙ sym clients.ok.0)))
@@ -50,3 +54,9 @@ returns-clause-written g c =
 
 pub returns-clause-more : goal.returns-clause-more
 returns-clause-more g c = c.loop-client.invariant.more
+
+pub returns-clause-store : goal.returns-clause-store
+returns-clause-store g c = c.loop-client.invariant.store
+
+pub returns-clause-refusals : goal.returns-clause-refusals
+returns-clause-refusals g c = c.loop-client.invariant.refusals

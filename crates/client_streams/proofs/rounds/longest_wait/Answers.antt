@@ -7,7 +7,7 @@ use Rattle.client_streams.proofs.WaitLemmas.{longest_none, longest_more}
 use Rattle.client_streams.proofs.rounds.longest_wait.Goals as goal
 
 pub loop-client-init : goal.loop-client-init
-loop-client-init g c = record { within = omega arith; longest = longest_none c.args.sessions.now }
+loop-client-init g c = record { within = omega arith; longest = longest_none c.args.hub.now.sessions }
 
 pub loop-client-preserved : goal.loop-client-preserved
 loop-client-preserved g c =
@@ -20,8 +20,8 @@ loop-client-preserved g c =
     ∙ sym (take-suc clients i client lt)) in
     record {
       within = omega (arith, lt);
-      longest = subst (λ (l : List (Client g.row.S.Denot)). IsLongest c.args.sessions.now l c.longer-longest.result) more
-          (longest_more c.args.sessions.now (take i clients) client c.loop-client.longest c.longer-longest.result
+      longest = subst (λ (l : List (Client g.row.S.Denot)). IsLongest c.args.hub.now.sessions l c.longer-longest.result) more
+          (longest_more c.args.hub.now.sessions (take i clients) client c.loop-client.longest c.longer-longest.result
           c.loop-client.invariant.longest c.longer-longest.ensures.least c.longer-longest.ensures.own c.longer-longest.ensures.which);
     }
 
@@ -31,5 +31,5 @@ returns g c =
     let all : take c.loop-client.client-index clients ≡ clients =
     ap (λ (i : ℕ). take i clients) (omega (arith, c.loop-client-test.false, c.loop-client.invariant.within))
     ∙ take-length clients in
-    subst (λ (l : List (Client g.row.S.Denot)). IsLongest c.args.sessions.now l c.loop-client.longest) all
+    subst (λ (l : List (Client g.row.S.Denot)). IsLongest c.args.hub.now.sessions l c.loop-client.longest) all
     c.loop-client.invariant.longest

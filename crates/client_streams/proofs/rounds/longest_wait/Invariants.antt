@@ -6,5 +6,5 @@ use Rattle.client_streams.proofs.rounds.longest_wait.Given as goal
 abbrev pub invariant-loop-client : goal.invariant-loop-client
 invariant-loop-client g l = record {
   within : l.client-index ≤ length l.clients;
-  longest : IsLongest l.sessions (take l.client-index l.clients) l.longest;
+  longest : IsLongest l.hub.sessions (take l.client-index l.clients) l.longest;
 }

@@ -5,7 +5,7 @@ use Rattle.session_lines.specs.Lines.{IsUnfinished}
 use Rattle.std.specs.Prelude.{IsSome, IsSomeAnd}
 use Rattle.std.specs.Io.KnownBytes.{Keeps}
 use Rattle.std.specs.Bool.{OnTrue}
-use Rattle.chess_sessions.specs.Session.{session_at, Changes}
+use Rattle.chess_hub.specs.Session.{session_at, Changes}
 use Rattle.client_streams.specs.Clients.{standing, IsSilent, IsHeldUp}
 use Rattle.client_streams.specs.Closings.{HasFailed, WasRefused, IsForeign, IsReason}
 use Rattle.client_streams.specs.Incoming.{held}
@@ -20,19 +20,19 @@ pub returns-then-not-is_open-clause-read : goal.returns-then-not-is_open-clause-
 returns-then-not-is_open-clause-read g c =
     let client = c.args.client.now in
     let room = c.args.room.now in
-    let m = session_at c.args.sessions.now client.sid in
+    let m = session_at c.args.hub.now.sessions client.sid in
     passed_over g.S.Read.remaining c.args.reading.silence c.args.reading.at room.longest client
-    (intake c.args.sessions.now room.lines)
+    (intake c.args.hub.now.sessions room.lines)
     (some_closed (λ s. IsHeldUp (waiting client.outgoing) (held client.incoming) s m) m (λ is. false≢true (sym c.if-not-is_open.true
-    ∙ c.is_open.ensures.1 (subst (λ sid. IsSome (session_at c.args.sessions.now sid)) (sym c.sid.ensures) is))))
+    ∙ c.is_open.ensures.1 (subst (λ sid. IsSome (session_at c.args.hub.now.sessions sid)) (sym c.sid.ensures) is))))
 
 pub returns-then-is_passed_over-clause-read : goal.returns-then-is_passed_over-clause-read
 returns-then-is_passed_over-clause-read g c =
     let client = c.args.client.now in
     let room = c.args.room.now in
-    let m = session_at c.args.sessions.now client.sid in
+    let m = session_at c.args.hub.now.sessions client.sid in
     passed_over g.S.Read.remaining c.args.reading.silence c.args.reading.at room.longest client
-    (intake c.args.sessions.now room.lines)
+    (intake c.args.hub.now.sessions room.lines)
     (up_unfinished (waiting client.outgoing) (held client.incoming) m m (c.is_passed_over.ensures c.if-is_passed_over.true))
 
 -- Nothing came: the session may be closed.
@@ -41,10 +41,10 @@ returns-then-is_quiet-clause-read g c =
     let rest = g.S.Read.remaining in
     let client = c.args.client.now in
     let after = c.take_in-any.new.self in
-    let old = c.args.sessions.now in
-    let between = c.take_in-any.new.sessions in
+    let old = c.args.hub.now.sessions in
+    let between = c.take_in-any.new.hub.sessions in
     let last = c.close_silent.new.client in
-    let new = c.close_silent.new.sessions in
+    let new = c.close_silent.new.hub.sessions in
     let done = c.close_silent.result in
     let room = c.args.room.now.lines in
     let longest = c.args.room.now.longest in
@@ -77,8 +77,8 @@ returns-clause-read g c =
     let rest = g.S.Read.remaining in
     let client = c.args.client.now in
     let after = c.take_in-any.new.self in
-    let old = c.args.sessions.now in
-    let new = c.take_in-any.new.sessions in
+    let old = c.args.hub.now.sessions in
+    let new = c.take_in-any.new.hub.sessions in
     let room = c.args.room.now.lines in
     let longest = c.args.room.now.longest in
     let left = c.take_in-any.new.room.lines in

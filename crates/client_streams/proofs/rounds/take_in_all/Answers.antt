@@ -1,5 +1,5 @@
 -- One client more is read for.
-use Rattle.std.proofs.Common.{◌<◌, ◌+◌, ℕ, List, length, set, ap, subst, sym, ◌∙◌, arith}
+use Rattle.std.proofs.Common.{◌<◌, ◌+◌, ℕ, List, length, set, ap, refl, subst, sym, ◌∙◌, arith}
 use Rattle.std.proofs.lemmas.Bool.{false≢true}
 use Rattle.std.proofs.lemmas.List.{with_items_is}
 use Rattle.client_streams.specs.declared.client.Client.{Client}
@@ -11,7 +11,7 @@ use Rattle.client_streams.proofs.rounds.take_in_all.Goals as goal
 pub loop-client-init : goal.loop-client-init
 loop-client-init g c =
     let clients = c.args.clients.now.items in
-    let sessions = c.args.sessions.now in
+    let sessions = c.args.hub.now.sessions in
     let items = c.deref_mut-client-items.result.now in
     let room = c.new-room.result in
     let start = intake sessions 1 in
@@ -23,6 +23,8 @@ loop-client-init g c =
           (subst (λ (l : List (Client g.row.S.Denot)). IsLongest sessions l c.longest_wait.result) c.deref.ensures.value
           c.longest_wait.ensures);
       more = λ is. absurd (false≢true is);
+      store = refl;
+      refusals = refl;
     }
 
 pub bounds-client-items-client-index : goal.bounds-client-items-client-index
@@ -43,16 +45,18 @@ loop-client-preserved g c =
     record {
       done = subst (λ (n : ℕ). IsDoneTo Holds (IsRead g.S.Read.remaining c.args.reading.silence c.args.reading.at n)
           (c.loop-client.client-index + 1) c.args.clients.now.items
-          (set items c.loop-client.client-index c.read_for-any.new.client) (intake c.args.sessions.now 1)
-          (intake c.read_for-any.new.sessions last.lines)) (sym same)
+          (set items c.loop-client.client-index c.read_for-any.new.client) (intake c.args.hub.now.sessions 1)
+          (intake c.read_for-any.new.hub.sessions last.lines)) (sym same)
           (done_further Holds holds-refl
           (IsRead g.S.Read.remaining c.args.reading.silence c.args.reading.at room.longest)
           (read_after g.S.Read.remaining c.args.reading.silence c.args.reading.at room.longest)
           c.args.clients.now.items items c.loop-client.client-index c.client-item.result c.read_for-any.new.client
-          (intake c.args.sessions.now 1) (intake c.loop-client.sessions room.lines)
-          (intake c.read_for-any.new.sessions last.lines) lt so_far.done c.read_for-any.ensures.read);
-      longest = subst (λ (n : ℕ). IsLongest c.args.sessions.now c.args.clients.now.items n) (sym same) so_far.longest;
+          (intake c.args.hub.now.sessions 1) (intake c.loop-client.hub.sessions room.lines)
+          (intake c.read_for-any.new.hub.sessions last.lines) lt so_far.done c.read_for-any.ensures.read);
+      longest = subst (λ (n : ℕ). IsLongest c.args.hub.now.sessions c.args.clients.now.items n) (sym same) so_far.longest;
       more = λ is. omega (arith, lt, so_far.done.whole);
+      store = c.read_for-any.ensures.store ∙ so_far.store;
+      refusals = c.read_for-any.ensures.refusals ∙ so_far.refusals;
     }
 
 pub returns-clause-all : goal.returns-clause-all
@@ -68,8 +72,8 @@ returns-clause-read g c =
     let items = c.loop-client.client-items in
     let so_far = c.loop-client.invariant.done in
     let room = c.loop-client.room in
-    let old = intake c.args.sessions.now 1 in
-    let new = intake c.loop-client.sessions room.lines in
+    let old = intake c.args.hub.now.sessions 1 in
+    let new = intake c.loop-client.hub.sessions room.lines in
     let Done = IsRead g.S.Read.remaining c.args.reading.silence c.args.reading.at room.longest in
     let same = with_items_is clients items (so_far.whole ∙ sym clients.ok.0) in (
       room.lines,
@@ -82,3 +86,9 @@ returns-clause-read g c =
 
 pub returns-clause-more : goal.returns-clause-more
 returns-clause-more g c = c.loop-client.invariant.more
+
+pub returns-clause-store : goal.returns-clause-store
+returns-clause-store g c = c.loop-client.invariant.store
+
+pub returns-clause-refusals : goal.returns-clause-refusals
+returns-clause-refusals g c = c.loop-client.invariant.refusals

@@ -1,16 +1,16 @@
 -- What the session is given goes to the connection.
 use Rattle.std.proofs.Common.{ap, subst}
 use Rattle.std.specs.Prelude.{IsSome}
-use Rattle.chess_sessions.specs.Session.{session_at}
+use Rattle.chess_hub.specs.Session.{session_at}
 use Rattle.client_streams.proofs.RoundLemmas.{not_closed, skipped}
 use Rattle.client_streams.proofs.rounds.write_for.Goals as goal
 
-pub returns-then-not-is_open : goal.returns-then-not-is_open
-returns-then-not-is_open g c = skipped g.S.Write.contents c.args.client.now c.args.sessions.now
+pub returns-then-not-is_open-clause-written : goal.returns-then-not-is_open-clause-written
+returns-then-not-is_open-clause-written g c = skipped g.S.Write.contents c.args.client.now c.args.hub.now.sessions
 
-pub returns : goal.returns
-returns g c =
-    let old = c.args.sessions.now in
+pub returns-clause-written : goal.returns-clause-written
+returns-clause-written g c =
+    let old = c.args.hub.now.sessions in
     let open_now = subst (λ sid. IsSome (session_at old sid)) c.sid.ensures
     (c.is_open.ensures.0 c.if-not-is_open.false) in
     record {

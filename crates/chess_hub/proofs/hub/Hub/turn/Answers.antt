@@ -1,10 +1,10 @@
 use Rattle.std.proofs.Common.{◌≡◌, ◌∙◌, List, Err, length, map, refl, sym, subst}
 use Rattle.std.proofs.lemmas.Result.{err_from_is_err_and}
 use Rattle.chess_entry.specs.declared.commands.Command.{Command}
-use Rattle.chess_sessions.specs.declared.turn.TurnLine.{TurnLine}
-use Rattle.chess_sessions.specs.Session.{said}
-use Rattle.chess_sessions.specs.Answers.{name_at, commands_of, AreAnswers}
-use Rattle.chess_sessions.specs.Delivery.{HaveRoom}
+use Rattle.chess_hub.specs.declared.turn.TurnLine.{TurnLine}
+use Rattle.chess_hub.specs.Session.{said}
+use Rattle.chess_hub.specs.Answers.{name_at, commands_of, AreAnswers}
+use Rattle.chess_hub.specs.Delivery.{HaveRoom}
 use Rattle.chess_store.specs.Batch.{AreAnswered}
 use Rattle.chess_store.specs.declared.fault.StoreFault.{StoreFault}
 use Rattle.chess_hub.specs.declared.fault.HubFault.TheVariants.{NoMemory}

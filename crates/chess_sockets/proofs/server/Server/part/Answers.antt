@@ -2,7 +2,7 @@
 use Rattle.std.proofs.Common.{rules}
 use Rattle.std.specs.Prelude.{is_some}
 use Rattle.std.proofs.lemmas.Fn.{filter_same}
-use Rattle.chess_sessions.specs.Session.{session_at}
+use Rattle.chess_hub.specs.Session.{session_at}
 use Rattle.chess_sockets.proofs.server.Server.part.Goals as goal
 
 pub returns-clause-stay : goal.returns-clause-stay

@@ -1,6 +1,6 @@
 -- The session is given the portion, or nothing.
 use Rattle.std.proofs.Common.{◌∙◌, ℕ, List, IfSome, ap, inl, inr, length, length-append, refl, subst, sym, rules, arith}
-use Rattle.chess_sessions.specs.Session.{session_at}
+use Rattle.chess_hub.specs.Session.{session_at}
 use Rattle.std.proofs.lemmas.Bool.{false≢true, lt-ltb, le-ltb}
 use Rattle.client_streams.specs.Clients.{standing, GivesOn}
 use Rattle.client_streams.specs.Protocols.{AreOfAnotherProtocol}
@@ -20,14 +20,14 @@ feed-requires-clause-portion g c = c.portion-portion.ensures.portion.given
 
 pub feed-requires-clause-alone : goal.feed-requires-clause-alone
 feed-requires-clause-alone g c =
-    none_lines (session_at c.args.sessions.now c.args.self.now.sid) c.waiting.result c.waiting.ensures
+    none_lines (session_at c.args.hub.now.sessions c.args.self.now.sid) c.waiting.result c.waiting.ensures
     (omega (arith, c.if-waiting-gt0.false))
 
 pub returns-then-waiting-gt0-clause-gives : goal.returns-then-waiting-gt0-clause-gives
 returns-then-waiting-gt0-clause-gives g c =
     let client = c.args.self.now in
     let room = c.args.room.now in
-    let m = session_at c.args.sessions.now client.sid in
+    let m = session_at c.args.hub.now.sessions client.sid in
     gives-none-up (standing client) (standing client) room.lines room.longest m m (waiting client.outgoing) (held client.incoming) refl
     (up_lines (waiting client.outgoing) (held client.incoming) m m c.waiting.result c.waiting.ensures (omega (arith, c.if-waiting-gt0.true))) refl
 
@@ -35,7 +35,7 @@ pub returns-then-not-admit-clause-gives : goal.returns-then-not-admit-clause-giv
 returns-then-not-admit-clause-gives g c =
     let client = c.args.self.now in
     let room = c.args.room.now in
-    let m = session_at c.args.sessions.now client.sid in
+    let m = session_at c.args.hub.now.sessions client.sid in
     let cut = c.portion-portion.ensures.portion in
     gives-none-yet (standing client) _ room.lines c.admit.new.self.lines room.longest m (waiting client.outgoing) (held client.incoming)
     c.portion-portion.result.now cut.rest c.if-not-admit.ensures.refused cut.order
@@ -50,8 +50,8 @@ returns-then-feed-clause-gives g c =
     let portion = c.portion-portion.result.now in
     let cut = c.portion-portion.ensures.portion in
     let keeps = held c.give_up.new.self in
-    gives-fed (standing client) _ room.lines c.admit.new.self.lines room.longest (session_at c.args.sessions.now sid)
-    (session_at c.feed.new.sessions sid) (waiting client.outgoing) holds portion keeps
+    gives-fed (standing client) _ room.lines c.admit.new.self.lines room.longest (session_at c.args.hub.now.sessions sid)
+    (session_at c.feed.new.hub.sessions sid) (waiting client.outgoing) holds portion keeps
     (cut-off holds portion cut.rest keeps cut.order c.give_up.ensures)
     (most-left holds portion cut.rest keeps cut.order c.give_up.ensures cut.most) c.admit.ensures.fewer
     c.if-not-admit.ensures.dear c.admit.ensures.spent c.if-feed.ensures.heard c.give_up.ensures
@@ -65,19 +65,19 @@ returns-else-feed-clause-gives g c =
     let client = c.args.self.now in
     let room = c.args.room.now in
     let sid = client.sid in
-    gives-closed (standing client) (standing client) room.lines c.admit.new.self.lines room.longest (session_at c.args.sessions.now sid)
-    (session_at c.feed.new.sessions sid) (waiting client.outgoing) (held client.incoming) c.admit.ensures.fewer
+    gives-closed (standing client) (standing client) room.lines c.admit.new.self.lines room.longest (session_at c.args.hub.now.sessions sid)
+    (session_at c.feed.new.hub.sessions sid) (waiting client.outgoing) (held client.incoming) c.admit.ensures.fewer
     c.if-feed.ensures.closed refl
 
 -- who is not refused memory is not closed
 
 pub returns-then-waiting-gt0-clause-reason : goal.returns-then-waiting-gt0-clause-reason
 returns-then-waiting-gt0-clause-reason g c =
-    not_closed (session_at c.args.sessions.now c.args.self.now.sid) _ c.requires
+    not_closed (session_at c.args.hub.now.sessions c.args.self.now.sid) _ c.requires
 
 pub returns-then-not-admit-clause-reason : goal.returns-then-not-admit-clause-reason
 returns-then-not-admit-clause-reason g c =
-    not_closed (session_at c.args.sessions.now c.args.self.now.sid) _ c.requires
+    not_closed (session_at c.args.hub.now.sessions c.args.self.now.sid) _ c.requires
 
 pub returns-then-feed-clause-reason : goal.returns-then-feed-clause-reason
 returns-then-feed-clause-reason g c =
@@ -88,11 +88,11 @@ returns-else-feed-clause-reason g c = λ none. inl c.if-feed.ensures.refused
 
 pub returns-then-waiting-gt0-clause-refused : goal.returns-then-waiting-gt0-clause-refused
 returns-then-waiting-gt0-clause-refused g c =
-    not_closed (session_at c.args.sessions.now c.args.self.now.sid) _ c.requires
+    not_closed (session_at c.args.hub.now.sessions c.args.self.now.sid) _ c.requires
 
 pub returns-then-not-admit-clause-refused : goal.returns-then-not-admit-clause-refused
 returns-then-not-admit-clause-refused g c =
-    not_closed (session_at c.args.sessions.now c.args.self.now.sid) _ c.requires
+    not_closed (session_at c.args.hub.now.sessions c.args.self.now.sid) _ c.requires
 
 pub returns-then-feed-clause-refused : goal.returns-then-feed-clause-refused
 returns-then-feed-clause-refused g c =
@@ -117,8 +117,8 @@ returns-then-is_foreign-clause-gives g c =
     let after = c.close.new.self in
     let room = c.args.room.now in
     let holds = held client.incoming in
-    let m = session_at c.args.sessions.now client.sid in
-    let n = session_at c.close.new.sessions client.sid in
+    let m = session_at c.args.hub.now.sessions client.sid in
+    let n = session_at c.close.new.hub.sessions client.sid in
     let unsent = waiting client.outgoing in
     let (sid, ended, quiet, keeps, waits, stream, heard_at, still) = c.close.ensures.peer in
     subst (λ (l : List ℕ). IfSome m (λ s. GivesOn room.lines room.lines room.longest unsent holds l (standing client)

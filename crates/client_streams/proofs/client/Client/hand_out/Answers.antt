@@ -2,7 +2,7 @@
 use Rattle.std.proofs.Common.{◌≡◌, ◌↔◌, ◌∙◌, ℕ, Bool, true, false, List, [], Option, None, IfSome, ap, inr, refl, subst, sym}
 use Rattle.std.specs.Prelude.{IsTrue}
 use Rattle.session_lines.specs.Lines.{IsUnfinished}
-use Rattle.chess_sessions.specs.Session.{Changes, session_at, due}
+use Rattle.chess_hub.specs.Session.{Changes, session_at, due}
 use Rattle.client_streams.specs.declared.closing.Closing.TheVariants.{NoMemory, End, Farewell}
 use Rattle.client_streams.specs.Clients.{IsOpen, HandsOut, to_go}
 use Rattle.client_streams.specs.Incoming.{held}
@@ -17,9 +17,9 @@ returns-then-is_over-clause-given g c =
     let client = c.args.self.now in
     let wrote = c.write_out.new.self in
     let after = c.close-then-is_over.new.self in
-    let old = c.args.sessions.now in
-    let mid = c.write_out.new.sessions in
-    let new = c.close-then-is_over.new.sessions in
+    let old = c.args.hub.now.sessions in
+    let mid = c.write_out.new.hub.sessions in
+    let new = c.close-then-is_over.new.hub.sessions in
     let contents = g.S.Write.contents in
     let at = session_at mid wrote.sid in
     let sent = c.in-Ok.wrote.sent in
@@ -58,9 +58,9 @@ pub returns-in_default-clause-given : goal.returns-in_default-clause-given
 returns-in_default-clause-given g c =
     let client = c.args.self.now in
     let wrote = c.write_out.new.self in
-    let old = c.args.sessions.now in
-    let mid = c.write_out.new.sessions in
-    let new = c.close.new.sessions in
+    let old = c.args.hub.now.sessions in
+    let mid = c.write_out.new.hub.sessions in
+    let new = c.close.new.hub.sessions in
     let after = c.close.new.self in
     let contents = g.S.Write.contents in
     let closed = subst (λ (n : ℕ). Changes mid new n None) c.write_out.ensures.peer.0 c.close.ensures.closed in
@@ -77,8 +77,8 @@ returns-clause-given g c =
     let client = c.args.self.now in
     let wrote = c.write_out.new.self in
     let after = c.is_over.new.self in
-    let old = c.args.sessions.now in
-    let mid = c.write_out.new.sessions in
+    let old = c.args.hub.now.sessions in
+    let mid = c.write_out.new.hub.sessions in
     let contents = g.S.Write.contents in
     let kept = c.is_over.ensures.peer in
     goes_on_open contents client after old mid c.write_out.ensures.given

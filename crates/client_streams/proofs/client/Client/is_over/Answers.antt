@@ -4,7 +4,7 @@ use Rattle.std.specs.Prelude.{IsTrue, ◌↔◌, ◌==◌}
 use Rattle.std.proofs.lemmas.Bool.{false≢true}
 use Rattle.std.proofs.lemmas.Bool.Decides.{Decides-eqb}
 use Rattle.session_lines.specs.Lines.{IsUnfinished}
-use Rattle.chess_sessions.specs.Session.{SessionState, session_at}
+use Rattle.chess_hub.specs.Session.{SessionState, session_at}
 use Rattle.client_streams.specs.declared.client.Client.{Client}
 use Rattle.client_streams.specs.declared.outgoing.Sent.{Sent}
 use Rattle.client_streams.specs.declared.outgoing.Sent.TheVariants.{All, Part, Fault}
@@ -80,12 +80,12 @@ returns-then-self-2-clause-part g c = λ part. part_all c.args.wrote.sent part c
 pub returns-then-self-2-clause-answered : goal.returns-then-self-2-clause-answered
 returns-then-self-2-clause-answered g c = λ all.
     has_left c.args.self.now c.args.wrote.any c.if-self.value c.saturating_sub-self.result c.ended.result
-    (session_at c.args.sessions.now c.args.self.now.sid) c.if-ended.true c.ended.ensures
+    (session_at c.args.hub.now.sessions c.args.self.now.sid) c.if-ended.true c.ended.ensures
 
 pub returns-then-self-2-clause-left : goal.returns-then-self-2-clause-left
 returns-then-self-2-clause-left g c = λ all.
     leaves c.args.self.now c.args.wrote.any c.if-self.value c.saturating_sub-self.result c.ended.result
-    (session_at c.args.sessions.now c.args.self.now.sid) c.saturating_sub-self.ensures (
+    (session_at c.args.hub.now.sessions c.args.self.now.sid) c.saturating_sub-self.ensures (
       λ is. elim c.if-self.branch [
         | then-self w ↦ inl w.if-self.true
         | else-self w ↦ inr (inl (sym w.value-is ∙ c.if-self-2.true))
@@ -104,7 +104,7 @@ returns-else-self-2-clause-part g c = λ part. part_all c.args.wrote.sent part c
 pub returns-else-self-2-clause-answered : goal.returns-else-self-2-clause-answered
 returns-else-self-2-clause-answered g c = λ all.
     has_left c.args.self.now c.args.wrote.any (c.saturating_sub-self.result == 0) c.saturating_sub-self.result c.ended.result
-    (session_at c.args.sessions.now c.args.self.now.sid) c.if-ended.true c.ended.ensures
+    (session_at c.args.hub.now.sessions c.args.self.now.sid) c.if-ended.true c.ended.ensures
 
 pub returns-else-self-2-clause-left : goal.returns-else-self-2-clause-left
 returns-else-self-2-clause-left g c = λ all.
@@ -114,7 +114,7 @@ returns-else-self-2-clause-left g c = λ all.
       | then-self w ↦ absurd (false≢true (sym c.if-self-2.false ∙ (w.value-is ∙ w.if-self.true)))
       | else-self w ↦ (w.if-self.false, sym w.value-is ∙ c.if-self-2.false)
     ] in
-    leaves client c.args.wrote.any (c.saturating_sub-self.result == 0) left c.ended.result (session_at c.args.sessions.now client.sid)
+    leaves client c.args.wrote.any (c.saturating_sub-self.result == 0) left c.ended.result (session_at c.args.hub.now.sessions client.sid)
     c.saturating_sub-self.ensures (
       λ is. inr (inr (omega (arith, c.saturating_sub-self.ensures, (Decides-eqb left 0).0 is))),
       λ soon. elim soon [
@@ -135,7 +135,7 @@ returns-then-waiting-eq0-clause-part g c = λ part. part_all c.args.wrote.sent p
 pub returns-then-waiting-eq0-clause-left : goal.returns-then-waiting-eq0-clause-left
 returns-then-waiting-eq0-clause-left g c = λ all.
     stays_on c.args.self.now c.args.wrote.any c.is_unfinished.result c.args.self.now.patience c.ended.result
-    (session_at c.args.sessions.now c.args.self.now.sid) c.if-ended.false c.ended.ensures
+    (session_at c.args.hub.now.sessions c.args.self.now.sid) c.if-ended.false c.ended.ensures
 
 -- it has not left, and goes on
 
@@ -148,4 +148,4 @@ returns-else-waiting-eq0-clause-part g c = λ part. part_all c.args.wrote.sent p
 pub returns-else-waiting-eq0-clause-left : goal.returns-else-waiting-eq0-clause-left
 returns-else-waiting-eq0-clause-left g c = λ all.
     stays_on c.args.self.now c.args.wrote.any c.if-not-wrote.value c.args.self.now.patience c.ended.result
-    (session_at c.args.sessions.now c.args.self.now.sid) c.if-ended.false c.ended.ensures
+    (session_at c.args.hub.now.sessions c.args.self.now.sid) c.if-ended.false c.ended.ensures

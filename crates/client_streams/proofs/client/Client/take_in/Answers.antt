@@ -1,7 +1,7 @@
 -- What came is held back, and then the session is given what stands in front.
 use Rattle.std.proofs.Common.{◌≡◌, ◌∙◌, ◌⊎◌, ℕ, List, Option, None, IfSome, inl, inr, ap, refl, subst, sym, arith}
 use Rattle.std.proofs.lemmas.Bool.{false≢true}
-use Rattle.chess_sessions.specs.Session.{Changes, session_at}
+use Rattle.chess_hub.specs.Session.{Changes, session_at}
 use Rattle.client_streams.specs.Clients.{Standing, standing, GivesOn, TakesIn}
 use Rattle.client_streams.specs.Closings.{WasRefused, IsTrouble}
 use Rattle.client_streams.specs.Incoming.{held}
@@ -16,7 +16,7 @@ pub returns-then-not-is_empty-clause-taken : goal.returns-then-not-is_empty-clau
 returns-then-not-is_empty-clause-taken g c =
     let client = c.args.self.now in
     let room = c.args.room.now in
-    let m = session_at c.args.sessions.now client.sid in
+    let m = session_at c.args.hub.now.sessions client.sid in
     let bytes = g.S.Read.remaining client.wire.stream in
     let holds = held client.incoming in
     let unsent = waiting client.outgoing in
@@ -30,8 +30,8 @@ pub returns-then-not-is_unfinished-clause-taken : goal.returns-then-not-is_unfin
 returns-then-not-is_unfinished-clause-taken g c =
     let client = c.args.self.now in
     let after = c.hand_on.new.self in
-    let old = c.args.sessions.now in
-    let new = c.hand_on.new.sessions in
+    let old = c.args.hub.now.sessions in
+    let new = c.hand_on.new.hub.sessions in
     let rest = g.S.Read.remaining in
     let room = c.args.room.now in
     let unsent = waiting client.outgoing in
@@ -60,8 +60,8 @@ returns-in-Fault-clause-taken g c =
     let after = c.close.new.self in
     let room = c.args.room.now.lines in
     let longest = c.args.room.now.longest in
-    let old = c.args.sessions.now in
-    let new = c.close.new.sessions in
+    let old = c.args.hub.now.sessions in
+    let new = c.close.new.hub.sessions in
     let rest = g.S.Read.remaining in
     let unsent = waiting client.outgoing in
     let closed = subst (λ (n : ℕ). Changes old new n None) c.read_more.ensures.peer.0 c.close.ensures.closed in
@@ -98,8 +98,8 @@ returns-in-Bytes-clause-taken g c =
     let room = c.args.room.now.lines in
     let longest = c.args.room.now.longest in
     let left = c.hand_on-in-Bytes.new.room.lines in
-    let old = c.args.sessions.now in
-    let new = c.hand_on-in-Bytes.new.sessions in
+    let old = c.args.hub.now.sessions in
+    let new = c.hand_on-in-Bytes.new.hub.sessions in
     let rest = g.S.Read.remaining in
     let unsent = waiting client.outgoing in
     let (same, waits, still) = c.read_more.ensures.peer in
@@ -167,15 +167,15 @@ returns-in-Bytes-clause-ended g c =
 
 pub returns-then-not-is_empty-clause-reason : goal.returns-then-not-is_empty-clause-reason
 returns-then-not-is_empty-clause-reason g c =
-    not_closed (session_at c.args.sessions.now c.args.self.now.sid) _ c.requires
+    not_closed (session_at c.args.hub.now.sessions c.args.self.now.sid) _ c.requires
 
 pub returns-in-Nothing-clause-reason : goal.returns-in-Nothing-clause-reason
 returns-in-Nothing-clause-reason g c =
-    not_closed (session_at c.args.sessions.now c.args.self.now.sid) _ c.requires
+    not_closed (session_at c.args.hub.now.sessions c.args.self.now.sid) _ c.requires
 
 pub returns-in-End-clause-reason : goal.returns-in-End-clause-reason
 returns-in-End-clause-reason g c =
-    not_closed (session_at c.args.sessions.now c.args.self.now.sid) _ c.requires
+    not_closed (session_at c.args.hub.now.sessions c.args.self.now.sid) _ c.requires
 
 pub returns-in-Fault-clause-reason : goal.returns-in-Fault-clause-reason
 returns-in-Fault-clause-reason g c =
@@ -184,7 +184,7 @@ returns-in-Fault-clause-reason g c =
 
 pub returns-in-Bytes-clause-reason : goal.returns-in-Bytes-clause-reason
 returns-in-Bytes-clause-reason g c =
-    subst (λ (n : ℕ). session_at c.hand_on-in-Bytes.new.sessions n ≡ None → IsTrouble c.hand_on-in-Bytes.new.self)
+    subst (λ (n : ℕ). session_at c.hand_on-in-Bytes.new.hub.sessions n ≡ None → IsTrouble c.hand_on-in-Bytes.new.self)
     c.read_more.ensures.peer.0 c.hand_on-in-Bytes.ensures.reason
 
 -- who takes room and is closed was refused memory
@@ -193,6 +193,6 @@ pub returns-then-not-is_unfinished-clause-refused : goal.returns-then-not-is_unf
 returns-then-not-is_unfinished-clause-refused g c = c.hand_on.ensures.refused
 
 pub returns-in-Bytes-clause-refused : goal.returns-in-Bytes-clause-refused
-returns-in-Bytes-clause-refused g c = subst (λ (n : ℕ). session_at c.hand_on-in-Bytes.new.sessions n ≡ None
+returns-in-Bytes-clause-refused g c = subst (λ (n : ℕ). session_at c.hand_on-in-Bytes.new.hub.sessions n ≡ None
     → (c.hand_on-in-Bytes.new.room.lines ≡ c.args.room.now.lines) ⊎ WasRefused c.hand_on-in-Bytes.new.self)
     c.read_more.ensures.peer.0 c.hand_on-in-Bytes.ensures.refused

@@ -7,7 +7,7 @@ use Rattle.line_loop.proofs.loops.LoopState.answer_all.Goals as goal
 
 pub loop-count-init : goal.loop-count-init
 loop-count-init g c = record {
-  stands = stands-first g.A.Answerer.is_ready g.A.Answerer.answers (g.S.LineSource.remaining c.args.source.now)
+  stands = stands-first g.A.Answerer.is_ready g.A.Answerer.answers (g.R.Read.remaining c.args.reader.now)
       (moment_of c.args.self.now (g.W.Write.contents c.args.writer.now)) c.requires.asked c.requires.empty
       c.requires.nothing;
   works = refl;
@@ -23,8 +23,8 @@ loop-count-preserved g c = record {
 
 pub returns-in-Ok-eq0-clause-ended : goal.returns-in-Ok-eq0-clause-ended
 returns-in-Ok-eq0-clause-ended g c =
-    let left = g.S.LineSource.remaining c.loop-count.source in
-    let later = g.S.LineSource.remaining c.next_piece.new.self in
+    let left = g.R.Read.remaining c.loop-count.reader in
+    let later = g.R.Read.remaining c.next_piece.new.reader in
     let read = subst (λ (n : ℕ). Consumes left later (take n c.next_piece.new.piece)) c.in-Ok-eq0.field-0-test
     c.in-Ok-eq0.ensures.bytes.0 in
     stands-all g.A.Answerer.is_ready g.A.Answerer.answers _ _ _ _ _

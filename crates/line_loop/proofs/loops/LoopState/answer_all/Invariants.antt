@@ -6,11 +6,11 @@ use Rattle.line_loop.proofs.loops.LoopState.answer_all.Given as goal
 
 abbrev pub invariant-loop-count : goal.invariant-loop-count
 invariant-loop-count g l = record {
-  stands : Stands g.A.Answerer.is_ready g.A.Answerer.answers (g.S.LineSource.remaining l.fn.source)
-      (g.S.LineSource.remaining l.source) (g.W.Write.contents l.fn.writer) l.fn.self.answerer
+  stands : Stands g.A.Answerer.is_ready g.A.Answerer.answers (g.R.Read.remaining l.fn.reader)
+      (g.R.Read.remaining l.reader) (g.W.Write.contents l.fn.writer) l.fn.self.answerer
       (moment_of l.self (g.W.Write.contents l.writer));
-  works : g.S.LineSource.has_failed l.source ≡ g.S.LineSource.has_failed l.fn.source;
+  works : l.reads.has_failed ≡ l.fn.reads.has_failed;
 }
 
 abbrev pub decreases-loop-count : goal.decreases-loop-count
-decreases-loop-count g l = g.S.LineSource.pieces_left l.source
+decreases-loop-count g l = l.reads.left

@@ -1,3 +1,0 @@
-pub mod RunLemmas
-pub mod TalkLemmas
-pub mod LawLemmas

@@ -1,3 +1,0 @@
-pub mod Moments
-pub mod Running
-pub mod Law

@@ -1,4 +1,0 @@
-pub mod Session
-pub mod Turn
-pub mod Answers
-pub mod Delivery

@@ -1,0 +1,10 @@
+-- The version stands in the line just where it stands in the rest.
+use Rattle.std.proofs.Common.{◌↔◌, length}
+use Rattle.client_streams.specs.Protocols.{IsRequest}
+use Rattle.client_streams.proofs.incoming.is_request.Given as goal
+
+abbrev pub invariant-loop : goal.invariant-loop
+invariant-loop l = IsRequest l.line ↔ IsRequest l.rest
+
+abbrev pub decreases-loop : goal.decreases-loop
+decreases-loop l = length l.rest
