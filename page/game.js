@@ -124,6 +124,7 @@ export class GameView {
   close() {
     this.number = 0;
     this.root.hidden = true;
+    document.body.classList.remove('plays');
     Object.values(this.clocks).forEach((clock) => clock.stop());
     for (const what of ['claim', 'resign', 'drop']) byId(`${what}-dialog`).close();
   }
@@ -298,6 +299,11 @@ export class GameView {
   isOffered() {
     const seat = this.seat();
     return this.running() && seat !== '' && this.standing.offer.includes(OTHER[seat]);
+  }
+
+  /** Whether one's own game goes on here. */
+  isPlaying() {
+    return this.running() && this.seat() !== '';
   }
 
   myTurn() {
@@ -615,6 +621,7 @@ export class GameView {
     this.root.classList.toggle('empty', !standing || this.gone);
     byId('no-game').hidden = !this.gone;
     setText(byId('no-game-words'), this.wasTaken ? TAKEN_OFF : refusalWords({ number: NO_GAME }));
+    document.body.classList.toggle('plays', !this.gone && this.isPlaying());
     if (!standing || this.gone) return;
     drawPlayers(this);
     this.renderBoard();

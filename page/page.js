@@ -6,6 +6,7 @@ import { HallView, wholeScreen } from './hall.js';
 import { isNoGame, readAct, readPlayers, readRefusal, readRows, readStanding } from './lines.js';
 import { byId, make, say, setText } from './make.js';
 import { hasLetters, listenToSettings } from './settings.js';
+import { sound } from './sound.js';
 import { TableView } from './table.js';
 import { Turns } from './turns.js';
 import { Who } from './who.js';
@@ -232,7 +233,7 @@ class Page {
 
   /** Whether one is at the board of a game of one's own that goes on. */
   isPlaying() {
-    return this.view === this.game && this.game.running() && this.game.seat() !== '';
+    return this.view === this.game && this.game.isPlaying();
   }
 
   /** A game of one's own that has begun since the table was first told; and one that runs already, for who comes by a
@@ -262,6 +263,7 @@ class Page {
       this.go(`/game/${number}`);
     }
     say(`${words}.`);
+    sound('offer');
     this.turns.tell(`${words}.`);
   }
 

@@ -13,6 +13,7 @@ export function drawPlayers(game) {
     root.classList.toggle('white', side === 'w');
     root.classList.toggle('black', side === 'b');
     root.classList.toggle('turn', turn);
+    root.classList.toggle('two-periods', Boolean(times && times.moves));
     root.classList.toggle('won', standing.result === (side === 'w' ? '1-0' : '0-1'));
     setText(root.querySelector('.name'), name ? game.app.nameWords(name) : 'waiting …');
     root.querySelector('.name').title = name;
@@ -100,8 +101,8 @@ export function drawActions(game) {
   show('join', !game.started() && !seat && me);
   show('drop', game.app.isArbiter() && !game.started());
   show('again', standing.article && seat && game.tags.TimeControl);
-  byId('move-form').hidden = !(runs && seat);
-  byId('actions').hidden = ![...byId('actions').children].some((one) => !one.hidden);
+  byId('move-form').hidden = !(runs && seat) || Boolean(game.proposed);
+  byId('actions').hidden = Boolean(game.proposed) || ![...byId('actions').children].some((one) => !one.hidden);
 }
 
 /** The move that waits to be agreed to: `knight g1–f3`. */

@@ -1,6 +1,7 @@
 """People before a browser: Chromium by Selenium, each person with a profile of their own."""
 
 import os
+import re
 import time
 
 from selenium import webdriver
@@ -148,7 +149,7 @@ class Person:
         """What the browser's console says is wrong: a breach of the policy, an error of a script."""
         return [entry['message'] for entry in self.driver.get_log('browser')
                 if entry['level'] == 'SEVERE' and 'WebSocket connection to' not in entry['message']
-                and 'ERR_CONNECTION_REFUSED' not in entry['message']]
+                and not re.search('ERR_(CONNECTION_(REFUSED|RESET)|EMPTY_RESPONSE)', entry['message'])]
 
     # ---- doing
 

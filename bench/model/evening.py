@@ -446,6 +446,8 @@ def room_for_all(hall):
             person.is_so(wide <= width, what + ': nothing is beyond the side')
             box = person.run('return document.querySelector("#board .board").getBoundingClientRect().toJSON()')
             person.is_so(box['top'] >= 0 and box['bottom'] <= height, '%s: the board is in sight: %s' % (what, box))
+            low = person.run('return document.querySelector("#near .clock").getBoundingClientRect().bottom')
+            person.is_so(low <= height, '%s: both clocks are in sight: %s' % (what, low))
             if not phone:
                 person.is_so(person.run(ROOM) >= 3, '%s: the list has room: %s rows' % (what, person.run(ROOM)))
         person.screen(1280, 800)

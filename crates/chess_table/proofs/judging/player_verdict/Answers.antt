@@ -16,4 +16,4 @@ returns-in-Some c =
 
 pub read_verdict-requires : goal.read_verdict-requires
 read_verdict-requires c =
-    other-reads c.args.act.now c.in_default.ensures.none c.in_default-act.not-Open c.in_default-act.not-Join
+    other-reads c.args.act.now c.in_default.ensures.none c.in_default-act.not-NewGame c.in_default-act.not-Join
