@@ -5,7 +5,7 @@ use Rattle.sector_journal.specs.declared.fault.JournalFault.{JournalFault}
 use Rattle.chess_table.specs.Widened.{with_limits}
 use Rattle.chess_store.proofs.WidenLemmas.{first_lasts, both_last}
 use Rattle.chess_store.proofs.CallLemmas.{ok_was}
-use Rattle.chess_store.proofs.widening.widen_to.Goals as goal
+use Rattle.chess_store.proofs.store.widening.widen_to.Goals as goal
 
 pub returns-in_err-switch_halves-in-One-clause-lasts : goal.returns-in_err-switch_halves-in-One-clause-lasts
 returns-in_err-switch_halves-in-One-clause-lasts g c = λ table sound taken kept.

@@ -2,7 +2,7 @@ use Rattle.std.proofs.Common.{[], length, arith}
 use Rattle.sector_journal.specs.Stands.{content}
 use Rattle.sector_journal.specs.Switches.{widened_header}
 use Rattle.chess_store.proofs.WidenLemmas.{records_within, widen_lasts, widened_by}
-use Rattle.chess_store.proofs.widening.widen_once.Goals as goal
+use Rattle.chess_store.proofs.store.widening.widen_once.Goals as goal
 
 pub widen-requires-clause-can : goal.widen-requires-clause-can
 widen-requires-clause-can g c =

@@ -2,7 +2,7 @@ use Rattle.std.proofs.Common.{[], ap, refl}
 use Rattle.rec_codec.specs.declared.header.Header.{Header}
 use Rattle.chess_store.proofs.CommitLemmas.{switch_lasts, tried_by}
 use Rattle.chess_store.proofs.WidenLemmas.{empty_batch}
-use Rattle.chess_store.proofs.widening.switch_halves.Goals as goal
+use Rattle.chess_store.proofs.store.widening.switch_halves.Goals as goal
 
 pub returns-clause-lasts : goal.returns-clause-lasts
 returns-clause-lasts g c = λ table sound taken kept.
