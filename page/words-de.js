@@ -386,9 +386,10 @@ export const WORDS = {
   'Only an arbiter may do that.': 'Das darf nur ein Schiedsrichter.',
   'That was too much within a second. Nothing was sent; try again.':
     'Das war zu viel in einer Sekunde. Nichts wurde gesendet; versuche es noch einmal.',
-  'Four of your games wait for an opponent already. Wait until one is joined, or ask an arbiter to take one off.':
-    'Vier deiner Partien warten schon auf einen Gegner. Warte, bis jemand einer beitritt, oder bitte einen '
-    + 'Schiedsrichter, eine vom Tisch zu nehmen.',
+  ['As many of your games as may wait for an opponent already. Wait until one is joined, or ask an arbiter to take '
+    + 'one off.']:
+    'So viele deiner Partien, wie dürfen, warten schon auf einen Gegner. Warte, bis jemand einer beitritt, oder '
+    + 'bitte einen Schiedsrichter, eine vom Tisch zu nehmen.',
   'The lobby has no connection to the game server at the moment. Nothing was done; try again soon.':
     'Die Lobby hat im Moment keine Verbindung zum Spielserver. Nichts ist geschehen; versuche es bald noch einmal.',
   'This page watches sixteen games already.': 'Diese Seite verfolgt schon sechzehn Partien.',
@@ -405,15 +406,23 @@ export const WORDS = {
     + 'beendete geht von selbst, sobald sie aufgehoben ist.',
   'This game waits for nobody, or for another player. Look at the table again.':
     'Diese Partie wartet auf niemanden oder auf einen anderen Spieler. Sieh noch einmal am Tisch nach.',
-  'You play in eight games already. End one first, or ask an arbiter.':
-    'Du spielst schon in acht Partien. Beende erst eine, oder frage einen Schiedsrichter.',
+  'The table is nearly full, and its last places are for arbiters. Wait until a game is taken off, or ask one.':
+    'Der Tisch ist fast voll, und seine letzten Plätze sind für Schiedsrichter. Warte, bis eine Partie vom Tisch '
+    + 'genommen ist, oder frage einen.',
+  ['Too many of your games that are over are still on the table. They go once they are kept; try again then, or ask '
+    + 'an arbiter.']:
+    'Zu viele deiner beendeten Partien sind noch am Tisch. Sie gehen, sobald sie aufgehoben sind; versuche es dann '
+    + 'wieder, oder frage einen Schiedsrichter.',
+  'You play in as many games as a player may. End one first, or ask an arbiter.':
+    'Du spielst in so vielen Partien, wie ein Spieler darf. Beende erst eine, oder frage einen Schiedsrichter.',
   'This player does not play in this game.': 'Dieser Spieler spielt in dieser Partie nicht mit.',
   'It is not this player’s turn.': 'Dieser Spieler ist nicht am Zug.',
   'No offer of a draw stands: it was declined, or a move was made.':
     'Kein Remisangebot steht: es wurde abgelehnt, oder ein Zug wurde gemacht.',
-  'Four games of this player wait for an opponent already: one of them has to be joined or taken off first.':
-    'Vier Partien dieses Spielers warten schon auf einen Gegner: erst muss jemand einer beitreten, oder eine vom '
-    + 'Tisch genommen werden.',
+  ['As many games of this player as may wait for an opponent already: one of them has to be joined or taken off '
+    + 'first.']:
+    'So viele Partien dieses Spielers, wie dürfen, warten schon auf einen Gegner: erst muss jemand einer beitreten, '
+    + 'oder eine vom Tisch genommen werden.',
   'The server refused it: {0} (number {1}).': 'Der Server hat es abgelehnt: {0} (Nummer {1}).',
   'A FEN has letters, digits and the signs / and - alone.':
     'Eine FEN hat nur Buchstaben, Ziffern und die Zeichen / und -.',

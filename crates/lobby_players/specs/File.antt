@@ -1,5 +1,5 @@
 -- The players' file.
-use Rattle.std.specs.Prelude.{ℕ, ◌≡◌, ◌≢◌, ◌-◌, Bool, true, false, ◌&&◌, ◌||◌, ◌==◌, not, nat_le, List, [], ◌∷◌, ◌++◌, length, codes, Ok, EachIndex, slice_index, map, filter, chars}
+use Rattle.std.specs.Prelude.{ℕ, ◌≡◌, ◌≢◌, ◌-◌, Bool, true, false, ◌&&◌, ◌==◌, not, nat_le, List, [], ◌∷◌, ◌++◌, length, codes, Ok, EachIndex, slice_index, map, filter, chars}
 use Rattle.std.specs.List.{AllZip, AllPairs, list_all, list_any}
 use Rattle.std.specs.Str.{bytes_eq, str_to_ascii_lowercase, str_eq_ignore_ascii_case}
 use Rattle.std.specs.String.{string_bytes}
@@ -45,8 +45,11 @@ hidden =
     ∷ (0x200b, 0x200f) ∷ (0x2028, 0x202e) ∷ (0x2060, 0x206f) ∷ (0x3164, 0x3164) ∷ (0xfe00, 0xfe0f) ∷ (0xfeff, 0xfeff)
     ∷ (0xffa0, 0xffa0) ∷ (0xfff0, 0xfffb) ∷ (0x1bca0, 0x1bca3) ∷ (0x1d173, 0x1d17a) ∷ (0xe0000, 0xe0fff) ∷ []
 
+abbrev pub is_among : List (ℕ × ℕ) → ℕ → Bool
+is_among rows c = list_any (λ row. is_from_to row.0 row.1 c) rows
+
 abbrev pub is_hidden : ℕ → Bool
-is_hidden c = list_any (λ row. is_from_to row.0 row.1 c) hidden
+is_hidden c = is_among hidden c
 
 abbrev pub is_seen : ℕ → Bool
 is_seen c = not (is_hidden c)

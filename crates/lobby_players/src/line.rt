@@ -94,11 +94,25 @@ const HIDDEN: [(char, char); 18] = [
     ('\u{e0000}', '\u{e0fff}'),
 ];
 
+// Whether a character is one of a row, from the first to the last.
+fn is_from_to(first: char, last: char, c: char) -> bool
+    ensures { result ≡ file.is_from_to first last c }
+{
+    first <= c && c <= last
+}
+
+// Whether a character is in one of these rows.
+fn is_among(rows: &[(char, char)], c: char) -> bool
+    ensures { result ≡ file.is_among rows.now c }
+{
+    rows.iter().any(|row| is_from_to(row.0, row.1, c))
+}
+
 // Whether a character is seen, and leaves others as they are.
 fn is_seen(c: char) -> bool
     ensures { result ≡ file.is_seen c }
 {
-    !HIDDEN.iter().any(|row| row.0 <= c && c <= row.1)
+    !is_among(HIDDEN.as_slice(), c)
 }
 
 // Whether each character is.
