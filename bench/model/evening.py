@@ -510,6 +510,68 @@ def read_by_all(hall):
             ann.is_so(unshown == '', 'what has the keys shows it: %s' % unshown)
 
 
+# The English texts that German says otherwise, and that are read on the page now.
+ENGLISH = '''const [done] = arguments;
+  import(new URL('words-de.js', location.href.split('#')[0])).then(({ WORDS }) => {
+    const texts = new Set(Object.keys(WORDS).filter((text) => WORDS[text] !== text && /[A-Za-z]{3}/.test(text)));
+    const seen = [...document.querySelectorAll('body *')].filter((e) => e.getClientRects().length).flatMap((e) => [
+      ...[...e.childNodes].filter((node) => node.nodeType === 3).map((node) => node.data.trim().replace(/\\s+/g, ' ')),
+      e.getAttribute('aria-label'), e.getAttribute('title'), e.getAttribute('placeholder')]);
+    done([...new Set(seen.filter((text) => texts.has(text)))]); });'''
+
+
+def in_german(hall):
+    """All words in German, by the switch or by what the browser wants, also in what is said; and English again."""
+    hall.sit()
+    number = hall.open(minutes='20')
+    ann, bob, sue = hall.ann, hall.bob, hall.sue
+    ann.click('#settings summary')
+    ann.click('.choice:has([name=language][value=de])')
+    ann.until(lambda: ann.run('return document.documentElement.lang') == 'de', 'chosen')
+    ann.reads('#outcome', 'Du bist am Zug')
+    ann.is_so(ann.driver.title.startswith('Du bist am Zug'), 'the tab too')
+    ann.run('document.querySelector(\'#board [data-square="e2"]\').focus()')
+    square = ann.run('return document.activeElement.getAttribute("aria-label")')
+    ann.is_so(square == 'e2, weißer Bauer', 'and the squares: %s' % square)
+    left = lambda person: person.driver.execute_async_script(ENGLISH)
+    ann.is_so(left(ann) == [], 'nothing is English at the board: %s' % left(ann))
+    ann.click_move('f2f3')
+    bob.until(lambda: bob.moves() == ['f3'], 'a move')
+    hall.play(FOOLS[1:2], 1)
+    ann.until(lambda: 'Schwarz: e5' in ann.said(), 'what is said')
+    ann.run('location.hash = "#/"')
+    ann.until(lambda: ann.sees('#open-game'), 'the table')
+    ann.is_so(left(ann) == [], 'nor at the table: %s' % left(ann))
+    ann.run('location.hash = "#/game/%s"' % number)
+    hall.play(FOOLS[2:], 2)
+    ann.reads('#outcome', 'Schwarz gewinnt durch Matt')
+    ann.reads('#outcome', 'Artikel 5.1.1 der FIDE-Regeln')
+    ann.is_so(ann.moves()[-1] == 'Qh4#' and left(ann) == [], 'SAN stays as it is')
+    sue.run('localStorage.setItem("language", "de")')
+    sue.run('location.hash = "#" + arguments[0]', hall.lobby.tokens['eve'])
+    sue.driver.refresh()
+    sue.click('#to-arbiter')
+    sue.until(lambda: sue.sees('#arbiter-desk'), 'the desk')
+    for panel in ('pair-by-hand', 'players-and-links'):
+        sue.run('document.getElementById(arguments[0]).open = true', panel)
+    sue.until(lambda: sue.sees('[data-key="new-link-bob"]'), 'its parts')
+    sue.is_so(left(sue) == [], 'nor at the desk: %s' % left(sue))
+    for person in (ann, sue):
+        for width, height, phone in SCREENS:
+            person.screen(width, height, 1, phone)
+            time.sleep(0.2)
+            wide = person.run('return document.documentElement.scrollWidth')
+            person.is_so(wide <= width, 'longer words fit into %d: %d' % (width, wide))
+            cut = person.run('''return [...document.querySelectorAll('button')].filter((e) => e.getClientRects().length
+                && e.scrollWidth > e.clientWidth + 1).map((e) => e.textContent)''')
+            person.is_so(cut == [], 'and none is cut off at %d: %s' % (width, cut))
+        person.screen(1280, 800)
+    for person in (ann, sue):
+        person.run('localStorage.removeItem("language")')
+        person.driver.refresh()
+        person.until(lambda: person.run('return document.documentElement.lang') == 'en', 'English again')
+
+
 NEEDS_CONTROL_TOO = (no_dead_buttons, slow_answers)
 EVENING = (no_dead_buttons, handy_moves, planned_moves, asked_first, heard_tones, own_marks, taken_men, boards_and_men,
-           told_elsewhere, slow_answers, foreign_links, room_for_all, read_by_all)
+           told_elsewhere, slow_answers, foreign_links, room_for_all, read_by_all, in_german)

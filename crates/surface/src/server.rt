@@ -1,5 +1,5 @@
-//! One board from a reader to a writer, and a server on a port. They stand in `board_session` and in `chess_sockets`, as
-//! nothing can call into `chess_server`, a program.
+//! One board from a reader to a writer, and a server on a port. They stand in `board_session` and in `chess_sockets`,
+//! as nothing can call into `chess_server`, a program.
 use crate::store::created;
 use board_session::{BoardFault, board};
 use chess_hub::Hub;

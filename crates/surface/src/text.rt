@@ -56,6 +56,7 @@ fn the_text_of_a_game(rt: HostRuntime) {
         increment: 2,
         period: None,
     };
+    assert!(rt; !is_playable(&game.start, &[named(&rt, "e2e5")]));
     assert!(rt; is_playable(&game.start, game.moves));
     let text: String = pgn(rt.alloc(), &game).expect(&rt, "memory");
     assert!(rt; text.as_str() == GAME);
