@@ -4,6 +4,7 @@ import time
 
 from browser import Keys
 from page_lines import by_lines
+from readable import COORDINATES, NAMELESS, PALE, TWICE, UNSHOWN
 
 SCREENS = ((1280, 800, False), (1024, 768, False), (1080, 810, False), (900, 700, False), (1024, 600, False),
            (768, 1024, True), (360, 740, True))
@@ -456,58 +457,50 @@ def room_for_all(hall):
     hall.watch(number)
 
 
-LIGHT = '''const light = (text) => { const [r, g, b] = text.match(/[\\d.]+/g).map((n) => { const c = n / 255;
-    return c <= 0.03928 ? c / 12.92 : ((c + 0.055) / 1.055) ** 2.4; }); return 0.2126 * r + 0.7152 * g + 0.0722 * b; };
-  const ratio = (a, b) => { const [x, y] = [light(a), light(b)].sort(); return (y + 0.05) / (x + 0.05); };'''
-COORDINATES = LIGHT + '''const found = [];
-  for (const e of document.querySelectorAll('#board .file-letter, #board .rank-number')) {
-    const square = e.parentElement;
-    for (const kind of ['', 'last', 'held', 'planned']) {
-      if (kind) square.classList.add(kind);
-      const seen = ratio(getComputedStyle(e).color, getComputedStyle(square).backgroundColor);
-      if (kind) square.classList.remove(kind);
-      if (seen < 4.5) found.push(`${e.textContent} ${kind} ${seen.toFixed(1)}`);
-    } }
-  return [...new Set(found)];'''
-# What has the keys and does not show it.
-UNSHOWN = '''const e = document.activeElement, style = getComputedStyle(e), label = e.closest('label');
-  const shows = (one) => one && getComputedStyle(one).outlineStyle !== 'none'
-    && parseFloat(getComputedStyle(one).outlineWidth) >= 2;
-  const inside = getComputedStyle(e, '::before').boxShadow, isHeading = /^(H\\d|MAIN|BODY)$/.test(e.tagName);
-  return shows(e) || shows(label) || inside && inside !== 'none' || isHeading ? '' : e.outerHTML.slice(0, 90);'''
-ROLES = '''const named = (e) => e.getAttribute('aria-label') || e.getAttribute('aria-labelledby')
-    || e.textContent.trim() || e.querySelector('legend')
-    || e.labels && [...e.labels].some((label) => label.textContent.trim());
-  return [...document.querySelectorAll('button, a[href], input, select, summary, [role], dialog, fieldset, section')]
-    .filter((e) => e.getClientRects().length && !e.matches('[role=status], [role=row], [role=grid] *') && !named(e))
-    .map((e) => e.outerHTML.slice(0, 90));'''
-TWICE = '''const ids = [...document.querySelectorAll('[id]')].map((e) => e.id);
-  return ids.filter((id, at) => ids.indexOf(id) !== at);'''
-
-
 def read_by_all(hall):
-    """Coordinates of 4.5 to 1 on every board, light and dark; all that has the keys shows it, and all has a name."""
+    """Coordinates of 4.5 to 1 on every board, all texts too, light and dark; what has the keys shows it; all has a name."""
     hall.sit()
-    hall.open(minutes='20')
-    ann = hall.ann
+    number = hall.open(minutes='20')
+    ann, bob = hall.ann, hall.bob
+    ann.run('localStorage.setItem("ask-first", "on")')
     for board in ('wood', 'green', 'blue'):
         ann.run('document.documentElement.dataset.board = arguments[0]', board)
         for dark in (False, True):
             ann.media(dark)
             ann.is_so(ann.run(COORDINATES) == [], 'coordinates on %s: %s' % (board, ann.run(COORDINATES)))
     ann.run('delete document.documentElement.dataset.board')
-    ann.media()
-    for view in ('#/', '#/hall', ann.driver.current_url.split('/')[-1]):
-        ann.run('location.hash = arguments[0]', view if view.startswith('#') else '#/game/' + view)
+
+    def is_read(what):
+        for dark in (True, False):
+            ann.media(dark)
+            for script in (PALE, NAMELESS, TWICE):
+                ann.is_so(ann.run(script) == [], '%s: %s' % (what, ann.run(script)))
+    ann.click_move('e2e4')
+    ann.until(lambda: ann.sees('#proposed'), 'a move that is asked about')
+    is_read('a move that is asked about')
+    ann.click('#play-it')
+    bob.until(lambda: bob.lit('.movable'), 'is on move')
+    ann.click_move('d2d4')
+    ann.until(lambda: planned(ann), 'a move ahead')
+    is_read('a move ahead')
+    ann.keys(Keys.ESCAPE)
+    for button, dialog in (('#resign', '#resign-dialog'), ('#help', '#help-dialog')):
+        ann.click(button)
+        ann.until(lambda: ann.sees(dialog), dialog)
+        is_read(dialog)
+        ann.keys(Keys.ESCAPE)
+    ann.run('localStorage.removeItem("ask-first")')
+    for view in ('#/', '#/hall', '#/game/' + number):
+        ann.run('location.hash = arguments[0]', view)
         time.sleep(0.4)
         ann.run('document.querySelector("#settings").open = true')
-        ann.is_so(ann.run(ROLES) == [], 'all has a name: %s' % ann.run(ROLES))
-        ann.is_so(ann.run(TWICE) == [], 'no id stands twice: %s' % ann.run(TWICE))
+        is_read(view)
         ann.run('document.querySelector("#settings").open = false; document.activeElement.blur()')
         for _ in range(25):
             ann.keys(Keys.TAB)
             unshown = ann.run(UNSHOWN)
             ann.is_so(unshown == '', 'what has the keys shows it: %s' % unshown)
+    ann.media()
 
 
 # The English texts that German says otherwise, and that are read on the page now.
