@@ -279,10 +279,8 @@ fn proxy_of(values: &ArgMatches<'_>) -> Option<Option<IpAddr>> {
 // Whether a host's name may be this: letters, digits, `-`, `_` and `.`, as an address of IPv4 is too.
 fn is_host_name(name: &str) -> bool {
     !name.is_empty()
-        && name
-            .as_bytes()
-            .iter()
-            .all(|byte| byte.is_ascii_alphanumeric() || matches!(*byte, b'-' | b'_' | b'.'))
+        && name.as_bytes().iter().all(|byte| byte.is_ascii_alphanumeric()
+            || matches!(*byte, b'-' | b'_' | b'.'))
 }
 
 // Whether a host is a name or an address, that of IPv6 in brackets.
@@ -311,15 +309,19 @@ fn is_host(host: &str) -> bool {
         }
 }
 
-// The hosts that are taken besides, if each is one.
-fn hosts_of<'v, 'a>(values: &'v ArgMatches<'a>) -> Option<&'v [&'a str]> {
-    let hosts = values.get_strs("host").unwrap_or(&[]);
-    for host in hosts {
+// The hosts that are taken besides; none where one of them is no host.
+fn hosts_of<'a>(
+    alloc: Global,
+    values: &ArgMatches<'a>,
+) -> Result<Option<Vec<&'a str>>, AllocError> {
+    let mut hosts = Vec::new(alloc);
+    for host in values.get_strs("host").unwrap_or(&[]) {
         if !is_host(host) {
-            return None;
+            return Ok(None);
         }
+        hosts.push(*host)?;
     }
-    Some(hosts)
+    Ok(Some(hosts))
 }
 
 // What `serve` asks for; none where an address is none.
@@ -329,7 +331,7 @@ fn serving_of<'a>(alloc: Global, values: &ArgMatches<'a>) -> Result<Option<Word<
         server_address(values),
         own_address(values),
         proxy_of(values),
-        hosts_of(values),
+        hosts_of(alloc, values)?,
     ) else {
         return Ok(None);
     };
@@ -341,7 +343,7 @@ fn serving_of<'a>(alloc: Global, values: &ArgMatches<'a>) -> Result<Option<Word<
         proxy,
         live: values.get_str("live"),
         log: values.get_str("log"),
-        hosts: Vec::from_slice(alloc, hosts)?,
+        hosts,
     })))
 }
 
