@@ -20,6 +20,8 @@ const ASKS_AGAIN = 3000;           // for the table, where it was not told
 class Page {
   constructor() {
     this.players = new Map();
+    this.nameless = new Set();         // names in games that no player was told to have
+    this.asksNames = false;
     this.watched = new Set();          // games that the lobby was asked, or is to be asked, to tell of
     this.held = new Set();             // of these, those of which it has said that it does
     this.begun = new Set();            // one's own games that had begun, or of which it was said
@@ -212,6 +214,7 @@ class Page {
       return false;
     }
     this.table.load(readRows(answer.slice(2)));
+    this.learnNames();
     if (this.lostOpen) this.findOpened();
     this.findBegun();
     return true;
@@ -292,6 +295,19 @@ class Page {
     const answer = await this.wire.say('players');
     if (answer[0].startsWith('ok players')) this.players = readPlayers(answer.slice(1));
     this.desk.playersTold();
+  }
+
+  /** Without a link only who sits in a game is told: who sits down later is asked for then. */
+  async learnNames() {
+    if (this.who.player || this.asksNames) return;
+    const names = [...this.table.rows.values()].flatMap((row) => [row.white, row.black]);
+    if (!names.some((name) => name && !this.players.has(name) && !this.nameless.has(name))) return;
+    this.asksNames = true;
+    await this.askPlayers();
+    this.asksNames = false;
+    for (const name of names) if (name && !this.players.has(name)) this.nameless.add(name);
+    if (this.view.render) this.view.render();
+    if (this.view === this.hall || this.view === this.desk) this.view.again();
   }
 
   notice(lines) {

@@ -143,8 +143,7 @@ class Screen {
   /** The lobby has answered: who is who, and what is shown, once more. */
   async opened(server) {
     if (server !== 'here') return;
-    const players = await this.wire.say('players');
-    if (players[0].startsWith('ok players')) this.players = readPlayers(players.slice(1));
+    await this.askPlayers();
     if (!(this.view instanceof OneBoard)) {
       await this.loadTable();
       clearInterval(this.asking);
@@ -153,11 +152,18 @@ class Screen {
     this.view.again();
   }
 
+  /** Who they are that sit in a game: without a link nobody else is told. */
+  async askPlayers() {
+    const players = await this.wire.say('players', true);
+    if (players[0].startsWith('ok players')) this.players = readPlayers(players.slice(1));
+  }
+
   /** The table, unless the server refuses to tell it. */
   async loadTable() {
     const answer = await this.wire.say('lobby', true);
     if (answer[0] !== 'ok lobby' || !(answer[1] || '').startsWith('ok list')) return;
     this.rows = new Map(readRows(answer.slice(2)).map((row) => [row.number, row]));
+    await this.askPlayers();
     this.view.fill();
   }
 

@@ -30,7 +30,7 @@ const REFUSALS = {
   32: 'This personal link is not known here, at least not now. Ask your arbiter for a new one.',
   33: 'Only an arbiter may do that.',
   34: 'That was too much within a second. Nothing was sent; try again.',
-  35: 'Four of your games wait for an opponent already. Wait until one is joined, or ask an arbiter to take one off.',
+  35: 'As many of your games as may wait for an opponent already. Wait until one is joined, or ask an arbiter to take one off.',
   36: 'The lobby has no connection to the game server at the moment. Nothing was done; try again soon.',
   37: 'This page watches sixteen games already.',
   38: 'No player of this name is known here.',
@@ -40,14 +40,16 @@ const REFUSALS = {
   41: 'This game does not wait for a second player, so it is not taken off from here. One that is over goes by itself once it '
     + 'is kept.',
   42: 'This game waits for nobody, or for another player. Look at the table again.',
-  43: 'You play in eight games already. End one first, or ask an arbiter.',
+  43: 'You play in as many games as a player may. End one first, or ask an arbiter.',
+  44: 'The table is nearly full, and its last places are for arbiters. Wait until a game is taken off, or ask one.',
+  45: 'Too many of your games that are over are still on the table. They go once they are kept; try again then, or ask an arbiter.',
 };
 
 const OF_ANOTHER = {
   4: 'This player does not play in this game.',
   8: 'It is not this player’s turn.',
   11: 'No offer of a draw stands: it was declined, or a move was made.',
-  35: 'Four games of this player wait for an opponent already: one of them has to be joined or taken off first.',
+  35: 'As many games of this player as may wait for an opponent already: one of them has to be joined or taken off first.',
 };
 
 /** What a refused line means to who sent it. */

@@ -43,12 +43,12 @@ OF_LINKS = ('link', 'close')
 OWN = ('login', 'players', 'lobby', 'watch', 'leave', 'line')
 REFUSED = {1: 'BadLine', 31: 'NoToken', 32: 'BadToken', 33: 'NotArbiter', 34: 'TooFast', 35: 'TooManyOpen',
            36: 'NoServer', 37: 'TooManyWatched', 38: 'NoPlayer', 39: 'EntriesPaused', 40: 'NotWritten',
-           41: 'NotWaiting', 42: 'NotOffered'}
+           41: 'NotWaiting', 42: 'NotOffered', 43: 'TooManyGames', 44: 'NearlyFull', 45: 'TooManyOver'}
 POLICY = ("default-src 'none'; script-src 'self'; style-src 'self'; img-src 'self'; connect-src 'self'; "
           "base-uri 'none'; form-action 'none'; frame-ancestors 'none'")
 TYPES = {'html': 'text/html; charset=utf-8', 'css': 'text/css; charset=utf-8',
          'js': 'text/javascript; charset=utf-8', 'svg': 'image/svg+xml'}
-MOST_WATCHED, MOST_OPEN, GAMES, PLIES = 16, 4, 4096, 600
+MOST_WATCHED, MOST_OPEN, MOST_PLAYING, MOST_OVER, GAMES, PLIES = 16, 4, 8, 32, 4096, 600
 COST_MS, AHEAD_MS = 50, 950
 G = '(0|[1-9][0-9]{0,9})'
 
@@ -158,6 +158,8 @@ class Lobby:
             refuse(35)
         if act == 'join':
             self.may_join(seat, line if word == 'as' else text)
+        if act in OPENING and c.player[1] != 'arbiter':
+            self.may_play(seat, act)
         return self.asked(c, act, name, text, seat, line if word == 'as' else text)
 
     def asked(self, c, word, name, text, seat, line):
@@ -200,6 +202,22 @@ class Lobby:
             refuse(1)
         if int(found[1]) not in self.offered:
             refuse(42)
+
+    def may_play(self, name, act):
+        """Whether a player may play in one game more."""
+        fields = [self.server.fields(n) for n in self.server.table.games]
+        his = [f for f in fields if f.joined is not None and name in f.seats.values()]
+        if sum(f.ending is None for f in his) >= MOST_PLAYING:
+            refuse(43)
+        if sum(f.ending is not None for f in his) >= MOST_OVER:
+            refuse(45)
+        if act == 'open' and len(fields) >= GAMES - GAMES // 8:
+            refuse(44)
+
+    def seated(self):
+        """Who sits in a game on the table."""
+        fields = [self.server.fields(n) for n in self.server.table.games]
+        return {name for f in fields for name in f.seats.values()}
 
     def pair(self, c, text):
         """`pair WHITE BLACK TIMES`: a game is opened for one and joined for the other."""
@@ -279,7 +297,7 @@ class Lobby:
             c.player = self.players[token]
             return ['ok login %s %s %s' % c.player]
         if text == 'players':
-            rows = list(self.players.values())
+            rows = [row for row in self.players.values() if c.player or row[0] in self.seated()]
             return ['ok players %d' % len(rows)] + ['%s %s %s' % row for row in rows]
         if text == 'leave lobby':
             c.at_table = False

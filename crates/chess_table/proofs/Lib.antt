@@ -1,5 +1,6 @@
 pub mod Rising
 pub mod PlaceLemmas
+pub mod Numbered
 pub mod Kept
 pub mod ParsingLemmas
 pub mod Readiness

@@ -30,7 +30,8 @@ pub record IsOfGame (games : List GameState) (e : Entry) : Type 0 where
   pub found : find_game e.game games ≡ Some game
   pub ready : IsReady game e.moment e.event
 
--- A game may be opened, or the entry's game is ready for it.
+-- A game of a new number may be opened, or the entry's game is ready for it.
 abbrev pub MayFollow : List GameState → Entry → Event → Type 0
-MayFollow games e (event.Open opening) = IsTimeControl (control_of opening) × IsStart opening.start
+MayFollow games e (event.Open opening) =
+    IsTimeControl (control_of opening) × IsStart opening.start × (find_game e.game games ≡ None)
 MayFollow games e _ = IsOfGame games e

@@ -84,8 +84,8 @@ impl Table {
             × (string_bytes reply.body ≡ list_text self.now.games)) }
     {
         let mut body = String::new(self.allocator());
-        for game in &self.games {
-            write_row(&mut body, game)?;
+        for place in 0..self.games.len() {
+            write_row(&mut body, &self.games[place])?;
         }
         Ok(Reply {
             line: list_line(self.games()),

@@ -1,22 +1,24 @@
 ghost use Rattle.std.specs.Prelude.{◌≡◌, ◌≤◌, length, slice_get, IfSome, IfNone, None};
+ghost use Rattle.indexmap.specs.IndexMap.{values};
 ghost use Rattle.std.specs.Option.{option_copied};
 ghost use Rattle.rec_codec.specs.declared.limits.Version.TheVariants.{Two};
 ghost use Rattle.rec_codec.specs.Limits.{IsInRange};
 ghost use Rattle.chess_entry.specs.State.{find_game};
-ghost use Rattle.chess_entry.specs.Table.{empty_table, AreRising, IsTable, IsOnTable};
-ghost use Rattle.chess_table.specs.Places.{IsPlaceOf};
+ghost use Rattle.chess_entry.specs.Table.{empty_table, IsTable, IsOnTable};
+ghost use Rattle.chess_table.specs.Places.{AreNumbered, IsPlaceOf};
 ghost use Rattle.chess_table.specs.Widened.{with_limits};
 
 use chess_game::Game;
+use indexmap::IndexMap;
 use rec_codec::Limits;
 use std::alloc::Global;
 use std::marker::Model;
 
-/// A table of games by rising number, and what the entries so far have in common.
+/// A table of games by rising number, each looked up by it, and what the entries so far have in common.
 #[derive(Drop)]
 pub struct Table {
     pub(crate) limits: Limits,
-    pub(crate) games: Vec<Game>,
+    pub(crate) games: IndexMap<u32, Game>,
     pub(crate) moment: u64,
     pub(crate) last: u32,
     pub(crate) entries: u64,
@@ -41,7 +43,7 @@ impl Table {
     {
         Table {
             limits,
-            games: Vec::new(alloc),
+            games: IndexMap::new(alloc),
             moment: 0,
             last: 0,
             entries: 0,
@@ -68,7 +70,10 @@ impl Table {
     pub fn game_at(&self, place: usize) -> Option<&Game>
         ensures game { option_copied result ≡ slice_get self.now.games place }
     {
-        self.games.get(place)
+        match self.games.get_index(place) {
+            Some((_, game)) => Some(game),
+            None => None,
+        }
     }
 
     /// The game of a number; `None` where no game of the table has it.
@@ -76,10 +81,7 @@ impl Table {
         ensures game { option_copied result ≡ find_game number self.now.games }
         ensures on_table { IfSome result (λ game. IsOnTable self.now game.now) }
     {
-        match place_of(&self.games, number) {
-            Some(place) => Some(&self.games[place]),
-            None => None,
-        }
+        self.games.get(&number)
     }
 
     /// The greatest moment of any entry so far, in milliseconds; 0 before the first.
@@ -114,13 +116,11 @@ impl Table {
     }
 }
 
-// Where the game of a number stands among games by rising number.
-pub(crate) fn place_of(games: &[Game], number: u32) -> Option<usize>
-    requires { AreRising games.now }
-    ensures some { IfSome result (IsPlaceOf games.now number) }
-    ensures none { IfNone result (find_game number games.now ≡ None) }
+// Where the game of a number stands among games under their numbers.
+pub(crate) fn place_of(games: &IndexMap<u32, Game>, number: u32) -> Option<usize>
+    requires { AreNumbered games.now.entries }
+    ensures some { IfSome result (IsPlaceOf (values games.now) number) }
+    ensures none { IfNone result (find_game number (values games.now) ≡ None) }
 {
-    games
-        .binary_search_by_key(&number, |game| game.number().get())
-        .ok()
+    games.get_index_of(&number)
 }

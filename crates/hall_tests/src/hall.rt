@@ -1,7 +1,7 @@
 //! Browsers and a server over streams that give and take little, or fail.
 use crate::browser::{file_of, site_of};
 use crate::frames::UPGRADE;
-use lobby_desk::Order;
+use lobby_desk::{Limits, Order};
 use lobby_loop::{Acceptor, ActLog, Fault, Hall, KeepsLinks, NoActLog, NoLinks, Welcomed, welcome};
 use lobby_players::relinked;
 use lobby_roster::{Linked, Player};
@@ -175,7 +175,14 @@ struct Lab {
 // A hall under the host `a:1`.
 fn hall_of(rt: &impl Abort, alloc: Global, keys: RandomState, is_paused: bool) -> Hall<Peer> {
     let site = site_of(rt, alloc);
-    Hall::new(alloc, keys, site, players(rt, alloc, SUM), is_paused, None)
+    let limits = Limits {
+        waiting: 4,
+        playing: 8,
+        over: 32,
+        places: None,
+    };
+    let players = players(rt, alloc, SUM);
+    Hall::new(alloc, keys, site, players, is_paused, limits, None)
 }
 
 /// How a script is played.

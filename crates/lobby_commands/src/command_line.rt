@@ -101,6 +101,12 @@ pub struct Serving<'a> {
     pub hosts: Vec<&'a str>,
     /// The address of the proxy that is believed who asks.
     pub proxy: Option<IpAddr>,
+    /// Of a player's games so many wait at most, go on, and are over and still on the table.
+    pub waiting_most: u32,
+    pub playing_most: u32,
+    pub over_most: u32,
+    /// The places on the server's table.
+    pub games: Option<u32>,
     pub log: Option<&'a str>,
     /// The file of games that is served as `/live.pgn`.
     pub live: Option<&'a str>,
@@ -141,6 +147,34 @@ const PROXY: OptionText = OptionText {
     name: "proxy",
     value: OptionValue::Text("ADDRESS"),
     help: "The address of a proxy in front, which tells by X-Forwarded-For who asks",
+    is_required: false,
+};
+
+const WAITING_MOST: OptionText = OptionText {
+    name: "waiting-most",
+    value: OptionValue::Number("N", 1, 4_294_967_295),
+    help: "How many games of a player may wait for a second one, 4 without it",
+    is_required: false,
+};
+
+const PLAYING_MOST: OptionText = OptionText {
+    name: "playing-most",
+    value: OptionValue::Number("N", 1, 4_294_967_295),
+    help: "How many games of a player may go on, 8 without it",
+    is_required: false,
+};
+
+const OVER_MOST: OptionText = OptionText {
+    name: "over-most",
+    value: OptionValue::Number("N", 1, 4_294_967_295),
+    help: "How many games of a player may be over and still on the table, 32 without it",
+    is_required: false,
+};
+
+const GAMES: OptionText = OptionText {
+    name: "games",
+    value: OptionValue::Number("N", 0, 4_294_967_295),
+    help: "The server's games at once; an eighth of them is for arbiters then, and none without it",
     is_required: false,
 };
 
@@ -205,7 +239,19 @@ const SERVE: WordText = WordText {
     about: "Serves the page and its players, over a game server",
     help: HELP_OF_SERVE,
     options: &[
-        PLAYERS, SERVER, AT_PORT, ADDRESS, PAGE, HOST, PROXY, LIVE, LOG,
+        PLAYERS,
+        SERVER,
+        AT_PORT,
+        ADDRESS,
+        PAGE,
+        HOST,
+        PROXY,
+        LIVE,
+        LOG,
+        WAITING_MOST,
+        PLAYING_MOST,
+        OVER_MOST,
+        GAMES,
     ],
 };
 
@@ -341,6 +387,10 @@ fn serving_of<'a>(alloc: Global, values: &ArgMatches<'a>) -> Result<Option<Word<
         address: SocketAddr::new(address, values.get_one("port").unwrap_or(PORT)),
         page: values.get_str("page").unwrap_or("page"),
         proxy,
+        waiting_most: values.get_one("waiting-most").unwrap_or(4),
+        playing_most: values.get_one("playing-most").unwrap_or(8),
+        over_most: values.get_one("over-most").unwrap_or(32),
+        games: values.get_one("games"),
         live: values.get_str("live"),
         log: values.get_str("log"),
         hosts,

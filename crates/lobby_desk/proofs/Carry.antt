@@ -7,6 +7,7 @@ use Rattle.lobby_words.specs.declared.words.Sort.TheVariants as sorts
 use Rattle.lobby_words.specs.declared.refusals.Refusal.{Refusal}
 use Rattle.lobby_words.specs.declared.refusals.Refusal.TheVariants as refusals
 use Rattle.lobby_words.specs.declared.planning.Order.{Order}
+use Rattle.lobby_words.specs.declared.listing.Seat.{Seat}
 use Rattle.lobby_words.specs.declared.planning.Plan.{Plan}
 use Rattle.lobby_words.specs.declared.planning.Plan.TheVariants as plans
 use Rattle.lobby_words.specs.declared.planning.Standing.{Standing}
@@ -14,7 +15,7 @@ use Rattle.lobby_words.specs.declared.planning.Identity.{Identity}
 use Rattle.lobby_roster.specs.declared.players.Player.{Player}
 use Rattle.lobby_desk.specs.declared.watching.Watch.{Watch}
 use Rattle.lobby_words.specs.Words.{as_line, black_name, pair_line, is_link_sort, is_close_sort, is_leave_sort, is_leave_lobby_sort, or_0}
-use Rattle.lobby_words.specs.Plans.{asked, barred, entered_plan, act_plan, named_plan, as_plan, black_plan, white_plan, pair_plan, drop_plan, arbiter_plan, order_plan, login_plan, order_of, numbered_plan, plan_of}
+use Rattle.lobby_words.specs.Plans.{asked, barred, entered_plan, act_plan, named_plan, as_plan, black_plan, white_plan, pair_plan, drop_plan, arbiter_plan, players_plan, order_plan, login_plan, order_of, numbered_plan, plan_of}
 use Rattle.lobby_desk.specs.Lines.{lines_of, act_lines, is_said, name_line, notice_lines}
 use Rattle.lobby_desk.specs.Refusals.{game_named}
 use Rattle.lobby_desk.specs.Events.{MessageValue, ForItself, ForPositions, ForTable, ForGame, ForAct, Owed, Asker, Dropper, Pairer, owed_lines, plan_asker, sort_asker}
@@ -106,6 +107,10 @@ order_last : (closes : Bool) (linked : Option (List ℕ)) (said : Option (List �
 order_last closes None said text c = refl
 order_last closes (Some name) said text c = refl
 
+players_last : (who : Option Identity) (said : Option (List ℕ)) (text : List ℕ) (c : ℕ) → LastIs (players_plan who) said text c (Asker c ForItself)
+players_last None said text c = refl
+players_last (Some who) said text c = refl
+
 login_last : (holder : Option Identity) (said : Option (List ℕ)) (text : List ℕ) (c : ℕ) → LastIs (login_plan holder) said text c (Asker c ForItself)
 login_last None said text c = refl
 login_last (Some who) said text c = refl
@@ -143,7 +148,7 @@ planned_last players true sorts.As s game said text c same = as_last s s.who sai
 planned_last players true sorts.Pair s game said text c same = pair_last players s s.who said text c same
 planned_last players true sorts.Drop s game said text c same = numbered_last s game said text c
 planned_last players true sorts.Login s game said text c same = login_last s.holder said text c
-planned_last players true sorts.Players s game said text c same = refl
+planned_last players true sorts.Players s game said text c same = players_last s.who said text c
 planned_last players true sorts.Who s game said text c same = arbiter_last s.who plans.Who said text c refl
 planned_last players true sorts.Pause s game said text c same = arbiter_last s.who plans.Pause said text c refl
 planned_last players true sorts.Resume s game said text c same = arbiter_last s.who plans.Resume said text c refl
@@ -240,6 +245,10 @@ pub link_does : (P : Plan → Type 0) (who : Option Identity) (closes : Bool) (l
     ((o : Order) → P (plans.Order o)) → P (arbiter_plan who (order_plan closes linked))
 link_does P who closes linked none h = arbiter_does P who (order_plan closes linked) none (order_does P closes linked none h)
 
+pub players_does : (P : Plan → Type 0) (who : Option Identity) → P plans.Seated → P plans.Players → P (players_plan who)
+players_does P None seated h = seated
+players_does P (Some who) seated h = h
+
 pub login_does : (P : Plan → Type 0) (holder : Option Identity) → ((r : Refusal) → P (plans.Refuse r)) → ((one : Identity) → P (plans.Login one)) →
     P (login_plan holder)
 login_does P None none h = none refusals.BadToken
@@ -282,7 +291,7 @@ planned true sorts.As s game c watches table = as_does (Stays c watches table) s
 planned true sorts.Pair s game c watches table = pair_does (Stays c watches table) s s.who (λ _. (refl, refl)) (λ _ _ _. (refl, refl))
 planned true sorts.Drop s game c watches table = dropped_does (Stays c watches table) s game (λ _. (refl, refl)) (λ _ _. (refl, refl))
 planned true sorts.Login s game c watches table = login_does (Stays c watches table) s.holder (λ _. (refl, refl)) (λ _. (refl, refl))
-planned true sorts.Players s game c watches table = (refl, refl)
+planned true sorts.Players s game c watches table = players_does (Stays c watches table) s.who (refl, refl) (refl, refl)
 planned true sorts.Who s game c watches table = arbiter_does (Stays c watches table) s.who plans.Who (λ _. (refl, refl)) (refl, refl)
 planned true sorts.Pause s game c watches table = arbiter_does (Stays c watches table) s.who plans.Pause (λ _. (refl, refl)) (refl, refl)
 planned true sorts.Resume s game c watches table = arbiter_does (Stays c watches table) s.who plans.Resume (λ _. (refl, refl)) (refl, refl)
@@ -314,25 +323,26 @@ act_sent : (b : Bool) (name text : List ℕ) (rest : List (List ℕ)) (c : ℕ) 
 act_sent true name text rest c tells h = h
 act_sent false name text rest c tells h = h
 
-pub answered_or_sent : (is_paused : Bool) (players : List Player) (is_open : ℕ → Bool) (acts_for : ℕ → Option Identity) (plan : Plan) (said : Option (List ℕ)) (text : List ℕ) (c : ℕ) (tells : List MessageValue) → IsAnswered is_paused players is_open acts_for plan c tells →
+pub answered_or_sent : (is_paused : Bool) (players : List Player) (seats : List Seat) (is_open : ℕ → Bool) (acts_for : ℕ → Option Identity) (plan : Plan) (said : Option (List ℕ)) (text : List ℕ) (c : ℕ) (tells : List MessageValue) → IsAnswered is_paused players seats is_open acts_for plan c tells →
     IsToldOrSent (lines_of plan said text) c tells
-answered_or_sent is_paused players is_open acts_for (plans.Refuse refusal) said text c tells h = (h.0, h.2)
-answered_or_sent is_paused players is_open acts_for plans.Read said text c tells h = h
-answered_or_sent is_paused players is_open acts_for (plans.Act who) said text c tells h = act_sent (is_said said who.name) who.name text (notice_lines (game_named text)) c tells h
-answered_or_sent is_paused players is_open acts_for (plans.ActAs who name) said text c tells h = act_sent (is_said said name) name (as_line text) (notice_lines (game_named text)) c tells h
-answered_or_sent is_paused players is_open acts_for (plans.Pair who white black) said text c tells h = act_sent (is_said said white) white (pair_line text) [] c tells h
-answered_or_sent is_paused players is_open acts_for (plans.Drop who game) said text c tells h = h
-answered_or_sent is_paused players is_open acts_for (plans.Login who) said text c tells h = (h.0, h.2)
-answered_or_sent is_paused players is_open acts_for plans.Players said text c tells h = (h.0, h.2)
-answered_or_sent is_paused players is_open acts_for plans.Who said text c tells h = (h.0, h.2)
-answered_or_sent is_paused players is_open acts_for plans.Pause said text c tells h = (h.0, h.2)
-answered_or_sent is_paused players is_open acts_for plans.Resume said text c tells h = (h.0, h.2)
-answered_or_sent is_paused players is_open acts_for (plans.Order order) said text c tells h = (h.0, h.2)
-answered_or_sent is_paused players is_open acts_for plans.Lobby said text c tells h = h
-answered_or_sent is_paused players is_open acts_for plans.LeaveLobby said text c tells h = (h.0, h.2)
-answered_or_sent is_paused players is_open acts_for (plans.Watch game) said text c tells h = h
-answered_or_sent is_paused players is_open acts_for (plans.Leave game) said text c tells h = (h.0, h.2)
-answered_or_sent is_paused players is_open acts_for (plans.Line game) said text c tells h = h
+answered_or_sent is_paused players seats is_open acts_for (plans.Refuse refusal) said text c tells h = (h.0, h.2)
+answered_or_sent is_paused players seats is_open acts_for plans.Read said text c tells h = h
+answered_or_sent is_paused players seats is_open acts_for (plans.Act who) said text c tells h = act_sent (is_said said who.name) who.name text (notice_lines (game_named text)) c tells h
+answered_or_sent is_paused players seats is_open acts_for (plans.ActAs who name) said text c tells h = act_sent (is_said said name) name (as_line text) (notice_lines (game_named text)) c tells h
+answered_or_sent is_paused players seats is_open acts_for (plans.Pair who white black) said text c tells h = act_sent (is_said said white) white (pair_line text) [] c tells h
+answered_or_sent is_paused players seats is_open acts_for (plans.Drop who game) said text c tells h = h
+answered_or_sent is_paused players seats is_open acts_for (plans.Login who) said text c tells h = (h.0, h.2)
+answered_or_sent is_paused players seats is_open acts_for plans.Players said text c tells h = (h.0, h.2)
+answered_or_sent is_paused players seats is_open acts_for plans.Seated said text c tells h = (h.0, h.2)
+answered_or_sent is_paused players seats is_open acts_for plans.Who said text c tells h = (h.0, h.2)
+answered_or_sent is_paused players seats is_open acts_for plans.Pause said text c tells h = (h.0, h.2)
+answered_or_sent is_paused players seats is_open acts_for plans.Resume said text c tells h = (h.0, h.2)
+answered_or_sent is_paused players seats is_open acts_for (plans.Order order) said text c tells h = (h.0, h.2)
+answered_or_sent is_paused players seats is_open acts_for plans.Lobby said text c tells h = h
+answered_or_sent is_paused players seats is_open acts_for plans.LeaveLobby said text c tells h = (h.0, h.2)
+answered_or_sent is_paused players seats is_open acts_for (plans.Watch game) said text c tells h = h
+answered_or_sent is_paused players seats is_open acts_for (plans.Leave game) said text c tells h = (h.0, h.2)
+answered_or_sent is_paused players seats is_open acts_for (plans.Line game) said text c tells h = h
 
 -- ---- who orders
 
@@ -378,7 +388,7 @@ planned_orders true sorts.As s game = as_does (OfOrder (Orders true sorts.As s))
 planned_orders true sorts.Pair s game = pair_does (OfOrder (Orders true sorts.Pair s)) s s.who (λ _. tt) (λ _ _ _. tt)
 planned_orders true sorts.Drop s game = dropped_does (OfOrder (Orders true sorts.Drop s)) s game (λ _. tt) (λ _ _. tt)
 planned_orders true sorts.Login s game = login_does (OfOrder (Orders true sorts.Login s)) s.holder (λ _. tt) (λ _. tt)
-planned_orders true sorts.Players s game = tt
+planned_orders true sorts.Players s game = players_does (OfOrder (Orders true sorts.Players s)) s.who tt tt
 planned_orders true sorts.Who s game = arbiter_does (OfOrder (Orders true sorts.Who s)) s.who plans.Who (λ _. tt) tt
 planned_orders true sorts.Pause s game = arbiter_does (OfOrder (Orders true sorts.Pause s)) s.who plans.Pause (λ _. tt) tt
 planned_orders true sorts.Resume s game = arbiter_does (OfOrder (Orders true sorts.Resume s)) s.who plans.Resume (λ _. tt) tt
@@ -407,6 +417,7 @@ is_order (plans.Pair who white black) order is = absurd (false≢true (ap is_som
 is_order (plans.Drop who game) order is = absurd (false≢true (ap is_some is))
 is_order (plans.Login who) order is = absurd (false≢true (ap is_some is))
 is_order plans.Players order is = absurd (false≢true (ap is_some is))
+is_order plans.Seated order is = absurd (false≢true (ap is_some is))
 is_order plans.Who order is = absurd (false≢true (ap is_some is))
 is_order plans.Pause order is = absurd (false≢true (ap is_some is))
 is_order plans.Resume order is = absurd (false≢true (ap is_some is))

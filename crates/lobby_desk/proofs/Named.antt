@@ -26,7 +26,7 @@ use Rattle.lobby_desk.specs.History.{Step, player_in, players_in, says_name, is_
 use Rattle.lobby_desk.proofs.Sent.{is_said_same}
 use Rattle.lobby_desk.proofs.Lines.{join_line_acts, show_reads, fen_reads, pgn_reads, list_reads, name_names}
 use Rattle.lobby_desk.proofs.As.{as_acts, as_word, plain_word, pair_acts}
-use Rattle.lobby_desk.proofs.Carry.{asked_does, entered_does, dropped_does, arbiter_does, link_does, login_does, watch_does, line_does}
+use Rattle.lobby_desk.proofs.Carry.{asked_does, entered_does, dropped_does, arbiter_does, players_does, link_does, login_does, watch_does, line_does}
 use Rattle.lobby_desk.proofs.Runs.{AreAsked, IsAsked, Agrees, was_asked, run_good}
 
 -- ---- each line that waits, and for whom its answer is
@@ -249,7 +249,7 @@ planned_fits players true sorts.Drop s game said text c is other =
     dropped_does (FitsPlan said text (Dropper c (name_of s.who) text)) s game (λ _. tt)
     (λ one g. (no_name (game_line (codes "show ") g) (show_reads g), tt))
 planned_fits players true sorts.Login s game said text c is other = login_does (FitsPlan said text (Asker c ForItself)) s.holder (λ _. tt) (λ _. tt)
-planned_fits players true sorts.Players s game said text c is other = tt
+planned_fits players true sorts.Players s game said text c is other = players_does (FitsPlan said text (Asker c ForItself)) s.who tt tt
 planned_fits players true sorts.Who s game said text c is other = arbiter_does (FitsPlan said text (Asker c ForItself)) s.who plans.Who (λ _. tt) tt
 planned_fits players true sorts.Pause s game said text c is other = arbiter_does (FitsPlan said text (Asker c ForItself)) s.who plans.Pause (λ _. tt) tt
 planned_fits players true sorts.Resume s game said text c is other = arbiter_does (FitsPlan said text (Asker c ForItself)) s.who plans.Resume (λ _. tt) tt

@@ -22,7 +22,7 @@ use Rattle.lobby_desk.specs.declared.watching.Watch.{Watch}
 use Rattle.lobby_words.specs.Words.{word_of, rest_of, as_name, as_line, black_name, pair_line, is_pair, line_said, is_message, sort_of, is_act_sort, is_as_sort, is_pair_sort, is_drop_sort, is_name_sort, is_login_sort, u32_in, or_0}
 use Rattle.lobby_words.specs.Plans.{asked, barred, entered_plan, act_plan, named_plan, as_plan, black_plan, white_plan, pair_plan, arbiter_plan, order_plan, drop_plan, login_plan, numbered_plan, plan_of}
 use Rattle.lobby_desk.specs.Lines.{lines_of, act_lines, said_after, name_line, game_line, join_line, is_said, notice_lines, IsNamed}
-use Rattle.lobby_words.specs.Answers.{is_accepted, first_line, act_game, is_whole, answer}
+use Rattle.lobby_words.specs.Answers.{is_accepted, first_line, act_game, answer}
 use Rattle.lobby_desk.specs.Refusals.{game_named}
 use Rattle.lobby_desk.specs.Watching.{watch_if, sit_if}
 use Rattle.lobby_desk.specs.Events.{DeskInput, Opened, Closed, Said, Hurried, Heard, ServerTurned, Renewed, Linked, MessageValue, ForItself, ForPositions, ForTable, ForGame, ForAct, Owed, Nobody, Naming, Asker, Dropper, Pairer, Followers, Behind, owed_last, owed_acted, owed_some, owed_lines, sort_asker, asker, followers_of, follower, Following, is_asked_behind, game_if, asked_after}
@@ -33,7 +33,7 @@ use Rattle.lobby_desk.specs.History.{Step, comes, has_come, shown_by, player_sai
 use Rattle.lobby_words.proofs.Numbers.{number_small}
 use Rattle.lobby_roster.proofs.ByName.{named_is}
 use Rattle.lobby_desk.proofs.Sent.{is_said_same}
-use Rattle.lobby_desk.proofs.Carry.{act_does, as_does, pair_does, arbiter_does, link_does, OfOrder, Orders, planned_orders}
+use Rattle.lobby_desk.proofs.Carry.{act_does, as_does, pair_does, arbiter_does, players_does, link_does, OfOrder, Orders, planned_orders}
 use Rattle.lobby_desk.proofs.As.{as_whole, as_acts, pair_whole, pair_acts}
 use Rattle.lobby_desk.proofs.Lines.{show_whole, fen_whole, pgn_whole, join_whole, join_line_acts, list_whole, name_whole, show_reads, fen_reads, pgn_reads, list_reads, name_names}
 
@@ -89,7 +89,7 @@ planned_who true sorts.As s game before = as_who s s.who before
 planned_who true sorts.Pair s game before = pair_does (λ plan. who_noted plan before ≡ before) s s.who (λ _. refl) (λ _ _ _. refl)
 planned_who true sorts.Drop s game before = dropped_who s game before
 planned_who true sorts.Login s game before = login_who s.holder before
-planned_who true sorts.Players s game before = refl
+planned_who true sorts.Players s game before = players_does (λ plan. who_noted plan before ≡ before) s.who refl refl
 planned_who true sorts.Who s game before = arbiter_does (λ plan. who_noted plan before ≡ before) s.who plans.Who (λ _. refl) refl
 planned_who true sorts.Pause s game before = arbiter_does (λ plan. who_noted plan before ≡ before) s.who plans.Pause (λ _. refl) refl
 planned_who true sorts.Resume s game before = arbiter_does (λ plan. who_noted plan before ≡ before) s.who plans.Resume (λ _. refl) refl
@@ -418,7 +418,9 @@ plan_good players text s said game true sorts.As other message is small named = 
 plan_good players text s said game true sorts.Pair other message is small named = pair_good players text s said s.who other message is named
 plan_good players text s said game true sorts.Drop other message is small named = dropped_good text s (name_for players s.who text) said game small named
 plan_good players text s said game true sorts.Login other message is small named = login_good text (name_for players s.who text) said s.holder
-plan_good players text s said game true sorts.Players other message is small named = none_good [] (name_for players s.who text) said
+plan_good players text s said game true sorts.Players other message is small named =
+    players_does (λ p. Good [] (name_for players s.who text) said (lines_of p said text) (said_after p said)) s.who
+    (none_good [] (name_for players s.who text) said) (none_good [] (name_for players s.who text) said)
 plan_good players text s said game true sorts.Who other message is small named =
     silent_good text s.who (name_for players s.who text) said plans.Who (none_good [] (name_for players s.who text) said)
 plan_good players text s said game true sorts.Pause other message is small named =

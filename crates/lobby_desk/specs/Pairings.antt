@@ -3,15 +3,16 @@ use Rattle.std.specs.Prelude.{ℕ, ◌≡◌, Bool, true, false, ◌&&◌, ◌==
 use Rattle.std.specs.List.{list_any}
 use Rattle.std.specs.Str.{bytes_eq}
 use Rattle.lobby_words.specs.declared.listing.Seat.{Seat}
+use Rattle.lobby_words.specs.declared.listing.Stage.TheVariants as stages
 use Rattle.lobby_words.specs.declared.refusals.Refusal.{Refusal}
 use Rattle.lobby_words.specs.declared.refusals.Refusal.TheVariants as refusals
 use Rattle.lobby_words.specs.Words.{word_of, rest_of, u32_in}
-use Rattle.lobby_words.specs.Waiting.{ends_wait}
+use Rattle.lobby_words.specs.Waiting.{ends_wait, is_stage}
 use Rattle.lobby_desk.specs.declared.pairings.Pairing.{Pairing}
 
 -- whether a game waits for a second player; whether it is kept for another than this player
 abbrev pub waits : List Seat → ℕ → Bool
-waits seats game = list_any (λ (s : Seat). s.game == game && not s.plays) seats
+waits seats game = list_any (λ (s : Seat). s.game == game && is_stage s.stage stages.Waits) seats
 
 abbrev pub is_other : ℕ → List ℕ → Pairing → Bool
 is_other game name p = p.game == game && not (bytes_eq p.black name)
@@ -32,20 +33,22 @@ abbrev pub pairings_told : List ℕ → Option ℕ → List Pairing → List Pai
 pairings_told text None pairings = pairings
 pairings_told text (Some game) pairings = if ends_wait text then others game pairings else pairings
 
--- why a player may not play in one more: as many of his go on as may
-abbrev pub game_bar : Bool → Option Refusal
-game_bar is_busy = if is_busy then Some refusals.TooManyGames else None
+-- why a player may not play in one more: as many of his go on as may, or are over and still on the table
+abbrev pub game_bar : Bool → Bool → Option Refusal
+game_bar is_busy is_spent = if is_busy then Some refusals.TooManyGames else (if is_spent then Some refusals.TooManyOver else None)
 
 -- Why he may not join a game that a message names: it names none; or no such game was told as one that waits, or it is kept for
--- another; or he plays in as many as may be.
-abbrev pub join_bar : List Seat → List Pairing → Bool → List ℕ → Option ℕ → Option Refusal
-join_bar seats pairings is_busy name None = Some refusals.BadLine
-join_bar seats pairings is_busy name (Some game) =
-    if waits seats game && not (is_kept pairings game name) then game_bar is_busy else Some refusals.NotOffered
+-- another; or he may not play in one more.
+abbrev pub join_bar : List Seat → List Pairing → Option Refusal → List ℕ → Option ℕ → Option Refusal
+join_bar seats pairings bar name None = Some refusals.BadLine
+join_bar seats pairings bar name (Some game) =
+    if waits seats game && not (is_kept pairings game name) then bar else Some refusals.NotOffered
 
--- why he may not open one: as many of his wait as may, or go on
-abbrev pub open_bar : Bool → Bool → Option Refusal
-open_bar is_crowded is_busy = if is_crowded then Some refusals.TooManyOpen else game_bar is_busy
+-- Why he may not open one: as many of his wait as may; or he may not play in one more; or the last places are for others.
+abbrev pub open_bar : Bool → Bool → Option Refusal → Option Refusal
+open_bar is_crowded is_full (Some bar) = if is_crowded then Some refusals.TooManyOpen else Some bar
+open_bar is_crowded is_full None =
+    if is_crowded then Some refusals.TooManyOpen else (if is_full then Some refusals.NearlyFull else None)
 
 -- the game that a line joins
 abbrev pub game_joined : List ℕ → Option ℕ

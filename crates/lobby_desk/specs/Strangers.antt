@@ -1,5 +1,5 @@
 -- Connections that act for nobody.
-use Rattle.std.specs.Prelude.{ℕ, Bool, false, not, map, Option, None, Some, is_some}
+use Rattle.std.specs.Prelude.{ℕ, Bool, false, not, List, map, Option, None, Some, is_some}
 use Rattle.std.specs.List.{list_any}
 use Rattle.lobby_words.specs.declared.planning.Identity.{Identity}
 use Rattle.lobby_desk.specs.declared.desk.Desk.{Desk}
@@ -10,6 +10,14 @@ use Rattle.lobby_desk.specs.Who.{who_of}
 -- whether a connection acts for a player
 abbrev pub acts : Desk → ℕ → Bool
 acts desk c = is_some (who_of desk c)
+
+-- the name of that player
+abbrev pub name_if : Option Identity → Option (List ℕ)
+name_if None = None
+name_if (Some who) = Some who.name
+
+abbrev pub player_at : Desk → ℕ → Option (List ℕ)
+player_at desk c = name_if (who_of desk c)
 
 -- whether it is a connection that acts for nobody
 abbrev pub is_stranger : (ℕ → Option Identity) → Option ℕ → Bool

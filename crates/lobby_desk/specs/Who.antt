@@ -8,6 +8,7 @@ use Rattle.lobby_words.specs.declared.planning.Plan.{Plan}
 use Rattle.lobby_words.specs.declared.planning.Plan.TheVariants as plans
 use Rattle.lobby_words.specs.declared.refusals.Refusal.{Refusal}
 use Rattle.lobby_words.specs.declared.refusals.Refusal.TheVariants as refusals
+use Rattle.lobby_words.specs.declared.listing.Seat.{Seat}
 use Rattle.lobby_words.specs.declared.planning.Order.{Order}
 use Rattle.lobby_words.specs.declared.planning.Standing.{Standing}
 use Rattle.lobby_words.specs.declared.planning.Identity.{Identity}
@@ -17,14 +18,15 @@ use Rattle.lobby_desk.specs.declared.watching.Watch.{Watch}
 use Rattle.lobby_desk.specs.declared.desk.Desk.{Desk}
 use Rattle.lobby_words.specs.Words.{rest_of, as_name, black_name, actor, is_message, sort_of, u32_in, is_login_sort}
 use Rattle.lobby_words.specs.Waiting.{opens_game, joins_game}
-use Rattle.lobby_roster.specs.Players.{holder_of, known_name, renewed, login_text, players_text, present_names, who_text, IsRelinked}
+use Rattle.lobby_roster.specs.Players.{holder_of, known_name, renewed, login_text, players_text, seated_text, present_names, who_text, IsRelinked}
 use Rattle.lobby_words.specs.Plans.{refusal_text, plan_of, order_of}
 use Rattle.lobby_desk.specs.Lines.{bytes_of, lines_of, act_lines, join_line, said_after, notice_lines, IsNamed}
 use Rattle.lobby_words.specs.Answers.{IsSeated, IsFirstSeated, IsSeatless, has_empty_seat, act_game, answer}
 use Rattle.lobby_desk.specs.Watching.{games_of, unwatched, risen, is_full}
 use Rattle.lobby_desk.specs.Refusals.{game_named}
-use Rattle.lobby_desk.specs.Waiting.{is_crowded, is_busy}
-use Rattle.lobby_desk.specs.Pairings.{open_bar, join_bar}
+use Rattle.lobby_desk.specs.declared.waiting.Limits.{Limits}
+use Rattle.lobby_desk.specs.Waiting.{is_crowded, is_busy, is_spent, is_nearly_full}
+use Rattle.lobby_desk.specs.Pairings.{game_bar, open_bar, join_bar}
 use Rattle.lobby_desk.specs.Pace.{is_too_fast}
 pub use Rattle.lobby_desk.specs.Watching.{at_table}
 use Rattle.lobby_desk.specs.Events.{DeskInput, Opened, Closed, Said, Hurried, Heard, ServerTurned, Renewed, Linked, MessageValue, to_one, ForAct, Owed, Asker, Dropper, Pairer, owed_of, owed_lines, plan_asker, follower, following, asked_after, follows_heard, told_as}
@@ -112,6 +114,7 @@ abbrev pub is_own : Plan → Bool
 is_own (plans.Refuse refusal) = true
 is_own (plans.Login who) = true
 is_own plans.Players = true
+is_own plans.Seated = true
 is_own plans.Who = true
 is_own plans.Pause = true
 is_own plans.Resume = true
@@ -126,26 +129,27 @@ IsPresence is_paused players is_open acts_for text =
     (all : List ℕ) × ((c : ℕ) → at_table all c ≡ is_open c) × (text ≡ who_text is_paused (present_names acts_for all players))
 
 -- Such an answer, where entries are paused or not, these connections are open, and each acts for this player: a refusal says why;
--- the player is told, or all players are, or those who are there; what is left is named. An order is not carried out here.
-abbrev pub IsOwnText : Bool → List Player → (ℕ → Bool) → (ℕ → Option Identity) → Plan → List ℕ → Type 0
-IsOwnText is_paused players is_open acts_for (plans.Refuse refusal) text = text ≡ refusal_text refusal
-IsOwnText is_paused players is_open acts_for (plans.Login who) text = text ≡ login_text players who
-IsOwnText is_paused players is_open acts_for plans.Players text = text ≡ players_text players
-IsOwnText is_paused players is_open acts_for plans.Who text = IsPresence is_paused players is_open acts_for text
-IsOwnText is_paused players is_open acts_for plans.Pause text = text ≡ codes "ok pause entries\n"
-IsOwnText is_paused players is_open acts_for plans.Resume text = text ≡ codes "ok resume entries\n"
-IsOwnText is_paused players is_open acts_for (plans.Order order) text = text ≡ refusal_text refusals.NotWritten
-IsOwnText is_paused players is_open acts_for plans.LeaveLobby text = text ≡ codes "ok leave lobby\n"
-IsOwnText is_paused players is_open acts_for (plans.Leave game) text = text ≡ codes "ok leave " ++ decimal game ++ codes "\n"
-IsOwnText is_paused players is_open acts_for _ text = Unit {0}
+-- the player is told, or all players are, or those who have a seat, or are there; what is left is named. An order is not carried out here.
+abbrev pub IsOwnText : Bool → List Player → List Seat → (ℕ → Bool) → (ℕ → Option Identity) → Plan → List ℕ → Type 0
+IsOwnText is_paused players seats is_open acts_for (plans.Refuse refusal) text = text ≡ refusal_text refusal
+IsOwnText is_paused players seats is_open acts_for (plans.Login who) text = text ≡ login_text players who
+IsOwnText is_paused players seats is_open acts_for plans.Players text = text ≡ players_text players
+IsOwnText is_paused players seats is_open acts_for plans.Seated text = text ≡ seated_text seats players
+IsOwnText is_paused players seats is_open acts_for plans.Who text = IsPresence is_paused players is_open acts_for text
+IsOwnText is_paused players seats is_open acts_for plans.Pause text = text ≡ codes "ok pause entries\n"
+IsOwnText is_paused players seats is_open acts_for plans.Resume text = text ≡ codes "ok resume entries\n"
+IsOwnText is_paused players seats is_open acts_for (plans.Order order) text = text ≡ refusal_text refusals.NotWritten
+IsOwnText is_paused players seats is_open acts_for plans.LeaveLobby text = text ≡ codes "ok leave lobby\n"
+IsOwnText is_paused players seats is_open acts_for (plans.Leave game) text = text ≡ codes "ok leave " ++ decimal game ++ codes "\n"
+IsOwnText is_paused players seats is_open acts_for _ text = Unit {0}
 
-abbrev pub IsAnsweredIf : Bool → Bool → List Player → (ℕ → Bool) → (ℕ → Option Identity) → Plan → ℕ → List MessageValue → Type 0
-IsAnsweredIf true is_paused players is_open acts_for plan c tells =
-    (text : List ℕ) × IsOwnText is_paused players is_open acts_for plan text × (tells ≡ to_one c text ∷ [])
-IsAnsweredIf false is_paused players is_open acts_for plan c tells = tells ≡ []
+abbrev pub IsAnsweredIf : Bool → Bool → List Player → List Seat → (ℕ → Bool) → (ℕ → Option Identity) → Plan → ℕ → List MessageValue → Type 0
+IsAnsweredIf true is_paused players seats is_open acts_for plan c tells =
+    (text : List ℕ) × IsOwnText is_paused players seats is_open acts_for plan text × (tells ≡ to_one c text ∷ [])
+IsAnsweredIf false is_paused players seats is_open acts_for plan c tells = tells ≡ []
 
-abbrev pub IsAnswered : Bool → List Player → (ℕ → Bool) → (ℕ → Option Identity) → Plan → ℕ → List MessageValue → Type 0
-IsAnswered is_paused players is_open acts_for plan c tells = IsAnsweredIf (is_own plan) is_paused players is_open acts_for plan c tells
+abbrev pub IsAnswered : Bool → List Player → List Seat → (ℕ → Bool) → (ℕ → Option Identity) → Plan → ℕ → List MessageValue → Type 0
+IsAnswered is_paused players seats is_open acts_for plan c tells = IsAnsweredIf (is_own plan) is_paused players seats is_open acts_for plan c tells
 
 abbrev pub known : Desk → Known
 known desk = record {
@@ -167,7 +171,7 @@ abbrev pub IsReady : Desk → ℕ → Type 0
 IsReady desk c = (open_of desk c ≡ true) × (owes (known desk).owed c ≡ false)
 
 -- what is seen of a desk: the number of the connection that comes next, which are open, for whom each acts, the name that was
--- said last to the server, whether that is there, whether entries are paused, and what is known
+-- said last to the server, whether that is there, whether entries are paused, how many games may be, and what is known
 pub record View : Type 0 where
   pub next : ℕ
   pub is_open : ℕ → Bool
@@ -175,10 +179,11 @@ pub record View : Type 0 where
   pub said : Option (List ℕ)
   pub here : Bool
   pub paused : Bool
+  pub limits : Limits
   pub known : Known
 
 abbrev pub view : Desk → View
-view desk = record { next = desk.next; is_open = open_of desk; who = who_of desk; said = desk.line.said; here = desk.line.is_here; paused = desk.is_paused; known = known desk }
+view desk = record { next = desk.next; is_open = open_of desk; who = who_of desk; said = desk.line.said; here = desk.line.is_here; paused = desk.is_paused; limits = desk.limits; known = known desk }
 
 -- A desk that begins: no connection has come, and nothing was said. Entries are paused just where it is told so.
 pub record BeginsView (is_paused : Bool) (now : View) : Type 0 where
@@ -207,16 +212,22 @@ abbrev pub said_event : Bool → ℕ → List ℕ → DeskInput
 said_event true c text = Hurried c
 said_event false c text = Said c text
 
--- Why a message does not open a game, or does not join one, by the games that are known, where it would under this name: no game more
--- of this player may wait for a second one, or, but for an arbiter's message, go on; or no such game waits for him.
-abbrev pub name_bar : Known → Bool → List ℕ → List ℕ → Option Refusal
-name_bar k is_arbiter name text =
-    if opens_game text then open_bar (is_crowded k.seats k.owed name) (not is_arbiter && is_busy k.seats k.owed name)
-    else (if joins_game text then join_bar k.seats k.pairings (not is_arbiter && is_busy k.seats k.owed name) name (game_named text) else None)
+-- Why a message does not open a game, or does not join one, by the games that are known and the limits, where it would under this
+-- name: no game more of this player may wait for a second one; or, but for an arbiter's message, no more may go on or be left on the
+-- table, or the last places are for arbiters and pairings; or no such game waits for him.
+abbrev pub player_bar : Limits → Known → Bool → List ℕ → Option Refusal
+player_bar limits k is_arbiter name =
+    game_bar (not is_arbiter && is_busy limits k.seats k.owed name) (not is_arbiter && is_spent limits k.seats k.owed name)
 
-abbrev pub bar_of : Known → Option Identity → List ℕ → Option Refusal
-bar_of k None text = None
-bar_of k (Some who) text = name_bar k who.is_arbiter (actor who.name text) text
+abbrev pub name_bar : Limits → Known → Bool → List ℕ → List ℕ → Option Refusal
+name_bar limits k is_arbiter name text =
+    if opens_game text then open_bar (is_crowded limits k.seats k.owed name) (not is_arbiter && is_nearly_full limits k.seats k.owed)
+    (player_bar limits k is_arbiter name)
+    else (if joins_game text then join_bar k.seats k.pairings (player_bar limits k is_arbiter name) name (game_named text) else None)
+
+abbrev pub bar_of : Limits → Known → Option Identity → List ℕ → Option Refusal
+bar_of limits k None text = None
+bar_of limits k (Some who) text = name_bar limits k who.is_arbiter (actor who.name text) text
 
 -- who has the token that a message shows; nobody where it shows none
 abbrev pub holder_shown : List Player → List ℕ → Option Identity
@@ -232,7 +243,7 @@ standing_of desk c text = record {
   linked = known_name desk.players.items (rest_of text);
   is_here = desk.line.is_here;
   is_full = is_full desk.watches.items c (u32_in (rest_of text));
-  bar = bar_of (known desk) (who_of desk c) text;
+  bar = bar_of desk.limits (known desk) (who_of desk c) text;
   is_paused = opens_game text && desk.is_paused;
 }
 
@@ -253,13 +264,13 @@ pub record IsSaid (players : List Player) (old : View) (c : ℕ) (text : List �
   pub link : standing.linked ≡ known_name players (rest_of text)
   pub here : standing.is_here ≡ old.here
   pub full : standing.is_full ≡ is_full old.known.watches c (u32_in (rest_of text))
-  pub bar : standing.bar ≡ bar_of old.known (old.who c) text
+  pub bar : standing.bar ≡ bar_of old.limits old.known (old.who c) text
   pub paused : standing.is_paused ≡ (opens_game text && old.paused)
   pub plan : Plan
   pub planned : plan ≡ plan_of (is_message text) (sort_of text) standing (u32_in (rest_of text))
   pub named : IsNamed plan
   pub lines_are : lines ≡ lines_of plan old.said text
-  pub answers : IsAnswered old.paused players old.is_open old.who plan c tells
+  pub answers : IsAnswered old.paused players old.known.seats old.is_open old.who plan c tells
   pub next_is : new.next ≡ old.next
   pub said_is : new.said ≡ said_after plan old.said
   pub here_is : new.here ≡ old.here
@@ -396,10 +407,11 @@ pub record IsKnown (event : DeskInput) (by : List ℕ) (lines : List (List ℕ))
   pub follows : new.follows ≡ follows_now event old
   pub misnamed : new.misnamed ≡ misnamed_now event old
 
--- a step: what comes in, the lines that go to the server, and what connections are told
+-- a step: what comes in, the lines that go to the server, and what connections are told; the limits stay
 pub record IsStep (players : List Player) (old : View) (event : DeskInput) (lines : List (List ℕ)) (tells : List MessageValue) (new : View) : Type 0 where
   pub done : IsDone players old event lines tells new
   pub opens : (c : ℕ) → new.is_open c ≡ open_now event c (old.is_open c)
+  pub limits : new.limits ≡ old.limits
   pub known : IsKnown event (speaker old.who event) lines old.is_open old.known new.known
   pub told : IsTold event lines tells old.is_open old.known
 
@@ -419,11 +431,12 @@ pub record Carried (old : Desk) (from : ℕ) (text : List ℕ) (plan : Plan) (un
   pub tells : List MessageValue
   pub sent : after ≡ before ++ bytes_of (lines_of plan old.line.said text)
   pub told : told_after ≡ told_before ++ tells
-  pub answers : IsAnswered old.is_paused old.players.items (open_of old) (who_of old) plan from tells
+  pub answers : IsAnswered old.is_paused old.players.items old.line.seats.items (open_of old) (who_of old) plan from tells
   pub named : IsNamed plan
   pub said_is : new.line.said ≡ said_after plan old.line.said
   pub here_is : new.line.is_here ≡ old.line.is_here
   pub paused_is : new.is_paused ≡ paused_after plan old.is_paused
+  pub limits_is : new.limits ≡ old.limits
   pub who_is : (c : ℕ) → who_of new c ≡ (if from == c then who_noted plan (who_of old c) else who_of old c)
   pub owed : (known new).owed ≡ (known old).owed ++ owed_lines (plan_asker plan from text) (lines_of plan old.line.said text)
   pub opens : (c : ℕ) → open_of new c ≡ (from == c || open_of old c)
@@ -444,6 +457,7 @@ pub record Carried (old : Desk) (from : ℕ) (text : List ℕ) (plan : Plan) (un
 pub record IsElseSame (old new : Desk) : Type 0 where
   pub here_is : new.line.is_here ≡ old.line.is_here
   pub paused_is : new.is_paused ≡ old.is_paused
+  pub limits_is : new.limits ≡ old.limits
   pub visitors : new.visitors ≡ old.visitors
   pub coming : new.line.coming ≡ old.line.coming
   pub last : new.line.last ≡ old.line.last

@@ -11,8 +11,8 @@ use crate::server_line::{Due, ServerLine, waiting_act};
 use crate::telling::{Kind, Message, tell};
 use crate::visitors::Visitor;
 use crate::watching::{Watch, rise, unwatch};
-use lobby_roster::{Player, headed, login_line, player_rows};
-use lobby_words::{Identity, Order, Plan, Refusal, as_line};
+use lobby_roster::{Player, headed, login_line, player_rows, seated_rows};
+use lobby_words::{Identity, Order, Plan, Refusal, Seat, as_line};
 use std::alloc::{AllocError, Global};
 use std::collections::BTreeMap;
 
@@ -33,15 +33,16 @@ pub fn answer_plan(
     alloc: Global,
     is_paused: bool,
     players: &[Player],
+    seats: &[Seat],
     visitors: &BTreeMap<u64, Visitor>,
     from: u64,
     plan: &Plan,
     told: &mut Vec<Message>,
 ) -> Result<(), AllocError>
     ensures { OnOk result ((tells : List MessageValue) × (message_values told.new.items ≡ message_values told.old.items ++ tells)
-        × IsAnswered is_paused players.now (open_in_map visitors.now) (who_in visitors.now) plan.now from tells) }
+        × IsAnswered is_paused players.now seats.now (open_in_map visitors.now) (who_in visitors.now) plan.now from tells) }
 {
-    match own_answer(alloc, is_paused, plan, players, visitors)? {
+    match own_answer(alloc, is_paused, plan, players, seats, visitors)? {
         None => Ok(()),
         Some(answer) => tell(alloc, told, from, Kind::Whole, answer),
     }
@@ -53,16 +54,18 @@ fn own_answer(
     is_paused: bool,
     plan: &Plan,
     players: &[Player],
+    seats: &[Seat],
     visitors: &BTreeMap<u64, Visitor>,
 ) -> Result<Option<String>, AllocError>
     ensures own { IfOk result (λ answer. is_some answer ≡ is_own plan.now) }
     ensures text { IfOk result (λ answer. IfSome answer (λ text.
-        IsOwnText is_paused players.now (open_in_map visitors.now) (who_in visitors.now) plan.now (string_bytes text))) }
+        IsOwnText is_paused players.now seats.now (open_in_map visitors.now) (who_in visitors.now) plan.now (string_bytes text))) }
 {
     match plan {
         Plan::Refuse(refusal) => Ok(Some(String::from_str(alloc, refusal.line())?)),
         Plan::Login(who) => Ok(Some(login_line(alloc, who, players)?)),
         Plan::Players => Ok(Some(player_rows(alloc, players)?)),
+        Plan::Seated => Ok(Some(seated_rows(alloc, players, seats)?)),
         Plan::Who => Ok(Some(present_rows(alloc, is_paused, players, visitors)?)),
         Plan::Pause => Ok(Some(String::from_str(alloc, "ok pause entries\n")?)),
         Plan::Resume => Ok(Some(String::from_str(alloc, "ok resume entries\n")?)),

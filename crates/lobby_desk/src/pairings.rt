@@ -3,7 +3,7 @@ ghost use Rattle.std.specs.Prelude.{◌≡◌, ◌==◌, not, filter, OnOk};
 ghost use Rattle.lobby_desk.specs.declared.pairings.Pairing.{Pairing};
 ghost use Rattle.lobby_desk.specs.Pairings as spec;
 
-use lobby_words::{Refusal, Seat, ends_wait};
+use lobby_words::{Refusal, Seat, Stage, ends_wait, is_stage};
 use player_name::Name;
 use std::alloc::AllocError;
 
@@ -18,7 +18,7 @@ pub struct Pairing {
 fn waits(seats: &[Seat], game: u32) -> bool
     ensures { result ≡ spec.waits seats.now game }
 {
-    seats.iter().any(|one| one.game == game && !one.plays)
+    seats.iter().any(|one| one.game == game && is_stage(one.stage, Stage::Waits))
 }
 
 // Whether it is this game, kept for another than this player.
@@ -72,26 +72,28 @@ pub fn note_pairing(pairings: &mut Vec<Pairing>, text: &str, game: Option<u32>)
     }
 }
 
-// Why a player may not play in one more game, where as many of his go on as may.
-fn game_bar(is_busy: bool) -> Option<Refusal>
-    ensures { result ≡ spec.game_bar is_busy }
+/// Why a player may not play in one more game: as many of his go on as may, or are over and still on the table.
+pub fn game_bar(is_busy: bool, is_spent: bool) -> Option<Refusal>
+    ensures { result ≡ spec.game_bar is_busy is_spent }
 {
     if is_busy {
         Some(Refusal::TooManyGames)
+    } else if is_spent {
+        Some(Refusal::TooManyOver)
     } else {
         None
     }
 }
 
-/// Why a player may not join the game that a message names, if it names one, where as many of his go on as may or not.
+/// Why a player may not join the game that a message names, if it names one, where this bars him from one more.
 pub fn join_bar(
     seats: &[Seat],
     pairings: &[Pairing],
-    is_busy: bool,
+    bar: Option<Refusal>,
     name: &str,
     game: Option<u32>,
 ) -> Option<Refusal>
-    ensures { result ≡ spec.join_bar seats.now pairings.now is_busy name.now game }
+    ensures { result ≡ spec.join_bar seats.now pairings.now bar name.now game }
 {
     match game {
         None => Some(Refusal::BadLine),
@@ -99,7 +101,7 @@ pub fn join_bar(
             let waits = waits(seats, game);
             let is_kept = is_kept(pairings, game, name);
             if waits & !is_kept {
-                game_bar(is_busy)
+                bar
             } else {
                 Some(Refusal::NotOffered)
             }
@@ -107,13 +109,26 @@ pub fn join_bar(
     }
 }
 
-/// Why he may not open one, where as many of his wait as may, or go on.
-pub fn open_bar(is_crowded: bool, is_busy: bool) -> Option<Refusal>
-    ensures { result ≡ spec.open_bar is_crowded is_busy }
+/// Why he may not open one, where as many of his wait as may, where the last places are for others, and where this bars him.
+pub fn open_bar(is_crowded: bool, is_full: bool, bar: Option<Refusal>) -> Option<Refusal>
+    ensures { result ≡ spec.open_bar is_crowded is_full bar }
 {
-    if is_crowded {
-        Some(Refusal::TooManyOpen)
-    } else {
-        game_bar(is_busy)
+    match bar {
+        Some(bar) => {
+            if is_crowded {
+                Some(Refusal::TooManyOpen)
+            } else {
+                Some(bar)
+            }
+        }
+        None => {
+            if is_crowded {
+                Some(Refusal::TooManyOpen)
+            } else if is_full {
+                Some(Refusal::NearlyFull)
+            } else {
+                None
+            }
+        }
     }
 }

@@ -4,13 +4,14 @@ ghost use Rattle.std.specs.List.{list_any};
 ghost use Rattle.lobby_desk.specs.Events.{owed_of};
 ghost use Rattle.lobby_desk.specs.Tellings.{waiter};
 ghost use Rattle.lobby_desk.specs.Who.{who_in};
-ghost use Rattle.lobby_desk.specs.Strangers.{acts, is_stranger, strangers_wait};
+ghost use Rattle.lobby_desk.specs.Strangers.{acts, player_at, is_stranger, strangers_wait};
 
 use crate::answering::asker;
 use crate::carrying::who_acts;
 use crate::desk::Desk;
 use crate::server_line::Due;
 use crate::visitors::Visitor;
+use player_name::Name;
 use std::collections::BTreeMap;
 
 // Whether an answer is for a connection that acts for nobody.
@@ -36,6 +37,16 @@ impl Desk {
         ensures { result ≡ acts self.now connection }
     {
         who_acts(&self.visitors, connection).is_some()
+    }
+
+    /// The player for whom a connection acts.
+    pub fn player_at(&self, connection: u64) -> Option<Name>
+        ensures { result ≡ player_at self.now connection }
+    {
+        match who_acts(&self.visitors, connection) {
+            None => None,
+            Some(who) => Some(who.name),
+        }
     }
 
     /// Whether the server owes an answer to a message of a connection that acts for nobody.

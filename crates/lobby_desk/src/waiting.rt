@@ -1,5 +1,5 @@
-//! The seats of players in the games that wait for a second player or go on, as far as the server's answers have told.
-ghost use Rattle.std.specs.Prelude.{◌≡◌, ◌==◌, ◌+◌, true, false, not, nat_le, map, OnOk};
+//! The seats of players in the games on the server's table, as far as its answers have told.
+ghost use Rattle.std.specs.Prelude.{◌≡◌, ◌==◌, ◌+◌, ◌-◌, ◌*◌, ◌/◌, true, false, not, nat_le, map, OnOk};
 ghost use Rattle.std.specs.List.{count_by};
 ghost use Rattle.std.specs.String.{string_bytes};
 ghost use Rattle.lobby_words.specs.Waiting.{tells_end};
@@ -8,89 +8,150 @@ ghost use Rattle.lobby_desk.specs.Waiting as spec;
 
 use crate::server_line::{Acting, Due, ServerLine};
 use lobby_words::{
-    Seat, actor, as_name, black_name, ends_wait, is_list, is_pair, joins_game, opens_game, seat_of,
-    seats_in, tells_end,
+    Seat, Stage, actor, as_name, black_name, ends_wait, is_list, is_pair, is_stage, joins_game,
+    opens_game, seat_of, seats_in, tells_end,
 };
 use player_name::Name;
 use std::alloc::{AllocError, Global};
 
-// The most games of one player that wait, and that go on.
-const WAIT_ROOM: usize = 4;
+/// How many games there may be.
+#[derive(Clone, Copy)]
+pub struct Limits {
+    /// Of a player's that wait for a second one, that go on, and that are over and still on the table.
+    pub waiting: usize,
+    pub playing: usize,
+    pub over: usize,
+    /// The places on the server's table, where they are known.
+    pub places: Option<u32>,
+}
 
-const PLAY_ROOM: usize = 8;
-
-// Whether it is a seat of this player in a game that goes on, or in one that waits.
-fn is_seat(one: &Seat, plays: bool, name: &str) -> bool
-    ensures { result ≡ spec.is_seat plays name.now one.now }
+// Whether it is a seat of this player in a game that stands so.
+fn is_seat(one: &Seat, stage: Stage, name: &str) -> bool
+    ensures { result ≡ spec.is_seat stage name.now one.now }
 {
-    let is_such = if one.plays { plays } else { !plays };
+    let is_such = is_stage(one.stage, stage);
     let is_his = one.by.as_str() == name;
     is_such & is_his
 }
 
 // How many such seats a player has.
-fn seats_by(seats: &[Seat], plays: bool, name: &str) -> usize
-    ensures { result ≡ count_by (spec.is_seat plays name.now) seats.now }
+fn seats_by(seats: &[Seat], stage: Stage, name: &str) -> usize
+    ensures { result ≡ count_by (spec.is_seat stage name.now) seats.now }
 {
     let mut count = 0;
     for one in seats {
-        if is_seat(one, plays, name) {
+        if is_seat(one, stage, name) {
             count += 1;
         }
     }
     count
 }
 
-// Whether a message joins a game, or opens one.
-fn enters(text: &str, joins: bool) -> bool
-    ensures { result ≡ spec.enters joins text.now }
+// Whether a message is one by which one more game stands so.
+fn enters(text: &str, stage: Stage) -> bool
+    ensures { result ≡ spec.enters stage text.now }
 {
-    if joins {
-        joins_game(text)
-    } else {
-        opens_game(text)
+    match stage {
+        Stage::Waits => opens_game(text),
+        Stage::Plays => joins_game(text),
+        Stage::Over => false,
     }
 }
 
-// Whether an act is a `join`, or an `open`, for this player.
-fn enters_by(act: &Acting, joins: bool, name: &str) -> bool
-    ensures { result ≡ spec.enters_by joins name.now act.now.who (string_bytes act.now.text) }
+// Whether an act is one, for this player.
+fn enters_by(act: &Acting, stage: Stage, name: &str) -> bool
+    ensures { result ≡ spec.enters_by stage name.now act.now.who (string_bytes act.now.text) }
 {
     let is_his = actor(act.who.as_str(), act.text.as_str()) == name;
-    let enters = enters(act.text.as_str(), joins);
+    let enters = enters(act.text.as_str(), stage);
     is_his & enters
 }
 
 // Whether the message of a pairing has this player as White.
-fn pairs_by(act: &Acting, joins: bool, name: &str) -> bool
-    ensures { result ≡ spec.pairs_by joins name.now (string_bytes act.now.text) }
+fn pairs_by(act: &Acting, stage: Stage, name: &str) -> bool
+    ensures { result ≡ spec.pairs_by stage name.now (string_bytes act.now.text) }
 {
+    let waits = is_stage(stage, Stage::Waits);
     let is_his = as_name(act.text.as_str()) == name;
-    !joins & is_his
+    waits & is_his
 }
 
-// Whether the answer to a `join`, or to an `open`, for this player is due.
-fn is_entry(due: &Due, joins: bool, name: &str) -> bool
-    ensures { result ≡ spec.is_entry joins name.now (owed_of due.now) }
+// Whether the answer to such an act for this player is due.
+fn is_entry(due: &Due, stage: Stage, name: &str) -> bool
+    ensures { result ≡ spec.is_entry stage name.now (owed_of due.now) }
 {
     match due {
-        Due::Act(act) => enters_by(act, joins, name),
-        Due::Pair(act, _) => pairs_by(act, joins, name),
+        Due::Act(act) => enters_by(act, stage, name),
+        Due::Pair(act, _) => pairs_by(act, stage, name),
         _ => false,
     }
 }
 
 // How many such answers are due.
-fn entries(dues: &[Due], joins: bool, name: &str) -> usize
-    ensures { result ≡ count_by (λ due. spec.is_entry joins name.now (owed_of due)) dues.now }
+fn entries(dues: &[Due], stage: Stage, name: &str) -> usize
+    ensures { result ≡ count_by (λ due. spec.is_entry stage name.now (owed_of due)) dues.now }
 {
     let mut count = 0;
     for due in dues {
-        if is_entry(due, joins, name) {
+        if is_entry(due, stage, name) {
             count += 1;
         }
     }
     count
+}
+
+// How many seats are in games that wait.
+fn waiting_seats(seats: &[Seat]) -> usize
+    ensures { result ≡ count_by spec.is_waiting seats.now }
+{
+    let mut count = 0;
+    for one in seats {
+        if is_stage(one.stage, Stage::Waits) {
+            count += 1;
+        }
+    }
+    count
+}
+
+// Whether the answer to an act is due that opens a game.
+fn is_opening(due: &Due) -> bool
+    ensures { result ≡ spec.is_opening (owed_of due.now) }
+{
+    match due {
+        Due::Act(act) => opens_game(act.text.as_str()),
+        Due::Pair(_, _) => true,
+        _ => false,
+    }
+}
+
+// How many such answers are due.
+fn openings(dues: &[Due]) -> usize
+    ensures { result ≡ count_by (λ due. spec.is_opening (owed_of due)) dues.now }
+{
+    let mut count = 0;
+    for due in dues {
+        if is_opening(due) {
+            count += 1;
+        }
+    }
+    count
+}
+
+// So many halves of places are taken where the rest is for arbiters and pairings.
+fn own_halves(places: u32) -> usize
+    ensures { result ≡ 2 * (places - places / 8) }
+{
+    2 * (places - places / 8) as usize
+}
+
+// Whether so many halves are taken by seats, by those in games that wait once more, and by openings, of which each takes two.
+fn are_taken(most: usize, seats: usize, waiting: usize, first: usize, second: usize) -> bool
+    ensures { result ≡ nat_le most (seats + (waiting + 2 * (first + second))) }
+{
+    let left = most.saturating_sub(seats).saturating_sub(waiting);
+    let left = left.saturating_sub(first).saturating_sub(first);
+    let left = left.saturating_sub(second).saturating_sub(second);
+    left == 0
 }
 
 // Whether three numbers are as many as this.
@@ -103,30 +164,62 @@ fn are_many(most: usize, a: usize, b: usize, c: usize) -> bool
 
 impl ServerLine {
     // Whether a player has so many such seats. Those count of which the answer is not there yet.
-    fn has_many(&self, most: usize, plays: bool, name: &str) -> bool
-        ensures { result ≡ spec.has_many most plays self.now.seats.items (map owed_of self.now.queue.items) name.now }
+    fn has_many(&self, most: usize, stage: Stage, name: &str) -> bool
+        ensures { result ≡ spec.has_many most stage self.now.seats.items (map owed_of self.now.queue.items) name.now }
     {
         let (first, second) = self.queue.as_slices();
         are_many(
             most,
-            seats_by(self.seats.as_slice(), plays, name),
-            entries(first, plays, name),
-            entries(second, plays, name),
+            seats_by(self.seats.as_slice(), stage, name),
+            entries(first, stage, name),
+            entries(second, stage, name),
         )
     }
 
     /// Whether no game more of a player may be opened.
-    pub fn is_crowded(&self, name: &str) -> bool
-        ensures { result ≡ spec.is_crowded self.now.seats.items (map owed_of self.now.queue.items) name.now }
+    pub fn is_crowded(&self, limits: &Limits, name: &str) -> bool
+        ensures { result ≡ spec.is_crowded limits.now self.now.seats.items (map owed_of self.now.queue.items) name.now }
     {
-        self.has_many(WAIT_ROOM, false, name)
+        self.has_many(limits.waiting, Stage::Waits, name)
     }
 
     /// Whether a player may play in no game more.
-    pub fn is_busy(&self, name: &str) -> bool
-        ensures { result ≡ spec.is_busy self.now.seats.items (map owed_of self.now.queue.items) name.now }
+    pub fn is_busy(&self, limits: &Limits, name: &str) -> bool
+        ensures { result ≡ spec.is_busy limits.now self.now.seats.items (map owed_of self.now.queue.items) name.now }
     {
-        self.has_many(PLAY_ROOM, true, name)
+        self.has_many(limits.playing, Stage::Plays, name)
+    }
+
+    /// Whether a player has left as many games on the table as may be.
+    pub fn is_spent(&self, limits: &Limits, name: &str) -> bool
+        ensures { result ≡ spec.is_spent limits.now self.now.seats.items (map owed_of self.now.queue.items) name.now }
+    {
+        self.has_many(limits.over, Stage::Over, name)
+    }
+
+    // Whether of a table of so many places but those for arbiters and pairings are taken.
+    fn is_full_at(&self, places: u32) -> bool
+        ensures { result ≡ nat_le (2 * (places - places / 8)) (spec.halves_taken self.now.seats.items (map owed_of self.now.queue.items)) }
+    {
+        let (first, second) = self.queue.as_slices();
+        let seats = self.seats.as_slice();
+        are_taken(
+            own_halves(places),
+            seats.len(),
+            waiting_seats(seats),
+            openings(first),
+            openings(second),
+        )
+    }
+
+    /// Whether the table has places left for arbiters and pairings alone.
+    pub fn is_nearly_full(&self, limits: &Limits) -> bool
+        ensures { result ≡ spec.is_nearly_full limits.now self.now.seats.items (map owed_of self.now.queue.items) }
+    {
+        match limits.places {
+            None => false,
+            Some(places) => self.is_full_at(places),
+        }
     }
 }
 
@@ -171,7 +264,7 @@ fn still_by(game: u32, by: Option<Name>) -> Option<Seat>
         Some(by) => Some(Seat {
             game,
             by,
-            plays: true,
+            stage: Stage::Plays,
         }),
     }
 }
@@ -183,15 +276,39 @@ fn note_joined(seats: &mut Vec<Seat>, game: u32, by: &str) -> Result<(), AllocEr
     let still = still_by(game, first_by(seats.as_slice(), game));
     take_off(seats, game);
     add_seat(seats, still)?;
-    add_seat(seats, seat_of(Some(game), by, true))
+    add_seat(seats, seat_of(Some(game), by, Stage::Plays))
 }
 
-// Notes that a game waits no more, or is over, if it is so.
-fn note_ended(seats: &mut Vec<Seat>, ends: bool, game: u32)
-    ensures { seats.new.items ≡ spec.seats_ended ends game seats.old.items }
+// A seat in a game that is over from now on, if it is one.
+fn over_if(one: &Seat, game: u32) -> Seat
+    ensures { result ≡ spec.over_if game one.now }
 {
-    if ends {
-        take_off(seats, game);
+    if one.game == game {
+        Seat {
+            game: one.game,
+            by: one.by,
+            stage: Stage::Over,
+        }
+    } else {
+        *one
+    }
+}
+
+// A game is over from now on.
+fn end_all(seats: &mut [Seat], game: u32)
+    ensures { seats.new ≡ map (spec.over_if game) seats.old }
+{
+    for one in seats.iter_mut() {
+        *one = over_if(one, game);
+    }
+}
+
+// Notes that a game is over, if it is so.
+fn note_ended(seats: &mut Vec<Seat>, is_over: bool, game: u32)
+    ensures { seats.new.items ≡ spec.seats_ended is_over game seats.old.items }
+{
+    if is_over {
+        end_all(seats.as_mut_slice(), game);
     }
 }
 
@@ -207,14 +324,16 @@ fn note_game(
     let text = act.text.as_str();
     let by = actor(act.who.as_str(), text);
     if opens_game(text) {
-        add_seat(seats, seat_of(Some(game), by, false))
+        add_seat(seats, seat_of(Some(game), by, Stage::Waits))
     } else if joins_game(text) {
         note_joined(seats, game, by)
     } else if is_pair(text) {
         note_joined(seats, game, black_name(text))
+    } else if ends_wait(text) {
+        take_off(seats, game);
+        Ok(())
     } else {
-        let ends = if ends_wait(text) { true } else { is_over };
-        note_ended(seats, ends, game);
+        note_ended(seats, is_over, game);
         Ok(())
     }
 }
@@ -223,7 +342,7 @@ fn note_game(
 pub fn note_opened(seats: &mut Vec<Seat>, text: &str, game: Option<u32>) -> Result<(), AllocError>
     ensures { OnOk result (seats.new.items ≡ spec.seats_opened text.now game seats.old.items) }
 {
-    add_seat(seats, seat_of(game, as_name(text), false))
+    add_seat(seats, seat_of(game, as_name(text), Stage::Waits))
 }
 
 /// Notes an act, where it was done in a game, as its answer tells.

@@ -1,11 +1,11 @@
 -- Who has its turn is attended, and to who has none nothing happens.
-use Rattle.std.proofs.Common.{◌≡◌, ℕ, Bool, true, false, List, [], Option, Some, None, inl, inr, refl}
+use Rattle.std.proofs.Common.{◌≡◌, ℕ, ◌&&◌, Bool, true, false, List, [], Option, Some, None, inl, inr, refl}
 use Rattle.std.specs.Io.KnownBytes.{Consumes}
 use Rattle.lobby_web.specs.declared.site.Site.{Site}
 use Rattle.lobby_guests.specs.declared.guest.Guest.{Guest}
 use Rattle.lobby_guests.specs.declared.rounds.Others.{Others}
 use Rattle.lobby_guests.specs.declared.talk.Talk.{Talk}
-use Rattle.lobby_guests.specs.Guests.{InTurn, IsAttended, IsServedIf, IsPlayersTurn, IsOthersTurn, Room, acts_at}
+use Rattle.lobby_guests.specs.Guests.{InTurn, IsAttended, IsServedIf, IsPlayersTurn, IsOthersTurn, Room, acts_at, has_time}
 use Rattle.lobby_guests.proofs.EachGuest.{in_turn_as}
 
 module _ {S : Type 0} (remaining : S → Option (List ℕ)) (site : Site) (at : ℕ) where
@@ -28,7 +28,7 @@ module _ {S : Type 0} (remaining : S → Option (List ℕ)) (site : Site) (at : 
 
   players_attended : (old new : Guest S) (talk after : Talk) → IsPlayersTurn remaining site at old new talk after →
       IsAttended remaining site at old new talk after
-  players_attended old new talk after turn = served_if (acts_at talk.desk old.number) old new talk after turn
+  players_attended old new talk after turn = served_if (acts_at talk.desk old.number && has_time at old.paid_until) old new talk after turn
 
   pub players_pass : (old new : List (Guest S)) (talk after : Talk) → InTurn (IsPlayersTurn remaining site at) old new talk after →
       InTurn (IsAttended remaining site at) old new talk after

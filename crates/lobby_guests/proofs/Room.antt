@@ -4,12 +4,13 @@ use Rattle.std.specs.Prelude.{count_by, nat_lt, nat_le}
 use Rattle.std.specs.List.{AllZip}
 use Rattle.std.proofs.lemmas.Bool.Decides.{nat_tests}
 use Rattle.std.proofs.lemmas.List.Sums.{count_by-le-length, sum_by-cons}
+use Rattle.std.proofs.lemmas.Slice.Eq.{bytes_eq-Decides}
 use Rattle.lobby_guests.specs.declared.places.Place.{Place}
 use Rattle.lobby_guests.specs.declared.places.Role.{Role}
 use Rattle.lobby_guests.specs.declared.places.Role.TheVariants as roles
 use Rattle.lobby_guests.specs.declared.places.Class.{Class}
-use Rattle.lobby_guests.specs.declared.places.Class.TheVariants.{Gone, Players, Nameless, Watchers, Newcomers, Aged}
-use Rattle.lobby_guests.specs.Places.{is_in, is_at, is_nameless, is_watcher, is_newcomer, is_player, has_address, counted, count_of, gone, leave, beyond, trim, make_room, room_at, room_for, each_room, in_time, most_nameless, judged, IsKeptOrClosed, IsYoung, HasCrowd, HasChance, HaveChance, IsFair}
+use Rattle.lobby_guests.specs.declared.places.Class.TheVariants.{Gone, Players, Nameless, Watchers, Newcomers, Aged, Own}
+use Rattle.lobby_guests.specs.Places.{is_of, own_room, each_own, IsOwned, is_in, is_at, is_nameless, is_watcher, is_newcomer, is_player, has_address, counted, count_of, gone, leave, beyond, trim, make_room, room_at, room_for, each_room, in_time, most_nameless, judged, IsKeptOrClosed, IsYoung, HasCrowd, HasChance, HaveChance, IsFair}
 
 -- ---- closing the first, or all but the first
 
@@ -585,3 +586,134 @@ module _ (at : ℕ) where
             (room_chance at most None most (in_all at most) spread))));
         in_time = λ over. omega (arith, fewer_late, time_is_up from old over);
       }
+
+-- ---- of each player so many
+
+-- how one is kept that acts for a player, or is closed
+abbrev IsOwnKept : Place → Place → Type 0
+IsOwnKept p q = (q ≡ p) ⊎ ((is_player p.role ≡ true) × (q ≡ gone p))
+
+own_same : (ps : List Place) → AllZip IsOwnKept ps ps
+own_same [] = tt
+own_same (p ∷ ps) = (inl refl, own_same ps)
+
+own_twice : (p q r : Place) → IsOwnKept p q → IsOwnKept q r → IsOwnKept p r
+own_twice p q r first second =
+    elim first [
+      | inl same ↦ subst (λ x. IsOwnKept x r) same second
+      | inr closed ↦ elim second [
+        | inl same ↦ inr (closed.0, same ∙ closed.1)
+        | inr again ↦ absurd (cc (ap (λ (x : Place). is_player x.role) closed.1, again.0))
+      ]
+    ]
+
+own_trans : (ps qs rs : List Place) → AllZip IsOwnKept ps qs → AllZip IsOwnKept qs rs → AllZip IsOwnKept ps rs
+own_trans [] [] [] first second = tt
+own_trans [] [] (r ∷ rs) first second = second
+own_trans [] (q ∷ qs) rs first second = absurd first
+own_trans (p ∷ ps) [] rs first second = absurd first
+own_trans (p ∷ ps) (q ∷ qs) [] first second = absurd second
+own_trans (p ∷ ps) (q ∷ qs) (r ∷ rs) first second = (own_twice p q r first.0 second.0, own_trans ps qs rs first.1 second.1)
+
+own_gone : (name : List ℕ) (p : Place) → counted None (Own name) (gone p) ≡ false
+own_gone name p = refl
+
+own_player : (name : List ℕ) (p : Place) → counted None (Own name) p ≡ true → is_player p.role ≡ true
+own_player name p is = and_left (is_player p.role) (is_of name p.player) is
+
+leave_owns : (name : List ℕ) (n : ℕ) (ps : List Place) → AllZip IsOwnKept ps (leave (counted None (Own name)) n ps)
+leave_owns name n [] = tt
+leave_owns name n (p ∷ ps) =
+    elim (leave_step (counted None (Own name)) n p ps) [
+      | inl one ↦ rw one.is (inr (own_player name p one.held, refl), leave_owns name (n - 1) ps)
+      | inr passes ↦ rw passes.is (inl refl, leave_owns name n ps)
+    ]
+
+room_owns : (player : Option (List ℕ)) (ps : List Place) → AllZip IsOwnKept ps (own_room player ps)
+room_owns None ps = own_same ps
+room_owns (Some name) ps = leave_owns name (count_of None (Own name) ps - 16) ps
+
+each_owns : (qs ps : List Place) → AllZip IsOwnKept ps (each_own qs ps)
+each_owns [] ps = own_same ps
+each_owns (q ∷ qs) ps =
+    own_trans ps (own_room q.player ps) (each_own qs (own_room q.player ps)) (room_owns q.player ps) (each_owns qs (own_room q.player ps))
+
+-- so many at most are there as were
+one_own : (name : List ℕ) (p q : Place) → IsOwnKept p q → cond (counted None (Own name) q) 1 0 ≤ cond (counted None (Own name) p) 1 0
+one_own name p q kept =
+    elim kept [
+      | inl same ↦ rw same (omega arith)
+      | inr closed ↦
+          let no : counted None (Own name) q ≡ false = ap (counted None (Own name)) closed.1 ∙ own_gone name p in rw no (omega arith)
+    ]
+
+fewer_own : (name : List ℕ) (ps qs : List Place) → AllZip IsOwnKept ps qs → count_of None (Own name) qs ≤ count_of None (Own name) ps
+fewer_own name [] [] kept = omega arith
+fewer_own name [] (q ∷ qs) kept = absurd kept
+fewer_own name (p ∷ ps) [] kept = absurd kept
+fewer_own name (p ∷ ps) (q ∷ qs) kept =
+    let P = counted None (Own name) in
+    let here : count_of None (Own name) (p ∷ ps) ≡ cond (counted None (Own name) p) 1 0 + count_of None (Own name) ps = count_more P p ps in
+    let there : count_of None (Own name) (q ∷ qs) ≡ cond (counted None (Own name) q) 1 0 + count_of None (Own name) qs = count_more P q qs in
+    omega (arith, one_own name p q kept.0, fewer_own name ps qs kept.1, here, there)
+
+-- so many of them are closed
+leave_less : (name : List ℕ) (n : ℕ) (ps : List Place) →
+    count_of None (Own name) (leave (counted None (Own name)) n ps) ≤ count_of None (Own name) ps - n
+leave_less name n [] = omega arith
+leave_less name n (p ∷ ps) =
+    let P = counted None (Own name) in
+    elim (leave_step (counted None (Own name)) n p ps) [
+      | inl one ↦
+          let here : count_of None (Own name) (p ∷ ps) ≡ 1 + count_of None (Own name) ps = count_in P p ps one.held in
+          let there : count_of None (Own name) (gone p ∷ leave (counted None (Own name)) (n - 1) ps)
+          ≡ count_of None (Own name) (leave (counted None (Own name)) (n - 1) ps) =
+          count_out P (gone p) (leave P (n - 1) ps) (own_gone name p) in
+          rw one.is (omega (arith, here, there, leave_less name (n - 1) ps, one.more))
+      | inr passes ↦
+          let here : count_of None (Own name) (p ∷ ps) ≡ cond (counted None (Own name) p) 1 0 + count_of None (Own name) ps = count_more P p ps in
+          let there : count_of None (Own name) (p ∷ leave (counted None (Own name)) n ps)
+          ≡ cond (counted None (Own name) p) 1 0 + count_of None (Own name) (leave (counted None (Own name)) n ps) =
+          count_more P p (leave P n ps) in
+          elim passes.fails [
+            | inl none ↦ rw passes.is (omega (arith, here, there, leave_less name n ps, none))
+            | inr not_so ↦
+                let zero_is : cond (counted None (Own name) p) 1 0 ≡ 0 = ap (λ (b : Bool). cond b 1 0) not_so in
+                rw passes.is (omega (arith, here, there, zero_is, leave_less name n ps))
+          ]
+    ]
+
+room_few : (name : List ℕ) (player : Option (List ℕ)) (ps : List Place) → is_of name player ≡ true →
+    count_of None (Own name) (own_room player ps) ≤ 16
+room_few name None ps is = absurd (cc)
+room_few name (Some other) ps is =
+    let same : other ≡ name = (bytes_eq-Decides other name).0 is in
+    let less : count_of None (Own name) (leave (counted None (Own name)) (count_of None (Own name) ps - 16) ps)
+    ≤ count_of None (Own name) ps - (count_of None (Own name) ps - 16) =
+    leave_less name (count_of None (Own name) ps - 16) ps in
+    subst (λ (n : List ℕ). count_of None (Own name) (own_room (Some n) ps) ≤ 16) (sym same) (omega (arith, less))
+
+each_own_few : (name : List ℕ) (qs ps : List Place) → (count_of None (Own name) ps ≤ 16) ⊎ (0 < count_of None (Own name) qs) →
+    count_of None (Own name) (each_own qs ps) ≤ 16
+each_own_few name [] ps either = elim either [ inl few ↦ few | inr one ↦ absurd (omega (arith, one)) ]
+each_own_few name (q ∷ qs) ps either =
+    let next = own_room q.player ps in
+    let less : count_of None (Own name) (own_room q.player ps) ≤ count_of None (Own name) ps =
+    fewer_own name ps next (room_owns q.player ps) in
+    elim (cases (counted None (Own name) q)) [
+      | inl is_so ↦ each_own_few name qs next (inl (room_few name q.player ps (and_right (is_player q.role) (is_of name q.player) is_so)))
+      | inr not_so ↦ each_own_few name qs next (elim either [
+        | inl few ↦ inl (omega (arith, few, less))
+        | inr one ↦ inr (omega (arith, one, count_out (counted None (Own name)) q qs not_so))
+      ])
+    ]
+
+few_or_any : (n : ℕ) → (n ≤ 16) ⊎ (0 < n)
+few_or_any zero = inl (omega arith)
+few_or_any (suc n) = inr (omega arith)
+
+pub owned : (ps : List Place) → IsOwned ps (each_own ps ps)
+owned ps = record {
+  kept = each_owns ps ps;
+  few = λ name. each_own_few name ps ps (few_or_any (count_of None (Own name) ps));
+}

@@ -1,5 +1,5 @@
 -- Connections that keep their places or yield them.
-use Rattle.std.proofs.Common.{◌≡◌, ◌<◌, ◌≤◌, ◌+◌, ◌||◌, ℕ, Bool, true, false, List, [], ◌∷◌, ◌++◌, Option, None, Some, length, get_or, set, take, map, refl, ap, sym, ◌∙◌, subst, inl, inr, arith}
+use Rattle.std.proofs.Common.{◌≡◌, ◌<◌, ◌≤◌, ◌+◌, ◌||◌, ◌⊎◌, ℕ, Bool, true, false, List, [], ◌∷◌, ◌++◌, Option, None, Some, length, get_or, set, take, map, refl, ap, sym, ◌∙◌, subst, inl, inr, arith}
 use Rattle.std.specs.List.{AllZip}
 use Rattle.std.proofs.lemmas.List.{take_more, take_more_set, take_all, length-set, length-map}
 use Rattle.std.proofs.lemmas.List.Elements.{length_all_zip}
@@ -9,9 +9,9 @@ use Rattle.lobby_guests.specs.declared.guest.Guest.{Guest}
 use Rattle.lobby_guests.specs.declared.places.Place.{Place}
 use Rattle.lobby_guests.specs.declared.places.Role.{Role}
 use Rattle.lobby_guests.specs.Guests.{IsAsBefore}
-use Rattle.lobby_guests.specs.Places.{is_gone, gone, judged, IsKeptOrClosed, IsFair}
+use Rattle.lobby_guests.specs.Places.{is_gone, is_player, gone, each_own, judged, IsKeptOrClosed, IsKeptOrGone, IsOwned, IsFair}
 use Rattle.lobby_guests.specs.Roles.{role_by, role_at}
-use Rattle.lobby_guests.specs.Seating.{role_of, place_of, Yields, AreYielding, YieldAt, AreSeated, AreSeatedIf}
+use Rattle.lobby_guests.specs.Seating.{role_of, player_of, place_of, Yields, AreYielding, YieldAt, AreSeated, AreSeatedIf}
 use Rattle.lobby_guests.proofs.Each.{SameFrom, further_same, further_front}
 
 -- ---- one after the other
@@ -79,18 +79,40 @@ lost_stays desk false None = refl
 lost_stays desk false (Some c) =
     ap (λ (b : Bool). role_of desk b (Some c)) (role_stays (acts desk c) (is_watcher desk c))
 
-module _ {S : Type 0} (desk : Desk) where
-  yielded_place : (p : Place) (g h : Guest S) → Yields p g h →
-      place_of desk h ≡ record { address = g.origin.address; role = role_of desk (g.is_lost || is_gone p.role) g.number; since = g.came_at }
-  yielded_place p g h yields =
-      ap (λ o. record { address = o.address; role = role_of desk h.is_lost h.number; since = h.came_at }) yields.origin
-      ∙ ap (λ b. record { address = g.origin.address; role = role_of desk b h.number; since = h.came_at }) yields.lost
-      ∙ ap (λ n. record { address = g.origin.address; role = role_of desk (g.is_lost || is_gone p.role) n; since = h.came_at }) yields.before.number
-      ∙ ap (λ n. record { address = g.origin.address; role = role_of desk (g.is_lost || is_gone p.role) g.number; since = n }) yields.came
+-- who is closed by either is closed
+gone_twice : (p q r : Place) → (q ≡ p) ⊎ ((is_player p.role ≡ true) × (q ≡ gone p)) → IsKeptOrClosed q r → IsKeptOrGone p r
+gone_twice p q r first second =
+    elim first [
+      | inl same ↦ elim second [ inl again ↦ inl (again ∙ same) | inr closed ↦ inr (closed.1 ∙ ap gone same) ]
+      | inr closed ↦ elim second [ inl same ↦ inr (same ∙ closed.1) | inr again ↦ inr (again.1 ∙ ap gone closed.1) ]
+    ]
 
-  one_place : (p : Place) (g h : Guest S) → Yields p g h → IsKeptOrClosed (place_of desk g) p → place_of desk h ≡ p
+pub kept_or_gone : (ps qs rs : List Place) → AllZip (λ (p q : Place). (q ≡ p) ⊎ ((is_player p.role ≡ true) × (q ≡ gone p))) ps qs →
+    AllZip IsKeptOrClosed qs rs → AllZip IsKeptOrGone ps rs
+kept_or_gone [] [] [] first second = tt
+kept_or_gone [] [] (r ∷ rs) first second = second
+kept_or_gone [] (q ∷ qs) rs first second = absurd first
+kept_or_gone (p ∷ ps) [] rs first second = absurd first
+kept_or_gone (p ∷ ps) (q ∷ qs) [] first second = absurd second
+kept_or_gone (p ∷ ps) (q ∷ qs) (r ∷ rs) first second =
+    (gone_twice p q r first.0 second.0, kept_or_gone ps qs rs first.1 second.1)
+
+module _ {S : Type 0} (desk : Desk) where
+  -- a place like this one
+  place_with : Option ℕ → Role → Option (List ℕ) → ℕ → Place
+  place_with address role player since = record { address = address; role = role; player = player; since = since }
+
+  yielded_place : (p : Place) (g h : Guest S) → Yields p g h →
+      place_of desk h ≡ place_with g.origin.address (role_of desk (g.is_lost || is_gone p.role) g.number) (player_of desk g.number) g.came_at
+  yielded_place p g h yields =
+      ap (λ o. place_with o.address (role_of desk h.is_lost h.number) (player_of desk h.number) h.came_at) yields.origin
+      ∙ ap (λ b. place_with g.origin.address (role_of desk b h.number) (player_of desk h.number) h.came_at) yields.lost
+      ∙ ap (λ n. place_with g.origin.address (role_of desk (g.is_lost || is_gone p.role) n) (player_of desk n) h.came_at) yields.before.number
+      ∙ ap (λ n. place_with g.origin.address (role_of desk (g.is_lost || is_gone p.role) g.number) (player_of desk g.number) n) yields.came
+
+  one_place : (p : Place) (g h : Guest S) → Yields p g h → IsKeptOrGone (place_of desk g) p → place_of desk h ≡ p
   one_place p g h yields kept =
-      let with_role : Role → Place = λ r. record { address = g.origin.address; role = r; since = g.came_at } in
+      let with_role : Role → Place = λ r. place_with g.origin.address r (player_of desk g.number) g.came_at in
       elim kept [
         | inl same ↦
             yielded_place p g h yields
@@ -98,11 +120,11 @@ module _ {S : Type 0} (desk : Desk) where
             ∙ ap with_role (lost_stays desk g.is_lost g.number) ∙ sym same
         | inr closed ↦
             yielded_place p g h yields
-            ∙ ap (λ (q : Place). with_role (role_of desk (g.is_lost || is_gone q.role) g.number)) closed.1
-            ∙ ap (λ (b : Bool). with_role (role_of desk b g.number)) (or_true g.is_lost) ∙ sym closed.1
+            ∙ ap (λ (q : Place). with_role (role_of desk (g.is_lost || is_gone q.role) g.number)) closed
+            ∙ ap (λ (b : Bool). with_role (role_of desk b g.number)) (or_true g.is_lost) ∙ sym closed
       ]
 
-  pub all_places : (ps : List Place) (gs hs : List (Guest S)) → AreYielding ps gs hs → AllZip IsKeptOrClosed (map (place_of desk) gs) ps →
+  pub all_places : (ps : List Place) (gs hs : List (Guest S)) → AreYielding ps gs hs → AllZip IsKeptOrGone (map (place_of desk) gs) ps →
       map (place_of desk) hs ≡ ps
   all_places [] [] [] are kept = refl
   all_places [] [] (h ∷ hs) are kept = absurd are
@@ -121,18 +143,27 @@ module _ {S : Type 0} (desk : Desk) where
   all_before (p ∷ ps) (g ∷ gs) (h ∷ hs) are = (are.0.before, all_before ps gs hs are.1)
 
   -- who yields by what is judged is seated
-  pub seated : (at from : ℕ) (gs hs : List (Guest S)) → YieldAt at from (map (place_of desk) gs) gs hs → AreSeated at from desk gs hs
-  seated at from gs hs yields =
-      let ps = judged at from (map (place_of desk) gs) in
-      let are : map (place_of desk) hs ≡ ps = all_places ps gs hs yields.yields yields.fair.kept in
+  pub seated : (at from : ℕ) (gs hs : List (Guest S)) (owned : List Place) →
+      owned ≡ each_own (map (place_of desk) gs) (map (place_of desk) gs) → IsOwned (map (place_of desk) gs) owned →
+      YieldAt at from owned gs hs → AreSeated at from desk gs hs
+  seated at from gs hs owned owned_are few yields =
+      let ps = judged at from owned in
+      let are : map (place_of desk) hs ≡ ps =
+      all_places ps gs hs yields.yields (kept_or_gone (map (place_of desk) gs) owned ps few.kept yields.fair.kept) in
       record {
         before = all_before ps gs hs yields.yields;
+        owned = owned;
+        owned_are = owned_are;
+        few = few;
         judged_so = are;
-        fair = subst (λ (l : List Place). IsFair at from (map (place_of desk) gs) l) (sym are) yields.fair;
+        fair = subst (λ (l : List Place). IsFair at from owned l) (sym are) yields.fair;
       }
 
   pub places_length : (gs : List (Guest S)) → length (map (place_of desk) gs) ≡ length gs
   places_length gs = length-map gs (place_of desk)
+
+pub owned_length : (old new : List Place) → IsOwned old new → length new ≡ length old
+owned_length old new owned = sym (length_all_zip (λ (p q : Place). (q ≡ p) ⊎ ((is_player p.role ≡ true) × (q ≡ gone p))) old new owned.kept)
 
 pub fair_length : (at from : ℕ) (old new : List Place) → IsFair at from old new → length new ≡ length old
 fair_length at from old new fair = sym (length_all_zip IsKeptOrClosed old new fair.kept)

@@ -1,6 +1,6 @@
 -- What happens at a browser's connection.
-use Rattle.std.specs.Prelude.{ℕ, ◌≡◌, ◌≤◌, ◌<◌, ◌⊎◌, ◌&&◌, Bool, true, false, not, is_some, List, [], ◌∷◌, Option, None, Some, Result, length, take, filter}
-use Rattle.std.specs.List.{AllZip}
+use Rattle.std.specs.Prelude.{ℕ, ◌≡◌, ◌≤◌, ◌<◌, ◌-◌, ◌⊎◌, ◌&&◌, ◌==◌, nat_le, nat_lt, codes, Bool, true, false, not, is_some, List, [], ◌∷◌, Option, None, Some, Result, length, take, filter}
+use Rattle.std.specs.List.{AllZip, starts_with}
 use Rattle.std.specs.Io.KnownBytes.{Consumes, Appends}
 use Rattle.std.specs.String.{string_bytes}
 use Rattle.websocket.specs.Content.{text as Text, ping as Ping}
@@ -84,6 +84,15 @@ pub record IsServed {S : Type 0} (remaining : S → Option (List ℕ)) (site : S
   pub attended : IsAttended remaining site at old new talk after
   pub asks : attended.read.is_lost ≡ false → MaySpeak talk.desk attended.read.number → IsAsked at attended.read new talk after
 
+-- whether an answer refuses a login
+abbrev pub refuses_login : List ℕ → Bool
+refuses_login text = starts_with (λ a b. a == b) text (codes "no 32 ")
+
+-- Each takes 12 seconds of a connection's time for that, and where more than 48 are taken at its moment it is one too many: five at
+-- once, and five a minute.
+abbrev pub is_beyond : ℕ → ℕ → Bool
+is_beyond at until = nat_lt 48000 (until - at)
+
 -- Something is done to each, one after the other and each once, and with each something else changes.
 abbrev pub InTurn : {A B : Type 0} → (A → A → B → B → Type 0) → List A → List A → B → B → Type 0
 InTurn does [] after old new = (after ≡ []) × (new ≡ old)
@@ -96,14 +105,18 @@ abbrev pub acts_at : Desk → Option ℕ → Bool
 acts_at desk None = false
 acts_at desk (Some c) = acts desk c
 
--- Who acts for a player is served, and nothing is done to anybody else.
+-- whether the time of one that acts for a player is not taken too far ahead, 10 seconds, by what it was told
+abbrev pub has_time : ℕ → ℕ → Bool
+has_time at until = nat_le (until - at) 10000
+
+-- Who acts for a player and has time is served, and nothing is done to anybody else.
 abbrev pub IsServedIf : {S : Type 0} → Bool → (S → Option (List ℕ)) → Site → ℕ → Guest S → Guest S → Talk → Talk → Type 0
 IsServedIf true remaining site at old new talk after = IsServed remaining site at old new talk after
 IsServedIf false remaining site at old new talk after = (new ≡ old) × (after ≡ talk)
 
 abbrev pub IsPlayersTurn : {S : Type 0} → (S → Option (List ℕ)) → Site → ℕ → Guest S → Guest S → Talk → Talk → Type 0
 IsPlayersTurn remaining site at old new talk after =
-    IsServedIf (acts_at talk.desk old.number) remaining site at old new talk after
+    IsServedIf (acts_at talk.desk old.number && has_time at old.paid_until) remaining site at old new talk after
 
 -- Who else is attended: who has no socket yet; and who has one and acts for nobody.
 abbrev pub is_other : Others → Desk → Option ℕ → Bool
@@ -146,8 +159,8 @@ others_most = 16
 abbrev pub full_room : Talk → Room
 full_room talk = record { talk = talk; left = others_most }
 
--- In a turn players are served first, each of them; then some of those who have no socket yet; and of those who act for nobody
--- some who were told no answer yet, and some of the others.
+-- In a turn players are served first, each of them; then some of those who have no socket yet; and then twice some of those who
+-- act for nobody. That the first of these two passes is of who was told no answer yet is not said.
 pub record AreAttended {S : Type 0} (remaining : S → Option (List ℕ)) (site : Site) (at : ℕ) (old new : List (Guest S))
     (talk after : Talk) : Type 0 where
   pub first : List (Guest S)

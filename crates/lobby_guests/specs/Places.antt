@@ -1,11 +1,12 @@
 -- Who has a place, and who makes room for whom: connections in the order in which they came.
 use Rattle.std.specs.Prelude.{ℕ, ◌≡◌, ◌≤◌, ◌<◌, ◌-◌, ◌⊎◌, ◌==◌, ◌&&◌, ◌||◌, Bool, true, false, List, [], ◌∷◌, Option, None, Some, length, count_by, nat_le, nat_lt, max, min, if◌then◌else◌}
 use Rattle.std.specs.List.{AllZip}
+use Rattle.std.specs.Str.{bytes_eq}
 use Rattle.lobby_guests.specs.declared.places.Place.{Place}
 use Rattle.lobby_guests.specs.declared.places.Role.{Role}
 use Rattle.lobby_guests.specs.declared.places.Role.TheVariants as roles
 use Rattle.lobby_guests.specs.declared.places.Class.{Class}
-use Rattle.lobby_guests.specs.declared.places.Class.TheVariants.{Gone, Players, Nameless, Watchers, Newcomers, Aged}
+use Rattle.lobby_guests.specs.declared.places.Class.TheVariants.{Gone, Players, Nameless, Watchers, Newcomers, Aged, Own}
 
 -- ---- which connections are counted
 
@@ -37,6 +38,11 @@ is_newcomer roles.Newcomer = true
 abbrev pub is_nameless : Role → Bool
 is_nameless role = is_watcher role || is_newcomer role
 
+-- It acts for the player of this name.
+abbrev pub is_of : List ℕ → Option (List ℕ) → Bool
+is_of name None = false
+is_of name (Some player) = bytes_eq player name
+
 abbrev pub is_in : Class → Place → Bool
 is_in Gone p = is_gone p.role
 is_in Players p = is_player p.role
@@ -44,6 +50,7 @@ is_in Nameless p = is_nameless p.role
 is_in Watchers p = is_watcher p.role
 is_in Newcomers p = is_newcomer p.role
 is_in (Aged at age) p = is_newcomer p.role && nat_le age (at - p.since)
+is_in (Own name) p = is_player p.role && is_of name p.player
 
 -- It counts for this address; without one all do.
 abbrev pub has_address : ℕ → Option ℕ → Bool
@@ -70,6 +77,15 @@ gone p = record p { role = roles.Gone }
 abbrev pub leave : (Place → Bool) → ℕ → List Place → List Place
 leave P n [] = []
 leave P n (p ∷ ps) = if nat_lt 0 n && P p then gone p ∷ leave P (n - 1) ps else p ∷ leave P n ps
+
+-- For one player 16 connections act at most: who came first makes room.
+abbrev pub own_room : Option (List ℕ) → List Place → List Place
+own_room None ps = ps
+own_room (Some name) ps = leave (counted None (Own name)) (count_of None (Own name) ps - 16) ps
+
+abbrev pub each_own : List Place → List Place → List Place
+each_own [] ps = ps
+each_own (q ∷ qs) ps = each_own qs (own_room q.player ps)
 
 -- all but the first of them, so many at most
 abbrev pub beyond : (Place → Bool) → ℕ → List Place → List Place
@@ -116,6 +132,15 @@ judged at from ps =
     make_room None (most_nameless (count_of None Players spread)) at spread
 
 -- ---- what is promised of it
+
+-- It is as it was, or it is to be closed.
+abbrev pub IsKeptOrGone : Place → Place → Type 0
+IsKeptOrGone old new = (new ≡ old) ⊎ (new ≡ gone old)
+
+-- Each is as it was, or to be closed, who acts for a player; and for each player 16 act at most.
+pub record IsOwned (old new : List Place) : Type 0 where
+  pub kept : AllZip (λ (p q : Place). (q ≡ p) ⊎ ((is_player p.role ≡ true) × (q ≡ gone p))) old new
+  pub few : (name : List ℕ) → count_of None (Own name) new ≤ 16
 
 -- It is as it was, or it is to be closed, which befalls who is nameless alone.
 abbrev pub IsKeptOrClosed : Place → Place → Type 0

@@ -7,7 +7,8 @@ use Rattle.lobby_guests.specs.declared.places.Place.{Place}
 use Rattle.lobby_guests.specs.declared.places.Role.{Role}
 use Rattle.lobby_guests.specs.declared.places.Role.TheVariants.{Gone, Newcomer}
 use Rattle.lobby_guests.specs.Guests.{IsAsBefore}
-use Rattle.lobby_guests.specs.Places.{is_gone, judged, IsFair}
+use Rattle.lobby_desk.specs.Strangers.{player_at}
+use Rattle.lobby_guests.specs.Places.{is_gone, each_own, judged, IsOwned, IsFair}
 use Rattle.lobby_guests.specs.Roles.{role_at}
 
 -- what a connection is that is to be closed or not, and has this number at the desk
@@ -16,9 +17,19 @@ role_of desk true number = Gone
 role_of desk false None = Newcomer
 role_of desk false (Some c) = role_at desk c
 
+-- the player for whom it acts
+abbrev pub player_of : Desk → Option ℕ → Option (List ℕ)
+player_of desk None = None
+player_of desk (Some c) = player_at desk c
+
 -- a connection's place
 abbrev pub place_of : {S : Type 0} → Desk → Guest S → Place
-place_of desk guest = record { address = guest.origin.address; role = role_of desk guest.is_lost guest.number; since = guest.came_at }
+place_of desk guest = record {
+  address = guest.origin.address;
+  role = role_of desk guest.is_lost guest.number;
+  player = player_of desk guest.number;
+  since = guest.came_at;
+}
 
 -- A connection goes where its place has nobody any more; nothing else changes.
 pub record Yields {S : Type 0} (place : Place) (old new : Guest S) : Type 0 where
@@ -37,11 +48,15 @@ pub record YieldAt {S : Type 0} (at from : ℕ) (places : List Place) (old new :
   pub yields : AreYielding (judged at from places) old new
   pub fair : IsFair at from places (judged at from places)
 
--- Connections are judged: those are to be closed who are to make room, and nothing else changes.
+-- Connections are judged: first those are to be closed that act for a player for whom too many do, then those that are to make room,
+-- and nothing else changes.
 pub record AreSeated {S : Type 0} (at from : ℕ) (desk : Desk) (old new : List (Guest S)) : Type 0 where
   pub before : AllZip IsAsBefore old new
-  pub judged_so : map (place_of desk) new ≡ judged at from (map (place_of desk) old)
-  pub fair : IsFair at from (map (place_of desk) old) (map (place_of desk) new)
+  pub owned : List Place
+  pub owned_are : owned ≡ each_own (map (place_of desk) old) (map (place_of desk) old)
+  pub few : IsOwned (map (place_of desk) old) owned
+  pub judged_so : map (place_of desk) new ≡ judged at from owned
+  pub fair : IsFair at from owned (map (place_of desk) new)
 
 -- The same where it is due, and else nothing changes.
 pub record AreSeatedIf {S : Type 0} (is_due : Bool) (at from : ℕ) (desk : Desk) (old new : List (Guest S)) : Type 0 where

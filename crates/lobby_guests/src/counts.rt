@@ -1,5 +1,7 @@
 //! What is counted for who looks after a lobby. No law speaks of it, and nothing else goes by it.
 
+use crate::guest::is_refused_login;
+
 /// The acts: the second words of their answers.
 pub const ACTS: [&str; 11] = [
     "open", "join", "pair", "move", "offer", "accept", "decline", "resign", "claim", "flag", "drop",
@@ -25,6 +27,8 @@ pub struct Counts {
     pub no: u64,
     pub fallen: u64,
     pub lost: u64,
+    /// Logins that were refused: no player has the token.
+    pub logins_refused: u64,
     /// Acts that were accepted by `ok`, as `ACTS` has them.
     pub acts: [u64; 11],
     /// Answers whose time is known, their times together, and how many of them are within each of `BOUNDS`.
@@ -65,6 +69,7 @@ impl Counts {
             no: 0,
             fallen: 0,
             lost: 0,
+            logins_refused: 0,
             acts: [0; 11],
             timed: 0,
             time: 0,
@@ -119,7 +124,12 @@ impl Counts {
                 count(&mut self.ok);
                 self.acted(second_word(text));
             }
-            "no" => count(&mut self.no),
+            "no" => {
+                count(&mut self.no);
+                if is_refused_login(text) {
+                    count(&mut self.logins_refused);
+                }
+            }
             "fallen" => count(&mut self.fallen),
             "lost" => count(&mut self.lost),
             _ => return false,

@@ -1,8 +1,8 @@
 //! A browser's connection: its socket, what it says, and what it is told.
-ghost use Rattle.std.specs.Prelude.{ℕ, ◌≡◌, ◌↔◌, None, Some, false, IsTrue, OnOk};
+ghost use Rattle.std.specs.Prelude.{ℕ, ◌≡◌, ◌↔◌, None, Some, true, false, IsTrue, OnOk};
 ghost use Rattle.lobby_desk.specs.Who.{IsReady, at_table};
-ghost use Rattle.lobby_guests.specs.Guests.{IsNewGuest, IsAsBefore, IsRead, IsHeardAs, IsHeard, IsAsked, MaySpeak, IsSaid, IsTold, AreTold, IsWritten, IsLookedAfter};
-ghost use Rattle.lobby_guests.specs.Seating.{role_of, place_of, Yields};
+ghost use Rattle.lobby_guests.specs.Guests.{has_time, refuses_login, is_beyond, IsNewGuest, IsAsBefore, IsRead, IsHeardAs, IsHeard, IsAsked, MaySpeak, IsSaid, IsTold, AreTold, IsWritten, IsLookedAfter};
+ghost use Rattle.lobby_guests.specs.Seating.{role_of, player_of, place_of, Yields};
 
 use crate::counts::Asked;
 use crate::origin::Origin;
@@ -12,6 +12,7 @@ use crate::said::say_to_desk;
 use crate::{Counts, KeepsLinks, Talk};
 use lobby_desk::Message;
 use lobby_web::{Browser, Heard, Site, Unsaid};
+use player_name::Name;
 use session_lines::{Came, read_piece};
 use std::alloc::{AllocError, Global};
 use std::hash::RandomState;
@@ -23,11 +24,20 @@ const ASKED_AFTER: u64 = 30_000;
 /// After so many milliseconds without a byte of it a connection is closed.
 const CLOSED_AFTER: u64 = 75_000;
 
-/// So many bytes of an answer take a millisecond of the time of a connection that acts for nobody, and so many milliseconds its
-/// time may run ahead before its next message is taken.
+/// So many bytes of an answer take a millisecond of a connection's time, and so many milliseconds that of one which acts for nobody
+/// may run ahead before its next message is taken.
 const BYTES_A_MILLISECOND: u64 = 200;
 
 const AHEAD: u64 = 1_000;
+
+/// The same for one that acts for a player.
+const AHEAD_OF_PLAYERS: u64 = 10_000;
+
+/// A login that is refused takes so many milliseconds of a connection's time for that, and where so many are taken already it is one
+/// too many: five at once, and five a minute.
+const A_REFUSED_LOGIN: u64 = 12_000;
+
+const LOGINS_AHEAD: u64 = 48_000;
 
 /// A browser's connection.
 #[derive(Drop)]
@@ -55,6 +65,8 @@ pub struct Guest<S> {
     asked: Asked,
     /// Until when its time is taken by the answers that it was told.
     paid_until: u64,
+    /// The same by logins that were refused.
+    logins_until: u64,
 }
 
 // Whether a connection is among these.
@@ -62,6 +74,13 @@ fn is_among(connections: &[u64], number: u64) -> bool
     ensures { result ≡ at_table connections.now number }
 {
     connections.iter().any(|one| *one == number)
+}
+
+// Whether an answer refuses a login.
+pub(crate) fn is_refused_login(text: &str) -> bool
+    ensures { result ≡ refuses_login text.now }
+{
+    text.starts_with("no 32 ")
 }
 
 impl<S> Guest<S> {
@@ -91,6 +110,7 @@ impl<S> Guest<S> {
             is_asked: false,
             asked: Asked::new(),
             paid_until: 0,
+            logins_until: 0,
         }
     }
 
@@ -120,9 +140,21 @@ impl<S> Guest<S> {
         wants && may && is_fresh == (self.paid_until == 0)
     }
 
+    /// Whether the time of one that acts for a player is not taken too far ahead by what it was told.
+    pub fn has_time(&self, at: u64) -> bool
+        ensures { result ≡ has_time at self.now.paid_until }
+    {
+        self.paid_until.saturating_sub(at) <= AHEAD_OF_PLAYERS
+    }
+
     /// The moment from which on its next message is taken, where it may have one and its time is taken so far ahead.
     pub fn due_at(&self, at: u64) -> Option<u64> {
-        let moment = self.paid_until.saturating_sub(AHEAD);
+        let ahead = if self.has_time(at) {
+            AHEAD
+        } else {
+            AHEAD_OF_PLAYERS
+        };
+        let moment = self.paid_until.saturating_sub(ahead);
         if self.has_more && moment > at {
             Some(moment)
         } else {
@@ -174,6 +206,16 @@ impl<S> Guest<S> {
         }
     }
 
+    // The player for whom it acts.
+    fn player(&self, talk: &Talk) -> Option<Name>
+        ensures { result ≡ player_of talk.now.desk self.now.number }
+    {
+        match self.number {
+            None => None,
+            Some(number) => talk.player_at(number),
+        }
+    }
+
     /// Its place.
     pub fn place(&self, talk: &Talk) -> Place
         ensures { result ≡ place_of talk.now.desk self.now }
@@ -181,6 +223,7 @@ impl<S> Guest<S> {
         Place {
             address: self.origin.address,
             role: self.role(talk),
+            player: self.player(talk),
             since: self.came_at,
         }
     }
@@ -292,6 +335,21 @@ impl<S> Guest<S> {
         self.paid_until = from.saturating_add(bytes as u64 / BYTES_A_MILLISECOND);
     }
 
+    // A login of it was refused, if this answer says so. It is to be closed where there were too many.
+    fn note_login(&mut self, at: u64, text: &str)
+        ensures before { IsAsBefore self.old self.new }
+        ensures closes { refuses_login text.now ≡ true → is_beyond at self.old.logins_until ≡ true → self.new.is_lost ≡ true }
+    {
+        if is_refused_login(text) {
+            let ahead = self.logins_until.saturating_sub(at);
+            let from = self.logins_until.max(at);
+            self.logins_until = from.saturating_add(A_REFUSED_LOGIN);
+            if ahead > LOGINS_AHEAD {
+                self.is_lost = true;
+            }
+        }
+    }
+
     // It is told a message, if that goes to it.
     fn be_told(&mut self, made: &Message, counts: &mut Counts)
         ensures { IsTold made.now self.old self.new }
@@ -303,6 +361,7 @@ impl<S> Guest<S> {
                     self.be_told_text(made.text.as_str());
                     if counts.told(made.text.as_str(), &mut self.asked) {
                         self.pay(counts.at, made.text.len());
+                        self.note_login(counts.at, made.text.as_str());
                     }
                 }
             }

@@ -33,7 +33,7 @@ fn attend<S: Read + Write, K: KeepsLinks>(
     Ok(has_read | has_heard)
 }
 
-// Attends a browser if it acts for a player.
+// Attends a browser if it acts for a player, and has time.
 fn attend_player<S: Read + Write, K: KeepsLinks>(
     guest: &mut Guest<S>,
     site: &Site,
@@ -45,7 +45,8 @@ fn attend_player<S: Read + Write, K: KeepsLinks>(
 ) -> Result<bool, AllocError>
     ensures { OnOk result (IsPlayersTurn S.remaining site.now at guest.old guest.new talk.old talk.new) }
 {
-    if !talk.acts(guest.number()) {
+    let is_turn = talk.acts(guest.number()) && guest.has_time(at);
+    if !is_turn {
         return Ok(false);
     }
     attend(guest, site, talk, at, links, piece, counts)

@@ -1,7 +1,8 @@
 //! Who has a place, and who makes room for whom.
 ghost use Rattle.std.specs.Prelude.{ℕ, ◌≡◌, ◌-◌, ◌&&◌, None, count_by, IfOk, OnOk};
-ghost use Rattle.lobby_guests.specs.Places.{is_gone, is_at, is_in, counted, count_of, leave, beyond, trim, make_room, room_at, room_for, each_room, in_time, most_nameless, judged, IsFair};
+ghost use Rattle.lobby_guests.specs.Places.{is_gone, is_of, is_at, is_in, counted, count_of, own_room, each_own, leave, beyond, trim, make_room, room_at, room_for, each_room, in_time, most_nameless, judged, IsOwned, IsFair};
 
+use player_name::Name;
 use std::alloc::{AllocError, Global};
 
 /// How a connection stands.
@@ -23,6 +24,8 @@ pub struct Place {
     /// The address that it counts for, if for any.
     pub address: Option<u64>,
     pub role: Role,
+    /// The player for whom it acts, if for any.
+    pub player: Option<Name>,
     /// When it came, in milliseconds.
     pub since: u64,
 }
@@ -37,6 +40,8 @@ enum Class {
     Newcomers,
     /// Newcomers at a moment who came so many milliseconds before it.
     Aged(u64, u64),
+    /// Who acts for this player.
+    Own(Name),
 }
 
 // A newcomer who is no watcher has so many milliseconds.
@@ -48,6 +53,9 @@ const CHANCE: u64 = 5_000;
 const WATCHERS_MOST: usize = 500;
 
 const AN_ADDRESS_MOST: usize = 32;
+
+// So many connections act for one player at most.
+const A_PLAYER_MOST: usize = 16;
 
 // So many nameless connections may be there beside so many that act for players.
 fn most_nameless(players: usize) -> usize
@@ -73,6 +81,16 @@ fn is_at(place: &Place, address: Option<u64>) -> bool
     }
 }
 
+// Whether it acts for this player.
+fn is_of(place: &Place, name: Name) -> bool
+    ensures { result ≡ is_of name place.now.player }
+{
+    match place.player {
+        None => false,
+        Some(player) => player.as_str() == name.as_str(),
+    }
+}
+
 fn is_in(place: &Place, class: Class) -> bool
     ensures { result ≡ is_in class place.now }
 {
@@ -85,6 +103,7 @@ fn is_in(place: &Place, class: Class) -> bool
         Class::Aged(at, age) => {
             matches!(place.role, Role::Newcomer) && at.saturating_sub(place.since) >= age
         }
+        Class::Own(name) => matches!(place.role, Role::Player) && is_of(place, name),
     }
 }
 
@@ -183,6 +202,43 @@ fn in_time(places: &mut [Place], at: u64, from: u64)
     if at.saturating_sub(from) >= PATIENCE {
         leave(places, None, Class::Aged(at, PATIENCE), places.len());
     }
+}
+
+// Of those who act for a player who came first are to be closed, until so many are left as may be.
+fn own_room(places: &mut [Place], player: Option<Name>)
+    ensures { places.new ≡ own_room player places.old }
+{
+    if let Some(name) = player {
+        let excess = count(places, None, Class::Own(name)).saturating_sub(A_PLAYER_MOST);
+        leave(places, None, Class::Own(name), excess);
+    }
+}
+
+// The same for the player of each.
+fn each_own(places: &mut [Place], all: &[Place])
+    ensures { places.new ≡ each_own all.now places.old }
+{
+    for place in all {
+        own_room(places, place.player);
+    }
+}
+
+// These connections: of those who act for one player who came first are to be closed, until 16 are left.
+fn own_all(alloc: Global, all: &[Place]) -> Result<Vec<Place>, AllocError>
+    ensures { IfOk result (λ places. places.items ≡ each_own all.now all.now) }
+{
+    let mut places = all.to_vec(alloc)?;
+    each_own(places.as_mut_slice(), all);
+    Ok(places)
+}
+
+/// These connections, in the order in which they came: of those who act for one player who came first are to be closed, until 16 are
+/// left.
+pub fn own(alloc: Global, all: &[Place]) -> Result<Vec<Place>, AllocError>
+    ensures owned { IfOk result (λ places. places.items ≡ each_own all.now all.now) }
+    ensures few { IfOk result (λ places. IsOwned all.now places.items) }
+{
+    own_all(alloc, all)
 }
 
 // Which of these connections are to be closed, and how many of them for want of room.

@@ -4,7 +4,7 @@ ghost use Rattle.lobby_guests.specs.Seating.{place_of, AreYielding, YieldAt, Are
 
 use crate::Talk;
 use crate::guest::Guest;
-use crate::places::{Place, judge};
+use crate::places::{Place, judge, own};
 use std::alloc::{AllocError, Global};
 
 // The places of connections, in their order.
@@ -54,8 +54,9 @@ fn seat_all<S>(
 ) -> Result<usize, AllocError>
     ensures { OnOk result (AreSeated at from talk.now.desk guests.old.items guests.new.items) }
 {
-    let mut places = places_of(alloc, guests.as_slice(), talk)?;
-    Ok(seat_at(alloc, guests, places.as_mut_slice(), at, from)?)
+    let places = places_of(alloc, guests.as_slice(), talk)?;
+    let mut owned = own(alloc, places.as_slice())?;
+    Ok(seat_at(alloc, guests, owned.as_mut_slice(), at, from)?)
 }
 
 /// Where it is due, those are to be closed who are to make room at a moment, in milliseconds. Whoever came before the moment `from`

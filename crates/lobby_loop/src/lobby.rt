@@ -12,6 +12,7 @@ ghost use Rattle.lobby_loop.specs.Logging.{Logs};
 use crate::act_log::{ActLog, Fault};
 use crate::hall::Hall;
 use crate::listener::{LobbyAcceptor, LobbyListener, Welcomed, welcome};
+use lobby_desk::Limits;
 use lobby_guests::{Counts, KeepsLinks};
 use lobby_roster::Player;
 use lobby_web::{File, Site};
@@ -130,8 +131,8 @@ fn earlier(a: Option<u64>, b: Option<u64>) -> Option<u64> {
 }
 
 impl Lobby {
-    /// A lobby whose server is at this address, which begins with entries paused, or not, behind a trusted proxy of this address, if
-    /// there is one. The system's error where it cannot be watched.
+    /// A lobby whose server is at this address, which begins with entries paused, or not, and has these limits, behind a trusted proxy
+    /// of this address, if there is one. The system's error where it cannot be watched.
     pub fn new(
         net: &impl Net,
         alloc: Global,
@@ -141,9 +142,11 @@ impl Lobby {
         site: Site,
         players: Vec<Player>,
         is_paused: bool,
+        limits: Limits,
         proxy: Option<IpAddr>,
     ) -> io::Result<Lobby>
-        ensures { IfOk result (λ lobby. BeginsHall site players.items is_paused lobby.hall) }
+        ensures begins { IfOk result (λ lobby. BeginsHall site players.items is_paused lobby.hall) }
+        ensures limits { IfOk result (λ lobby. lobby.hall.talk.desk.limits ≡ limits) }
     {
         let Watched { poll, events } = watch_listener(net, alloc, &mut listener)?;
         Ok(Lobby {
@@ -155,7 +158,7 @@ impl Lobby {
             call: None,
             call_until: 0,
             call_at: 0,
-            hall: Hall::new(alloc, keys, site, players, is_paused, proxy),
+            hall: Hall::new(alloc, keys, site, players, is_paused, limits, proxy),
             poll,
             events,
         })

@@ -3,13 +3,21 @@ use crate::club::{Member, file_of, give_token, members_of, players_of};
 use crate::tags::Tags;
 use anyhow::{Context, Result, bail};
 use hex::FromHex;
-use lobby_desk::{Desk, Kind, Message};
+use lobby_desk::{Desk, Kind, Limits, Message};
 use lobby_players::relinked;
 use std::alloc::Global;
 
 // The players of the desk at first: two, and an arbiter.
 const CLUB: &str =
     "ann aaaaaaaaaaaaaaaaaaaaaaaaaaaaaaa1 player Ann Lee|bob bbbbbbbbbbbbbbbbbbbbbbbbbbbbbbb1 player Bob|eve eeeeeeeeeeeeeeeeeeeeeeeeeeeeeee1 arbiter Eve Moss";
+
+// How many games there may be: few places, so that a short run comes to their last eighth.
+const LIMITS: Limits = Limits {
+    waiting: 4,
+    playing: 8,
+    over: 6,
+    places: Some(16),
+};
 
 /// A desk, the time that has passed, and what is told of the archive's next game.
 #[derive(Drop)]
@@ -71,7 +79,7 @@ impl Play {
         Ok(Play {
             alloc,
             members,
-            desk: Desk::new(alloc, players, false),
+            desk: Desk::new(alloc, players, false, LIMITS),
             now: 0,
             tags: Tags::new(alloc),
         })

@@ -6,6 +6,7 @@ use Rattle.std.specs.Str.{bytes_eq}
 use Rattle.sha2.specs.Sha256.{sha256}
 use Rattle.lobby_roster.specs.declared.players.Player.{Player}
 use Rattle.lobby_words.specs.declared.planning.Identity.{Identity}
+use Rattle.lobby_words.specs.declared.listing.Seat.{Seat}
 use Rattle.lobby_words.specs.Answers.{ended}
 
 abbrev pub identity_of : Player → Identity
@@ -77,6 +78,13 @@ login_text players who = codes "ok login " ++ player_row who.name who.is_arbiter
 
 abbrev pub players_text : List Player → List ℕ
 players_text players = codes "ok players " ++ decimal (length players) ++ codes "\n" ++ flat_map row_of players
+
+-- those of the players who have one of these seats
+abbrev pub is_seated : List Seat → Player → Bool
+is_seated seats player = list_any (λ (s : Seat). bytes_eq s.by player.name) seats
+
+abbrev pub seated_text : List Seat → List Player → List ℕ
+seated_text seats players = players_text (filter (is_seated seats) players)
 
 -- whether it is the player of this name
 abbrev pub is_named : Option Identity → List ℕ → Bool

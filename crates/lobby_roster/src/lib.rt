@@ -9,4 +9,6 @@ mod rows;
 pub use linked::Linked;
 pub use players::{Player, holder_of, is_named, is_token};
 pub use renewing::renewed;
-pub use rows::{headed, known_name, login_line, player_by_name, player_rows, who_text};
+pub use rows::{
+    headed, known_name, login_line, player_by_name, player_rows, seated_rows, who_text,
+};

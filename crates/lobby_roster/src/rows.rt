@@ -1,15 +1,15 @@
 //! How players are told.
-ghost use Rattle.std.specs.Prelude.{◌≡◌, ◌++◌, codes, decimal, length, IfOk, OnOk, find};
+ghost use Rattle.std.specs.Prelude.{◌≡◌, ◌++◌, ◌∷◌, [], codes, decimal, length, filter, IfOk, OnOk, find, if◌then◌else◌};
 ghost use Rattle.std.specs.List.{flat_map};
 ghost use Rattle.std.specs.Option.{option_copied};
 ghost use Rattle.std.specs.Str.{bytes_eq};
 ghost use Rattle.std.specs.String.{string_bytes};
 ghost use Rattle.lobby_words.specs.Answers.{ended};
-ghost use Rattle.lobby_roster.specs.Players.{role_text, player_row, row_of, known_name, full_name_of, login_text, players_text, who_front, who_text};
+ghost use Rattle.lobby_roster.specs.Players.{role_text, player_row, row_of, known_name, full_name_of, login_text, players_text, is_seated, seated_text, who_front, who_text};
 
 use crate::players::Player;
 use itoa::Buffer;
-use lobby_words::Identity;
+use lobby_words::{Identity, Seat};
 use player_name::Name;
 use std::alloc::{AllocError, Global};
 
@@ -102,6 +102,48 @@ pub fn player_rows(alloc: Global, players: &[Player]) -> Result<String, AllocErr
     let mut text = headed(alloc, "ok players ", players.len() as u64)?;
     for player in players {
         push_player(&mut text, player)?;
+    }
+    Ok(text)
+}
+
+// Whether a player has one of these seats.
+fn is_seated(player: &Player, seats: &[Seat]) -> bool
+    ensures { result ≡ is_seated seats.now player.now }
+{
+    seats
+        .iter()
+        .any(|seat| seat.by.as_str() == player.name.as_str())
+}
+
+// How many players have one of these seats.
+fn count_seated(players: &[Player], seats: &[Seat]) -> usize
+    ensures { result ≡ length (filter (is_seated seats.now) players.now) }
+{
+    players
+        .iter()
+        .filter(|player| is_seated(player, seats))
+        .count()
+}
+
+// The row of a player, if it is to be there.
+fn push_if(text: &mut String, is_so: bool, player: &Player) -> Result<(), AllocError>
+    ensures { OnOk result (string_bytes text.new ≡ string_bytes text.old ++ flat_map row_of (if is_so then player.now ∷ [] else [])) }
+{
+    if is_so {
+        push_player(text, player)?;
+        Ok(())
+    } else {
+        Ok(())
+    }
+}
+
+/// The answer to `players` that tells those alone who have one of these seats.
+pub fn seated_rows(alloc: Global, players: &[Player], seats: &[Seat]) -> Result<String, AllocError>
+    ensures { IfOk result (λ text. string_bytes text ≡ seated_text seats.now players.now) }
+{
+    let mut text = headed(alloc, "ok players ", count_seated(players, seats) as u64)?;
+    for player in players {
+        push_if(&mut text, is_seated(player, seats), player)?;
     }
     Ok(text)
 }

@@ -1,5 +1,5 @@
 //! How many games the server has, as its answer to `list` tells.
-use lobby_words::{cut_word, is_list, number_named, seat_of};
+use lobby_words::{Stage, cut_word, is_list, number_named, seat_of};
 use std::alloc::{AllocError, Global};
 use std::str;
 
@@ -50,7 +50,7 @@ fn is_waiting(row: &str) -> bool {
     let (white, rest) = cut_word(rest);
     let (black, _) = cut_word(rest);
     let seated = if white == "-" { black } else { white };
-    (white == "-" || black == "-") && seat_of(number_named(number), seated, false).is_some()
+    (white == "-" || black == "-") && seat_of(number_named(number), seated, Stage::Waits).is_some()
 }
 
 impl Listing {

@@ -17,7 +17,10 @@ fn path_of(alloc: Global, name: &str) -> Result<Vec<u8>> {
 // The bytes of a file of the page. It fails where it is no regular file: to open a pipe may last for ever.
 fn bytes_of<R: Files + AllocGlobal>(rt: &R, entry: &DirEntry<R>) -> Result<Vec<u8>> {
     let name = entry.file_name();
-    anyhow::ensure!(fs::metadata(rt, entry.path())?.is_file(), "{name} is no regular file");
+    anyhow::ensure!(
+        fs::metadata(rt, entry.path())?.is_file(),
+        "{name} is no regular file"
+    );
     Ok(fs::read(rt, entry.path())?)
 }
 

@@ -25,6 +25,8 @@ refusal_text refusals.NotWritten = codes "no 40 NotWritten\n"
 refusal_text refusals.NotWaiting = codes "no 41 NotWaiting\n"
 refusal_text refusals.NotOffered = codes "no 42 NotOffered\n"
 refusal_text refusals.TooManyGames = codes "no 43 TooManyGames\n"
+refusal_text refusals.NearlyFull = codes "no 44 NearlyFull\n"
+refusal_text refusals.TooManyOver = codes "no 45 TooManyOver\n"
 
 -- what asks for the server
 abbrev pub asked : Standing → Plan → Plan
@@ -40,7 +42,6 @@ entered_plan s plan = asked s (barred s.bar plan)
 
 -- An act of a connection that acts for this player: not without a token; no game is opened while entries are paused, but by an
 -- arbiter.
-
 abbrev pub act_plan : Standing → Option Identity → Plan
 act_plan s None = plans.Refuse refusals.NoToken
 act_plan s (Some who) = if s.is_paused && not who.is_arbiter then plans.Refuse refusals.EntriesPaused else entered_plan s (plans.Act who)
@@ -78,6 +79,11 @@ abbrev pub arbiter_plan : Option Identity → Plan → Plan
 arbiter_plan None plan = plans.Refuse refusals.NoToken
 arbiter_plan (Some who) plan = if who.is_arbiter then plan else plans.Refuse refusals.NotArbiter
 
+-- who the players are; without a token who of them sits in a game on the table
+abbrev pub players_plan : Option Identity → Plan
+players_plan None = plans.Seated
+players_plan (Some who) = plans.Players
+
 -- the link of a player is changed, or closed: not where no player has the name
 abbrev pub order_plan : Bool → Option (List ℕ) → Plan
 order_plan closes None = plans.Refuse refusals.NoPlayer
@@ -113,7 +119,7 @@ sort_plan sorts.As s game = as_plan s s.who
 sort_plan sorts.Pair s game = pair_plan s s.who
 sort_plan sorts.Drop s game = numbered_plan sorts.Drop s game
 sort_plan sorts.Login s game = login_plan s.holder
-sort_plan sorts.Players s game = plans.Players
+sort_plan sorts.Players s game = players_plan s.who
 sort_plan sorts.Who s game = arbiter_plan s.who plans.Who
 sort_plan sorts.Pause s game = arbiter_plan s.who plans.Pause
 sort_plan sorts.Resume s game = arbiter_plan s.who plans.Resume

@@ -11,7 +11,9 @@ mod words;
 
 pub use answers::{game_told, has_empty_seat, is_accepted, is_over, is_table_act, seated};
 pub use coming::Coming;
-pub use listing::{Seat, ends_wait, is_list, joins_game, opens_game, seat_of, seats_in, tells_end};
+pub use listing::{
+    Seat, Stage, ends_wait, is_list, is_stage, joins_game, opens_game, seat_of, seats_in, tells_end,
+};
 pub use naming::{is_said, takes_name};
 pub use planning::{
     Identity, Order, Plan, Standing, asks_for_link, order_of, plan_of, shows_token,

@@ -1,19 +1,41 @@
-//! The games that wait for a second player or go on, as the server's answers tell.
+//! The games on the server's table, as its answers tell: each waits for a second player, goes on, or is over.
 ghost use Rattle.std.specs.Prelude.{◌≡◌, ◌++◌, true, IfOk, OnOk};
-ghost use Rattle.lobby_words.specs.Waiting.{opens_game, joins_game, ends_wait, seat_of, listed, seats_row, tells_end, is_list, seats_in};
+ghost use Rattle.lobby_words.specs.Waiting.{opens_game, joins_game, ends_wait, is_stage, seat_of, listed, stage_in, seats_row, tells_end, is_list, seats_in};
 
 use crate::words::{cut_word, line_said, number_named};
 use player_name::Name;
 use std::alloc::{AllocError, Global};
 use text_parts::parts;
 
-/// A seat of a player in a game that waits for its second player, or goes on.
+/// How a game on the table stands.
+#[derive(Clone, Copy)]
+pub enum Stage {
+    /// It waits for its second player.
+    Waits,
+    /// It goes on.
+    Plays,
+    /// It is over, and still there.
+    Over,
+}
+
+/// A seat of a player in a game on the table.
 #[derive(Clone, Copy)]
 pub struct Seat {
     pub game: u32,
     pub by: Name,
-    /// Whether the game goes on.
-    pub plays: bool,
+    pub stage: Stage,
+}
+
+/// Whether a game stands so.
+pub fn is_stage(stage: Stage, wanted: Stage) -> bool
+    ensures { result ≡ is_stage stage wanted }
+{
+    match (stage, wanted) {
+        (Stage::Waits, Stage::Waits) => true,
+        (Stage::Plays, Stage::Plays) => true,
+        (Stage::Over, Stage::Over) => true,
+        _ => false,
+    }
 }
 
 /// Whether a message opens a game.
@@ -44,14 +66,14 @@ pub fn ends_wait(text: &str) -> bool
 }
 
 #[tactic(auto, using(crate::proofs::Names::name_is, crate::proofs::Names::name_is_not))]
-/// A seat of this player in the game of a number, which goes on or waits; none where no player can have the name.
-pub fn seat_of(game: Option<u32>, seated: &str, plays: bool) -> Option<Seat>
-    ensures { result ≡ seat_of game seated.now plays }
+/// A seat of this player in the game of a number, which stands so; none where no player can have the name.
+pub fn seat_of(game: Option<u32>, seated: &str, stage: Stage) -> Option<Seat>
+    ensures { result ≡ seat_of game seated.now stage }
 {
     match game {
         None => None,
         Some(game) => match Name::try_new(seated) {
-            Some(by) => Some(Seat { game, by, plays }),
+            Some(by) => Some(Seat { game, by, stage }),
             None => None,
         },
     }
@@ -70,38 +92,51 @@ fn push_seat(seats: &mut Vec<Seat>, seat: Option<Seat>) -> Result<(), AllocError
     }
 }
 
-// Puts the two seats of a game that goes on behind others.
+// Puts the two seats of a game that stands so behind others.
 fn push_both(
     seats: &mut Vec<Seat>,
     game: Option<u32>,
     white: &str,
     black: &str,
+    stage: Stage,
 ) -> Result<(), AllocError>
-    ensures { OnOk result (seats.new.items ≡ seats.old.items ++ (listed (seat_of game white.now true) ++ listed (seat_of game black.now true))) }
+    ensures { OnOk result (seats.new.items ≡ seats.old.items ++ (listed (seat_of game white.now stage) ++ listed (seat_of game black.now stage))) }
 {
-    push_seat(seats, seat_of(game, white, true))?;
-    push_seat(seats, seat_of(game, black, true))?;
+    push_seat(seats, seat_of(game, white, stage))?;
+    push_seat(seats, seat_of(game, black, stage))?;
     Ok(())
 }
 
-// Puts the seats in the game of a row `G WHITE BLACK PLY RESULT` behind others: of one that waits, or goes on.
+// How the game of a row stands, in which both sit.
+fn stage_in(row: &str) -> Stage
+    ensures { result ≡ stage_in row.now }
+{
+    let (_, rest) = cut_word(row);
+    let (_, rest) = cut_word(rest);
+    let (_, rest) = cut_word(rest);
+    let (_, rest) = cut_word(rest);
+    let (result, _) = cut_word(rest);
+    if result == "*" {
+        Stage::Plays
+    } else {
+        Stage::Over
+    }
+}
+
+// Puts the seats in the game of a row `G WHITE BLACK PLY RESULT` behind others.
 fn add_row(seats: &mut Vec<Seat>, row: &str) -> Result<(), AllocError>
     ensures { OnOk result (seats.new.items ≡ seats.old.items ++ seats_row row.now) }
 {
     let (number, rest) = cut_word(row);
     let (white, rest) = cut_word(rest);
-    let (black, rest) = cut_word(rest);
-    let (_, rest) = cut_word(rest);
-    let (result, _) = cut_word(rest);
+    let (black, _) = cut_word(rest);
     let game = number_named(number);
     if white == "-" {
-        push_seat(seats, seat_of(game, black, false))
+        push_seat(seats, seat_of(game, black, Stage::Waits))
     } else if black == "-" {
-        push_seat(seats, seat_of(game, white, false))
-    } else if result == "*" {
-        push_both(seats, game, white, black)
+        push_seat(seats, seat_of(game, white, Stage::Waits))
     } else {
-        Ok(())
+        push_both(seats, game, white, black, stage_in(row))
     }
 }
 
@@ -119,7 +154,7 @@ pub fn is_list(answer: &str) -> bool
     answer.starts_with("ok list ")
 }
 
-/// The seats in the games that wait or go on by the rows of the answer to `list`.
+/// The seats in the games by the rows of the answer to `list`.
 pub fn seats_in(alloc: Global, list: &str) -> Result<Vec<Seat>, AllocError>
     ensures { IfOk result (λ seats. seats.items ≡ seats_in list.now) }
 {

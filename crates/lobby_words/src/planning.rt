@@ -37,7 +37,9 @@ pub enum Plan {
     /// Who is seated in the game is asked for, and the message is passed on under a name of theirs.
     Drop(Identity, u32),
     Login(Identity),
+    /// Who the players are, and which of them sit in a game on the table.
     Players,
+    Seated,
     /// Which players are there.
     Who,
     /// No games are opened from now on, and games are again.
@@ -228,6 +230,16 @@ fn arbiter_plan(standing: &Standing, plan: Plan) -> Plan
     }
 }
 
+// Who the players are.
+fn players_plan(who: &Option<Identity>) -> Plan
+    ensures { result ≡ plans.players_plan who.now }
+{
+    match who {
+        None => Plan::Seated,
+        Some(_) => Plan::Players,
+    }
+}
+
 // The link of a player is changed, or closed.
 fn order_plan(closes: bool, linked: Option<Name>) -> Plan
     ensures { result ≡ plans.order_plan closes linked }
@@ -286,7 +298,7 @@ fn sort_plan(sort: Sort, standing: &Standing, game: Option<u32>) -> Plan
         Sort::As => as_plan(standing),
         Sort::Pair => pair_plan(standing),
         Sort::Login => login_plan(standing.holder),
-        Sort::Players => Plan::Players,
+        Sort::Players => players_plan(&standing.who),
         Sort::Who => arbiter_plan(standing, Plan::Who),
         Sort::Pause => arbiter_plan(standing, Plan::Pause),
         Sort::Resume => arbiter_plan(standing, Plan::Resume),

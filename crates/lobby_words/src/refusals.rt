@@ -31,6 +31,10 @@ pub enum Refusal {
     NotOffered,
     /// As many games of the player go on as may be.
     TooManyGames,
+    /// The last places on the table are for arbiters and pairings.
+    NearlyFull,
+    /// As many games of the player are over and still on the table as may be.
+    TooManyOver,
 }
 
 impl Refusal {
@@ -52,6 +56,8 @@ impl Refusal {
             Refusal::NotWaiting => "no 41 NotWaiting\n",
             Refusal::NotOffered => "no 42 NotOffered\n",
             Refusal::TooManyGames => "no 43 TooManyGames\n",
+            Refusal::NearlyFull => "no 44 NearlyFull\n",
+            Refusal::TooManyOver => "no 45 TooManyOver\n",
         }
     }
 }

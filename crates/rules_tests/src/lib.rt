@@ -11,8 +11,6 @@ mod clock;
 #[cfg(test)]
 mod fen;
 #[cfg(test)]
-mod game_text;
-#[cfg(test)]
 mod lines;
 #[cfg(test)]
 mod moves;

@@ -20,11 +20,19 @@ mod end;
 #[cfg(test)]
 mod entry;
 #[cfg(test)]
+mod hub;
+#[cfg(test)]
+mod journal;
+#[cfg(test)]
 mod moves;
 #[cfg(test)]
 mod repeat;
 #[cfg(test)]
 mod san;
+#[cfg(test)]
+mod server;
+#[cfg(test)]
+mod store;
 #[cfg(test)]
 mod table;
 #[cfg(test)]

@@ -2,7 +2,7 @@
 use arrayvec::ArrayString;
 use chess_bits::Colour;
 use chess_entry::{Command, Limits, Name, Verdict};
-use chess_line::{Line, parse};
+use chess_hub::{Line, parse};
 use chess_table::{
     Reply, Table, TableFault, act_line, answer, enter, entry_record, judge, record_entry,
     refusal_line,

@@ -5,8 +5,8 @@ use chess_end::{Article, Ending, GameResult};
 use chess_text::{FenError, GameText, coordinate, fen_read, fen_write, is_playable, pgn};
 use std::process::Abort;
 
-// Each has faults of later kinds too, down to a board without kings. `perft` tells both faults of a target alike, and so
-// those of a counter.
+// Each but the last has faults of later kinds too, as it has no kings. `perft` tells both faults of a target alike, and
+// so those of a counter.
 static FAULTS: [(&str, FenError); 7] = [
     ("", FenError::Shape),
     ("8/8/44/8/8/8/8/8 w - - 0 1", FenError::Placement),
@@ -56,6 +56,7 @@ fn the_text_of_a_game(rt: HostRuntime) {
         increment: 2,
         period: None,
     };
+    assert!(rt; !is_playable(&game.start, &[named(&rt, "e2e5")]));
     assert!(rt; is_playable(&game.start, game.moves));
     let text: String = pgn(rt.alloc(), &game).expect(&rt, "memory");
     assert!(rt; text.as_str() == GAME);

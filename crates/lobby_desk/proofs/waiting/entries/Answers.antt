@@ -9,4 +9,4 @@ use Rattle.lobby_desk.proofs.waiting.entries.Goals as goal
 pub returns : goal.returns
 returns c =
     c.loop-due.invariant
-    ∙ ap (count_by (λ (due : Due). is_entry c.args.joins c.args.name.now (owed_of due))) (take_all c.loop-due.due-index c.args.dues.now c.loop-due-test.false)
+    ∙ ap (count_by (λ (due : Due). is_entry c.args.stage c.args.name.now (owed_of due))) (take_all c.loop-due.due-index c.args.dues.now c.loop-due-test.false)

@@ -5,4 +5,4 @@ use Rattle.lobby_desk.specs.Waiting.{is_entry}
 use Rattle.lobby_desk.proofs.waiting.entries.Given as goal
 
 abbrev pub invariant-loop-due : goal.invariant-loop-due
-invariant-loop-due l = l.count ≡ count_by (λ due. is_entry l.joins l.name (owed_of due)) (take l.due-index l.dues)
+invariant-loop-due l = l.count ≡ count_by (λ due. is_entry l.stage l.name (owed_of due)) (take l.due-index l.dues)

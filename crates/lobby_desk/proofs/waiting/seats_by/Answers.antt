@@ -7,4 +7,4 @@ use Rattle.lobby_desk.proofs.waiting.seats_by.Goals as goal
 pub returns : goal.returns
 returns c =
     c.loop-one.invariant
-    ∙ ap (count_by (is_seat c.args.plays c.args.name.now)) (take_all c.loop-one.one-index c.args.seats.now c.loop-one-test.false)
+    ∙ ap (count_by (is_seat c.args.stage c.args.name.now)) (take_all c.loop-one.one-index c.args.seats.now c.loop-one-test.false)

@@ -1,8 +1,9 @@
 use Rattle.std.proofs.Common.{ℕ, ◌≡◌, ◌+◌, ◌<◌, ◌++◌, ◌∷◌, [], List, take, length, get_or, sym, ap, ◌∙◌}
 use Rattle.std.proofs.lemmas.List.{take_more}
-use Rattle.chess_entry.specs.State.{GameState}
+use Rattle.chess_entry.specs.State.{GameState, TableState}
 use Rattle.chess_entry.proofs.OneMore.{flat_map-more}
 use Rattle.chess_answer.specs.Reads.{list_row, list_text}
+use Rattle.chess_table.proofs.Numbered.{read_at}
 use Rattle.chess_table.proofs.table.Table.listed.Goals as goal
 
 -- the rows of one game more
@@ -13,7 +14,12 @@ row_more games i game below here =
     ∙ ap (λ (g : GameState). list_text (take i games ++ g ∷ [])) here
     ∙ ap list_text (sym (take_more games i game below))
 
-pub loop-game-preserved : goal.loop-game-preserved
-loop-game-preserved c =
-    c.in_ok-write_row.ensures.written ∙ ap (λ (t : List ℕ). t ++ list_row c.game-item.result) c.loop-game.invariant
-    ∙ row_more _ c.loop-game.game-index c.game-item.result c.loop-game-test.true c.game-item.is
+pub loop-place-preserved : goal.loop-place-preserved
+loop-place-preserved c =
+    let games = c.args.self.now.games in
+    let place = c.loop-place.place in
+    let game = c.index.result.now in
+    let read = read_at c.self.inside.games.entries games c.len-place-end.result place game
+    (ap (λ (t : TableState). t.games) c.self.view_is) c.len-place-end.ensures.len c.loop-place-test.true c.index.ensures in
+    c.in_ok-write_row.ensures.written ∙ ap (λ (t : List ℕ). t ++ list_row game) c.loop-place.invariant
+    ∙ row_more games place game read.within read.here

@@ -9,6 +9,9 @@ pub invariant_of-self : goal.invariant_of-self
 invariant_of-self c =
     let limits = c.args.limits in
     let same = sym (ap (λ (t : TableState). t.limits) c.self.view_is) in
-    IsTable-widen (table_seen c.self.inside) limits c.self.invariant c.requires.in_range
-    (subst (λ (l : Limits). l.games ≤ limits.games) same c.requires.games)
-    (subst (λ (l : Limits). l.plies ≤ limits.plies) same c.requires.plies)
+    record {
+      table = IsTable-widen (table_seen c.self.inside) limits c.self.invariant.table c.requires.in_range
+          (subst (λ (l : Limits). l.games ≤ limits.games) same c.requires.games)
+          (subst (λ (l : Limits). l.plies ≤ limits.plies) same c.requires.plies);
+      numbered = c.self.invariant.numbered;
+    }

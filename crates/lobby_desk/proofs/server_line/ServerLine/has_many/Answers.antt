@@ -11,13 +11,13 @@ pub returns : goal.returns
 returns c =
     let name = c.args.name.now in
     let most = c.args.most in
-    let plays = c.args.plays in
-    let seats = count_by (is_seat c.args.plays c.args.name.now) c.args.self.now.seats.items in
-    let first = count_by (λ (due : Due). is_entry plays name (owed_of due)) c.as_slices.result.0.now in
+    let stage = c.args.stage in
+    let seats = count_by (is_seat c.args.stage c.args.name.now) c.args.self.now.seats.items in
+    let first = count_by (λ (due : Due). is_entry stage name (owed_of due)) c.as_slices.result.0.now in
     c.are_many.ensures
     ∙ (ap (λ (n : ℕ). nat_le most (n + (c.entries.result + c.entries-2.result))) (c.seats_by.ensures
-    ∙ ap (count_by (is_seat plays name)) c.as_slice.ensures.value)
+    ∙ ap (count_by (is_seat stage name)) c.as_slice.ensures.value)
     ∙ (ap (λ (n : ℕ). nat_le most (seats + (n + c.entries-2.result))) c.entries.ensures
     ∙ (ap (λ (n : ℕ). nat_le most (seats + (first + n))) c.entries-2.ensures
     ∙ ap (λ (n : ℕ). nat_le most (seats + n))
-    (entries_both c.args.plays c.args.name.now c.args.self.now.queue.items c.as_slices.result.0.now c.as_slices.result.1.now c.as_slices.ensures.items))))
+    (entries_both (is_entry c.args.stage c.args.name.now) c.args.self.now.queue.items c.as_slices.result.0.now c.as_slices.result.1.now c.as_slices.ensures.items))))
