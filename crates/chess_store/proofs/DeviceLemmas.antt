@@ -1,11 +1,22 @@
 -- The device from life to life.
 use Rattle.std.specs.Prelude.{ℕ, ◌≡◌, List, [], ◌∷◌, ◌++◌, Option}
-use Rattle.std.proofs.Common.{refl, subst}
+use Rattle.std.proofs.Common.{refl, subst, ◌∙◌, arith}
 use Rattle.sector_dev.specs.Image.{Sectors, Write}
 use Rattle.sector_dev.specs.Device.{State}
 use Rattle.chess_store.specs.declared.plan.Life.{Life}
 use Rattle.chess_store.specs.declared.plan.LifeReport.{LifeReport}
-use Rattle.chess_store.specs.Devices.{IsLivedOn, AreLivedOn}
+use Rattle.chess_store.specs.Devices.{HasGoneOn, IsLivedOn, AreLivedOn}
+
+-- nothing happened
+pub gone_on-none : (now : State) → HasGoneOn now now
+gone_on-none now = record { unstopped = refl; later = omega arith }
+
+-- and on
+pub gone_on-more : (old mid new : State) → HasGoneOn old mid → HasGoneOn mid new → HasGoneOn old new
+gone_on-more old mid new first second = record {
+  unstopped = second.unstopped ∙ first.unstopped;
+  later = omega (arith, first.later, second.later);
+}
 
 module _ {D : Type 0} (state : D → State) (failures : D → ℕ) (calls_left : D → Option ℕ) (stable : D → Sectors)
     (pending : D → List Write) where

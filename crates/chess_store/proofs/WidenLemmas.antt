@@ -103,6 +103,7 @@ two_leaves : (old mid new : State) (P Q R : Sectors → Type 0) → ((c : Sector
     → ((c : Sectors) → Q c → R c) → LeavesOnly old mid P → LeavesOnly mid new Q → LeavesOnly old new R
 two_leaves old mid new P Q R one other first second =
     record {
+      unstopped = second.unstopped ∙ first.unstopped;
       later = omega (arith, first.later, second.later);
       each = λ c since. elim (second.before old.moment c first.later since) [
         | inl was ↦ one c (first.each c was)
@@ -125,6 +126,7 @@ module _ {D : Type 0} {ghosts : Ghosts D} (old mid : Journal D ghosts) (result g
   pub first_lasts : OnOk result ⊥ → JournalLasts old mid result table wider
   first_lasts failed = record {
     any_moment = record {
+      unstopped = first.any_moment.unstopped;
       later = first.any_moment.later;
       each = λ c since. one_of table wider c (first.any_moment.each c since);
       before = λ t c earlier since. elim (first.any_moment.before t c earlier since) [

@@ -8,20 +8,16 @@
 mod batch;
 mod checking;
 mod commits;
-mod creating;
 mod drilling;
 mod fault;
 mod in_memory;
 mod laws;
 mod laws_of_lives;
 mod living;
-mod opening;
 mod plan;
 mod refused;
 mod serving;
 mod store;
-mod submitting;
-mod widening;
 
 pub use drilling::{Drilled, Tally, drill};
 pub use fault::StoreFault;

@@ -10,7 +10,7 @@ ghost use Rattle.chess_entry.specs.Table.{IsTable};
 ghost use Rattle.chess_store.specs.Means.{AllMean};
 ghost use Rattle.chess_store.specs.Faults.{IsDevice, CountsFault};
 ghost use Rattle.chess_store.specs.Courses.{IsSubmittable};
-ghost use Rattle.chess_store.specs.Devices.{IsLivedOn, AreTold};
+ghost use Rattle.chess_store.specs.Devices.{HasGoneOn, IsLivedOn, AreTold};
 ghost use Rattle.chess_store.specs.Lives.{AreSubmittable, IsBegun, IsLifeThen, IsReport, batches_of};
 ghost use Rattle.chess_store.specs.Stops.{IsStopped, IsCutShort, IsLivesFault};
 ghost use Rattle.chess_store.specs.Serving.{IsShown, EndsUnopened, returned};
@@ -35,7 +35,7 @@ fn returned(calls: Option<u64>, fault: Option<StoreFault>) -> Option<StoreFault>
 fn limit<D: CrashDevice>(device: &mut D, calls: Option<u64>)
     ensures images { (D.state device.old).keeps_model → (c : Sectors)
         → (D.state device.new).image c → (D.state device.old).image c }
-    ensures later { (D.state device.old).keeps_model → (D.state device.old).moment ≤ (D.state device.new).moment }
+    ensures on { (D.state device.old).keeps_model → HasGoneOn (D.state device.old) (D.state device.new) }
     ensures failures { D.failures device.new ≡ D.failures device.old }
     ensures model { (D.state device.new).keeps_model ↔ (D.state device.old).keeps_model }
     ensures sectors { D.sector_count device.new ≡ D.sector_count device.old }
@@ -98,7 +98,7 @@ fn show<D: Device>(alloc: Global, device: D, reports: Vec<LifeReport>) -> Lived<
         → IfOk result.report (λ report. IsShown table (D.failures device) report.table report.kept
         (D.failures result.dev)) }
     ensures reports { IfOk result.report (λ report. report.lives.items ≡ reports.items) }
-    ensures later { (D.state device).keeps_model → (D.state device).moment ≤ (D.state result.dev).moment }
+    ensures on { (D.state device).keeps_model → HasGoneOn (D.state device) (D.state result.dev) }
     ensures unfailed { IfOk result.report (λ report. D.failures result.dev ≡ D.failures device) }
     ensures count { IfOk result.report (λ report. report.kept ≡ report.table.entries) }
     ensures bounds { IfOk result.report (λ report. IsTable report.table) }
@@ -152,9 +152,9 @@ fn show<D: Device>(alloc: Global, device: D, reports: Vec<LifeReport>) -> Lived<
 /// `Damaged` and `TooSmall`, as an opening says it. On any device `Device` comes only where the count of its failures
 /// rose.
 ///
-/// What is reported of a life is of that life: the device goes from life to life, each of which ends with a stop, and at the
-/// stop it has failed as often as is reported; where an opening is told as failed, it has failed since the life began
-/// (`told`).
+/// What is reported of a life is of that life (`told`): the device goes from life to life, each of which has one stop, its
+/// last, and at the stop the device has failed as often as is reported. Where an opening is told as failed, the device has
+/// failed since the stop before it, and nothing was written.
 pub fn lives<D: CrashDevice>(alloc: Global, device: D, plan: &Plan) -> Lived<D>
     requires { AreSubmittable plan.now.lives.items }
     ensures reported { (limits : Limits) (k : List Entry) → IsBegun limits k (D.state device)

@@ -1,10 +1,12 @@
 //! The batches of one life.
 ghost use Rattle.std.specs.Prelude.{◌≡◌, ◌≤◌, ◌+◌, ◌-◌, ◌↔◌, false, map, count_by, None, IfSome, IsSome};
 ghost use Rattle.chess_board.specs.Legal.{EachOf};
+ghost use Rattle.sector_dev.specs.Image.{Sectors};
 ghost use Rattle.chess_entry.specs.State.{TableState};
 ghost use Rattle.chess_store.specs.Means.{AllMean};
 ghost use Rattle.chess_store.specs.Kept.{IsStoreKept};
 ghost use Rattle.chess_store.specs.Courses.{IsSubmittable, is_unsent};
+ghost use Rattle.chess_store.specs.Devices.{HasGoneOn};
 ghost use Rattle.chess_store.specs.Stops.{IsLivesFault};
 ghost use Rattle.chess_store.specs.Serving.{IsTallied, HasRoomForPending, IsServed, CountsEnd, pending_of};
 
@@ -54,8 +56,8 @@ fn submit_all<D: Device>(store: &mut Store<D>, batches: &[Vec<Command>]) -> Subm
         (D.failures store.old.journal.device) (IsStoreKept store.old) (D.state store.new.journal.device)
         (D.failures store.new.journal.device) }
     ensures room { HasRoomForPending result }
-    ensures later { IsStoreKept store.old
-        → (D.state store.old.journal.device).moment ≤ (D.state store.new.journal.device).moment }
+    ensures on { IsStoreKept store.old
+        → HasGoneOn (D.state store.old.journal.device) (D.state store.new.journal.device) }
     ensures fault { IfSome result.fault IsLivesFault }
     ensures counts { CountsEnd result.fault (D.failures store.old.journal.device)
         (D.failures store.new.journal.device) }
@@ -130,9 +132,11 @@ pub(crate) fn serve<D: CrashDevice>(alloc: Global, device: D, batches: &[Vec<Com
     ensures served { (D.state device).keeps_model → (table : TableState) → AllMean (D.state device) table
         → IsServed table (map (λ b. b.items) batches.now) (D.failures device) result.report result.fault
         (D.state result.device) (D.failures result.device) }
-    ensures later { (D.state device).keeps_model → (D.state device).moment ≤ (D.state result.device).moment }
+    ensures on { (D.state device).keeps_model → HasGoneOn (D.state device) (D.state result.device) }
     ensures told { result.report.failures ≡ D.failures result.device }
     ensures unopened { result.report.opened ≡ None → IsSome result.fault }
+    ensures unwritten { (D.state device).keeps_model → result.report.opened ≡ None → (image : Sectors)
+        → (D.state result.device).image image → (D.state device).image image }
     ensures fault { IfSome result.fault IsLivesFault }
     ensures counts { CountsEnd result.fault (D.failures device) (D.failures result.device) }
     ensures model { (D.state result.device).keeps_model ↔ (D.state device).keeps_model }

@@ -1,6 +1,6 @@
 -- Games under their numbers: what a look-up finds, and what adding, changing and taking out a game keeps.
 use Rattle.std.proofs.Common.{ℕ, zero, suc, ◌≡◌, ◌+◌, ◌<◌, ◌≤◌, Bool, false, cond, nat_eq, List, [], ◌∷◌, ◌++◌, length, get_or, set, slice_get, is_some, take, Option, Some, None, refl, sym, ap, ◌∙◌, subst, inl, inr, arith}
-use Rattle.std.specs.Prelude.{◌==◌, if◌then◌else◌, map, IfSome, IfNone, OnOk, OnErr, Result, Ok, Err}
+use Rattle.std.specs.Prelude.{◌==◌, if◌then◌else◌, IfSome, IfNone, OnOk, OnErr, Result, Ok, Err}
 use Rattle.std.specs.List.{remove}
 use Rattle.std.specs.Map.{lookup, values_of}
 use Rattle.std.proofs.lemmas.Bool.{cases_Bool, eqb-true, false≢true}
@@ -13,7 +13,7 @@ use Rattle.rec_codec.specs.declared.record.Event.{Event}
 use Rattle.chess_entry.specs.State.{GameState, find_game}
 use Rattle.chess_entry.specs.Follow.{follow_game}
 use Rattle.chess_entry.proofs.Entering.{find_game-number}
-use Rattle.indexmap.specs.IndexMap.{IndexMap, values, get, insert_entry, set_value_at}
+use Rattle.indexmap.specs.IndexMap.{IndexMap, values, insert_entry, set_value_at}
 use Rattle.indexmap.proofs.CallerLemmas.{insert_entry-new}
 use Rattle.chess_table.specs.Places.{AreNumbered, IsPlaceOf}
 use Rattle.chess_table.proofs.Rising.{Rise, IsBefore, EachOf-part}

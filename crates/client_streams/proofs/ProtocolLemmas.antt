@@ -1,6 +1,6 @@
 -- How other protocols begin.
 use Rattle.std.proofs.Common.{◌≡◌, ◌↔◌, ◌∙◌, ◌<◌, ◌≤◌, ◌+◌, ℕ, Bool, true, false, List, [], ◌∷◌, ◌++◌, Option, Some, None, length, get_or, take, drop, refl, ap, sym, subst, inl, inr, arith, append_assoc, take-append-drop, length-append}
-use Rattle.std.specs.Prelude.{IsTrue, is_some, eqb, codes}
+use Rattle.std.specs.Prelude.{IsTrue, eqb, codes}
 use Rattle.std.specs.List.{starts_with}
 use Rattle.std.proofs.lemmas.Bool.{cases_Bool, false≢true}
 use Rattle.std.proofs.lemmas.Bool.Decides.{Decides-eqb}
@@ -44,6 +44,21 @@ request_before b line request = record {
 pub no_request : {P : Type 0} → IsRequest [] → P
 no_request request =
     absurd (omega (arith, simp length-append at (ap (λ (l : List ℕ). length l) request.cut)))
+
+-- where it does not stand here it stands behind, if it stands at all
+pub request_on : (line rest : List ℕ) (b : ℕ) (after : List ℕ) → rest ≡ b ∷ after →
+    starts_with eqb rest (codes " HTTP/") ≡ false → IsRequest line ↔ IsRequest rest → IsRequest line ↔ IsRequest after
+request_on line rest b after cut not same = (
+  λ request. request_behind b after (subst (λ (l : List ℕ). starts_with eqb l (codes " HTTP/") ≡ false) cut not)
+      (subst (λ (l : List ℕ). IsRequest l) cut (same.0 request)),
+  λ request. same.1 (subst (λ (l : List ℕ). IsRequest l) (sym cut) (request_before b after request)),
+)
+
+-- in the end no byte is left
+pub request_none : (line rest : List ℕ) → length rest ≡ 0 → IsRequest line ↔ IsRequest rest →
+    IsTrue false ↔ IsRequest line
+request_none line [] none same = (λ is. absurd (false≢true is), λ request. no_request (same.0 request))
+request_none line (b ∷ rest) none same = absurd (omega (arith, none))
 
 -- ---- the first line
 

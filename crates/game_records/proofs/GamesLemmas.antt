@@ -1,5 +1,5 @@
 -- The parts of several games, one after the other.
-use Rattle.std.specs.Prelude.{ℕ, ◌≡◌, ◌<◌, ◌+◌, List, [], ◌∷◌, ◌++◌, length, take, Result, Ok, Err, OnErr}
+use Rattle.std.specs.Prelude.{ℕ, ◌≡◌, ◌<◌, ◌+◌, List, [], ◌∷◌, ◌++◌, length, take}
 use Rattle.std.specs.List.{flat_map}
 use Rattle.std.proofs.Common.{ap, sym, subst, ◌∙◌, append_assoc, get_or}
 use Rattle.std.proofs.lemmas.List.{append-nil, take_more}
@@ -7,7 +7,7 @@ use Rattle.std.proofs.lemmas.Grind.{flat_map-append}
 use Rattle.rec_codec.specs.declared.record.Record.{Record}
 use Rattle.chess_entry.specs.State.{GameState}
 use Rattle.chess_entry.specs.Snapshot.{StoredGame, records_of, IsStoredAs, AreStoredAs}
-use Rattle.game_records.specs.Part.{IsFrontOf, HasGameMore, HasGamesMore}
+use Rattle.game_records.specs.Part.{HasGameMore, HasGamesMore}
 
 pub AreStoredAs-more : (games : List GameState) (parts : List StoredGame) (game : GameState) (part : StoredGame) →
     AreStoredAs games parts → IsStoredAs game part → AreStoredAs (games ++ game ∷ []) (parts ++ part ∷ [])
@@ -16,9 +16,6 @@ AreStoredAs-more (g ∷ games) (p ∷ parts) game part stored last =
     (stored.0, AreStoredAs-more games parts game part stored.1 last)
 AreStoredAs-more [] (p ∷ parts) game part stored last = absurd stored
 AreStoredAs-more (g ∷ games) [] game part stored last = absurd stored
-
-pub HasGamesMore-none : (old : List Record) → HasGamesMore old old []
-HasGamesMore-none old = record { parts = []; stored = tt; records = sym (append-nil old) }
 
 pub HasGamesMore-more : (old mid new : List Record) (games : List GameState) (game : GameState) →
     HasGamesMore old mid games → HasGameMore mid new game → HasGamesMore old new (games ++ game ∷ [])
@@ -43,17 +40,3 @@ HasGamesMore-next old mid new games i game below here before last =
     take_more games i game below ∙ ap (λ (g : GameState). take i games ++ g ∷ []) (sym here) in
     subst (λ (gs : List GameState). HasGamesMore old new gs) (sym front)
     (HasGamesMore-more old mid new (take i games) game before last)
-
-pub IsFrontOf-games : (old mid new : List Record) (games : List GameState) → HasGamesMore old mid games →
-    IsFrontOf mid new → IsFrontOf old new
-IsFrontOf-games old mid new games before front = record {
-  more = flat_map records_of before.parts ++ front.more;
-  records =
-      front.records
-      ∙ ap (λ (rs : List Record). rs ++ front.more) before.records
-      ∙ append_assoc old (flat_map records_of before.parts) front.more;
-}
-
-pub on_err : {T E : Type 0} (r : Result T E) (P : Type 0) → P → OnErr r P
-on_err (Ok x) P holds = tt
-on_err (Err e) P holds = holds

@@ -8,4 +8,4 @@ mod writing;
 
 pub use listing::read_games;
 pub use reading::{ReadGame, read_game};
-pub use writing::{push_game, push_games};
+pub use writing::push_game;

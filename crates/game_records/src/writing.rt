@@ -2,7 +2,7 @@ ghost use Rattle.std.specs.Prelude.{◌≡◌, ◌≤◌, ◌++◌, ◌∷◌, [
 ghost use Rattle.std.specs.List.{AllByRecursion};
 ghost use Rattle.rec_codec.specs.Moves.{CanBecome};
 ghost use Rattle.chess_entry.specs.Snapshot.{moves_record};
-ghost use Rattle.game_records.specs.Part.{IsFrontOf, HasHeadMore, HasRunsMore, HasGameMore, HasGamesMore};
+ghost use Rattle.game_records.specs.Part.{IsFrontOf, HasHeadMore, HasRunsMore, HasGameMore};
 
 use chess_board::Move;
 use chess_game::Game;
@@ -55,16 +55,4 @@ pub fn push_game(records: &mut Vec<Record>, game: &Game) -> Result<(), AllocErro
 {
     put_head(records, game)?;
     put_moves(records, game.number(), game.moves())
-}
-
-/// Appends the parts of games, one after the other. It fails where memory is refused; then the records that were there
-/// still are, and some more may stand behind them.
-pub fn push_games(records: &mut Vec<Record>, games: &[Game]) -> Result<(), AllocError>
-    ensures written { OnOk result (HasGamesMore records.old.items records.new.items games.now) }
-    ensures refused { OnErr result (IsFrontOf records.old.items records.new.items) }
-{
-    for game in games {
-        push_game(records, game)?;
-    }
-    Ok(())
 }

@@ -2,8 +2,7 @@
 ghost use Rattle.std.specs.Prelude.{◌≡◌};
 
 use crate::source::{Slots, Source};
-use sector_dev::FileDevice;
-use sector_dev::DeviceFault;
+use sector_dev::{DeviceFault, FileDevice};
 use std::fs::File;
 use std::io::{ErrorKind, Seek, SeekFrom};
 use std::os::unix::fs::{FileExt, FileTypeExt};

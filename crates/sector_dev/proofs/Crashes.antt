@@ -1,5 +1,5 @@
 -- What a crash leaves of the device in memory.
-use Rattle.std.proofs.Common.{◌≡◌, List, [], sym, ◌∙◌, ap, subst}
+use Rattle.std.proofs.Common.{◌≡◌, ℕ, List, [], sym, ◌∙◌, ap, subst}
 use Rattle.sector_dev.specs.declared.memory.Call.{Call}
 use Rattle.sector_dev.specs.declared.device.Fate.{Fate}
 use Rattle.sector_dev.specs.Image.{Sectors, Image}
@@ -11,10 +11,10 @@ use Rattle.sector_dev.proofs.Images.{stable_images}
 use Rattle.sector_dev.proofs.Played.{left_is_image}
 
 -- with nothing recorded since, what is left is stable
-pub rest_is_stable : (left next : Sectors) (calls : List Call) → calls ≡ [] → next ≡ left
-    → IsStable left (recorded_state next calls)
-rest_is_stable left next calls cleared is =
-    subst (λ (cs : List Call). IsStable left (recorded_state next cs)) (sym cleared)
+pub rest_is_stable : {stops : ℕ} (left next : Sectors) (calls : List Call) → calls ≡ [] → next ≡ left
+    → IsStable left (recorded_state stops next calls)
+rest_is_stable {stops = stops} left next calls cleared is =
+    subst (λ (cs : List Call). IsStable left (recorded_state stops next cs)) (sym cleared)
     (record {
       reads = is;
       images = λ c. (λ i. (stable_images next c).0 i ∙ is, λ e. (stable_images next c).1 (e ∙ sym is));

@@ -25,7 +25,7 @@ recorded stable calls next x is = ap (λ (cs : List Call). disk_after (at_rest s
 
 -- a call that changes nothing
 pub elapses_same : (now : State) (during : Sectors → Type 0) → Elapses now now during
-elapses_same now during = record { later = omega arith; nothing_else = λ t c le s. inl s; keeps = λ t c le s. s }
+elapses_same now during = record { unstopped = refl; later = omega arith; nothing_else = λ t c le s. inl s; keeps = λ t c le s. s }
 
 module _ (stable : Sectors) (calls : List Call) (x : Call) where
   abbrev disk : Disk
@@ -61,9 +61,10 @@ module _ (stable : Sectors) (calls : List Call) (x : Call) where
         })
   ]
 
-  elapses_one : (during : Sectors → Type 0) → ((c : Sectors) → MayLeave (step disk x) c → during c)
-      → Elapses (recorded_state stable calls) (recorded_state stable (calls ++ x ∷ [])) during
+  elapses_one : {stops : ℕ} (during : Sectors → Type 0) → ((c : Sectors) → MayLeave (step disk x) c → during c)
+      → Elapses (recorded_state stops stable calls) (recorded_state stops stable (calls ++ x ∷ [])) during
   elapses_one during f = record {
+    unstopped = refl;
     later = omega (arith, length-append calls (x ∷ []));
     nothing_else = λ t c le s. nothing_else during f t c s;
     keeps = λ t c le s. keeps t c s;
@@ -79,9 +80,9 @@ write_images stable calls at value lt c =
     pending_images d.stable d.pending (record { sector = at; value = value })
     (omega (arith, lt, length-disk_after (at_rest stable) calls)) c
 
-pub written_is_pending : (stable : Sectors) (calls next : List Call) (at : ℕ) (value : List ℕ)
+pub written_is_pending : {stops : ℕ} (stable : Sectors) (calls next : List Call) (at : ℕ) (value : List ℕ)
     → at < length stable → next ≡ calls ++ Written at value ∷ []
-    → IsPending at value (recorded_state stable calls) (recorded_state stable next)
+    → IsPending at value (recorded_state stops stable calls) (recorded_state stops stable next)
 written_is_pending stable calls next at value lt is =
     let d = disk_after (at_rest stable) calls in
     let leaves = recorded stable calls next (Written at value) is in
@@ -91,17 +92,17 @@ written_is_pending stable calls next at value lt is =
           (write_images stable calls at value lt c);
     }
 
-pub written_elapses : (stable : Sectors) (calls next : List Call) (at : ℕ) (value : List ℕ)
+pub written_elapses : {stops : ℕ} (stable : Sectors) (calls next : List Call) (at : ℕ) (value : List ℕ)
     → at < length stable → next ≡ calls ++ Written at value ∷ []
-    → Elapses (recorded_state stable calls) (recorded_state stable next)
+    → Elapses (recorded_state stops stable calls) (recorded_state stops stable next)
     (WithOrWithout at value (MayLeave (disk_after (at_rest stable) calls)))
-written_elapses stable calls next at value lt is =
+written_elapses {stops = stops} stable calls next at value lt is =
     let during = WithOrWithout at value (MayLeave (disk_after (at_rest stable) calls)) in
-    subst (λ (cs : List Call). Elapses (recorded_state stable calls) (recorded_state stable cs) during) (sym is)
+    subst (λ (cs : List Call). Elapses (recorded_state stops stable calls) (recorded_state stops stable cs) during) (sym is)
     (elapses_one stable calls (Written at value) during (λ c i. (write_images stable calls at value lt c).0 i))
 
-pub synced_is_stable : (stable : Sectors) (calls next : List Call) → next ≡ calls ++ Synced ∷ []
-    → IsStable (shown (disk_after (at_rest stable) calls)) (recorded_state stable next)
+pub synced_is_stable : {stops : ℕ} (stable : Sectors) (calls next : List Call) → next ≡ calls ++ Synced ∷ []
+    → IsStable (shown (disk_after (at_rest stable) calls)) (recorded_state stops stable next)
 synced_is_stable stable calls next is =
     let now = shown (disk_after (at_rest stable) calls) in
     let leaves = recorded stable calls next Synced is in
@@ -110,11 +111,11 @@ synced_is_stable stable calls next is =
       images = λ c. subst (λ (e : Disk). MayLeave e c ↔ (c ≡ now)) (sym leaves) (stable_images now c);
     }
 
-pub synced_elapses : (stable : Sectors) (calls next : List Call) → next ≡ calls ++ Synced ∷ []
-    → Elapses (recorded_state stable calls) (recorded_state stable next) (MayLeave (disk_after (at_rest stable) calls))
-synced_elapses stable calls next is =
+pub synced_elapses : {stops : ℕ} (stable : Sectors) (calls next : List Call) → next ≡ calls ++ Synced ∷ []
+    → Elapses (recorded_state stops stable calls) (recorded_state stops stable next) (MayLeave (disk_after (at_rest stable) calls))
+synced_elapses {stops = stops} stable calls next is =
     let d = disk_after (at_rest stable) calls in
-    subst (λ (cs : List Call). Elapses (recorded_state stable calls) (recorded_state stable cs) (MayLeave d)) (sym is)
+    subst (λ (cs : List Call). Elapses (recorded_state stops stable calls) (recorded_state stops stable cs) (MayLeave d)) (sym is)
     (elapses_one stable calls Synced (MayLeave d)
     (λ c i. subst (λ (x : Sectors). MayLeave d x) (sym ((stable_images (shown d) c).0 i)) (shown_is_image d)))
 

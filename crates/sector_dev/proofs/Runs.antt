@@ -14,12 +14,13 @@ use Rattle.sector_dev.proofs.Moments.{elapses_same}
 -- before the first call
 pub started : (old : State) (P : Sectors → Type 0) → ((c : Sectors) → old.image_since old.moment c → P c)
     → LeavesOnly old old P
-started old P here = record { later = omega arith; each = here; before = λ t c le left. inl left }
+started old P here = record { unstopped = refl; later = omega arith; each = here; before = λ t c le left. inl left }
 
 -- one call more, during which a crash leaves what has P
 pub goes_on : (old mid new : State) (P during : Sectors → Type 0) → LeavesOnly old mid P → Elapses mid new during
     → ((c : Sectors) → during c → P c) → LeavesOnly old new P
 goes_on old mid new P during so_far time here = record {
+  unstopped = time.unstopped ∙ so_far.unstopped;
   later = omega (arith, so_far.later, time.later);
   each = λ c left. ⊎_elim (so_far.each c) (here c) (time.nothing_else old.moment c so_far.later left);
   before = λ t c le left. ⊎_elim (so_far.before t c le) (λ now. inr (here c now))
@@ -36,6 +37,7 @@ leaves_now sectors old new P coherent model leaves c now =
 pub widened : (old new : State) (P Q : Sectors → Type 0) → Elapses old new P → ((c : Sectors) → P c → Q c)
     → Elapses old new Q
 widened old new P Q time wider = record {
+  unstopped = time.unstopped;
   later = time.later;
   nothing_else = λ t c le left. ⊎_elim (λ past. inl past) (λ now. inr (wider c now)) (time.nothing_else t c le left);
   keeps = time.keeps;
@@ -45,6 +47,7 @@ widened old new P Q time wider = record {
 pub elapses_then : (old mid new : State) (P : Sectors → Type 0) → Elapses old mid P → Elapses mid new P
     → Elapses old new P
 elapses_then old mid new P first second = record {
+  unstopped = second.unstopped ∙ first.unstopped;
   later = omega (arith, first.later, second.later);
   nothing_else = λ t c le left.
       ⊎_elim (first.nothing_else t c le) (λ now. inr now)

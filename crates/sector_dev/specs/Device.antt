@@ -15,6 +15,8 @@ pub record State : Type 1 where
   pub reads : Sectors
   -- what a crash at this moment may leave
   pub image : Sectors → Type 0
+  -- how often it has stopped by a crash, which no call of `Device` changes, nor `arm`
+  pub stops : ℕ
   -- the moment, as a number that no call of `Device` makes smaller, nor `arm`; a crash begins it anew
   pub moment : ℕ
   -- what a crash at some moment from that one on might have left, before, within or after a call
@@ -77,9 +79,10 @@ pub record MayBeStable (old new : State) : Type 0 where
   pub reads : new.reads ≡ old.reads
   pub images : (c : Sectors) → new.image c → old.image c
 
--- Time goes on: a crash since t might have left what it might have left before, all of it, or what it might leave
--- during the call.
+-- Time goes on, without a crash: a crash since t might have left what it might have left before, all of it, or what it
+-- might leave during the call.
 pub record Elapses (old new : State) (during : Sectors → Type 0) : Type 0 where
+  pub unstopped : new.stops ≡ old.stops
   pub later : old.moment ≤ new.moment
   pub nothing_else : (t : ℕ) (c : Sectors) → t ≤ old.moment
       → new.image_since t c → old.image_since t c ⊎ during c
@@ -95,6 +98,10 @@ risen_once = refl
 
 risen_no_more : min ((2 ^ 64 - 1) + 1) (2 ^ 64 - 1) ≡ 2 ^ 64 - 1
 risen_no_more = refl
+
+-- a crash is one stop more, where 64 bits hold it
+abbrev pub HasStopped : State → State → Type 0
+HasStopped old new = new.stops ≡ min (old.stops + 1) (2 ^ 64 - 1)
 
 -- the count of failures stays at `Ok` and rises at `Err`
 abbrev pub CountsFailure : {T E : Type 0} → Result T E → ℕ → ℕ → Type 0

@@ -18,7 +18,7 @@ sector_count_of m = length m.base.items
 
 -- what is known of it; it keeps the model always
 abbrev pub state_of : MemoryDevice → State
-state_of m = recorded_state m.base.items m.calls.items
+state_of m = recorded_state m.stops m.base.items m.calls.items
 
 -- for how many more writes and syncs it has memory
 abbrev pub room_of : MemoryDevice → ℕ

@@ -144,18 +144,19 @@ recorded_whole stable calls whole written =
     after_whole (at_rest stable) calls (record { stable = whole; pending = tt })
     (recursion_from_All (λ w. IsWhole w.value) (writes_of calls) written)
 
--- what is known of a device in memory with this record of calls
-abbrev pub recorded_state : Sectors → List Call → State
-recorded_state stable calls = record {
+-- what is known of a device in memory that has stopped so often, with this record of calls since
+abbrev pub recorded_state : ℕ → Sectors → List Call → State
+recorded_state stops stable calls = record {
   keeps_model = ⊤;
   reads = shown (disk_after (at_rest stable) calls);
   image = MayLeave (disk_after (at_rest stable) calls);
+  stops = stops;
   moment = length calls;
   image_since = MightLeaveSince stable calls;
 }
 
-pub recorded_is_coherent : (stable : Sectors) (calls : List Call) → AreWhole stable → AreWholeWrites (writes_of calls)
-    → IsCoherent (length stable) (recorded_state stable calls)
+pub recorded_is_coherent : {stops : ℕ} (stable : Sectors) (calls : List Call) → AreWhole stable → AreWholeWrites (writes_of calls)
+    → IsCoherent (length stable) (recorded_state stops stable calls)
 recorded_is_coherent stable calls whole written =
     let d = disk_after (at_rest stable) calls in
     record {

@@ -8,8 +8,9 @@ use Rattle.sector_dev.specs.Device.{State, Elapses, CountsFailure}
 abbrev pub IsAtRest : State → Type 0
 IsAtRest now = now.keeps_model × ((c : Sectors) → now.image c → c ≡ now.reads)
 
--- A crash at any moment since old leaves sectors that have P.
+-- A crash at any moment since old leaves sectors that have P. None has come since.
 pub record LeavesOnly (old new : State) (P : Sectors → Type 0) : Type 0 where
+  pub unstopped : new.stops ≡ old.stops
   pub later : old.moment ≤ new.moment
   pub each : (c : Sectors) → new.image_since old.moment c → P c
   -- for a run that began earlier

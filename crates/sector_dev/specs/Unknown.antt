@@ -4,7 +4,7 @@ use Rattle.sector_dev.specs.Device.{State, IsCoherent}
 
 -- it keeps no model, as far as is shown
 abbrev pub unknown : State
-unknown = record { keeps_model = ⊥; reads = []; image = λ c. ⊥; moment = 0; image_since = λ t c. ⊥ }
+unknown = record { keeps_model = ⊥; reads = []; image = λ c. ⊥; stops = 0; moment = 0; image_since = λ t c. ⊥ }
 
 pub unknown_is_coherent : (sector_count : ℕ) → IsCoherent sector_count unknown
 unknown_is_coherent sector_count = record {

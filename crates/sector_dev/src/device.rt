@@ -1,7 +1,7 @@
 // A device as its callers see it: what a read gives, and what a crash may leave.
 ghost use Rattle.std.specs.Prelude.{◌≡◌, ◌<◌, ◌↔◌, List, ℕ, [], Option, Some, None};
 ghost use Rattle.sector_dev.specs.Image.{Sectors, Write};
-ghost use Rattle.sector_dev.specs.Device.{State, IsCoherent, IsUnchanged, IsStable, Elapses};
+ghost use Rattle.sector_dev.specs.Device.{State, IsCoherent, IsUnchanged, IsStable, Elapses, HasStopped};
 ghost use Rattle.sector_dev.specs.Calls.{IsReadCall, IsWriteCall, IsSyncCall};
 ghost use Rattle.sector_dev.specs.Crash.{left_by, fates_of, IsOfDisk};
 
@@ -103,8 +103,8 @@ pub trait CrashDevice: Device {
     fn failure_count(&self) -> u64
         ensures { result ≡ Self.failures self.now };
 
-    /// The next `calls` calls of `read`, `write` and `sync` are served, unless they fail for another reason, and every
-    /// later one fails, until a crash or until the device is armed again. Nothing else changes.
+    /// The next `calls` calls of `read`, `write`, `sync` and `barrier` are served, unless they fail for another reason, and
+    /// every later one fails, until a crash or until the device is armed again. Nothing else changes.
     fn arm(&mut self, calls: u64)
         ensures sectors { Self.sector_count self.new ≡ Self.sector_count self.old }
         ensures model { (Self.state self.new).keeps_model ↔ (Self.state self.old).keeps_model }
@@ -118,8 +118,8 @@ pub trait CrashDevice: Device {
         ensures pending { (Self.state self.old).keeps_model → pending self.new ≡ pending self.old };
 
     /// A crash that gives each pending write its fate, by place; a missing place is `Lost`. Of the writes to one sector
-    /// the last that is not lost decides. Then nothing is pending, and calls are not limited any more. Time begins
-    /// anew: moments from before it mean nothing after it.
+    /// the last that is not lost decides. Then nothing is pending, calls are not limited any more, and the device has
+    /// stopped once more. Time begins anew: moments from before it mean nothing after it.
     fn crash_as(&mut self, fates: &[Fate])
         ensures sectors { Self.sector_count self.new ≡ Self.sector_count self.old }
         ensures model { (Self.state self.new).keeps_model ↔ (Self.state self.old).keeps_model }
@@ -131,7 +131,8 @@ pub trait CrashDevice: Device {
             → (Self.state self.old).image (Self.state self.new).reads }
         ensures stable { (Self.state self.old).keeps_model
             → stable self.new ≡ left_by (stable self.old) (pending self.old) fates.now }
-        ensures pending { (Self.state self.old).keeps_model → pending self.new ≡ [] };
+        ensures pending { (Self.state self.old).keeps_model → pending self.new ≡ [] }
+        ensures stops { (Self.state self.old).keeps_model → HasStopped (Self.state self.old) (Self.state self.new) };
 
     /// As `crash_as`, where the writes whose place in `keep` is true are `Kept` and the others `Lost`.
     fn crash(&mut self, keep: &[bool])
@@ -145,7 +146,8 @@ pub trait CrashDevice: Device {
             → (Self.state self.old).image (Self.state self.new).reads }
         ensures stable { (Self.state self.old).keeps_model
             → stable self.new ≡ left_by (stable self.old) (pending self.old) (fates_of keep.now) }
-        ensures pending { (Self.state self.old).keeps_model → pending self.new ≡ [] };
+        ensures pending { (Self.state self.old).keeps_model → pending self.new ≡ [] }
+        ensures stops { (Self.state self.old).keeps_model → HasStopped (Self.state self.old) (Self.state self.new) };
 
     /// The state is that of the stable values and the pending writes.
     ghost of_disk: { (device : Self) → (Self.state device).keeps_model

@@ -1,7 +1,7 @@
 // A device in memory: the values that were stable when its record began, and the record of the calls since.
 ghost use Rattle.std.specs.Prelude.{◌≡◌, ◌⊎◌, ◌<◌, ◌^◌, ◌++◌, ◌∷◌, ◌↔◌, [], false, map, length, slice_set, Some, None, IsErr, IfOk, OnOk, OnErr, vec_len, vec_capacity, ◌≤◌, ◌+◌};
 ghost use Rattle.sector_dev.specs.declared.device.Sector.TheVariants.{Bytes};
-ghost use Rattle.sector_dev.specs.Device.{IsUnchanged, IsStable, Elapses, CountsFailure, TakesOne, one_less};
+ghost use Rattle.sector_dev.specs.Device.{IsUnchanged, IsStable, Elapses, HasStopped, CountsFailure, TakesOne, one_less};
 ghost use Rattle.sector_dev.specs.Calls.{IsReadCall, IsWriteCall, IsSyncCall};
 ghost use Rattle.sector_dev.specs.Whole.{AreWhole, AreWholeWrites};
 ghost use Rattle.sector_dev.specs.Image.{applied};
@@ -34,6 +34,8 @@ pub struct MemoryDevice {
     /// Whether, since it was armed, a write that failed became pending.
     failed_pending: bool,
     failures: u64,
+    /// How often it has crashed, of which the clauses speak; at 2^64 - 1 it stays.
+    stops: u64,
     ghost fits: { length base.items < 2 ^ 32 },
     ghost is_shown: { seen.items ≡ shown (disk_after (at_rest base.items) calls.items) },
     ghost whole: { AreWhole base.items },
@@ -59,6 +61,7 @@ impl MemoryDevice {
             calls_left: None,
             failed_pending: false,
             failures: 0,
+            stops: 0,
         })
     }
 
@@ -321,6 +324,7 @@ impl MemoryDevice {
         ensures calls_left { self.new.calls_left ≡ None }
         ensures failures { self.new.failures ≡ self.old.failures }
         ensures failed_pending { self.new.failed_pending ≡ false }
+        ensures stops { HasStopped (state_of self.old) (state_of self.new) }
         ensures room { room_of self.old ≤ room_of self.new }
     {
         play(&mut self.base, &self.calls, fates);
@@ -328,6 +332,7 @@ impl MemoryDevice {
         self.calls.clear();
         self.calls_left = None;
         self.failed_pending = false;
+        self.stops = self.stops.saturating_add(1);
     }
 }
 
@@ -376,6 +381,7 @@ impl CrashDevice for MemoryDevice {
         ensures stable { (state_of self.old).keeps_model
             → (disk_of self.new).stable ≡ left_by (disk_of self.old).stable (disk_of self.old).pending fates.now }
         ensures pending { (state_of self.old).keeps_model → (disk_of self.new).pending ≡ [] }
+        ensures stops { (state_of self.old).keeps_model → HasStopped (state_of self.old) (state_of self.new) }
         ensures failed_pending { self.new.failed_pending ≡ false }
         ensures room { room_of self.old ≤ room_of self.new }
     {
@@ -395,6 +401,7 @@ impl CrashDevice for MemoryDevice {
             → (disk_of self.new).stable
             ≡ left_by (disk_of self.old).stable (disk_of self.old).pending (fates_of keep.now) }
         ensures pending { (state_of self.old).keeps_model → (disk_of self.new).pending ≡ [] }
+        ensures stops { (state_of self.old).keeps_model → HasStopped (state_of self.old) (state_of self.new) }
         ensures failed_pending { self.new.failed_pending ≡ false }
         ensures room { room_of self.old ≤ room_of self.new }
     {

@@ -6,32 +6,42 @@ ghost use Rattle.server_work.specs.End.{end_of, name_of, name_of_hub, name_of_st
 use board_session::BoardFault;
 use chess_hub::HubFault;
 use chess_store::StoreFault;
-use clap::Error;
 use clap::error::ErrorKind;
+use thiserror::Error;
 
 /// What can break a run off.
-#[derive(Clone, Copy, PartialEq, Eq)]
+#[derive(Clone, Copy, Debug, PartialEq, Eq, Error)]
 pub enum Fault {
     /// The journal's file cannot be opened, made or lengthened, or another program has it open.
+    #[error("the file cannot be opened, made or lengthened")]
     File,
     /// A read of the input failed, or reads did not come to an end.
+    #[error("a read of the input failed, or reads did not come to an end")]
     Read,
     /// A write of the output failed.
+    #[error("a write of the output failed")]
     Write,
     /// The table's limits are above those that are asked for.
+    #[error("a limit of the journal is above the one asked for")]
     Limits,
     /// The port cannot be bound.
+    #[error("the port or the socket cannot be listened on")]
     Socket,
     /// A line of the input was too long, and its farewell is written.
+    #[error("a line of the input has more than 255 bytes")]
     LineTooLong,
     /// The journal that is read without a lock changed too fast.
+    #[error("the journal changed too fast to be read")]
     Changing,
     /// Memory was refused while the words of the command line were read, or for a text.
+    #[error("memory was refused")]
     NoMemory,
     /// The store refused.
-    Store(StoreFault),
+    #[error("the journal's store refused")]
+    Store(#[source] StoreFault),
     /// The hub refused.
-    Hub(HubFault),
+    #[error("the hub of the players' sessions refused")]
+    Hub(#[source] HubFault),
 }
 
 /// How a run ends.
@@ -122,7 +132,7 @@ pub fn end_of_work(ended: Result<(), Fault>) -> End
 
 /// The end of a run that only prints a text of the command line: help or the version that was asked for is no fault, want
 /// of memory is one, and anything else is usage.
-pub fn end_of_words(error: &Error) -> End
+pub fn end_of_words(error: &clap::Error) -> End
     ensures help { kind_of error.now ≡ ErrorKind.DisplayHelp → result ≡ End.Done }
     ensures version { kind_of error.now ≡ ErrorKind.DisplayVersion → result ≡ End.Done }
     ensures memory { kind_of error.now ≡ ErrorKind.OutOfMemory → result ≡ End.Fault Fault.NoMemory }

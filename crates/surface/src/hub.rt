@@ -32,18 +32,15 @@ fn connected(rt: &impl Abort, hub: &mut Hub<MemoryDevice>) -> Sid {
 }
 
 // Two sessions whose lines come in pieces.
-#[test]
-fn answers_of_a_turn(rt: HostRuntime) {
-    let store = created(&rt, rt.alloc(), 212).ok().expect(&rt, "a store");
-    let mut hub = Hub::new(rt.alloc(), store);
-    let (a, b) = (connected(&rt, &mut hub), connected(&rt, &mut hub));
+fn check_pieces(rt: &impl Abort, hub: &mut Hub<MemoryDevice>) {
+    let (a, b) = (connected(rt, hub), connected(rt, hub));
     for (sid, piece) in [
         (a, "name ann\nopen wh"),
         (b, "name bob\njo"),
         (a, "ite 300 0\n"),
         (b, "in 1\n"),
     ] {
-        feed(&rt, &mut hub, sid, piece);
+        feed(rt, hub, sid, piece);
     }
     let turned: Result<(), HubFault> = hub.turn(1_000, 64);
     assert!(rt; turned == Ok(()));
@@ -53,7 +50,7 @@ fn answers_of_a_turn(rt: HostRuntime) {
         (a, "ok open 1"),
         (b, "ok join 1 black"),
     ] {
-        check_answer(&rt, &mut hub, sid, wanted);
+        check_answer(rt, hub, sid, wanted);
     }
 }
 
@@ -63,20 +60,27 @@ xxxxxxxxxxxxxxxxxxxxxxxxxxxxxxxxxxxxxxxxxxxxxxxxxxxxxxxxxxxxxxxx\
 xxxxxxxxxxxxxxxxxxxxxxxxxxxxxxxxxxxxxxxxxxxxxxxxxxxxxxxxxxxxxxxx\
 xxxxxxxxxxxxxxxxxxxxxxxxxxxxxxxxxxxxxxxxxxxxxxxxxxxxxxxxxxxxxxxx";
 
-#[test]
-fn a_line_that_is_too_long(rt: HostRuntime) {
-    let store = created(&rt, rt.alloc(), 212).ok().expect(&rt, "a store");
-    let mut hub = Hub::new(rt.alloc(), store);
-    let sid = connected(&rt, &mut hub);
-    feed(&rt, &mut hub, sid, LONG);
+// A line that is too long, for which there is an answer without a turn.
+fn check_long(rt: &impl Abort, hub: &mut Hub<MemoryDevice>) {
+    let sid = connected(rt, hub);
+    feed(rt, hub, sid, LONG);
     assert!(rt; hub.is_open(sid));
     assert!(rt; hub.waiting(sid) == 0 && !hub.ended(sid));
-    check_answer(&rt, &mut hub, sid, "bye LineTooLong");
+    check_answer(rt, hub, sid, "bye LineTooLong");
     assert!(rt; hub.is_open(sid) && hub.ended(sid));
     assert!(rt; hub.feed(sid, b"list\n") == Err(HubFault::LineTooLong));
     assert!(rt; hub.is_open(sid));
     hub.close(sid);
     assert!(rt; !hub.is_open(sid));
+}
+
+#[test]
+fn sessions_of_a_hub(rt: HostRuntime) {
+    let store = created(&rt, rt.alloc(), 212).ok().expect(&rt, "a store");
+    let mut hub = Hub::new(rt.alloc(), store);
+    check_pieces(&rt, &mut hub);
+    check_long(&rt, &mut hub);
+    drop(hub);
 }
 
 // The faults of a session from a reader to a writer.

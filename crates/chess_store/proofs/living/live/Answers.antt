@@ -15,6 +15,7 @@ use Rattle.chess_store.specs.Lives.{IsBegun, batches_of}
 use Rattle.chess_store.specs.Serving.{IsServed, CountsEnd}
 use Rattle.chess_store.specs.Stops.{IsLivesFault}
 use Rattle.chess_store.proofs.ServingLemmas.{counted-end}
+use Rattle.chess_store.proofs.DeviceLemmas.{gone_on-more}
 use Rattle.chess_store.proofs.LivesLemmas.{Means-in_range, lived_to, life_stopped, passed_on, failed_unopened}
 use Rattle.chess_store.proofs.living.live.Given.{Over}
 use Rattle.chess_store.proofs.living.live.Goals.{After-returned}
@@ -122,13 +123,16 @@ returns-in-None-clause-told g c = λ model.
     let crash = c.crash_as.ensures in
     record {
       left = left.device;
-      later = omega (arith, c.limit.ensures.later model, c.serve-left.ensures.later armed);
+      on = gone_on-more _ _ _ (c.limit.ensures.on model) (c.serve-left.ensures.on armed);
       counted = c.serve-left.ensures.told;
-      unopened = λ none.
-          subst (λ (n : ℕ). HasRisen n (failures left.device)) c.limit.ensures.failures
-          (failed_unopened c.args.life.now.calls left.fault (failures c.limit.new.device) (failures left.device)
-          (sym c.returned.ensures ∙ c.in-None.is) (c.serve-left.ensures.unopened none) c.serve-left.ensures.counts);
+      unopened = λ none. record {
+        failed = subst (λ (n : ℕ). HasRisen n (failures left.device)) c.limit.ensures.failures
+            (failed_unopened c.args.life.now.calls left.fault (failures c.limit.new.device) (failures left.device)
+            (sym c.returned.ensures ∙ c.in-None.is) (c.serve-left.ensures.unopened none) c.serve-left.ensures.counts);
+        unwritten = λ image is. c.limit.ensures.images model image (c.serve-left.ensures.unwritten armed none image is);
+      };
       stopped = record {
+        stopped = crash.stops kept;
         fates = crash.stable kept ∙ ap (λ (fates : List _). left_by (g.D.CrashDevice.stable left.device) (g.D.CrashDevice.pending left.device) fates) c.deref-in-None.ensures.value;
         settled = crash.pending kept;
         unlimited = crash.calls_left;

@@ -199,7 +199,7 @@ returns-clause-told g c = λ model.
       last = left;
       lived = subst (λ (rs : List LifeReport). OnDevices lives rs device left) (sym same)
           (subst (λ (ls : List Life). OnDevices ls c.loop-life.reports.items device left) whole (inv.told model));
-      later = c.show.ensures.later (inv.model.1 model);
+      on = c.show.ensures.on (inv.model.1 model);
       unfailed = unfailed;
     })
 

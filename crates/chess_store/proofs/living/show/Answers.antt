@@ -1,6 +1,7 @@
 use Rattle.std.proofs.Common.{◌≡◌, ◌≤◌, ◌∙◌, arith, ap, sym, subst}
 use Rattle.chess_entry.specs.State.{TableState}
 use Rattle.chess_entry.specs.Table.{IsTable}
+use Rattle.chess_store.specs.Devices.{HasGoneOn}
 use Rattle.chess_store.proofs.MeansLemmas.{one_table}
 use Rattle.chess_store.proofs.ServingLemmas.{unopened, opening_fault, counted-fault}
 use Rattle.chess_store.proofs.living.show.Goals as goal
@@ -58,14 +59,16 @@ pub returns-in-Err-clause-images : goal.returns-in-Err-clause-images
 returns-in-Err-clause-images g c = λ model table means image is.
     means image (c.in-Err.ensures.images_refused model image is)
 
-pub returns-in-Ok-clause-later : goal.returns-in-Ok-clause-later
-returns-in-Ok-clause-later g c = λ model.
+pub returns-in-Ok-clause-on : goal.returns-in-Ok-clause-on
+returns-in-Ok-clause-on g c = λ model.
     let state = g.D.Device.state in
-    subst (λ (d : _). (state c.args.device).moment ≤ (state d).moment) (sym c.into_parts-device.ensures.device)
-    (c.in-Ok.ensures.goes.time model).later
+    let time = c.in-Ok.ensures.goes.time model in
+    subst (λ (d : _). HasGoneOn (state c.args.device) (state d)) (sym c.into_parts-device.ensures.device)
+    (record { unstopped = time.unstopped; later = time.later })
 
-pub returns-in-Err-clause-later : goal.returns-in-Err-clause-later
-returns-in-Err-clause-later g c = λ model. (c.in-Err.ensures.goes_refused.time model).later
+pub returns-in-Err-clause-on : goal.returns-in-Err-clause-on
+returns-in-Err-clause-on g c = λ model.
+    let time = c.in-Err.ensures.goes_refused.time model in record { unstopped = time.unstopped; later = time.later }
 
 pub returns-in-Ok-clause-unfailed : goal.returns-in-Ok-clause-unfailed
 returns-in-Ok-clause-unfailed g c = ap g.D.Device.failures c.into_parts-device.ensures.device ∙ c.in-Ok.ensures.cause

@@ -1,6 +1,8 @@
 use Rattle.std.proofs.Common.{◌∙◌, ◌↔◌, ◌≤◌, ap, ◌≡◌, ℕ, sym, subst, arith, map}
 use Rattle.chess_entry.specs.State.{TableState}
 use Rattle.chess_store.proofs.MeansLemmas.{one_table}
+use Rattle.chess_store.specs.Devices.{HasGoneOn}
+use Rattle.chess_store.proofs.DeviceLemmas.{gone_on-more}
 use Rattle.chess_store.specs.Kept.{IsStoreKept}
 use Rattle.chess_store.specs.Serving.{IsServed}
 use Rattle.chess_store.proofs.ServingLemmas.{judged-entries, served-opened, served-refused, unopened, opening_fault}
@@ -78,15 +80,26 @@ pub returns-in-Ok-clause-sectors : goal.returns-in-Ok-clause-sectors
 returns-in-Ok-clause-sectors g c =
     ap g.D.Device.sector_count c.into_device-left.ensures ∙ c.submit_all-submitted.ensures.sectors ∙ c.in-Ok.ensures.goes.size
 
-pub returns-in-Ok-clause-later : goal.returns-in-Ok-clause-later
-returns-in-Ok-clause-later g c = λ model.
+pub returns-in-Ok-clause-on : goal.returns-in-Ok-clause-on
+returns-in-Ok-clause-on g c = λ model.
     let state = g.D.Device.state in
     let opened = c.in-Ok.ensures in
-    subst (λ (d : _). (state c.args.device).moment ≤ (state d).moment) (sym c.into_device-left.ensures)
-    (omega (arith, (opened.goes.time model).later, c.submit_all-submitted.ensures.later (opened.kept model)))
+    let time = opened.goes.time model in
+    subst (λ (d : _). HasGoneOn (state c.args.device) (state d)) (sym c.into_device-left.ensures)
+    (gone_on-more _ _ _ (record { unstopped = time.unstopped; later = time.later })
+    (c.submit_all-submitted.ensures.on (opened.kept model)))
 
-pub returns-in-Err-clause-later : goal.returns-in-Err-clause-later
-returns-in-Err-clause-later g c = λ model. (c.in-Err.ensures.goes_refused.time model).later
+pub returns-in-Err-clause-on : goal.returns-in-Err-clause-on
+returns-in-Err-clause-on g c = λ model.
+    let time = c.in-Err.ensures.goes_refused.time model in record { unstopped = time.unstopped; later = time.later }
+
+pub returns-in-Ok-clause-unwritten : goal.returns-in-Ok-clause-unwritten
+returns-in-Ok-clause-unwritten g c = λ model none.
+    let opened = c.report_of.ensures.opened in
+    absurd (cc)
+
+pub returns-in-Err-clause-unwritten : goal.returns-in-Err-clause-unwritten
+returns-in-Err-clause-unwritten g c = λ model none. c.in-Err.ensures.images_refused model
 
 pub returns-in-Ok-clause-told : goal.returns-in-Ok-clause-told
 returns-in-Ok-clause-told g c = c.report_of.ensures.failures ∙ c.failure_count.ensures

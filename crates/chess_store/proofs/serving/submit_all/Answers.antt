@@ -9,6 +9,7 @@ use Rattle.chess_store.specs.Faults.{UnlessDevice, CountsFault, MayLast}
 use Rattle.chess_store.specs.Kept.{IsStoreKept}
 use Rattle.chess_store.specs.Means.{MeansEither, IsKept}
 use Rattle.chess_store.proofs.MeansLemmas.{kept_means}
+use Rattle.chess_store.proofs.DeviceLemmas.{gone_on-none, gone_on-more}
 use Rattle.chess_store.specs.Courses.{IsSubmittable, is_unsent}
 use Rattle.chess_store.specs.Serving.{IsTallied}
 use Rattle.chess_store.proofs.ServingLemmas.{SoFar, so_far-none, so_far-more, EachOf-at, take_map-more, around-at, tallied-all, tallied-err, room-err, worn_before, batch_fault}
@@ -31,7 +32,7 @@ loop-batch-init g c = record {
   works = c.requires.works;
   so_far = so_far-none c.args.store.now.table c.shown-count.result c.shown-count.ensures;
   kept = λ kept. kept;
-  later = λ kept. omega arith;
+  on = λ kept. gone_on-none (g.D.Device.state c.args.store.now.journal.device);
   unfailed = cc;
   model = (λ model. model, λ model. model);
   sectors = cc;
@@ -61,7 +62,9 @@ loop-batch-preserved g c =
           replies answered.entries inv.so_far told c.shown-count-in-Ok.ensures
           (c.saturating_add-refused.ensures ∙ ap (λ (n : ℕ). min (c.loop-batch.refused + n) (2 ^ 64 - 1)) counted));
       kept = λ kept. e.kept (inv.kept kept);
-      later = λ kept. omega (arith, inv.later kept, (e.any_moment (inv.kept kept)).later);
+      on = λ kept.
+          let leaves = e.any_moment (inv.kept kept) in
+          gone_on-more _ _ _ (inv.on kept) (record { unstopped = leaves.unstopped; later = leaves.later });
       unfailed = e.tried.cause ∙ inv.unfailed;
       model = (λ model. inv.model.0 (e.tried.model.0 model), λ model. e.tried.model.1 (inv.model.1 model));
       sectors = e.tried.sectors ∙ inv.sectors;
@@ -119,10 +122,11 @@ returns-in-Err-clause-tallied g c =
     (g.met.D.Device.coherent new.journal.device) (c.submit.ensures.batch.tried.model.1 kept.keeps.model)
     (c.submit.ensures.batch.any_moment kept)))
 
-pub returns-in-Err-clause-later : goal.returns-in-Err-clause-later
-returns-in-Err-clause-later g c = λ was.
+pub returns-in-Err-clause-on : goal.returns-in-Err-clause-on
+returns-in-Err-clause-on g c = λ was.
     let inv = c.loop-batch.invariant in
-    omega (arith, inv.later was, (c.submit.ensures.batch.any_moment (inv.kept was)).later)
+    let leaves = c.submit.ensures.batch.any_moment (inv.kept was) in
+    gone_on-more _ _ _ (inv.on was) (record { unstopped = leaves.unstopped; later = leaves.later })
 
 pub returns-in-Err-clause-fault : goal.returns-in-Err-clause-fault
 returns-in-Err-clause-fault g c =

@@ -1,4 +1,5 @@
 use Rattle.std.proofs.Common.{◌≡◌, ◌≤◌, ◌↔◌, false, map, take}
+use Rattle.chess_store.specs.Devices.{HasGoneOn}
 use Rattle.chess_store.specs.Kept.{IsStoreKept}
 use Rattle.chess_store.proofs.ServingLemmas.{SoFar}
 use Rattle.chess_store.proofs.serving.submit_all.Given as goal
@@ -12,7 +13,7 @@ invariant-loop-batch g l =
       works : l.store.failed ≡ false;
       so_far : SoFar l.fn.store.table (map (λ b. b.items) (take l.batch-index l.batches)) l.store.table l.count l.refused;
       kept : IsStoreKept l.fn.store → IsStoreKept l.store;
-      later : IsStoreKept l.fn.store → (state l.fn.store.journal.device).moment ≤ (state l.store.journal.device).moment;
+      on : IsStoreKept l.fn.store → HasGoneOn (state l.fn.store.journal.device) (state l.store.journal.device);
       unfailed : failures l.store.journal.device ≡ failures l.fn.store.journal.device;
       model : (state l.store.journal.device).keeps_model ↔ (state l.fn.store.journal.device).keeps_model;
       sectors : sector_count l.store.journal.device ≡ sector_count l.fn.store.journal.device;

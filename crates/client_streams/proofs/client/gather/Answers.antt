@@ -85,3 +85,15 @@ returns-in_err-push-clause-given g c = given_so_far g (goal.at.returns-in_err-pu
 
 pub returns-in_err-push-clause-refused : goal.returns-in_err-push-clause-refused
 returns-in_err-push-clause-refused g c = on_err c.from_residual.result _ c.in_err-push.ensures.refused
+
+pub returns-in_err-push-clause-store : goal.returns-in_err-push-clause-store
+returns-in_err-push-clause-store g c = c.output.ensures.store ∙ c.loop.invariant.4
+
+pub returns-in_default-clause-store : goal.returns-in_default-clause-store
+returns-in_default-clause-store g c = c.output.ensures.store ∙ c.loop.invariant.4
+
+pub returns-in_err-push-clause-refusals : goal.returns-in_err-push-clause-refusals
+returns-in_err-push-clause-refusals g c = c.output.ensures.refusals ∙ c.loop.invariant.5
+
+pub returns-in_default-clause-refusals : goal.returns-in_default-clause-refusals
+returns-in_default-clause-refusals g c = c.output.ensures.refusals ∙ c.loop.invariant.5

@@ -97,3 +97,9 @@ returns-clause-read g c =
     (sends (standing client) (standing after) room left longest (rest client.wire.stream) (rest after.wire.stream) (waiting client.outgoing)
     (held client.incoming) (held after.incoming) client.sid old new before (session_at new client.sid) refl refl open_now c.take_in-any.ensures.taken
     c.take_in-any.ensures.others)
+
+pub returns-then-is_quiet-clause-store : goal.returns-then-is_quiet-clause-store
+returns-then-is_quiet-clause-store g c = c.close_silent.ensures.store ∙ c.take_in-any.ensures.store
+
+pub returns-then-is_quiet-clause-refusals : goal.returns-then-is_quiet-clause-refusals
+returns-then-is_quiet-clause-refusals g c = c.close_silent.ensures.refusals ∙ c.take_in-any.ensures.refusals

@@ -1,5 +1,5 @@
-use Rattle.std.proofs.Common.{◌≡◌, sym, ap, ◌∙◌}
-use Rattle.chess_entry.specs.State.{GameState, TableState, find_game}
+use Rattle.std.proofs.Common.{ap, ◌∙◌}
+use Rattle.chess_entry.specs.State.{TableState, find_game}
 use Rattle.chess_table.proofs.Numbered.{get-find}
 use Rattle.chess_table.proofs.table.Table.find.Goals as goal
 

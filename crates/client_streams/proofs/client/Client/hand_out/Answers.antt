@@ -87,3 +87,15 @@ returns-clause-given g c =
     (sym (ap contents kept.5)) (subst (λ (l : List ℕ). HandsOut (contents client.wire.stream) (contents wrote.wire.stream)
     (to_go (session_at old client.sid) (waiting client.outgoing)) (to_go (session_at mid client.sid) l)) (sym kept.4)
     c.in-Ok.ensures.hands)) c.write_out.ensures.open
+
+pub returns-then-is_over-clause-store : goal.returns-then-is_over-clause-store
+returns-then-is_over-clause-store g c = c.close-then-is_over.ensures.store ∙ c.write_out.ensures.store
+
+pub returns-in_default-clause-store : goal.returns-in_default-clause-store
+returns-in_default-clause-store g c = c.close.ensures.store ∙ c.write_out.ensures.store
+
+pub returns-then-is_over-clause-refusals : goal.returns-then-is_over-clause-refusals
+returns-then-is_over-clause-refusals g c = c.close-then-is_over.ensures.refusals ∙ c.write_out.ensures.refusals
+
+pub returns-in_default-clause-refusals : goal.returns-in_default-clause-refusals
+returns-in_default-clause-refusals g c = c.close.ensures.refusals ∙ c.write_out.ensures.refusals

@@ -1,4 +1,4 @@
-use Rattle.std.proofs.Common.{◌≡◌, ◌++◌, ◌∙◌, length, take, drop, map, refl, ap, arith}
+use Rattle.std.proofs.Common.{◌≡◌, ◌++◌, ◌∙◌, length, take, drop, map, refl, ap, arith, rules}
 use Rattle.sector_dev.specs.Crash.{left_by}
 use Rattle.sector_dev.specs.Memory.{disk_after, at_rest}
 use Rattle.sector_dev.proofs.Crashes.{rest_is_stable, rest_is_disk, crash_is_image, played_of}
@@ -53,6 +53,7 @@ returns g c =
       image = crash_is_image d fates next next_calls cleared is;
       calls_left = refl;
       failures = refl;
+      stops = search rules;
       failed_pending = refl;
       room = omega (arith, c.clear.ensures.len, c.clear.ensures.capacity);
     }
