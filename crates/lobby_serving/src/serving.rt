@@ -164,7 +164,8 @@ where
         let turned = lobby.turn(self.rt, at, log, &mut self.links)?;
         self.telling.tell_server(lobby.has_server());
         self.telling.tell_turned_away(lobby.turned_away(), at);
-        self.telling.tell_logins_refused(lobby.counts().logins_refused, at);
+        self.telling
+            .tell_logins_refused(lobby.counts().logins_refused, at);
         lobby.rest(within(turned, self.table.rest(at)))?;
         Ok(())
     }
