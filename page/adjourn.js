@@ -2,6 +2,7 @@
 // A note stands before the first line is sent, and each step is taken from how the game stands, so that what was broken off
 // can be done again.
 
+import { language, t } from './language.js';
 import { readPgn, readRefusal, readShow, readTimes, sideOf } from './lines.js';
 import { arrange, byId, copy, focused, make, read, setText, write } from './make.js';
 import { AGREED, NO_GAME, OTHER, SIDES, arbiterWords, clockText, colourWord, resultWords, timesWords } from './words.js';
@@ -10,7 +11,7 @@ const PREFIX = 'adjourned-';
 const DAY = 86400;                   // seconds: the longest first period that the server takes
 const AGREEMENT = '5.2.3';
 const FOLLOWS = 250;                 // milliseconds: the clocks of a question
-const COPIED = 'The note is copied.';
+const COPIED = t`The note is copied.`;
 const local = () => localStorage;
 
 export class Adjournments {
@@ -77,9 +78,9 @@ export class Adjournments {
     if (document.querySelector('dialog[open]')) return true;
     const show = readShow(shown[0]);
     this.asked = { note, side: show.side, article: show.article, at: performance.now() };
-    setText(byId('adjourn-title'), `Adjourn game ${number}?`);
+    setText(byId('adjourn-title'), t`Adjourn game ${number}?`);
     byId('adjourn-note').replaceChildren(...this.rows(note));
-    setText(byId('adjourn-copied'), keeps() ? '' : 'This browser keeps nothing: copy the note, or write it down.');
+    setText(byId('adjourn-copied'), keeps() ? '' : t`This browser keeps nothing: copy the note, or write it down.`);
     this.renderAsked();
     clearInterval(this.following);
     this.following = setInterval(() => this.renderAsked(), FOLLOWS);
@@ -97,7 +98,7 @@ export class Adjournments {
   follow(number, { ply, left, fen, side, article }, at) {
     if (this.about() !== number) return;
     const copied = byId('adjourn-copied'), isOlder = fen !== this.asked.note.fen && copied.textContent === COPIED;
-    if (isOlder) setText(copied, 'A move was made since the note was copied.');
+    if (isOlder) setText(copied, t`A move was made since the note was copied.`);
     Object.assign(this.asked, { note: { ...this.asked.note, ply, left, fen }, side, article, at });
     this.renderAsked();
   }
@@ -126,8 +127,8 @@ export class Adjournments {
   rows(note) {
     const row = (head, text) => [make('dt', {}, head), make('dd', {}, text)];
     return [...SIDES.flatMap((side) => row(colourWord(side), `${this.nameOf(note, side)}: ${clockOf(note, side)}`)),
-      ...row('Position', positionOf(note)), ...row('FEN', note.fen),
-      ...row('Times', `${timesWords(readTimes(note.times))} (${note.times})`)];
+      ...row(t`Position`, positionOf(note)), ...row('FEN', note.fen),
+      ...row(t`Times`, `${timesWords(readTimes(note.times))} (${note.times})`)];
   }
 
   nameOf(note, side) {
@@ -138,13 +139,13 @@ export class Adjournments {
   /** A note as a text of its own. */
   textOf(note) {
     const times = `${timesWords(readTimes(note.times))} (${note.times})`;
-    return [`Game ${note.game}, ${note.closed ? 'adjourned' : 'as it stood'} ${momentOf(note)}`,
-      ...SIDES.map((side) => `${colourWord(side)}: ${this.nameOf(note, side)}, ${clockOf(note, side)} left`),
-      `Position: ${positionOf(note)}`, `FEN: ${note.fen}`, `Times: ${times}`, ''].join('\n');
+    return [t`Game ${note.game}, ${note.closed ? t`adjourned` : t`as it stood`} ${momentOf(note)}`,
+      ...SIDES.map((side) => t`${colourWord(side)}: ${this.nameOf(note, side)}, ${clockOf(note, side)} left`),
+      t`Position: ${positionOf(note)}`, `FEN: ${note.fen}`, t`Times: ${times}`, ''].join('\n');
   }
 
   async copyNote(note, place) {
-    if (note) setText(place, await copy(this.textOf(note)) ? COPIED : 'It could not be copied: write it down.');
+    if (note) setText(place, await copy(this.textOf(note)) ? COPIED : t`It could not be copied: write it down.`);
   }
 
   // ---- closing
@@ -186,11 +187,11 @@ export class Adjournments {
       this.say(note, '');
       this.keep({ ...note, gone: true });
     } else if (!show || !position) {
-      this.say(note, refusal ? arbiterWords(refusal) : 'The connection broke before the answer came.');
+      this.say(note, refusal ? arbiterWords(refusal) : t`The connection broke before the answer came.`);
     }
     if (!show || !position) return null;
     if (show.white !== note.white || show.black !== note.black) {
-      this.say(note, `Game ${note.game} is one of other players now.`);
+      this.say(note, t`Game ${note.game} is one of other players now.`);
       return null;
     }
     const { left, ply, article, result } = show;
@@ -199,9 +200,9 @@ export class Adjournments {
       this.keep({ ...note, left, ply, fen: position[1], closed: true });
     } else if (article) {
       const words = resultWords(result, article);
-      this.say(note, `It was not adjourned: the game has ended before. ${words.result} ${words.reason}.`);
+      this.say(note, t`It was not adjourned: the game has ended before. ${words.result} ${words.reason}.`);
     } else {
-      this.say(note, 'It is not closed: the game goes on.');
+      this.say(note, t`It is not closed: the game goes on.`);
       this.keep({ ...note, left, ply, fen: position[1] });
     }
     return show;
@@ -215,9 +216,10 @@ export class Adjournments {
       const answer = await this.app.wire.say(line), refusal = readRefusal(answer[0]);
       if (answer[0].startsWith('ok ')) continue;
       if (answer[0].startsWith('fallen')) return true;
-      if (refusal) this.say(note, `It is not closed. ${arbiterWords(refusal)}`);
-      else if (answer[0] === 'unsent') this.say(note, 'It is not closed: there is no connection. Nothing was sent.');
-      else this.say(note, 'The connection broke before the answer came. Once it is there again, the game is looked at.');
+      if (refusal) this.say(note, t`It is not closed. ${arbiterWords(refusal)}`);
+      else if (answer[0] === 'unsent') this.say(note, t`It is not closed: there is no connection. Nothing was sent.`);
+      else this.say(note, t`The connection broke before the answer came. Once it is there again, the game is looked
+        at.`);
       return false;
     }
     return true;
@@ -237,8 +239,8 @@ export class Adjournments {
   }
 
   forget(note) {
-    this.desk.question.ask({ title: `Forget the note of game ${note.game}?`, yes: 'Forget it',
-      words: 'This browser knows its position and its clocks no more.' }, () => {
+    this.desk.question.ask({ title: t`Forget the note of game ${note.game}?`, yes: t`Forget it`,
+      words: t`This browser knows its position and its clocks no more.` }, () => {
       write(local, note.key, null);
       this.said.delete(note.key);
       this.render();
@@ -281,26 +283,27 @@ export class Adjournments {
       onclick: act, ...given }, words, make('span', { class: 'unseen' }, `, game ${note.game}`));
     const acts = [];
     if (!note.closed && !note.gone) {
-      acts.push(button('close', 'Close it as a draw', () => this.settle(note, true), { disabled: !may }));
+      acts.push(button('close', t`Close it as a draw`, () => this.settle(note, true), { disabled: !may }));
     } else if (!note.later) {
-      acts.push(button('on', 'Go on with it', () => this.goOn(note), { class: 'strong' }));
+      acts.push(button('on', t`Go on with it`, () => this.goOn(note), { class: 'strong' }));
     }
-    acts.push(button('copy', 'Copy the note', () => this.copyNote(note, copied)),
-      button('forget', 'Forget it', () => this.forget(note)));
+    acts.push(button('copy', t`Copy the note`, () => this.copyNote(note, copied)),
+      button('forget', t`Forget it`, () => this.forget(note)));
     return make('li', { class: 'adjourned' },
-      make('h3', {}, `Game ${note.game}: ${SIDES.map((side) => this.nameOf(note, side)).join(' – ')}`),
+      make('h3', {}, t`Game ${note.game}: ${SIDES.map((side) => this.nameOf(note, side)).join(' – ')}`),
       make('p', { class: 'adjourned-state' }, this.stateOf(note)), make('dl', { class: 'noted' }, ...this.rows(note)),
       make('div', { class: 'desk-acts' }, ...acts), copied);
   }
 
   stateOf(note) {
     const said = this.said.get(note.key) || '';
-    if (!note.closed && !note.gone) return said || 'It is not closed yet.';
-    const record = note.closed ? `Adjourned ${momentOf(note)}. Game ${note.game} stands in the record as a draw.`
-      : `Game ${note.game} has left the table before it was seen how it ended: its PGN tells. It stood so ${momentOf(note)}.`;
-    if (!note.later) return `${record} The game that goes on with it is the board’s.`;
-    return `${record} It goes on as game ${note.later}, which is the board’s: in a league’s round give `
-      + `--take BOARD=${note.later} to chess-pairings start.`;
+    if (!note.closed && !note.gone) return said || t`It is not closed yet.`;
+    const record = note.closed ? t`Adjourned ${momentOf(note)}. Game ${note.game} stands in the record as a draw.`
+      : t`Game ${note.game} has left the table before it was seen how it ended: its PGN tells. It stood so
+        ${momentOf(note)}.`;
+    if (!note.later) return t`${record} The game that goes on with it is the board’s.`;
+    return t`${record} It goes on as game ${note.later}, which is the board’s: in a league’s round give
+      --take BOARD=${note.later} to chess-pairings start.`;
   }
 }
 
@@ -315,11 +318,11 @@ export function timesToGoOn(note) {
 
 /** What is said of that at the form. */
 export function wordsToGoOn(note) {
-  const record = note.closed ? 'stands in the record as a draw' : 'is on the table no more';
-  const clocks = SIDES.map((side) => `${colourWord(side)} had ${clockOf(note, side)}`).join(', ');
+  const record = note.closed ? t`stands in the record as a draw` : t`is on the table no more`;
+  const clocks = SIDES.map((side) => t`${colourWord(side)} had ${clockOf(note, side)}`).join(', ');
   const same = Math.ceil(note.left.w / 1000) === Math.ceil(note.left.b / 1000);
-  return `This goes on with game ${note.game}, which ${record}; the game that is opened here is the board’s. The server `
-    + `has one time for both sides: ${clocks}${same ? '' : ', so both get the greater of the two'}.`;
+  return t`This goes on with game ${note.game}, which ${record}; the game that is opened here is the board’s. The server
+    has one time for both sides: ${clocks}${same ? '' : t`, so both get the greater of the two`}.`;
 }
 
 function readNote(key) {
@@ -340,21 +343,22 @@ function keeps() {
 
 /** Why a game cannot be closed as a draw now, and what to do; empty where it can. */
 function whyNot({ ply, left, fen }, article) {
-  if (article) return 'The game has ended meanwhile.';
+  if (article) return t`The game has ended meanwhile.`;
   if (ply < AGREED) {
-    return 'A draw can be agreed on once both sides have made a move, so this game cannot be closed yet. Have both make their '
-      + 'first move; or enter a resignation, which ends it too, and pair the two anew.';
+    return t`A draw can be agreed on once both sides have made a move, so this game cannot be closed yet. Have both
+      make their
+      first move; or enter a resignation, which ends it too, and pair the two anew.`;
   }
-  return left[sideOf(fen)] === 0 ? `${colourWord(sideOf(fen))}’s clock has run out: call the flag.` : '';
+  return left[sideOf(fen)] === 0 ? t`${colourWord(sideOf(fen))}’s clock has run out: call the flag.` : '';
 }
 
 /** By the position's own number of the move. */
 function positionOf({ fen }) {
-  return `move ${fen.split(' ')[5]}, ${colourWord(sideOf(fen))} to move`;
+  return t`move ${fen.split(' ')[5]}, ${colourWord(sideOf(fen))} to move`;
 }
 
 function momentOf(note) {
-  return new Date(note.at).toLocaleString('en-GB', { dateStyle: 'long', timeStyle: 'short' });
+  return new Date(note.at).toLocaleString(language === 'en' ? 'en-GB' : language, { dateStyle: 'long', timeStyle: 'short' });
 }
 
 /** A clock with its tenths, as it is written down. */

@@ -3,6 +3,7 @@
 import { Adjournments, timesToGoOn, wordsToGoOn } from './adjourn.js';
 import { Picture } from './board.js';
 import { Clock } from './clock.js';
+import { t } from './language.js';
 import { isNoGame, placementOf, readLine, readRefusal, readShow, readStanding, readWho, squaresOf } from './lines.js';
 import { Links } from './links.js';
 import { arrange, byId, focused, make, save, setText } from './make.js';
@@ -14,8 +15,8 @@ import { AGREED, NO_GAME, OTHER, SIDES, actWords, arbiterWords, colourWord, refu
 const MOST = 12;                     // games on a page: each that runs is watched
 const ASKS_WHO = 10000;
 const ASKS_TABLE = 4000;             // nobody tells of games that were opened or taken off past the lobby
-const STOPPED = 'New games are stopped: no player opens one, and who tries is told so. Games that wait can still be joined, and '
-  + 'arbiters pair on.';
+const STOPPED = t`New games are stopped: no player opens one, and who tries is told so. Games that wait can still be
+  joined, and arbiters pair on.`;
 const RUNS = 0, WAITS = 1, OVER = 2; // the kinds of games, as they stand behind each other
 const ASKS_AGAIN = 4000;             // for a game that was not told
 const STAYS = 8000;                  // so long a game that has ended keeps its place,
@@ -225,7 +226,7 @@ export class ArbiterView {
     const count = found.filter((row) => kindOf(row) === RUNS).length;
     byId('arbiter-none').hidden = this.cards.size > 0;
     byId('arbiter-pages').hidden = found.length <= MOST;
-    setText(byId('arbiter-place'), `${this.first + 1} to ${last} of ${found.length}, ${count} of them running`);
+    setText(byId('arbiter-place'), t`${this.first + 1} to ${last} of ${found.length}, ${count} of them running`);
     this.waits.render();
   }
 
@@ -246,13 +247,13 @@ export class ArbiterView {
   // ---- a game
 
   add(number) {
-    const card = { number, board: new Picture(`Game ${number}`), clocks: {}, names: {}, away: {}, seats: {}, acts: {},
+    const card = { number, board: new Picture(t`Game ${number}`), clocks: {}, names: {}, away: {}, seats: {}, acts: {},
       standing: null };
     const player = (side) => {
       const clock = make('span', { class: 'clock', role: 'timer' });
       card.clocks[side] = new Clock(clock, () => card.standing && setText(card.state, this.stateWords(card)));
       card.names[side] = make('span', { class: 'name' });
-      card.away[side] = make('span', { class: 'away', hidden: true }, 'not connected');
+      card.away[side] = make('span', { class: 'away', hidden: true }, t`not connected`);
       card.seats[side] = make('div', { class: `desk-player ${side === 'w' ? 'white' : 'black'}` },
         make('span', { class: 'disc', 'aria-hidden': 'true' }), make('span', { class: 'who-plays' },
           make('span', { class: 'unseen' }, `${colourWord(side)}: `), card.names[side]), clock, card.away[side]);
@@ -261,21 +262,22 @@ export class ArbiterView {
     const act = (kind, words) => {
       card.acts[kind] = make('button', { type: 'button', class: SIDES.includes(kind) ? 'wide' : '',
         'data-key': `${kind}-${number}`, onclick: () => this.askAbout(card, kind) }, words,
-      make('span', { class: 'unseen' }, `, game ${number}`));
+      make('span', { class: 'unseen' }, t`, game ${number}`));
       return card.acts[kind];
     };
     card.more = make('details', { class: 'desk-more', hidden: true },
-      make('summary', { 'data-key': `more-${number}` }, 'More', make('span', { class: 'unseen' }, `, game ${number}`)),
-      act('drop', 'Take off'));
-    card.title = make('a', { href: `#/game/${number}`, 'data-key': `game-${number}` }, `Game ${number}`);
+      make('summary', { 'data-key': `more-${number}` }, t`More`,
+        make('span', { class: 'unseen' }, t`, game ${number}`)),
+      act('drop', t`Take off`));
+    card.title = make('a', { href: `#/game/${number}`, 'data-key': `game-${number}` }, t`Game ${number}`);
     card.state = make('p', { class: 'desk-state' });
     card.last = make('p', { class: 'desk-last small' });
     card.note = make('p', { class: 'note', role: 'status' });
-    card.root = make('article', { class: 'desk-card', 'aria-label': `Game ${number}` }, card.board.root,
+    card.root = make('article', { class: 'desk-card', 'aria-label': t`Game ${number}` }, card.board.root,
       make('h2', {}, card.title), player('b'), card.state, card.last, player('w'),
-      make('div', { class: 'desk-acts', role: 'group', 'aria-label': `Decide game ${number}` },
-        act('w', 'White resigns'), act('b', 'Black resigns'), act('draw', 'Draw'), act('flag', 'Flag'),
-        act('adjourn', 'Adjourn'), act('pgn', 'Save PGN'), card.more), card.note);
+      make('div', { class: 'desk-acts', role: 'group', 'aria-label': t`Decide game ${number}` },
+        act('w', t`White resigns`), act('b', t`Black resigns`), act('draw', t`Draw`), act('flag', t`Flag`),
+        act('adjourn', t`Adjourn`), act('pgn', t`Save PGN`), card.more), card.note);
     this.cards.set(number, card);
     this.renderActs(card);
     this.ask(number);
@@ -337,7 +339,7 @@ export class ArbiterView {
     const had = this.cards.get(number).root.contains(document.activeElement);
     if (this.question.about === number || this.adjourned.about() === number) {
       (this.question.about === number ? this.question : this.adjourned).close();
-      this.note(`Game ${number} is not on the table any more. Nothing was entered.`, 'refused');
+      this.note(t`Game ${number} is not on the table any more. Nothing was entered.`, 'refused');
     }
     this.remove(number);
     this.fill();
@@ -364,7 +366,7 @@ export class ArbiterView {
     this.waits.told(number, runs ? standing : null, at);
     this.adjourned.follow(number, standing, at);
     card.board.show({ fen: standing.fen, last: card.move, check: standing.check });
-    card.board.root.setAttribute('aria-label', `Game ${number}, ${placementOf(standing.fen).size} men on the board`);
+    card.board.root.setAttribute('aria-label', t`Game ${number}, ${placementOf(standing.fen).size} men on the board`);
     for (const side of SIDES) {
       setText(card.names[side], this.nameOf(card, side));
       card.clocks[side].label = colourWord(side);
@@ -372,7 +374,7 @@ export class ArbiterView {
       card.seats[side].classList.toggle('turn', runs && standing.side === side);
     }
     setText(card.state, this.stateWords(card));
-    setText(card.last, card.act ? `Last: ${card.act}` : '');
+    setText(card.last, card.act ? t`Last: ${card.act}` : '');
     card.root.classList.toggle('done', card.isOver);
     this.renderActs(card);
     this.renderAway(card);
@@ -387,9 +389,9 @@ export class ArbiterView {
       const words = resultWords(result, article);
       return `${words.score} ${words.result} ${words.reason}`;
     }
-    if (!white || !black) return `Waiting for ${colourWord(white ? 'b' : 'w')}`;
-    const offers = [...offer].map((one) => `${colourWord(one)} offers a draw`);
-    const fallen = clocks[side].now() <= 0 ? `${colourWord(side)}’s flag has fallen` : `${colourWord(side)} to move`;
+    if (!white || !black) return t`Waiting for ${colourWord(white ? 'b' : 'w')}`;
+    const offers = [...offer].map((one) => t`${colourWord(one)} offers a draw`);
+    const fallen = clocks[side].now() <= 0 ? t`${colourWord(side)}’s flag has fallen` : t`${colourWord(side)} to move`;
     return [fallen, ...offers].join(' · ');
   }
 
@@ -401,7 +403,8 @@ export class ArbiterView {
       button.disabled = !standing || busy || !this.app.reachable() || kind === 'draw' && standing.ply < AGREED;
     }
     card.more.hidden = !standing || runs || card.isOver;
-    acts.draw.title = standing && standing.ply < AGREED ? 'A draw can be agreed on once both sides have made a move.' : '';
+    const isEarly = standing && standing.ply < AGREED;
+    acts.draw.title = isEarly ? t`A draw can be agreed on once both sides have made a move.` : '';
     if (card.root.contains(had) && !had.getClientRects().length) card.title.focus();
   }
 
@@ -435,25 +438,27 @@ export class ArbiterView {
     const { number, standing } = card, { white, black, side, offer } = standing;
     const seat = { w: white, b: black }, name = { w: this.nameOf(card, 'w'), b: this.nameOf(card, 'b') };
     if (kind === 'w' || kind === 'b') {
-      return { title: `Enter the resignation of ${name[kind]} in game ${number}?`,
-        words: `${name[OTHER[kind]]} wins with ${colourWord(OTHER[kind])}. It cannot be taken back.`,
+      return { title: t`Enter the resignation of ${name[kind]} in game ${number}?`,
+        words: t`${name[OTHER[kind]]} wins with ${colourWord(OTHER[kind])}. It cannot be taken back.`,
         lines: [`as ${seat[kind]} resign ${number}`] };
     }
     if (kind === 'draw') {
       const offered = offer.includes('w') ? 'w' : offer.includes('b') ? 'b' : '', by = offered || 'w';
       const accept = `as ${seat[OTHER[by]]} accept ${number}`;
-      return { title: `Enter a draw between ${name.w} and ${name.b} in game ${number}?`,
-        words: `${offered ? `The offer of ${name[by]} stands` : `An offer is entered for ${name[by]}`}, and its acceptance `
-          + `is entered for ${name[OTHER[by]]}. It cannot be taken back.`,
+      return { title: t`Enter a draw between ${name.w} and ${name.b} in game ${number}?`,
+        words: t`${offered ? t`The offer of ${name[by]} stands` : t`An offer is entered for ${name[by]}`}, and its
+          acceptance is entered for ${name[OTHER[by]]}. It cannot be taken back.`,
         lines: offered ? [accept] : [`as ${seat.w} offer ${number}`, accept] };
     }
     if (kind === 'flag') {
-      return { title: `Call the flag of ${name[side]} in game ${number}?`,
-        words: `It is called for ${name[OTHER[side]]}, against ${name[side]}, who is to move. The server’s clock decides.`,
+      return { title: t`Call the flag of ${name[side]} in game ${number}?`,
+        words: t`It is called for ${name[OTHER[side]]}, against ${name[side]}, who is to move. The server’s clock
+          decides.`,
         lines: [`as ${seat[OTHER[side]]} flag ${number}`] };
     }
-    const title = `Take game ${number} of ${[name.w, name.b].filter(Boolean).join(' and ')} off the table?`;
-    return { title, words: 'It waits for a second player. No move has been made.', yes: 'Take it off', lines: [`drop ${number}`] };
+    const title = t`Take game ${number} of ${[name.w, name.b].filter(Boolean).join(t` and `)} off the table?`;
+    return { title, words: t`It waits for a second player. No move has been made.`, yes: t`Take it off`,
+      lines: [`drop ${number}`] };
   }
 
   async askAbout(card, kind) {
@@ -464,7 +469,7 @@ export class ArbiterView {
     }
     if (kind === 'adjourn') {
       const isTold = await this.adjourned.ask(number);
-      this.tellCard(number, isTold ? '' : 'The lobby did not tell how the game stands. Try again.');
+      this.tellCard(number, isTold ? '' : t`The lobby did not tell how the game stands. Try again.`);
       return;
     }
     const asked = this.asked(card, kind);
@@ -474,7 +479,7 @@ export class ArbiterView {
   async savePgn(number) {
     const answer = await this.app.wire.say(`pgn ${number}`), isTold = answer[0].startsWith('ok pgn ');
     if (isTold) save(`game-${number}.pgn`, 'application/x-chess-pgn', answer.slice(1).join('\n') + '\n');
-    this.tellCard(number, isTold ? '' : 'The lobby did not tell the PGN. Try again.');
+    this.tellCard(number, isTold ? '' : t`The lobby did not tell the PGN. Try again.`);
   }
 
   /** Sends what was agreed to, line by line as long as each is taken; what is refused is told in words. */
@@ -488,11 +493,12 @@ export class ArbiterView {
     for (const line of lines) {
       const answer = await this.app.wire.say(line), refusal = readRefusal(answer[0]);
       if (!answer[0].startsWith('ok ')) {
-        if (refusal && refusal.number === NO_GAME) this.note(`Game ${number} is not on the table any more.`, 'refused');
+        const isGone = refusal && refusal.number === NO_GAME;
+        if (isGone) this.note(t`Game ${number} is not on the table any more.`, 'refused');
         else if (refusal) tell(arbiterWords(refusal));
-        else if (answer[0].startsWith('fallen')) tell('The flag had fallen: the game is over by that.', 'news');
-        else if (answer[0] === 'unsent') tell('There is no connection. Nothing was sent.');
-        else tell('The connection broke before the answer came. Look how the game stands before you enter it again.');
+        else if (answer[0].startsWith('fallen')) tell(t`The flag had fallen: the game is over by that.`, 'news');
+        else if (answer[0] === 'unsent') tell(t`There is no connection. Nothing was sent.`);
+        else tell(t`The connection broke before the answer came. Look how the game stands before you enter it again.`);
         if (answer[0] !== 'unsent' && this.cards.has(number)) this.ask(number);
         break;
       }
@@ -519,7 +525,8 @@ export class ArbiterView {
       this.note('');
       this.renderEntries();
     } else {
-      this.note(refusal ? refusalWords(refusal) : 'The connection broke before the answer came. Do it again.', 'refused');
+      const lost = t`The connection broke before the answer came. Do it again.`;
+      this.note(refusal ? refusalWords(refusal) : lost, 'refused');
     }
   }
 
@@ -528,9 +535,9 @@ export class ArbiterView {
     const isOpen = this.app.wire.state.open;
     if (!isOpen) this.arePaused = null;
     byId('entries').disabled = !isOpen || this.arePaused === null;
-    setText(byId('entries'), this.arePaused ? 'Allow new games' : 'Stop new games');
+    setText(byId('entries'), this.arePaused ? t`Allow new games` : t`Stop new games`);
     byId('entries-state').classList.toggle('stopped', this.arePaused === true);
-    setText(byId('entries-state'), this.arePaused === null ? '' : this.arePaused ? STOPPED : 'New games are allowed.');
+    setText(byId('entries-state'), this.arePaused === null ? '' : this.arePaused ? STOPPED : t`New games are allowed.`);
   }
 
   note(text, kind = 'news') {

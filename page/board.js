@@ -2,6 +2,7 @@
 // moves that it was told and no rule beside them.
 
 import { Arrows } from './arrows.js';
+import { t } from './language.js';
 import { placementOf, sideOf } from './lines.js';
 import { make } from './make.js';
 import { pictureOf } from './pieces.js';
@@ -141,7 +142,7 @@ export class Board extends Picture {
     this.releasedAt = -Infinity;
     this.root.className = 'board';
     this.root.setAttribute('role', 'grid');
-    this.root.setAttribute('aria-label', 'Board');
+    this.root.setAttribute('aria-label', t`Board`);
     this.root.querySelectorAll('.rank').forEach((rank) => rank.setAttribute('role', 'row'));
     this.squares.forEach((square) => {
       square.setAttribute('role', 'gridcell');
@@ -149,7 +150,8 @@ export class Board extends Picture {
     });
     this.edges = [7, 15, 23, 31, 39, 47, 55, 63].map((index) => this.edge(index, 'rank-number'))
       .concat([56, 57, 58, 59, 60, 61, 62, 63].map((index) => this.edge(index, 'file-letter')));
-    this.promotion = make('div', { class: 'promotion', role: 'group', 'aria-label': 'The pawn becomes', hidden: true });
+    this.promotion = make('div', { class: 'promotion', role: 'group', 'aria-label': t`The pawn
+      becomes`, hidden: true });
     this.root.append(this.promotion);
     this.arrows = new Arrows(this);
     this.listen();
@@ -409,7 +411,7 @@ export class Board extends Picture {
     } else if (event.key === 'Escape' && this.plan && !this.held) {
       this.planned(null);
     } else if (event.key === 'Escape' && this.held) {
-      this.says(`${kindWord(this.men.get(this.held).letter)} put back`);
+      this.says(t`${kindWord(this.men.get(this.held).letter)} put back`);
       this.letGo();
     } else {
       return;
@@ -423,19 +425,19 @@ export class Board extends Picture {
     if (goal) {
       this.putDown(goal);
     } else if (this.held === name) {
-      this.says('put back');
+      this.says(t`put back`);
       this.letGo();
     } else if (this.isAhead(name)) {
       this.hold(name);
-      this.says(`${kindWord(this.men.get(name).letter)} on ${name} held, for your next move`);
+      this.says(t`${kindWord(this.men.get(name).letter)} on ${name} held, for your next move`);
     } else if (this.moves.has(name)) {
       this.hold(name);
       const targets = [...new Set(this.targets(name))];
-      this.says(`${kindWord(this.men.get(name).letter)} on ${name} held. It may go to ${targets.join(', ')}`);
+      this.says(t`${kindWord(this.men.get(name).letter)} on ${name} held. It may go to ${targets.join(', ')}`);
     } else if (this.held) {
-      this.says(`not to ${name}`);
+      this.says(t`not to ${name}`);
     } else if (this.men.has(name)) {
-      this.says(this.moves.size ? `no move from ${name}` : 'nothing to move now');
+      this.says(this.moves.size ? t`no move from ${name}` : t`nothing to move now`);
     }
   }
 
@@ -479,7 +481,7 @@ export class Board extends Picture {
     this.promotion.hidden = false;
     this.root.classList.add('asking');
     this.promotion.firstElementChild.focus();
-    this.says('The pawn becomes a queen, knight, rook or bishop?');
+    this.says(t`The pawn becomes a queen, knight, rook or bishop?`);
   }
 
   closePromotion() {
@@ -510,11 +512,11 @@ export class Board extends Picture {
       const target = targets.has(name), words = [name];
       if (man) words.push(manWords(man.letter));
       const isPlanned = Boolean(this.plan) && (name === this.plan.from || name === this.plan.to);
-      if (name === this.held) words.push('held');
-      if (isPlanned) words.push('your next move');
-      if (target) words.push(man ? 'can be taken' : 'can be reached');
-      if (square.classList.contains('check')) words.push('in check');
-      if (square.classList.contains('last')) words.push('last move');
+      if (name === this.held) words.push(t`held`);
+      if (isPlanned) words.push(t`your next move`);
+      if (target) words.push(man ? t`can be taken` : t`can be reached`);
+      if (square.classList.contains('check')) words.push(t`in check`);
+      if (square.classList.contains('last')) words.push(t`last move`);
       square.dataset.square = name;
       square.setAttribute('aria-label', words.join(', '));
       if (name === this.held) square.setAttribute('aria-selected', 'true');

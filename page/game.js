@@ -2,19 +2,20 @@
 
 import { Board } from './board.js';
 import { Clock } from './clock.js';
+import { t } from './language.js';
 import { placementOf, readLine, readPgn, readRefusal, readStanding, readTimes, sideOf, squaresOf } from './lines.js';
 import { byId, copy, focused, make, save, say, setText } from './make.js';
 import { drawActions, drawFacts, drawMoves, drawOutcome, drawPlayers } from './sheet.js';
 import { asksFirst } from './settings.js';
 import { sound } from './sound.js';
 import {
-  FLAG_UP, NOT_YOUR_MOVE, NO_GAME, OTHER, OVER, SIDES, WRONG_PLY, clockWords, colourWord, enteredWords, kindWord, manWords,
+  FLAG_UP, NOT_YOUR_MOVE, NO_GAME, OTHER, OVER, SIDES, WRONG_PLY, clockWords, colourWord, enteredWords, kindWord,
   refusalWords, resultWords, sanWords,
 } from './words.js';
 
 const WHAT = {
-  move: 'move', join: 'joining', offer: 'offer', accept: 'acceptance', decline: 'answer', resign: 'resignation',
-  flag: 'call', drop: 'order', claim: 'claim',
+  move: t`move`, join: t`joining`, offer: t`offer`, accept: t`acceptance`, decline: t`answer`, resign: t`resignation`,
+  flag: t`call`, drop: t`order`, claim: t`claim`,
 };
 
 /** Whether a game that stands as `now` shows an act whose answer was lost (docs/client/PROTOCOL.md, "After a broken
@@ -34,7 +35,7 @@ const SHOWS = {
   },
 };
 const ASKS_AGAIN = 5000;             // for a game that was not told
-const TAKEN_OFF = 'This game was taken off the table.';
+const TAKEN_OFF = t`This game was taken off the table.`;
 const PENALTY = 120000;              // milliseconds that a wrong claim gives to the opponent
 const LOOKS_SLOW = 1000, SAID_SLOW = 4000;        // after so long without an answer
 
@@ -239,17 +240,18 @@ export class GameView {
       sound(/[+#]$/.test(moved[1]) ? 'check' : moved[1].includes('x') ? 'take' : 'move');
     }
     if (this.standing.offer && !own && (word === 'offer' || word === 'claim') && this.seat()) sound('offer');
-    if (answer.startsWith('fallen')) say('The flag has fallen.');
-    else if (arbiter) this.news(`The arbiter, ${this.app.nameWords(arbiter)}, has entered ${enteredWords(word)} for ${
-      own ? 'you' : name}.`);
-    else if (word === 'join') this.news(`${name} has joined. The game has begun.`);
-    else if (word === 'offer' && !own && this.seat()) say(`${name} offers a draw.`);
-    else if (word === 'offer') this.news(own ? 'You have offered a draw.' : `${name} offers a draw.`);
-    else if (word === 'decline') this.news(own ? 'You have declined the draw.' : `${name} declines the draw.`);
+    if (answer.startsWith('fallen')) say(t`The flag has fallen.`);
+    else if (arbiter) this.news(t`The arbiter, ${this.app.nameWords(arbiter)}, has entered ${enteredWords(word)} for ${
+      own ? t`you` : name}.`);
+    else if (word === 'join') this.news(t`${name} has joined. The game has begun.`);
+    else if (word === 'offer' && !own && this.seat()) say(t`${name} offers a draw.`);
+    else if (word === 'offer') this.news(own ? t`You have offered a draw.` : t`${name} offers a draw.`);
+    else if (word === 'decline') this.news(own ? t`You have declined the draw.` : t`${name} declines the draw.`);
     else if (/^ok claim \d+ wrong/.test(answer)) {
-      this.news(own ? 'Your claim was wrong: your opponent has two minutes more, and your offer of a draw stands.'
-        : `${name} has claimed a draw wrongly: it stands as an offer, and ${this.seat() ? 'you have' : 'the opponent has'} `
-          + 'two minutes more.');
+      this.news(own ? t`Your claim was wrong: your opponent has two minutes more, and your offer of a draw stands.`
+        : t`${name} has claimed a draw wrongly: it stands as an offer, and ${this.seat() ? t`you have` : t`the
+          opponent has`}
+          two minutes more.`);
     } else if (moved && this.noteKind === 'news') this.note('');
   }
 
@@ -261,7 +263,7 @@ export class GameView {
 
   /** One's own clock has come to be low. */
   isLow() {
-    say('20 seconds left.');
+    say(t`20 seconds left.`);
     sound('low');
   }
 
@@ -335,7 +337,7 @@ export class GameView {
   /** A move for the next turn, or none any more. */
   planned(plan) {
     this.plan = plan;
-    say(plan ? `Your next move: ${plan.from} to ${plan.to}.` : 'Your next move is taken back.');
+    say(plan ? t`Your next move: ${plan.from} to ${plan.to}.` : t`Your next move is taken back.`);
     this.render();
   }
 
@@ -344,7 +346,7 @@ export class GameView {
     const move = this.board.moveOf(this.plan), { from, to } = this.plan;
     this.plan = null;
     if (!move) {
-      this.news(`Your move from ${from} to ${to} cannot be made now.`);
+      this.news(t`Your move from ${from} to ${to} cannot be made now.`);
       this.renderBoard();
       return;
     }
@@ -361,7 +363,7 @@ export class GameView {
     const field = byId('move-text'), text = field.value.trim().replace(/^0-0-0/, 'O-O-O').replace(/^0-0/, 'O-O');
     if (!text || !this.standing) return;
     if (!/^[\x21-\x7e]{1,16}$/.test(text)) {
-      this.note('A move is one word, such as e4, Nf3, exd5, O-O or e2e4.');
+      this.note(t`A move is one word, such as e4, Nf3, exd5, O-O or e2e4.`);
       return;
     }
     if (!this.myTurn()) {
@@ -402,7 +404,7 @@ export class GameView {
       this.lost(act);
       this.refresh();
     } else if (answer[0] === 'unsent') {
-      this.note('There is no connection. Nothing was sent.');
+      this.note(t`There is no connection. Nothing was sent.`);
     }
     this.render();
   }
@@ -411,8 +413,8 @@ export class GameView {
   slows(act, after) {
     this.isSlow = true;
     if (after === SAID_SLOW) {
-      this.note(`Your ${WHAT[act.word]} has not been answered for ${after / 1000} seconds: it may not have arrived. The `
-        + 'clock runs on.', 'slow');
+      this.note(t`Your ${WHAT[act.word]} has not been answered for ${after / 1000} seconds: it may not have arrived. The
+        clock runs on.`, 'slow');
     }
     this.render();
   }
@@ -432,7 +434,7 @@ export class GameView {
   /** The answer to an act was lost: the game is to be asked how it stands. */
   lost(act) {
     this.unsure = act;
-    this.note('The connection broke before the answer came. Asking how the game stands …');
+    this.note(t`The connection broke before the answer came. Asking how the game stands …`);
   }
 
   /** After an answer that was lost: what the game, as it stands now, shows of that act. */
@@ -442,17 +444,17 @@ export class GameView {
     this.unsure = null;
     const what = WHAT[unsure.word], taken = now ? SHOWS[unsure.word](now, unsure, this) : unsure.word === 'drop';
     if (taken) {
-      this.news(`The connection broke, but your ${what} was taken.`);
+      this.news(t`The connection broke, but your ${what} was taken.`);
     } else if (!now) {
       this.note(refusalWords({ number: NO_GAME }));
     } else if (now.article && unsure.word !== 'drop' || unsure.word === 'flag') {
       this.note('');
     } else if (taken === null) {
-      this.note(`The connection broke before the answer to your ${what} came, and the game has gone on.`);
+      this.note(t`The connection broke before the answer to your ${what} came, and the game has gone on.`);
     } else if (unsure.word === 'offer') {
-      this.note('The connection broke, and no offer of yours stands: it was not taken so far, or it was answered.');
+      this.note(t`The connection broke, and no offer of yours stands: it was not taken so far, or it was answered.`);
     } else {
-      this.note(`The connection broke, and your ${what} has not been taken so far. Look, and do it again.`);
+      this.note(t`The connection broke, and your ${what} has not been taken so far. Look, and do it again.`);
     }
   }
 
@@ -481,9 +483,9 @@ export class GameView {
       groups.set(man, [...groups.get(man) || [], move]);
     }
     byId('claim-move').replaceChildren(
-      make('option', { value: '' }, 'none: for the position on the board'),
+      make('option', { value: '' }, t`none: for the position on the board`),
       ...[...groups].map(([man, moves]) => make('optgroup', { label: man }, ...moves.map((move) => make('option',
-        { value: move }, `${man} – ${move.slice(2, 4)}${move[4] ? ', becomes a ' + kindWord(move[4]) : ''}`)))));
+        { value: move }, `${man} – ${move.slice(2, 4)}${move[4] ? t`, becomes a ${kindWord(move[4])}` : ''}`)))));
     setText(byId('claim-clock'), this.standing.fen.split(' ')[4]);
     dialog.returnValue = '';
     dialog.showModal();
@@ -530,8 +532,8 @@ export class GameView {
     place.hidden = !invitation;
     place.replaceChildren();
     if (!invitation) return;
-    place.append(`${this.app.nameWords(invitation.by)} opens another game. `,
-      make('a', { class: 'button', href: `#/game/${invitation.number}` }, `Look at game ${invitation.number}`));
+    place.append(t`${this.app.nameWords(invitation.by)} opens another game. `,
+      make('a', { class: 'button', href: `#/game/${invitation.number}` }, t`Look at game ${invitation.number}`));
   }
 
   isOpponent(name) {
@@ -559,7 +561,7 @@ export class GameView {
     this.back = place === this.last() ? null : place;
     this.render();
     const { san } = this.line[place] || {};
-    setText(byId('where'), `Move ${place} of ${this.last()}${san ? ': ' + sanWords(san) : ', the start'}`);
+    setText(byId('where'), t`Move ${place} of ${this.last()}${san ? ': ' + sanWords(san) : t`, the start`}`);
   }
 
   /** The keys at the list of moves: ← and → a move, ↑ and ↓ a move of each side, Home and End the first and last. */
@@ -604,13 +606,13 @@ export class GameView {
 
   async invitationCopied() {
     const done = await copy(this.link());
-    this.note(done ? 'The link is copied.' : `The game’s address is ${this.link()}`, 'news');
+    this.note(done ? t`The link is copied.` : t`The game’s address is ${this.link()}`, 'news');
   }
 
   async share(what, text) {
     const found = await text(), done = found && await copy(found);
-    setText(byId('shared'), done ? `${what === 'link' ? 'The link' : what} is copied.`
-      : `The ${what} could not be copied. Save it instead.`);
+    setText(byId('shared'), done ? t`${what === 'link' ? t`The link` : what} is copied.`
+      : t`The ${what} could not be copied. Save it instead.`);
   }
 
   // ---- drawing
@@ -645,14 +647,14 @@ export class GameView {
   title() {
     const { white, black } = this.standing;
     const names = `${white || '…'} – ${black || '…'}`;
-    if (this.isOffered()) return `Draw offered: ${names}`;
-    if (this.myTurn()) return `Your turn: ${names}`;
-    return this.running() ? names : `${names}, ${this.standing.article ? this.standing.result : 'waiting'}`;
+    if (this.isOffered()) return t`Draw offered: ${names}`;
+    if (this.myTurn()) return t`Your turn: ${names}`;
+    return this.running() ? names : `${names}, ${this.standing.article ? this.standing.result : t`waiting`}`;
   }
 
   turnWords() {
     const { white, black } = this.standing, other = this.seat() === 'w' ? black : white;
-    return `Game ${this.number} against ${this.app.nameWords(other)}: your turn.`;
+    return t`Game ${this.number} against ${this.app.nameWords(other)}: your turn.`;
   }
 
   renderBoard() {
@@ -685,7 +687,7 @@ export class GameView {
   inWords() {
     const men = { w: [], b: [] };
     for (const [name, man] of this.board.men) {
-      men[man.letter === man.letter.toUpperCase() ? 'w' : 'b'].push(`${manWords(man.letter).split(' ')[1]} ${name}`);
+      men[man.letter === man.letter.toUpperCase() ? 'w' : 'b'].push(`${kindWord(man.letter)} ${name}`);
     }
     return SIDES.map((side) => `${colourWord(side)}: ${men[side].join(', ')}.`).join(' ');
   }

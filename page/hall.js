@@ -2,6 +2,7 @@
 
 import { Picture } from './board.js';
 import { Clock } from './clock.js';
+import { t } from './language.js';
 import { isNoGame, placementOf, readLine, readStanding, squaresOf } from './lines.js';
 import { arrange, byId, make, read, setText, write } from './make.js';
 import { colourWord, resultWords } from './words.js';
@@ -40,7 +41,7 @@ export class HallView {
     this.timer = setInterval(() => this.fill(), 5000);
     this.turning = setInterval(() => byId('hall-turns').checked && this.page(1), TURNS);
     this.fill();
-    this.app.titled('Hall');
+    this.app.titled(t`Hall`);
   }
 
   close() {
@@ -112,7 +113,7 @@ export class HallView {
     arrange(this.list, order.map((number) => this.cards.get(number).root));
     byId('hall-none').hidden = this.cards.size > 0;
     byId('hall-pages').hidden = running.length <= most;
-    setText(byId('hall-place'), `${this.first + 1} to ${this.first + wanted.length} of ${running.length}`);
+    setText(byId('hall-place'), t`${this.first + 1} to ${this.first + wanted.length} of ${running.length}`);
     setText(byId('hall-over'), this.overWords(now));
     this.list.classList.toggle('many', most > 4);
     this.list.dataset.count = String(this.cards.size);
@@ -133,7 +134,7 @@ export class HallView {
   }
 
   add(number) {
-    const board = new Picture(`Game ${number}`), card = { board, clocks: {}, names: {} };
+    const board = new Picture(t`Game ${number}`), card = { board, clocks: {}, names: {} };
     const player = (side) => {
       const clock = make('span', { class: 'clock', role: 'timer' });
       card.names[side] = make('span', { class: 'name' });
@@ -215,7 +216,7 @@ export class HallView {
     const words = resultWords(standing.result, standing.article);
     card.root.classList.toggle('done', !runs);
     setText(card.last, runs ? card.san || '' : `${words.score} ${words.reason}`);
-    card.board.root.setAttribute('aria-label', `Game ${number}, ${placementOf(standing.fen).size} men on the board`);
+    card.board.root.setAttribute('aria-label', t`Game ${number}, ${placementOf(standing.fen).size} men on the board`);
   }
 }
 

@@ -1,5 +1,6 @@
 // The players and their links: an arbiter makes a new one, which is shown once, or closes the one that a player has.
 
+import { t } from './language.js';
 import { readRefusal } from './lines.js';
 import { arrange, byId, copy, make, setText } from './make.js';
 import { refusalWords } from './words.js';
@@ -16,7 +17,8 @@ export class Links {
     byId('links-find').addEventListener('input', () => this.render());
     byId('link-copy').addEventListener('click', async () => {
       const done = await copy(byId('link-made').value);
-      setText(byId('link-copied'), done ? 'The link is copied.' : 'It could not be copied. Mark it, and copy it by hand.');
+      setText(byId('link-copied'), done ? t`The link is copied.` : t`It could not be copied. Mark it, and copy it by
+        hand.`);
     });
     byId('link-done').addEventListener('click', () => this.hide());
   }
@@ -38,9 +40,10 @@ export class Links {
 
   askNew(name, full) {
     const own = name === this.app.me();
-    this.desk.question.ask({ title: `Make a new link for ${full}?`, yes: 'Make it',
-      words: own ? 'That is your own. The link that you have holds no more; this page goes on with the new one.'
-        : `The link that ${full} has holds no more: a page that is open with it asks for the new one. Clocks run on.` },
+    this.desk.question.ask({ title: t`Make a new link for ${full}?`, yes: t`Make it`,
+      words: own ? t`That is your own. The link that you have holds no more; this page goes on with the new one.`
+        : t`The link that ${full} has holds no more: a page that is open with it asks for the new one. Clocks run
+          on.` },
     () => this.makeNew(name, full));
   }
 
@@ -49,13 +52,13 @@ export class Links {
     this.note('');
     const answer = await this.app.wire.say(`link ${name}`), found = /^ok link (\S+) (\S+)$/.exec(answer[0]);
     if (!found) {
-      this.refused(answer[0], 'Make a link once more: it takes the place of one that was made.');
+      this.refused(answer[0], t`Make a link once more: it takes the place of one that was made.`);
       return;
     }
     if (name === this.app.me()) this.app.who.takeNewToken(found[2]);
     this.closed.delete(name);
     this.render();
-    setText(byId('link-words'), `The personal link of ${full}, shown this once. Who opens it plays as ${full}.`);
+    setText(byId('link-words'), t`The personal link of ${full}, shown this once. Who opens it plays as ${full}.`);
     setText(byId('link-copied'), '');
     byId('link-made').value = `${location.href.split('#')[0]}#${found[2]}`;
     byId('link-shown').hidden = false;
@@ -64,8 +67,8 @@ export class Links {
   }
 
   askClose(name, full) {
-    this.desk.question.ask({ title: `Close the link of ${full}?`, yes: 'Close it',
-      words: `${full} can do nothing here until a new link is made. Games go on, and clocks run on.` },
+    this.desk.question.ask({ title: t`Close the link of ${full}?`, yes: t`Close it`,
+      words: t`${full} can do nothing here until a new link is made. Games go on, and clocks run on.` },
     () => this.closeLink(name, full));
   }
 
@@ -73,17 +76,17 @@ export class Links {
     this.note('');
     const answer = await this.app.wire.say(`close ${name}`);
     if (answer[0].startsWith('ok close ')) {
-      this.note(`The link of ${full} is closed.`, 'news');
+      this.note(t`The link of ${full} is closed.`, 'news');
       this.closed.add(name);
       this.render();
-    } else this.refused(answer[0], 'Close it once more: that does no harm.');
+    } else this.refused(answer[0], t`Close it once more: that does no harm.`);
   }
 
   refused(line, again) {
     const refusal = readRefusal(line);
     if (refusal) this.note(refusalWords(refusal), 'refused');
-    else if (line === 'unsent') this.note('There is no connection. Nothing was sent.', 'refused');
-    else this.note(`The connection broke before the answer came. ${again}`, 'refused');
+    else if (line === 'unsent') this.note(t`There is no connection. Nothing was sent.`, 'refused');
+    else this.note(t`The connection broke before the answer came. ${again}`, 'refused');
   }
 
   note(text, kind = 'news') {
@@ -106,8 +109,9 @@ export class Links {
       .filter(({ name, full }) => `${name} ${full}`.toLowerCase().includes(text))
       .sort((a, b) => a.full.localeCompare(b.full));
     arrange(byId('links-list'), rows.slice(0, MOST_SHOWN).map((row) => this.itemOf(row)));
-    setText(byId('links-more'), rows.length > MOST_SHOWN ? `${MOST_SHOWN} of ${rows.length} are shown: find the others by name.`
-      : rows.length ? '' : 'No player has such a name.');
+    setText(byId('links-more'), rows.length > MOST_SHOWN ? t`${MOST_SHOWN} of ${rows.length} are shown: find the
+      others by name.`
+      : rows.length ? '' : t`No player has such a name.`);
   }
 
   /** The element of a player, the same as long as the player is. */
@@ -126,10 +130,10 @@ export class Links {
       words, make('span', { class: 'unseen' }, ` for ${full}`));
     return make('li', { class: 'link-row' }, make('span', { class: 'link-name' }, make('span', { class: 'name' }, full),
       full !== name && make('span', { class: 'small' }, name),
-      role === 'arbiter' && make('span', { class: 'small' }, 'arbiter'),
-      make('span', { class: 'away' }, 'not connected'),
-      make('span', { class: 'closed', hidden: true }, 'link closed from here')),
-    button('new', 'New link', () => this.askNew(name, full)),
-    name !== this.app.me() && button('close', 'Close the link', () => this.askClose(name, full)));
+      role === 'arbiter' && make('span', { class: 'small' }, t`arbiter`),
+      make('span', { class: 'away' }, t`not connected`),
+      make('span', { class: 'closed', hidden: true }, t`link closed from here`)),
+    button('new', t`New link`, () => this.askNew(name, full)),
+    name !== this.app.me() && button('close', t`Close the link`, () => this.askClose(name, full)));
   }
 }

@@ -1,9 +1,10 @@
 // What a side has taken, by the men that stood at the start and stand now, and who has more.
 
+import { t } from './language.js';
 import { placementOf } from './lines.js';
 import { make } from './make.js';
 import { pictureOf } from './pieces.js';
-import { kindWord } from './words.js';
+import { kindWords } from './words.js';
 
 const WORTH = { q: 9, r: 5, b: 3, n: 3, p: 1, k: 0 };
 
@@ -42,10 +43,11 @@ export function drawTaken(place, side, startFen, fen) {
   ahead > 0 ? make('span', { class: 'ahead' }, `+${ahead}`) : '');
   const words = [...new Set(letters)].map((letter) => {
     const number = letters.filter((other) => other === letter).length;
-    return number === 1 ? kindWord(letter) : `${number} ${kindWord(letter)}s`;
+    return kindWords(letter, number);
   });
   for (const name of ['role', 'aria-label']) place.removeAttribute(name);
   if (words.length === 0) return;
   place.setAttribute('role', 'img');
-  place.setAttribute('aria-label', `Taken: ${words.join(', ')}${ahead > 0 ? `; ${ahead} more` : ''}`);
+  const taken = words.join(', ');
+  place.setAttribute('aria-label', ahead > 0 ? t`Taken: ${taken}; ${ahead} more` : t`Taken: ${taken}`);
 }

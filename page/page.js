@@ -3,6 +3,7 @@
 import { ArbiterView } from './arbiter.js';
 import { GameView } from './game.js';
 import { HallView, wholeScreen } from './hall.js';
+import { t } from './language.js';
 import { isNoGame, readAct, readPlayers, readRefusal, readRows, readStanding } from './lines.js';
 import { byId, make, say, setText } from './make.js';
 import { hasLetters, listenToSettings } from './settings.js';
@@ -100,7 +101,7 @@ class Page {
   }
 
   titled(text) {
-    document.title = `${text} · Chess club`;
+    document.title = t`${text} · Chess club`;
   }
 
   /** It is one's turn, by a key that each turn has for its own; or it is not, by an empty one. */
@@ -143,9 +144,9 @@ class Page {
     this.lostOpen = null;
     const known = new Set(this.table.rows.keys()), answer = await this.wire.say(line), refusal = readRefusal(answer[0]);
     if (refusal) note(refusalWords(refusal));
-    else if (answer[0] === 'unsent') note('There is no connection. Nothing was sent.');
+    else if (answer[0] === 'unsent') note(t`There is no connection. Nothing was sent.`);
     else if (answer[0] === 'lost') {
-      note('The connection broke before the answer came. Looking for your game …');
+      note(t`The connection broke before the answer came. Looking for your game …`);
       this.lostOpen = { known, note, colour: line.split(' ')[1] };
       setTimeout(() => this.lostOpen && this.loadTable(), ASKS_AGAIN);
     } else {
@@ -251,8 +252,8 @@ class Page {
     this.begunFor = me;
     this.who.arrives = false;
     own.forEach(({ number }) => this.begun.add(number));
-    if (row) this.begin(row.number, `Your game ${row.number} against ${
-      this.nameWords(row.white === me ? row.black : row.white)} ${begun ? 'has begun' : 'goes on'}`);
+    if (row) this.begin(row.number, t`Your game ${row.number} against ${
+      this.nameWords(row.white === me ? row.black : row.white)} ${begun ? t`has begun` : t`goes on`}`);
   }
 
   /** One's own game has begun: one is taken to its board, or told the way where one plays at another. */
@@ -260,8 +261,8 @@ class Page {
     this.begun.add(number);
     if (this.isPlaying()) {
       byId('invited').hidden = false;
-      byId('invited').replaceChildren(`${words}: the clocks run. `,
-        make('a', { class: 'button strong', href: `#/game/${number}` }, 'Go there'));
+      byId('invited').replaceChildren(t`${words}: the clocks run. `,
+        make('a', { class: 'button strong', href: `#/game/${number}` }, t`Go there`));
     } else {
       this.go(`/game/${number}`);
     }
@@ -275,7 +276,7 @@ class Page {
     const row = rows.find((one) => !known.has(one.number) && one[colour] === me);
     this.lostOpen = null;
     if (row) this.go(`/game/${row.number}`);
-    else note('The connection broke, and your game has not been opened so far. Look, and open it again.');
+    else note(t`The connection broke, and your game has not been opened so far. Look, and open it again.`);
   }
 
   // ---- the connection
@@ -333,8 +334,9 @@ class Page {
     if (word === 'open' && !arbiter && this.view === this.game && this.game.isOpponent(by)) this.game.suggest({ by, number });
     if (word !== 'join' || standing.white !== me && standing.black !== me) return;
     const other = this.nameWords(standing.white === me ? standing.black : standing.white);
-    this.begin(number, arbiter ? `Your game ${number} against ${other}, paired by ${this.nameWords(arbiter)}, has begun`
-      : `${other} has joined your game ${number}`);
+    this.begin(number, arbiter ? t`Your game ${number} against ${other}, paired by ${this.nameWords(arbiter)}, has
+      begun`
+      : t`${other} has joined your game ${number}`);
   }
 
   /** The state of the connection is another. */
@@ -347,12 +349,12 @@ class Page {
       this.held.clear();
     }
     lost.hidden = open || !ever && !retryAt;
-    setText(byId('lost-words'), ever ? 'The connection to the lobby is lost. Clocks run on. Trying again'
-      : 'The lobby does not answer. Trying again');
+    setText(byId('lost-words'), ever ? t`The connection to the lobby is lost. Clocks run on. Trying again`
+      : t`The lobby does not answer. Trying again`);
     clearInterval(this.counting);
     const count = () => {
       const seconds = Math.ceil((retryAt - Date.now()) / 1000);
-      setText(byId('lost-count'), retryAt && seconds > 0 ? `in ${seconds} s.` : 'now.');
+      setText(byId('lost-count'), retryAt && seconds > 0 ? t`in ${seconds} s.` : t`now.`);
     };
     if (!open) {
       count();
@@ -370,7 +372,7 @@ class Page {
     const said = await fetch('/', { cache: 'no-store' }).catch(() => null);
     const isText = said && said.status === 503 && (said.headers.get('content-type') || '').startsWith('text/plain');
     const why = isText ? (await said.text().catch(() => '')).trim() : '';
-    if (why && !this.wire.state.open) setText(byId('lost-words'), `${why} Trying again`);
+    if (why && !this.wire.state.open) setText(byId('lost-words'), t`${why} Trying again`);
   }
 
   tell(text) {

@@ -2,6 +2,7 @@
 // in this browser until both sit, so that after a broken connection or a reload the table is looked at first, and no second
 // game is opened.
 
+import { t } from './language.js';
 import { readPgn, readRefusal, readRows, readShow, timesOfOpen } from './lines.js';
 import { byId, focused, make, read, setText, write } from './make.js';
 import { TimesField } from './times.js';
@@ -46,7 +47,7 @@ export class Pairing {
       .sort((a, b) => a.text.localeCompare(b.text));
     for (const field of ['white', 'black']) {
       const list = this.form.elements[field], chosen = list.value;
-      list.replaceChildren(make('option', { value: '' }, 'Choose a player'),
+      list.replaceChildren(make('option', { value: '' }, t`Choose a player`),
         ...rows.map(({ name, text }) => make('option', { value: name }, text)));
       list.value = rows.some(({ name }) => name === chosen) ? chosen : '';
     }
@@ -84,9 +85,11 @@ export class Pairing {
     const fields = this.form.elements, white = fields.white.value, black = fields.black.value;
     const fen = fields.fen.value.trim(), line = `open white ${this.times.line()}${fen ? ' ' + fen : ''}`;
     if (this.begun) return;
-    if (white === black) this.note('Choose two players: nobody plays against himself.');
+    if (white === black) this.note(t`Choose two players: nobody plays against himself.`);
     else if (/[^\x20-\x7e]/.test(fen)) this.note(NO_FEN);
-    else if (Math.max(line.length, pairLine({ white, black, line }).length) > LONGEST) this.note('This FEN is too long.');
+    else if (Math.max(line.length, pairLine({ white, black, line }).length) > LONGEST) {
+      this.note(t`This FEN is too long.`);
+    }
     else {
       const from = this.adjourned, ofIt = from && from.white === white && from.black === black;
       this.note('');
@@ -140,9 +143,9 @@ export class Pairing {
       this.opened(Number(paired[1]));
       this.done();
     } else if (answer[0] === 'lost') {
-      this.isUnsure('The connection broke before the answer to the pairing came.');
+      this.isUnsure(t`The connection broke before the answer to the pairing came.`);
     } else {
-      this.step(`They were not paired. ${this.wordsOf(answer[0])}`, false);
+      this.step(t`They were not paired. ${this.wordsOf(answer[0])}`, false);
       // (the server may have opened the game, and refused the join)
       await this.look();
       if (this.begun && !this.begun.number && !this.unsure && !this.several) this.keep(null);
@@ -151,7 +154,7 @@ export class Pairing {
 
   opened(number) {
     this.keep({ ...this.begun, number });
-    this.step(`Game ${number} is open: ${this.name(this.begun.white)} has White.`);
+    this.step(t`Game ${number} is open: ${this.name(this.begun.white)} has White.`);
   }
 
   /** Joins Black in what was opened and not joined. */
@@ -160,16 +163,16 @@ export class Pairing {
     if (answer[0].startsWith('ok ')) {
       this.done();
     } else if (answer[0] === 'lost') {
-      this.isUnsure('The connection broke before the answer to the joining came.');
+      this.isUnsure(t`The connection broke before the answer to the joining came.`);
     } else {
-      this.step(`${this.name(black)} was not joined. ${this.wordsOf(answer[0])}`, false);
+      this.step(t`${this.name(black)} was not joined. ${this.wordsOf(answer[0])}`, false);
       await this.look();
     }
   }
 
   done() {
     const { black, number, adjourned } = this.begun;
-    this.step(`${this.name(black)} has Black: the clocks run.`, true, number);
+    this.step(t`${this.name(black)} has Black: the clocks run.`, true, number);
     this.keep(null);
     this.empty();
     if (adjourned) this.paired(adjourned, number);
@@ -187,10 +190,10 @@ export class Pairing {
   async drop() {
     const { number } = this.begun, answer = await this.app.wire.say(`drop ${number}`);
     if (answer[0].startsWith('ok ')) {
-      this.step(`Game ${number} is off the table.`);
+      this.step(t`Game ${number} is off the table.`);
       this.keep(null);
     } else {
-      this.step(`Game ${number} was not taken off. ${this.wordsOf(answer[0])}`, false);
+      this.step(t`Game ${number} was not taken off. ${this.wordsOf(answer[0])}`, false);
       await this.look();
     }
   }
@@ -198,7 +201,7 @@ export class Pairing {
   /** Lets what was begun be as it stands. */
   leave() {
     const { number } = this.begun;
-    this.step(number ? `Game ${number} is left as it stands.` : 'This pairing is left.', true, number);
+    this.step(number ? t`Game ${number} is left as it stands.` : t`This pairing is left.`, true, number);
     this.keep(null);
   }
 
@@ -211,14 +214,15 @@ export class Pairing {
     if (!this.begun || !this.app.isArbiter() || !this.app.reachable() || this.hasSteps && !this.unsure) return;
     byId('pair-by-hand').open = true;
     if (!this.hasSteps) {
-      this.step(`${this.name(this.begun.white)} against ${this.name(this.begun.black)}: begun, and not ended here.`, false);
+      this.step(t`${this.name(this.begun.white)} against ${this.name(this.begun.black)}: begun, and not ended
+        here.`, false);
     }
     this.run(() => this.look());
   }
 
   isUnsure(words) {
     this.unsure = true;
-    this.step(`${words} Once the connection is there again, the table is looked at.`, false);
+    this.step(t`${words} Once the connection is there again, the table is looked at.`, false);
   }
 
   /** What stands of it: its number where that was not known, and who has joined. What is open still is not said where it
@@ -232,16 +236,17 @@ export class Pairing {
     if (!show && !(refusal && refusal.number === NO_GAME)) return;
     this.unsure = false;
     if (!show) {
-      this.step(`Game ${number} was taken off the table.`, false);
+      this.step(t`Game ${number} was taken off the table.`, false);
       this.keep(null);
     } else if (show.black === black) {
       this.done();
     } else if (show.black) {
-      this.step(`${this.name(show.black)} has joined ${this.name(white)} in game ${number}. It stays as it is; pair ${
+      this.step(t`${this.name(show.black)} has joined ${this.name(white)} in game ${number}. It stays as it is; pair ${
         this.name(black)} anew.`, false, number);
       this.keep(null);
     } else if (!goesOn) {
-      this.step(`Game ${number} stands open: ${this.name(white)} has White, and ${this.name(black)} has not joined.`, false);
+      this.step(t`Game ${number} stands open: ${this.name(white)} has White, and ${this.name(black)} has not
+        joined.`, false);
     }
   }
 
@@ -263,8 +268,9 @@ export class Pairing {
     this.several = found.length > 1;
     const numbers = found.join(', ');
     if (found.length === 1) this.opened(found[0]);
-    else if (this.several) this.step(`It may be any of these games: ${numbers}. Look at them, and leave this pairing.`, false);
-    else if (!goesOn) this.step('No game has been opened so far.', false);
+    else if (this.several) this.step(t`It may be any of these games: ${numbers}. Look at them, and leave this
+      pairing.`, false);
+    else if (!goesOn) this.step(t`No game has been opened so far.`, false);
   }
 
   // ---- showing
@@ -272,14 +278,15 @@ export class Pairing {
   wordsOf(line) {
     const refusal = readRefusal(line);
     if (refusal) return arbiterWords(refusal);
-    return line === 'unsent' ? 'There is no connection. Nothing was sent.' : 'The connection broke before the answer came.';
+    return line === 'unsent' ? t`There is no connection. Nothing was sent.` : t`The connection broke before the
+      answer came.`;
   }
 
   /** A step and what came of it, with the way to a game. */
   step(words, isDone = true, number = 0) {
     this.hasSteps = true;
     byId('pair-steps').append(make('li', { class: isDone ? 'done' : 'open' }, words,
-      number > 0 && ' ', number > 0 && make('a', { href: `#/game/${number}` }, `Look at game ${number}`)));
+      number > 0 && ' ', number > 0 && make('a', { href: `#/game/${number}` }, t`Look at game ${number}`)));
   }
 
   note(text) {
@@ -295,8 +302,8 @@ export class Pairing {
     if (!begun) return;
     byId('pair-drop').hidden = !begun.number;
     byId('pair-again').hidden = several;
-    setText(byId('pair-again'), begun.number ? `Join ${this.name(begun.black)} again` : 'Open it again');
-    setText(byId('pair-drop'), `Take game ${begun.number} off`);
+    setText(byId('pair-again'), begun.number ? t`Join ${this.name(begun.black)} again` : t`Open it again`);
+    setText(byId('pair-drop'), t`Take game ${begun.number} off`);
   }
 
   /** Of who is chosen: a game that goes on, and that nobody is connected. */
@@ -306,8 +313,8 @@ export class Pairing {
       const name = this.form.elements[field].value;
       if (!name) continue;
       const games = this.desk.running().filter((row) => row.white === name || row.black === name).map((row) => row.number);
-      if (games.length) hints.push(`${this.name(name)} plays already, in game ${games.join(', ')}.`);
-      if (!this.desk.isHere(name)) hints.push(`${this.name(name)} is not connected.`);
+      if (games.length) hints.push(t`${this.name(name)} plays already, in game ${games.join(', ')}.`);
+      if (!this.desk.isHere(name)) hints.push(t`${this.name(name)} is not connected.`);
     }
     setText(byId('pair-hints'), hints.join(' '));
   }

@@ -1,5 +1,6 @@
 // The desk's question: nothing is done before an arbiter has agreed to it.
 
+import { t } from './language.js';
 import { byId, setText } from './make.js';
 
 export class Question {
@@ -15,7 +16,7 @@ export class Question {
   }
 
   /** Asks {title, words, yes}, maybe about a game, and calls `agreed` where the answer is yes. */
-  ask({ title, words, yes = 'Enter it', about = 0 }, agreed) {
+  ask({ title, words, yes = t`Enter it`, about = 0 }, agreed) {
     const dialog = byId('arbiter-dialog');
     this.agreed = agreed;
     this.about = about;

@@ -1,6 +1,7 @@
 // A page for a screen that nobody touches: `/board/G` shows one game as large as the screen allows, `/boards` all that run.
 
 import { HallView } from './hall.js';
+import { t } from './language.js';
 import { isNoGame, readLine, readPlayers, readRows, readStanding, sideOf } from './lines.js';
 import { byId, make, setText } from './make.js';
 import { Wire } from './wire.js';
@@ -38,7 +39,7 @@ class OneBoard extends HallView {
   add(number) {
     super.add(number);
     const card = this.cards.get(number);
-    card.moves = make('ol', { class: 'screen-moves', 'aria-label': 'The last moves' });
+    card.moves = make('ol', { class: 'screen-moves', 'aria-label': t`The last moves` });
     card.outcome = make('p', { class: 'screen-outcome' });
     card.last.after(card.moves, card.outcome);
     this.list.dataset.count = '1';
@@ -47,7 +48,7 @@ class OneBoard extends HallView {
   /** Taken off the table: the next game of this number may come. */
   remove(number) {
     super.remove(number);
-    this.told(`Game ${number} is not on the table.`);
+    this.told(t`Game ${number} is not on the table.`);
   }
 
   told(words) {
@@ -56,7 +57,7 @@ class OneBoard extends HallView {
   }
 
   refused(number) {
-    this.told(`Game ${number} is not on the table.`);
+    this.told(t`Game ${number} is not on the table.`);
   }
 
   draw(number, standing, sent, answer, at = performance.now()) {
@@ -121,7 +122,7 @@ class Screen {
   }
 
   titled(text) {
-    document.title = `${text} · Chess club`;
+    document.title = t`${text} · Chess club`;
   }
 
   watch(number) {

@@ -1,13 +1,14 @@
 // What a player chooses, kept in the browser: colours, board, men, sounds, keys, and whether a move is asked about.
 
+import { LANGUAGES, language, t } from './language.js';
 import { byId, make, read, write } from './make.js';
 import { BOARDS, SETS, chooseBoard, chooseSet, chosenBoard, chosenSet, pictureOf } from './pieces.js';
 import { setSound, wantsSound } from './sound.js';
 
 const THEMES = ['', 'light', 'dark'];
 const NAMES = {
-  '': 'As the system', light: 'Light', dark: 'Dark', wood: 'Wood', green: 'Green', blue: 'Blue', club: 'Club',
-  bold: 'Bold', plain: 'Plain',
+  '': t`As the system`, light: t`Light`, dark: t`Dark`, wood: t`Wood`, green: t`Green`, blue: t`Blue`, club: t`Club`,
+  bold: t`Bold`, plain: t`Plain`,
 };
 const local = () => localStorage, keep = (key, value) => write(local, key, value);
 
@@ -37,7 +38,7 @@ function choice(place, name, values, chosen, draw, choose) {
 function drawSound() {
   const isOn = wantsSound();
   byId('sound').setAttribute('aria-pressed', String(isOn));
-  byId('sound').title = isOn ? 'Sounds are on' : 'Sounds are off';
+  byId('sound').title = isOn ? t`Sounds are on` : t`Sounds are off`;
 }
 
 export function listenToSettings() {
@@ -48,6 +49,11 @@ export function listenToSettings() {
   choice('choose-board', 'board', BOARDS, chosenBoard(),
     (board) => make('span', {}, make('span', { class: `swatch ${board}` }), NAMES[board]), chooseBoard);
   choice('choose-men', 'men', SETS, chosenSet(), (set) => make('span', {}, two(set), NAMES[set]), chooseSet);
+  choice('choose-language', 'language', Object.keys(LANGUAGES), language, (one) => make('span', { lang: one },
+    LANGUAGES[one]), (one) => {
+    keep('language', one);
+    location.reload();
+  });
   byId('ask-first').checked = asksFirst();
   byId('ask-first').addEventListener('change', (event) => keep('ask-first', event.target.checked ? 'on' : null));
   byId('letters').checked = hasLetters();

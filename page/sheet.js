@@ -1,5 +1,6 @@
 // How a game is drawn around its board: names and clocks, the moves, what can be done, how it stands.
 
+import { t } from './language.js';
 import { placementOf, readTimes, sideOf } from './lines.js';
 import { byId, make, setText } from './make.js';
 import { drawTaken } from './material.js';
@@ -15,7 +16,7 @@ export function drawPlayers(game) {
     root.classList.toggle('turn', turn);
     root.classList.toggle('two-periods', Boolean(times && times.moves));
     root.classList.toggle('won', standing.result === (side === 'w' ? '1-0' : '0-1'));
-    setText(root.querySelector('.name'), name ? game.app.nameWords(name) : 'waiting …');
+    setText(root.querySelector('.name'), name ? game.app.nameWords(name) : t`waiting …`);
     root.querySelector('.name').title = name;
     setText(root.querySelector('.colour'), colourWord(side));
     const period = standing.article ? '' : periodWords(times, standing.ply, game.startSide(), side);
@@ -23,7 +24,7 @@ export function drawPlayers(game) {
     setText(root.querySelector('.score'), scoreOf(standing.result, side));
     drawTaken(root.querySelector('.taken'), side, game.line[0] ? game.line[0].fen : standing.fen, game.fenShown());
     const clock = game.clocks[place];
-    clock.label = `${colourWord(side)}’s clock`;
+    clock.label = t`${colourWord(side)}’s clock`;
     clock.set({ left: standing.left[side], at: standing.at, running: turn });
   }
 }
@@ -76,7 +77,7 @@ function lastWords(game) {
 function moveButton(game, ply, number, black) {
   const { san } = game.line[ply];
   return make('button', { type: 'button', class: 'ply', 'data-ply': String(ply),
-    'aria-label': `${number}${black ? ', Black' : ''}: ${sanWords(san)}`, onclick: () => game.goTo(ply) }, san);
+    'aria-label': `${number}${black ? t`, Black` : ''}: ${sanWords(san)}`, onclick: () => game.goTo(ply) }, san);
 }
 
 export function drawActions(game) {
@@ -88,12 +89,13 @@ export function drawActions(game) {
   };
   const offered = game.isOffered();
   show('offer', runs && seat && !offered, !standing.offer);
-  setText(byId('offer').querySelector('.words'), standing.offer.includes(seat) && seat ? 'Draw offered' : 'Offer draw');
+  const isOffering = seat && standing.offer.includes(seat);
+  setText(byId('offer').querySelector('.words'), isOffering ? t`Draw offered` : t`Offer draw`);
   byId('offered').hidden = !offered;
   show('accept', offered);
   show('decline', offered);
   byId('proposed').hidden = !game.proposed;
-  setText(byId('proposed-words'), game.proposed ? `Play ${moveWords(game)}?` : '');
+  setText(byId('proposed-words'), game.proposed ? t`Play ${moveWords(game)}?` : '');
   show('play-it', game.proposed);
   show('claim', runs && seat, game.myTurn());
   show('resign', runs && seat);
@@ -108,7 +110,7 @@ export function drawActions(game) {
 /** The move that waits to be agreed to: `knight g1–f3`. */
 function moveWords(game) {
   const { proposed } = game, from = proposed.slice(0, 2), man = placementOf(game.standing.fen).get(from);
-  const kind = proposed[4] ? `, becomes a ${kindWord(proposed[4])}` : '';
+  const kind = proposed[4] ? t`, becomes a ${kindWord(proposed[4])}` : '';
   return `${man ? kindWord(man) : ''} ${from}–${proposed.slice(2, 4)}${kind}`;
 }
 
@@ -120,25 +122,25 @@ export function drawOutcome(game) {
   if (words) {
     [head, more] = [`${words.score}  ${words.result} ${words.reason}`, words.article];
   } else if (!game.started()) {
-    head = game.seat() ? 'Waiting for an opponent' : 'This seat is free';
-    more = game.seat() ? 'The clocks start as soon as somebody joins.' : 'The clocks start as soon as you join.';
-    if (!game.seat() && !game.app.me()) more = 'To play, open your personal link.';
+    head = game.seat() ? t`Waiting for an opponent` : t`This seat is free`;
+    more = game.seat() ? t`The clocks start as soon as somebody joins.` : t`The clocks start as soon as you join.`;
+    if (!game.seat() && !game.app.me()) more = t`To play, open your personal link.`;
   } else if (SIDES.some((side) => standing.side === side && game.clockOf(side).now() <= 0)) {
-    head = `${colourWord(standing.side)}’s flag has fallen`;
-    more = game.seat() ? 'Calling it …' : 'A player has to call it.';
+    head = t`${colourWord(standing.side)}’s flag has fallen`;
+    more = game.seat() ? t`Calling it …` : t`A player has to call it.`;
   } else if (game.back !== null) {
-    head = 'An earlier position';
-    more = 'The game goes on: go to the last move to play.';
+    head = t`An earlier position`;
+    more = t`The game goes on: go to the last move to play.`;
   } else if (game.isSlow) {
-    head = 'Sending …';
-    more = 'The lobby has not answered yet.';
+    head = t`Sending …`;
+    more = t`The lobby has not answered yet.`;
   } else if (game.seat()) {
-    head = game.myTurn() ? 'Your turn' : 'Waiting for your opponent';
-    more = standing.check ? 'Check!' : '';
-    if (game.plan) more = `Then ${game.plan.from}–${game.plan.to}: a click takes it back.`;
+    head = game.myTurn() ? t`Your turn` : t`Waiting for your opponent`;
+    more = standing.check ? t`Check!` : '';
+    if (game.plan) more = t`Then ${game.plan.from}–${game.plan.to}: a click takes it back.`;
   } else {
-    head = `${colourWord(standing.side)} to move`;
-    more = standing.check ? 'Check!' : '';
+    head = t`${colourWord(standing.side)} to move`;
+    more = standing.check ? t`Check!` : '';
   }
   setText(place.querySelector('.head'), head);
   setText(place.querySelector('.more'), more);
@@ -146,12 +148,12 @@ export function drawOutcome(game) {
 
 export function drawFacts(game) {
   const { white, black } = game.standing, times = readTimes(game.tags.TimeControl || '');
-  setText(byId('game-title'), `Game ${game.number}`);
+  setText(byId('game-title'), t`Game ${game.number}`);
   setText(byId('game-times'), timesWords(times));
   byId('game-times').title = timesInFull(times);
-  setText(byId('game-white'), white ? game.app.nameWords(white) : 'free seat');
-  setText(byId('game-black'), black ? game.app.nameWords(black) : 'free seat');
-  setText(byId('game-start'), game.tags.FEN ? 'From a position' : '');
+  setText(byId('game-white'), white ? game.app.nameWords(white) : t`free seat`);
+  setText(byId('game-black'), black ? game.app.nameWords(black) : t`free seat`);
+  setText(byId('game-start'), game.tags.FEN ? t`From a position` : '');
   byId('fen-text').value = game.fenShown();
   byId('watching').hidden = Boolean(game.seat()) || !game.started();
 }
@@ -171,7 +173,8 @@ function periodWords(times, ply, startSide, side) {
   if (times.moves) {
     const left = times.moves - own, more = timesWords({ initial: times.second, increment: 0, moves: 0 }).split('+')[0];
     const unit = /^\d+$/.test(more) ? ' min' : '';
-    parts.push(left > 0 ? `+${more}${unit} in ${left} ${left === 1 ? 'move' : 'moves'}` : 'second period');
+    if (left > 0) parts.push(left === 1 ? t`+${more}${unit} in 1 move` : t`+${more}${unit} in ${left} moves`);
+    else parts.push(t`second period`);
   }
   return parts.join(' · ');
 }

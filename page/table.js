@@ -1,5 +1,6 @@
 // The table: games that wait for an opponent, that run and that are over, and the form that opens one.
 
+import { t } from './language.js';
 import { readPgn, readRefusal, readStanding, readTimes, timesOfOpen } from './lines.js';
 import { arrange, byId, make, setText } from './make.js';
 import { TimesField } from './times.js';
@@ -134,8 +135,8 @@ export class TableView {
     }
     const yours = groups.own.filter((row) => this.mayMove(row)).length;
     this.app.turns.offer(Boolean(me));
-    this.app.turned(yours ? `table ${yours}` : '', 'It is your turn.');
-    this.app.titled(yours ? `Your turn in ${yours} ${yours === 1 ? 'game' : 'games'}` : 'Games');
+    this.app.turned(yours ? `table ${yours}` : '', t`It is your turn.`);
+    this.app.titled(yours === 0 ? t`Games` : yours === 1 ? t`Your turn in 1 game` : t`Your turn in ${yours} games`);
   }
 
   renderGroup(kind, rows) {
@@ -143,7 +144,7 @@ export class TableView {
     const shown = rows.slice(0, most).map((row) => this.itemOf(row, kind));
     if (rows.length > most) {
       shown.push(this.kept(`more ${kind} ${rows.length}`, () => make('li', { class: 'more' },
-        make('button', { type: 'button', onclick: () => this.showAll(kind) }, `Show all ${rows.length}`))));
+        make('button', { type: 'button', onclick: () => this.showAll(kind) }, t`Show all ${rows.length}`))));
     }
     if (shown.length === 0) shown.push(this.kept(`none ${kind}`, () => make('li', { class: 'none' }, NOTHING[kind])));
     arrange(byId(`${kind}-list`), shown);
@@ -175,19 +176,21 @@ export class TableView {
   }
 
   item(row, kind) {
-    const seat = (name, side) => make('span', { class: `seat ${side}` }, make('span', { class: 'unseen' }, `${side}: `),
-      name ? make('span', { class: 'name' }, this.app.nameWords(name)) : make('span', { class: 'free' }, 'free'));
+    const sideWords = { white: t`white: `, black: t`black: ` };
+    const seat = (name, side) => make('span', { class: `seat ${side}` },
+      make('span', { class: 'unseen' }, sideWords[side]),
+      name ? make('span', { class: 'name' }, this.app.nameWords(name)) : make('span', { class: 'free' }, t`free`));
     const link = make('a', { href: `#/game/${row.number}`, class: 'pairing', 'data-key': `look-${row.number}` },
-      make('span', { class: 'number' }, make('span', { class: 'unseen' }, 'Game '), String(row.number)),
+      make('span', { class: 'number' }, make('span', { class: 'unseen' }, t`Game `), String(row.number)),
       make('span', { class: 'pair' }, seat(row.white, 'white'), seat(row.black, 'black')),
       make('span', { class: 'times', title: timesInFull(row.times) }, timesWords(row.times),
-        row.own ? make('span', { class: 'own-start' }, 'from a position') : ''),
+        row.own ? make('span', { class: 'own-start' }, t`from a position`) : ''),
       make('span', { class: 'state' }, this.stateWords(row)));
     const item = make('li', { class: this.mayMove(row) ? 'game-row yours' : 'game-row' }, link);
     if (kind === 'open' && this.app.me()) {
       item.append(make('button', { type: 'button', class: 'strong', 'data-key': `join-${row.number}`,
-        'aria-label': `Join game ${row.number}`, disabled: !this.app.reachable(),
-        onclick: () => this.join(row.number) }, 'Join'));
+        'aria-label': t`Join game ${row.number}`, disabled: !this.app.reachable(),
+        onclick: () => this.join(row.number) }, t`Join`));
     }
     return item;
   }
@@ -195,10 +198,10 @@ export class TableView {
   stateWords(row) {
     if (row.result !== '*') return resultWords(row.result, '').score;
     if (!row.white || !row.black) return '';
-    if (this.mayMove(row)) return 'your turn';
+    if (this.mayMove(row)) return t`your turn`;
     const me = this.app.me();
-    if (row.white !== me && row.black !== me) return 'watch';
-    return row.side ? 'their turn' : '';
+    if (row.white !== me && row.black !== me) return t`watch`;
+    return row.side ? t`their turn` : '';
   }
 
   // ---- acting
@@ -212,7 +215,7 @@ export class TableView {
     this.note('');
     const answer = await this.app.wire.say(`join ${number}`), refusal = readRefusal(answer[0]);
     if (refusal) this.note(refusalWords(refusal));
-    else if (answer[0] === 'unsent') this.note('There is no connection. Nothing was sent.');
+    else if (answer[0] === 'unsent') this.note(t`There is no connection. Nothing was sent.`);
     else {
       if (answer[0] === 'lost') this.app.game.lostJoin = number;
       this.app.go(`/game/${number}`);
@@ -239,5 +242,5 @@ export class TableView {
 }
 
 const NOTHING = {
-  own: '', open: 'Nobody waits for an opponent.', running: 'No game is being played.', over: 'No game is over yet.',
+  own: '', open: t`Nobody waits for an opponent.`, running: t`No game is being played.`, over: t`No game is over yet.`,
 };

@@ -1,5 +1,6 @@
 // It is one's turn, and the tab is hidden: its icon shows that, and the browser tells it where that was agreed to.
 
+import { t } from './language.js';
 import { byId, read, write } from './make.js';
 
 const local = () => localStorage;
@@ -31,7 +32,7 @@ export class Turns {
     if (!document.hidden || read(local, 'notices') !== 'on' || !window.Notification) return;
     if (Notification.permission !== 'granted') return;
     try {
-      const told = new Notification('Chess club', { body: words, tag: 'turn', icon: 'icon.svg' });
+      const told = new Notification(t`Chess club`, { body: words, tag: 'turn', icon: 'icon.svg' });
       told.onclick = () => {
         window.focus();
         told.close();

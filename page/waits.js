@@ -1,5 +1,6 @@
 // What waits for an arbiter, in any running game: an offer of a draw, and a clock that has run out without a word.
 
+import { t } from './language.js';
 import { readShow } from './lines.js';
 import { arrange, byId, make, say, setText } from './make.js';
 import { SIDES, colourWord } from './words.js';
@@ -80,11 +81,12 @@ export class Waits {
       const { standing } = this.seen.get(row.number) || {};
       if (!standing) continue;
       if (standing.left[standing.side] === 0) {
-        found.push({ row, kind: 'flag', words: `${colourWord(standing.side)}’s flag has fallen, and nobody has called it` });
+        found.push({ row, kind: 'flag', words: t`${colourWord(standing.side)}’s flag has fallen, and nobody has
+          called it` });
       }
       const offers = SIDES.filter((side) => standing.offer.includes(side)).map(colourWord);
       if (offers.length) {
-        const words = `${offers.join(' and ')} ${offers.length > 1 ? 'offer' : 'offers'} a draw`;
+        const words = offers.length > 1 ? t`White and Black offer a draw` : t`${offers[0]} offers a draw`;
         found.push({ row, kind: 'offer', words });
       }
     }
@@ -103,22 +105,24 @@ export class Waits {
     byId('arbiter-waits').hidden = found.length === 0;
     arrange(byId('waits-list'), keys.slice(0, MOST_SHOWN).map((key) => this.items.get(key)));
     setText(byId('waits-count'), found.length ? String(found.length) : '');
-    setText(byId('waits-more'), found.length > MOST_SHOWN ? `${MOST_SHOWN} of ${found.length} are shown.` : '');
+    setText(byId('waits-more'), found.length > MOST_SHOWN ? t`${MOST_SHOWN} of ${found.length} are shown.` : '');
     if (!had.isConnected) (byId('waits-list').querySelector('button') || byId('arbiter-title')).focus();
-    this.desk.app.titled(found.length ? `Arbiter: ${found.length} ${found.length === 1 ? 'waits' : 'wait'}` : 'Arbiter');
+    this.desk.app.titled(found.length === 0 ? t`Arbiter` : found.length === 1 ? t`Arbiter: 1 waits`
+      : t`Arbiter: ${found.length} wait`);
   }
 
   /** What is new is said once. */
   tell(found) {
-    if (found.length === 1) say(`Game ${found[0].row.number}: ${found[0].words}.`);
-    else if (found.length > 1) say(`${found.length} more things wait for an arbiter.`);
+    if (found.length === 1) say(t`Game ${found[0].row.number}: ${found[0].words}.`);
+    else if (found.length > 1) say(t`${found.length} more things wait for an arbiter.`);
   }
 
   item({ row, kind, words }) {
     const names = [row.white, row.black].map((name) => this.desk.app.nameWords(name)).join(' – ');
     return make('li', { class: `wait ${kind}` }, make('span', { class: 'wait-words' }, words),
-      make('span', { class: 'wait-game' }, `Game ${row.number}: ${names}`),
+      make('span', { class: 'wait-game' }, t`Game ${row.number}: ${names}`),
       make('button', { type: 'button', 'data-key': `show-${row.number}-${kind}`,
-        onclick: () => this.desk.showGame(row.number) }, 'Show it', make('span', { class: 'unseen' }, `, game ${row.number}`)));
+        onclick: () => this.desk.showGame(row.number) }, t`Show it`, make('span', { class: 'unseen' }, t`, game
+          ${row.number}`)));
   }
 }

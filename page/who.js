@@ -1,5 +1,6 @@
 // Who is here: the personal link by which a page signs in, and what the browser keeps of it.
 
+import { t } from './language.js';
 import { readRefusal } from './lines.js';
 import { byId, read, setText, write } from './make.js';
 import { BAD_TOKEN, refusalWords } from './words.js';
@@ -7,11 +8,11 @@ import { BAD_TOKEN, refusalWords } from './words.js';
 const TOKEN = /^[0-9a-f]{32}$/, CUT = /^[0-9a-f]{1,31}$/i;
 const TRIES_LINK = 20000;            // whether a link that is not known is known again
 const ASKS_LINK = 5000;              // whether it holds still: nobody tells of one that was closed
-const TAKEN_AWAY = 'Your personal link does not hold at the moment: an arbiter has made another one or closed it, or '
-  + 'the list of players is being changed. You are watching. This page keeps the link, and tries it again. To play on '
-  + 'with a new one, open it, or ask your arbiter for it.';
-const cutWords = (length) => `This link is cut short: ${length} of its 32 last letters and digits have come. Copy the `
-  + 'whole link, and open it again.';
+const TAKEN_AWAY = t`Your personal link does not hold at the moment: an arbiter has made another one or closed it, or
+  the list of players is being changed. You are watching. This page keeps the link, and tries it again. To play on
+  with a new one, open it, or ask your arbiter for it.`;
+const cutWords = (length) => t`This link is cut short: ${length} of its 32 last letters and digits have come. Copy the
+  whole link, and open it again.`;
 const session = () => sessionStorage, local = () => localStorage;
 
 export class Who {
@@ -67,7 +68,7 @@ export class Who {
     this.isBroken = !TOKEN.test(text) && !this.token;
     if (!TOKEN.test(text)) {
       this.app.tell(CUT.test(text) ? cutWords(text.length)
-        : 'That is no personal link. Copy the whole link, and open it again.');
+        : t`That is no personal link. Copy the whole link, and open it again.`);
       this.render();
       return false;
     }
@@ -112,9 +113,9 @@ export class Who {
   askOther(token, here, there) {
     const dialog = byId('other-dialog');
     this.asked = token;
-    setText(byId('other-title'), `You are ${here.full} here. Play as ${there.full} instead?`);
-    setText(byId('other-yes'), `Play as ${there.full}`);
-    setText(byId('other-no'), `Stay ${here.full}`);
+    setText(byId('other-title'), t`You are ${here.full} here. Play as ${there.full} instead?`);
+    setText(byId('other-yes'), t`Play as ${there.full}`);
+    setText(byId('other-no'), t`Stay ${here.full}`);
     dialog.returnValue = '';
     if (!dialog.open) dialog.showModal();
   }
@@ -238,12 +239,13 @@ export class Who {
 
   render() {
     const { player } = this;
-    setText(byId('who-name'), player ? player.full : this.isBroken ? 'Not signed in' : 'Watching');
+    setText(byId('who-name'), player ? player.full : this.isBroken ? t`Not signed in` : t`Watching`);
     byId('to-arbiter').hidden = !player || player.role !== 'arbiter';
     byId('signed-in').hidden = !player;
     byId('signed-out').hidden = Boolean(player);
     byId('forget-link').hidden = !this.token;
     byId('keep').checked = Boolean(this.token) && read(local, 'token') === this.token;
-    if (player) setText(byId('who-words'), `${player.full} (${player.name}), ${player.role}`);
+    const role = player && player.role === 'arbiter' ? t`arbiter` : t`player`;
+    if (player) setText(byId('who-words'), `${player.full} (${player.name}), ${role}`);
   }
 }

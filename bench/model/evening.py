@@ -4,6 +4,7 @@ import time
 
 from browser import Keys
 from page_lines import by_lines
+from readable import COORDINATES, NAMELESS, PALE, TWICE, UNSHOWN
 
 SCREENS = ((1280, 800, False), (1024, 768, False), (1080, 810, False), (900, 700, False), (1024, 600, False),
            (768, 1024, True), (360, 740, True))
@@ -456,60 +457,114 @@ def room_for_all(hall):
     hall.watch(number)
 
 
-LIGHT = '''const light = (text) => { const [r, g, b] = text.match(/[\\d.]+/g).map((n) => { const c = n / 255;
-    return c <= 0.03928 ? c / 12.92 : ((c + 0.055) / 1.055) ** 2.4; }); return 0.2126 * r + 0.7152 * g + 0.0722 * b; };
-  const ratio = (a, b) => { const [x, y] = [light(a), light(b)].sort(); return (y + 0.05) / (x + 0.05); };'''
-COORDINATES = LIGHT + '''const found = [];
-  for (const e of document.querySelectorAll('#board .file-letter, #board .rank-number')) {
-    const square = e.parentElement;
-    for (const kind of ['', 'last', 'held', 'planned']) {
-      if (kind) square.classList.add(kind);
-      const seen = ratio(getComputedStyle(e).color, getComputedStyle(square).backgroundColor);
-      if (kind) square.classList.remove(kind);
-      if (seen < 4.5) found.push(`${e.textContent} ${kind} ${seen.toFixed(1)}`);
-    } }
-  return [...new Set(found)];'''
-# What has the keys and does not show it.
-UNSHOWN = '''const e = document.activeElement, style = getComputedStyle(e), label = e.closest('label');
-  const shows = (one) => one && getComputedStyle(one).outlineStyle !== 'none'
-    && parseFloat(getComputedStyle(one).outlineWidth) >= 2;
-  const inside = getComputedStyle(e, '::before').boxShadow, isHeading = /^(H\\d|MAIN|BODY)$/.test(e.tagName);
-  return shows(e) || shows(label) || inside && inside !== 'none' || isHeading ? '' : e.outerHTML.slice(0, 90);'''
-ROLES = '''const named = (e) => e.getAttribute('aria-label') || e.getAttribute('aria-labelledby')
-    || e.textContent.trim() || e.querySelector('legend')
-    || e.labels && [...e.labels].some((label) => label.textContent.trim());
-  return [...document.querySelectorAll('button, a[href], input, select, summary, [role], dialog, fieldset, section')]
-    .filter((e) => e.getClientRects().length && !e.matches('[role=status], [role=row], [role=grid] *') && !named(e))
-    .map((e) => e.outerHTML.slice(0, 90));'''
-TWICE = '''const ids = [...document.querySelectorAll('[id]')].map((e) => e.id);
-  return ids.filter((id, at) => ids.indexOf(id) !== at);'''
-
-
 def read_by_all(hall):
-    """Coordinates of 4.5 to 1 on every board, light and dark; all that has the keys shows it, and all has a name."""
+    """Coordinates of 4.5 to 1 on every board, all texts too, light and dark; what has the keys shows it; all has a name."""
     hall.sit()
-    hall.open(minutes='20')
-    ann = hall.ann
+    number = hall.open(minutes='20')
+    ann, bob = hall.ann, hall.bob
+    ann.run('localStorage.setItem("ask-first", "on")')
     for board in ('wood', 'green', 'blue'):
         ann.run('document.documentElement.dataset.board = arguments[0]', board)
         for dark in (False, True):
             ann.media(dark)
             ann.is_so(ann.run(COORDINATES) == [], 'coordinates on %s: %s' % (board, ann.run(COORDINATES)))
     ann.run('delete document.documentElement.dataset.board')
-    ann.media()
-    for view in ('#/', '#/hall', ann.driver.current_url.split('/')[-1]):
-        ann.run('location.hash = arguments[0]', view if view.startswith('#') else '#/game/' + view)
+
+    def is_read(what):
+        for dark in (True, False):
+            ann.media(dark)
+            for script in (PALE, NAMELESS, TWICE):
+                ann.is_so(ann.run(script) == [], '%s: %s' % (what, ann.run(script)))
+    ann.click_move('e2e4')
+    ann.until(lambda: ann.sees('#proposed'), 'a move that is asked about')
+    is_read('a move that is asked about')
+    ann.click('#play-it')
+    bob.until(lambda: bob.lit('.movable'), 'is on move')
+    ann.click_move('d2d4')
+    ann.until(lambda: planned(ann), 'a move ahead')
+    is_read('a move ahead')
+    ann.keys(Keys.ESCAPE)
+    for button, dialog in (('#resign', '#resign-dialog'), ('#help', '#help-dialog')):
+        ann.click(button)
+        ann.until(lambda: ann.sees(dialog), dialog)
+        is_read(dialog)
+        ann.keys(Keys.ESCAPE)
+    ann.run('localStorage.removeItem("ask-first")')
+    for view in ('#/', '#/hall', '#/game/' + number):
+        ann.run('location.hash = arguments[0]', view)
         time.sleep(0.4)
         ann.run('document.querySelector("#settings").open = true')
-        ann.is_so(ann.run(ROLES) == [], 'all has a name: %s' % ann.run(ROLES))
-        ann.is_so(ann.run(TWICE) == [], 'no id stands twice: %s' % ann.run(TWICE))
+        is_read(view)
         ann.run('document.querySelector("#settings").open = false; document.activeElement.blur()')
         for _ in range(25):
             ann.keys(Keys.TAB)
             unshown = ann.run(UNSHOWN)
             ann.is_so(unshown == '', 'what has the keys shows it: %s' % unshown)
+    ann.media()
+
+
+# The English texts that German says otherwise, and that are read on the page now.
+ENGLISH = '''const [done] = arguments;
+  import(new URL('words-de.js', location.href.split('#')[0])).then(({ WORDS }) => {
+    const texts = new Set(Object.keys(WORDS).filter((text) => WORDS[text] !== text && /[A-Za-z]{3}/.test(text)));
+    const seen = [...document.querySelectorAll('body *')].filter((e) => e.getClientRects().length).flatMap((e) => [
+      ...[...e.childNodes].filter((node) => node.nodeType === 3).map((node) => node.data.trim().replace(/\\s+/g, ' ')),
+      e.getAttribute('aria-label'), e.getAttribute('title'), e.getAttribute('placeholder')]);
+    done([...new Set(seen.filter((text) => texts.has(text)))]); });'''
+
+
+def in_german(hall):
+    """All words in German, by the switch or by what the browser wants, also in what is said; and English again."""
+    hall.sit()
+    number = hall.open(minutes='20')
+    ann, bob, sue = hall.ann, hall.bob, hall.sue
+    ann.click('#settings summary')
+    ann.click('.choice:has([name=language][value=de])')
+    ann.until(lambda: ann.run('return document.documentElement.lang') == 'de', 'chosen')
+    ann.reads('#outcome', 'Du bist am Zug')
+    ann.is_so(ann.driver.title.startswith('Du bist am Zug'), 'the tab too')
+    ann.run('document.querySelector(\'#board [data-square="e2"]\').focus()')
+    square = ann.run('return document.activeElement.getAttribute("aria-label")')
+    ann.is_so(square == 'e2, weißer Bauer', 'and the squares: %s' % square)
+    left = lambda person: person.driver.execute_async_script(ENGLISH)
+    ann.is_so(left(ann) == [], 'nothing is English at the board: %s' % left(ann))
+    ann.click_move('f2f3')
+    bob.until(lambda: bob.moves() == ['f3'], 'a move')
+    hall.play(FOOLS[1:2], 1)
+    ann.until(lambda: 'Schwarz: e5' in ann.said(), 'what is said')
+    ann.run('location.hash = "#/"')
+    ann.until(lambda: ann.sees('#open-game'), 'the table')
+    ann.is_so(left(ann) == [], 'nor at the table: %s' % left(ann))
+    ann.run('location.hash = "#/game/%s"' % number)
+    hall.play(FOOLS[2:], 2)
+    ann.reads('#outcome', 'Schwarz gewinnt durch Matt')
+    ann.reads('#outcome', 'Artikel 5.1.1 der FIDE-Regeln')
+    ann.is_so(ann.moves()[-1] == 'Qh4#' and left(ann) == [], 'SAN stays as it is')
+    sue.run('localStorage.setItem("language", "de")')
+    sue.run('location.hash = "#" + arguments[0]', hall.lobby.tokens['eve'])
+    sue.driver.refresh()
+    sue.click('#to-arbiter')
+    sue.until(lambda: sue.sees('#arbiter-desk'), 'the desk')
+    for panel in ('pair-by-hand', 'players-and-links'):
+        sue.run('document.getElementById(arguments[0]).open = true', panel)
+    sue.until(lambda: sue.sees('[data-key="new-link-bob"]'), 'its parts')
+    sue.is_so(left(sue) == [], 'nor at the desk: %s' % left(sue))
+    for person in (ann, sue):
+        for width, height, phone in SCREENS:
+            person.screen(width, height, 1, phone)
+            time.sleep(0.2)
+            wide = person.run('return document.documentElement.scrollWidth')
+            person.is_so(wide <= width, 'longer words fit into %d: %d' % (width, wide))
+            cut = person.run('''return [...document.querySelectorAll('button')].filter((e) => e.getClientRects().length
+                && e.scrollWidth > e.clientWidth + 1).map((e) => e.textContent)''')
+            person.is_so(cut == [], 'and none is cut off at %d: %s' % (width, cut))
+        person.screen(1280, 800)
+    for person in (ann, sue):
+        person.run('localStorage.removeItem("language")')
+        person.driver.refresh()
+        person.until(lambda: person.run('return document.documentElement.lang') == 'en', 'English again')
 
 
 NEEDS_CONTROL_TOO = (no_dead_buttons, slow_answers)
 EVENING = (no_dead_buttons, handy_moves, planned_moves, asked_first, heard_tones, own_marks, taken_men, boards_and_men,
-           told_elsewhere, slow_answers, foreign_links, room_for_all, read_by_all)
+           told_elsewhere, slow_answers, foreign_links, room_for_all, read_by_all, in_german)

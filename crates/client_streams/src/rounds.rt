@@ -165,7 +165,10 @@ fn write_for<S: Read + Write, D: Device>(client: &mut Client<S>, hub: &mut Hub<D
 
 /// Writes for each client what can be written, closes the sessions that are over, and tells whether there was anything to
 /// do.
-pub fn hand_out_all<S: Read + Write, D: Device>(clients: &mut Vec<Client<S>>, hub: &mut Hub<D>) -> bool
+pub fn hand_out_all<S: Read + Write, D: Device>(
+    clients: &mut Vec<Client<S>>,
+    hub: &mut Hub<D>,
+) -> bool
     ensures written { AreWritten S.contents clients.old.items clients.new.items hub.old.sessions hub.new.sessions }
     ensures more { result ≡ true → 0 < length clients.old.items }
     ensures store { hub.new.store ≡ hub.old.store }

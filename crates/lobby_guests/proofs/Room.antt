@@ -691,7 +691,8 @@ room_few name (Some other) ps is =
     let less : count_of None (Own name) (leave (counted None (Own name)) (count_of None (Own name) ps - 16) ps)
     ≤ count_of None (Own name) ps - (count_of None (Own name) ps - 16) =
     leave_less name (count_of None (Own name) ps - 16) ps in
-    subst (λ (n : List ℕ). count_of None (Own name) (own_room (Some n) ps) ≤ 16) (sym same) (omega (arith, less))
+    let few : count_of None (Own name) (leave (counted None (Own name)) (count_of None (Own name) ps - 16) ps) ≤ 16 = omega (arith, less) in
+    subst (λ (n : List ℕ). count_of None (Own name) (own_room (Some n) ps) ≤ 16) (sym same) few
 
 each_own_few : (name : List ℕ) (qs ps : List Place) → (count_of None (Own name) ps ≤ 16) ⊎ (0 < count_of None (Own name) qs) →
     count_of None (Own name) (each_own qs ps) ≤ 16

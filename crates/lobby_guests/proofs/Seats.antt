@@ -79,6 +79,10 @@ lost_stays desk false None = refl
 lost_stays desk false (Some c) =
     ap (λ (b : Bool). role_of desk b (Some c)) (role_stays (acts desk c) (is_watcher desk c))
 
+-- a place of these parts
+abbrev place_with : Option ℕ → Role → Option (List ℕ) → ℕ → Place
+place_with address role player since = record { address = address; role = role; player = player; since = since }
+
 -- who is closed by either is closed
 gone_twice : (p q r : Place) → (q ≡ p) ⊎ ((is_player p.role ≡ true) × (q ≡ gone p)) → IsKeptOrClosed q r → IsKeptOrGone p r
 gone_twice p q r first second =
@@ -98,10 +102,6 @@ kept_or_gone (p ∷ ps) (q ∷ qs) (r ∷ rs) first second =
     (gone_twice p q r first.0 second.0, kept_or_gone ps qs rs first.1 second.1)
 
 module _ {S : Type 0} (desk : Desk) where
-  -- a place like this one
-  place_with : Option ℕ → Role → Option (List ℕ) → ℕ → Place
-  place_with address role player since = record { address = address; role = role; player = player; since = since }
-
   yielded_place : (p : Place) (g h : Guest S) → Yields p g h →
       place_of desk h ≡ place_with g.origin.address (role_of desk (g.is_lost || is_gone p.role) g.number) (player_of desk g.number) g.came_at
   yielded_place p g h yields =

@@ -130,6 +130,11 @@ abbrev pub may_call : Others → Desk → Bool
 may_call Newcomers desk = true
 may_call Strangers desk = not (strangers_wait desk)
 
+-- The same at a moment: who acts for nobody waits besides until this one, behind an answer that took long.
+abbrev pub is_called_at : Others → Desk → ℕ → ℕ → Bool
+is_called_at Newcomers desk from at = true
+is_called_at Strangers desk from at = nat_le from at && not (strangers_wait desk)
+
 -- the desk, and how many more are attended in this turn
 pub record Room : Type 0 where
   pub talk : Talk

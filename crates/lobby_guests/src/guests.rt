@@ -83,7 +83,8 @@ fn is_other(others: Others, number: Option<u64>, talk: &Talk) -> bool
 
 // Whether one of these others may be attended now.
 fn may_call(others: Others, talk: &Talk, at: u64) -> bool
-    ensures { result ≡ true → guests.may_call others talk.now.desk ≡ true }
+    ensures may { result ≡ true → guests.may_call others talk.now.desk ≡ true }
+    ensures when { result ≡ guests.is_called_at others talk.now.desk talk.now.strangers_at at }
 {
     match others {
         Others::Newcomers => true,

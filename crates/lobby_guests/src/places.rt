@@ -82,17 +82,17 @@ fn is_at(place: &Place, address: Option<u64>) -> bool
 }
 
 // Whether it acts for this player.
-fn is_of(place: &Place, name: Name) -> bool
-    ensures { result ≡ is_of name place.now.player }
+fn is_of(place: &Place, name: &Name) -> bool
+    ensures { result ≡ is_of name.now place.now.player }
 {
-    match place.player {
+    match &place.player {
         None => false,
         Some(player) => player.as_str() == name.as_str(),
     }
 }
 
-fn is_in(place: &Place, class: Class) -> bool
-    ensures { result ≡ is_in class place.now }
+fn is_in(place: &Place, class: &Class) -> bool
+    ensures { result ≡ is_in class.now place.now }
 {
     match class {
         Class::Gone => is_gone(place.role),
@@ -101,20 +101,20 @@ fn is_in(place: &Place, class: Class) -> bool
         Class::Watchers => matches!(place.role, Role::Watcher),
         Class::Newcomers => matches!(place.role, Role::Newcomer),
         Class::Aged(at, age) => {
-            matches!(place.role, Role::Newcomer) && at.saturating_sub(place.since) >= age
+            matches!(place.role, Role::Newcomer) && (*at).saturating_sub(place.since) >= *age
         }
         Class::Own(name) => matches!(place.role, Role::Player) && is_of(place, name),
     }
 }
 
-fn is_counted(place: &Place, address: Option<u64>, class: Class) -> bool
-    ensures { result ≡ counted address class place.now }
+fn is_counted(place: &Place, address: Option<u64>, class: &Class) -> bool
+    ensures { result ≡ counted address class.now place.now }
 {
     is_at(place, address) && is_in(place, class)
 }
 
-fn count(places: &[Place], address: Option<u64>, class: Class) -> usize
-    ensures { result ≡ count_by (counted address class) places.now }
+fn count(places: &[Place], address: Option<u64>, class: &Class) -> usize
+    ensures { result ≡ count_by (counted address class.now) places.now }
 {
     places
         .iter()
@@ -123,8 +123,8 @@ fn count(places: &[Place], address: Option<u64>, class: Class) -> usize
 }
 
 // The first of them, so many at most, are to be closed.
-fn leave(places: &mut [Place], address: Option<u64>, class: Class, count: usize)
-    ensures { places.new ≡ leave (counted address class) count places.old }
+fn leave(places: &mut [Place], address: Option<u64>, class: &Class, count: usize)
+    ensures { places.new ≡ leave (counted address class.now) count places.old }
 {
     let mut left = count;
     for place in places.iter_mut() {
@@ -136,8 +136,8 @@ fn leave(places: &mut [Place], address: Option<u64>, class: Class, count: usize)
 }
 
 // All but the first of them, so many at most, are to be closed.
-fn leave_beyond(places: &mut [Place], address: Option<u64>, class: Class, most: usize)
-    ensures { places.new ≡ beyond (counted address class) most places.old }
+fn leave_beyond(places: &mut [Place], address: Option<u64>, class: &Class, most: usize)
+    ensures { places.new ≡ beyond (counted address class.now) most places.old }
 {
     let mut left = most;
     for place in places.iter_mut() {
@@ -152,10 +152,10 @@ fn leave_beyond(places: &mut [Place], address: Option<u64>, class: Class, most: 
 }
 
 // The first of a class are to be closed, as many as are nameless beyond so many.
-fn trim(places: &mut [Place], address: Option<u64>, class: Class, most: usize)
-    ensures { places.new ≡ trim address class most places.old }
+fn trim(places: &mut [Place], address: Option<u64>, class: &Class, most: usize)
+    ensures { places.new ≡ trim address class.now most places.old }
 {
-    let excess = count(places, address, Class::Nameless).saturating_sub(most);
+    let excess = count(places, address, &Class::Nameless).saturating_sub(most);
     leave(places, address, class, excess);
 }
 
@@ -164,9 +164,9 @@ fn trim(places: &mut [Place], address: Option<u64>, class: Class, most: usize)
 fn make_room(places: &mut [Place], address: Option<u64>, most: usize, at: u64)
     ensures { places.new ≡ make_room address most at places.old }
 {
-    trim(places, address, Class::Aged(at, CHANCE), most);
-    trim(places, address, Class::Watchers, most);
-    trim(places, address, Class::Newcomers, most);
+    trim(places, address, &Class::Aged(at, CHANCE), most);
+    trim(places, address, &Class::Watchers, most);
+    trim(places, address, &Class::Newcomers, most);
 }
 
 // The same at an address.
@@ -182,7 +182,7 @@ fn room_at(places: &mut [Place], address: Option<u64>, at: u64)
 fn room_for(places: &mut [Place], place: &Place, at: u64)
     ensures { places.new ≡ room_for at place.now places.old }
 {
-    if is_in(place, Class::Nameless) {
+    if is_in(place, &Class::Nameless) {
         room_at(places, place.address, at);
     }
 }
@@ -200,7 +200,7 @@ fn in_time(places: &mut [Place], at: u64, from: u64)
     ensures { places.new ≡ in_time at from places.old }
 {
     if at.saturating_sub(from) >= PATIENCE {
-        leave(places, None, Class::Aged(at, PATIENCE), places.len());
+        leave(places, None, &Class::Aged(at, PATIENCE), places.len());
     }
 }
 
@@ -209,8 +209,8 @@ fn own_room(places: &mut [Place], player: Option<Name>)
     ensures { places.new ≡ own_room player places.old }
 {
     if let Some(name) = player {
-        let excess = count(places, None, Class::Own(name)).saturating_sub(A_PLAYER_MOST);
-        leave(places, None, Class::Own(name), excess);
+        let excess = count(places, None, &Class::Own(name)).saturating_sub(A_PLAYER_MOST);
+        leave(places, None, &Class::Own(name), excess);
     }
 }
 
@@ -248,13 +248,13 @@ fn judge_all(alloc: Global, places: &mut [Place], at: u64, from: u64) -> Result<
         - count_of None Class.Gone (in_time at from places.old)) }
 {
     in_time(places, at, from);
-    let late = count(places, None, Class::Gone);
-    leave_beyond(places, None, Class::Watchers, WATCHERS_MOST);
+    let late = count(places, None, &Class::Gone);
+    leave_beyond(places, None, &Class::Watchers, WATCHERS_MOST);
     let all = places.to_vec(alloc)?;
     each_room(places, all.as_slice(), at);
-    let most = most_nameless(count(places, None, Class::Players));
+    let most = most_nameless(count(places, None, &Class::Players));
     make_room(places, None, most, at);
-    Ok(count(places, None, Class::Gone).saturating_sub(late))
+    Ok(count(places, None, &Class::Gone).saturating_sub(late))
 }
 
 /// Which of these connections, in the order in which they came, are to be closed at a moment, in milliseconds: these have

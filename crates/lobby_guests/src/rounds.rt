@@ -1,5 +1,5 @@
 //! Whose turn it is among those who act for nobody: a few of them in each turn, and in a round.
-ghost use Rattle.std.specs.Prelude.{◌≡◌, ◌≤◌, ◌<◌, ◌+◌, true};
+ghost use Rattle.std.specs.Prelude.{◌≡◌, ◌≤◌, ◌<◌, ◌&&◌, nat_lt, nat_le, true};
 ghost use Rattle.lobby_guests.specs.Guests.{others_most};
 
 /// So many of them are attended in a turn at most, of those who have no socket yet and of those who have one.
@@ -64,7 +64,8 @@ impl Round {
 
     /// Whether it may be the turn of this one.
     pub fn is_at(&self, key: usize) -> bool
-        ensures { result ≡ true → 0 < self.now.left }
+        ensures some { result ≡ true → 0 < self.now.left }
+        ensures turn { result ≡ (nat_lt 0 self.now.left && nat_le self.now.from key) }
     {
         self.left > 0 && key >= self.from
     }

@@ -4,8 +4,7 @@ ghost use Rattle.server_work.specs.Faults.{IsOpenFault};
 
 use crate::ends::Fault;
 use chess_store::Store;
-use sector_dev::FileDevice;
-use sector_dev::Device;
+use sector_dev::{Device, FileDevice};
 use server_telling::Teller;
 use std::alloc::Global;
 use std::fs::File;

@@ -3,8 +3,8 @@ use Rattle.std.proofs.Common.{◌↔◌, length}
 use Rattle.client_streams.specs.Protocols.{IsRequest}
 use Rattle.client_streams.proofs.incoming.is_request.Given as goal
 
-abbrev pub invariant-loop : goal.invariant-loop
-invariant-loop l = IsRequest l.line ↔ IsRequest l.rest
+abbrev pub invariant-loop-after : goal.invariant-loop-after
+invariant-loop-after l = IsRequest l.line ↔ IsRequest l.rest
 
-abbrev pub decreases-loop : goal.decreases-loop
-decreases-loop l = length l.rest
+abbrev pub decreases-loop-after : goal.decreases-loop-after
+decreases-loop-after l = length l.rest

@@ -1,0 +1,686 @@
+// The page's words in German, by the English text (language.js).
+
+export const WORDS = {
+  'Draw': 'Remis',
+  'The note is copied.': 'Die Notiz ist kopiert.',
+  'Adjourn game {0}?': 'Partie {0} abbrechen und vertagen?',
+  'This browser keeps nothing: copy the note, or write it down.':
+    'Dieser Browser bewahrt nichts auf: kopiere die Notiz oder schreibe sie ab.',
+  'A move was made since the note was copied.': 'Seit die Notiz kopiert wurde, ist ein Zug gemacht worden.',
+  'Position': 'Stellung',
+  'Times': 'Bedenkzeit',
+  'Game {0}, {1} {2}': 'Partie {0}, {1} {2}',
+  'adjourned': 'vertagt am',
+  'as it stood': 'wie sie stand am',
+  '{0}: {1}, {2} left': '{0}: {1}, noch {2}',
+  'Position: {0}': 'Stellung: {0}',
+  'Times: {0}': 'Bedenkzeit: {0}',
+  'It could not be copied: write it down.': 'Sie konnte nicht kopiert werden: schreibe sie ab.',
+  'The connection broke before the answer came.': 'Die Verbindung ist abgerissen, bevor die Antwort kam.',
+  'Game {0} is one of other players now.': 'Partie {0} gehört jetzt anderen Spielern.',
+  'It was not adjourned: the game has ended before. {0} {1}.':
+    'Sie wurde nicht vertagt: die Partie war schon zu Ende. {0} {1}.',
+  'It is not closed: the game goes on.': 'Sie ist nicht geschlossen: die Partie geht weiter.',
+  'It is not closed. {0}': 'Sie ist nicht geschlossen. {0}',
+  'It is not closed: there is no connection. Nothing was sent.':
+    'Sie ist nicht geschlossen: es gibt keine Verbindung. Nichts wurde gesendet.',
+  'The connection broke before the answer came. Once it is there again, the game is looked at.':
+    'Die Verbindung ist abgerissen, bevor die Antwort kam. Sobald sie wieder da ist, wird nach der Partie gesehen.',
+  'Forget the note of game {0}?': 'Die Notiz zu Partie {0} vergessen?',
+  'Forget it': 'Vergessen',
+  'This browser knows its position and its clocks no more.':
+    'Dieser Browser kennt dann ihre Stellung und ihre Uhren nicht mehr.',
+  'Close it as a draw': 'Als Remis schließen',
+  'Go on with it': 'Fortsetzen',
+  'Copy the note': 'Notiz kopieren',
+  'Game {0}: {1}': 'Partie {0}: {1}',
+  'It is not closed yet.': 'Sie ist noch nicht geschlossen.',
+  'Adjourned {0}. Game {1} stands in the record as a draw.':
+    'Vertagt am {0}. Partie {1} steht in der Aufzeichnung als Remis.',
+  'Game {0} has left the table before it was seen how it ended: its PGN tells. It stood so {1}.':
+    'Partie {0} war nicht mehr am Tisch, bevor zu sehen war, wie sie endete: ihre PGN sagt es. So stand sie am {1}.',
+  '{0} The game that goes on with it is the board’s.': '{0} Für das Brett zählt die Partie, die sie fortsetzt.',
+  ['{0} It goes on as game {1}, which is the board’s: in a league’s round give --take BOARD={2} to chess-pairings '
+    + 'start.']:
+    '{0} Sie geht als Partie {1} weiter, die für das Brett zählt: in der Runde einer Liga gib chess-pairings start '
+    + '--take BRETT={2} mit.',
+  'stands in the record as a draw': 'in der Aufzeichnung als Remis steht',
+  'is on the table no more': 'nicht mehr am Tisch ist',
+  '{0} had {1}': '{0} hatte {1}',
+  ['This goes on with game {0}, which {1}; the game that is opened here is the board’s. The server has one time for '
+    + 'both sides: {2}{3}.']:
+    'Das setzt Partie {0} fort, die {1}; für das Brett zählt die Partie, die hier eröffnet wird. Der Server hat eine '
+    + 'Zeit für beide Seiten: {2}{3}.',
+  ', so both get the greater of the two': ', also bekommen beide die größere von beiden',
+  'The game has ended meanwhile.': 'Die Partie ist inzwischen zu Ende.',
+  ['A draw can be agreed on once both sides have made a move, so this game cannot be closed yet. Have both make '
+    + 'their first move; or enter a resignation, which ends it too, and pair the two anew.']:
+    'Remis kann erst vereinbart werden, wenn beide Seiten gezogen haben; diese Partie lässt sich also noch nicht '
+    + 'schließen. Lass beide ihren ersten Zug machen, oder trage eine Aufgabe ein, die sie auch beendet, und setze die '
+    + 'beiden neu an.',
+  '{0}’s clock has run out: call the flag.': 'Die Uhr von {0} ist abgelaufen: reklamiere die Zeit.',
+  'move {0}, {1} to move': 'Zug {0}, {1} am Zug',
+  ['New games are stopped: no player opens one, and who tries is told so. Games that wait can still be joined, and '
+    + 'arbiters pair on.']:
+    'Neue Partien sind gesperrt: kein Spieler eröffnet eine, und wer es versucht, erfährt es. Wartenden Partien kann '
+    + 'man noch beitreten, und Schiedsrichter setzen weiter an.',
+  '{0} to {1} of {2}, {3} of them running': '{0} bis {1} von {2}, davon laufen {3}',
+  'Game {0}': 'Partie {0}',
+  'not connected': 'nicht verbunden',
+  ', game {0}': ', Partie {0}',
+  'More': 'Mehr',
+  'Take off': 'Vom Tisch nehmen',
+  'Decide game {0}': 'Partie {0} entscheiden',
+  'White resigns': 'Weiß gibt auf',
+  'Black resigns': 'Schwarz gibt auf',
+  'Flag': 'Zeit',
+  'Adjourn': 'Vertagen',
+  'Save PGN': 'PGN sichern',
+  'Game {0} is not on the table any more. Nothing was entered.':
+    'Partie {0} ist nicht mehr am Tisch. Nichts wurde eingetragen.',
+  'Game {0}, {1} men on the board': 'Partie {0}, {1} Steine auf dem Brett',
+  'Last: {0}': 'Zuletzt: {0}',
+  'Waiting for {0}': 'Wartet auf {0}',
+  '{0} offers a draw': '{0} bietet Remis an',
+  '{0}’s flag has fallen': 'Die Zeit von {0} ist abgelaufen',
+  '{0} to move': '{0} am Zug',
+  'A draw can be agreed on once both sides have made a move.':
+    'Remis kann erst vereinbart werden, wenn beide Seiten gezogen haben.',
+  'Enter the resignation of {0} in game {1}?': 'Die Aufgabe von {0} in Partie {1} eintragen?',
+  '{0} wins with {1}. It cannot be taken back.': '{0} gewinnt mit {1}. Das lässt sich nicht zurücknehmen.',
+  'Enter a draw between {0} and {1} in game {2}?': 'Remis zwischen {0} und {1} in Partie {2} eintragen?',
+  '{0}, and its acceptance is entered for {1}. It cannot be taken back.':
+    '{0}, und für {1} wird die Annahme eingetragen. Das lässt sich nicht zurücknehmen.',
+  'The offer of {0} stands': 'Das Angebot von {0} steht',
+  'An offer is entered for {0}': 'Für {0} wird ein Angebot eingetragen',
+  'Call the flag of {0} in game {1}?': 'Die Zeit von {0} in Partie {1} reklamieren?',
+  'It is called for {0}, against {1}, who is to move. The server’s clock decides.':
+    'Reklamiert wird für {0}, gegen {1} am Zug. Die Uhr des Servers entscheidet.',
+  'Take game {0} of {1} off the table?': 'Partie {0} von {1} vom Tisch nehmen?',
+  ' and ': ' und ',
+  'It waits for a second player. No move has been made.': 'Sie wartet auf den zweiten Spieler. Kein Zug ist gemacht.',
+  'Take it off': 'Vom Tisch nehmen',
+  'The lobby did not tell how the game stands. Try again.':
+    'Die Lobby hat nicht gesagt, wie die Partie steht. Versuche es noch einmal.',
+  'The lobby did not tell the PGN. Try again.': 'Die Lobby hat die PGN nicht genannt. Versuche es noch einmal.',
+  'Game {0} is not on the table any more.': 'Partie {0} ist nicht mehr am Tisch.',
+  'The flag had fallen: the game is over by that.': 'Die Zeit war abgelaufen: damit ist die Partie zu Ende.',
+  'There is no connection. Nothing was sent.': 'Es gibt keine Verbindung. Nichts wurde gesendet.',
+  'The connection broke before the answer came. Look how the game stands before you enter it again.':
+    'Die Verbindung ist abgerissen, bevor die Antwort kam. Sieh nach, wie die Partie steht, bevor du es noch einmal '
+    + 'einträgst.',
+  'The connection broke before the answer came. Do it again.':
+    'Die Verbindung ist abgerissen, bevor die Antwort kam. Tu es noch einmal.',
+  'Allow new games': 'Neue Partien zulassen',
+  'Stop new games': 'Neue Partien sperren',
+  'New games are allowed.': 'Neue Partien sind zugelassen.',
+  'Board': 'Brett',
+  'The pawn becomes': 'Der Bauer wird',
+  '{0} put back': '{0} zurückgestellt',
+  'put back': 'zurückgestellt',
+  '{0} on {1} held, for your next move': '{0} auf {1} genommen, für deinen nächsten Zug',
+  '{0} on {1} held. It may go to {2}': '{0} auf {1} genommen. Mögliche Felder: {2}',
+  'not to {0}': 'nicht nach {0}',
+  'no move from {0}': 'kein Zug von {0}',
+  'nothing to move now': 'jetzt ist nichts zu ziehen',
+  'The pawn becomes a queen, knight, rook or bishop?': 'Wird der Bauer Dame, Springer, Turm oder Läufer?',
+  'held': 'genommen',
+  'your next move': 'dein nächster Zug',
+  'can be taken': 'kann geschlagen werden',
+  'can be reached': 'kann erreicht werden',
+  'in check': 'im Schach',
+  'last move': 'letzter Zug',
+  'move': 'Zug',
+  'joining': 'Beitritt',
+  'offer': 'Angebot',
+  'acceptance': 'Annahme',
+  'answer': 'Antwort',
+  'resignation': 'Aufgabe',
+  'call': 'Zeitreklamation',
+  'order': 'Anweisung',
+  'claim': 'Reklamation',
+  'This game was taken off the table.': 'Diese Partie wurde vom Tisch genommen.',
+  'The flag has fallen.': 'Die Zeit ist abgelaufen.',
+  'The arbiter, {0}, has entered {1} for {2}.': 'Der Schiedsrichter, {0}, hat {1} eingetragen für {2}.',
+  'you': 'dich',
+  '{0} has joined. The game has begun.': '{0} ist beigetreten. Die Partie hat begonnen.',
+  '{0} offers a draw.': '{0} bietet Remis an.',
+  'You have offered a draw.': 'Du hast Remis angeboten.',
+  'You have declined the draw.': 'Du hast das Remis abgelehnt.',
+  '{0} declines the draw.': '{0} lehnt das Remis ab.',
+  'Your claim was wrong: your opponent has two minutes more, and your offer of a draw stands.':
+    'Deine Reklamation war falsch: dein Gegner hat zwei Minuten mehr, und dein Remisangebot steht.',
+  '{0} has claimed a draw wrongly: it stands as an offer, and {1} two minutes more.':
+    '{0} hat zu Unrecht Remis reklamiert: das gilt als Angebot, und {1} zwei Minuten mehr.',
+  'you have': 'du hast',
+  'the opponent has': 'der Gegner hat',
+  '20 seconds left.': 'Noch 20 Sekunden.',
+  'Your next move: {0} to {1}.': 'Dein nächster Zug: {0} nach {1}.',
+  'Your next move is taken back.': 'Dein nächster Zug ist zurückgenommen.',
+  'Your move from {0} to {1} cannot be made now.': 'Dein Zug von {0} nach {1} ist jetzt nicht möglich.',
+  'A move is one word, such as e4, Nf3, exd5, O-O or e2e4.': 'Ein Zug ist ein Wort, etwa e4, Nf3, exd5, O-O oder e2e4.',
+  'Your {0} has not been answered for {1} seconds: it may not have arrived. The clock runs on.':
+    'Seit {1} Sekunden ohne Antwort: {0}. Vielleicht ist nichts angekommen. Die Uhr läuft weiter.',
+  'The connection broke before the answer came. Asking how the game stands …':
+    'Die Verbindung ist abgerissen, bevor die Antwort kam. Es wird gefragt, wie die Partie steht …',
+  'The connection broke, but your {0} was taken.': 'Die Verbindung ist abgerissen, aber angekommen ist: {0}.',
+  'The connection broke before the answer to your {0} came, and the game has gone on.':
+    'Die Verbindung ist abgerissen, bevor die Antwort kam ({0}), und die Partie ist weitergegangen.',
+  'The connection broke, and no offer of yours stands: it was not taken so far, or it was answered.':
+    'Die Verbindung ist abgerissen, und von dir steht kein Angebot: es ist bisher nicht angekommen, oder es wurde '
+    + 'beantwortet.',
+  'The connection broke, and your {0} has not been taken so far. Look, and do it again.':
+    'Die Verbindung ist abgerissen, und bisher nicht angekommen ist: {0}. Sieh nach und tu es noch einmal.',
+  'none: for the position on the board': 'keinem: für die Stellung auf dem Brett',
+  ', becomes a {0}': ', wird {0}',
+  '{0} opens another game. ': '{0} eröffnet eine weitere Partie. ',
+  'Look at game {0}': 'Partie {0} ansehen',
+  'Move {0} of {1}{2}': 'Zug {0} von {1}{2}',
+  ', the start': ', der Anfang',
+  'The link is copied.': 'Der Link ist kopiert.',
+  'The game’s address is {0}': 'Die Adresse der Partie ist {0}',
+  '{0} is copied.': '{0} ist kopiert.',
+  'The link': 'Der Link',
+  'The {0} could not be copied. Save it instead.': '{0}: das Kopieren ging nicht. Sichere es stattdessen.',
+  'Draw offered: {0}': 'Remis angeboten: {0}',
+  'Your turn: {0}': 'Du bist am Zug: {0}',
+  'waiting': 'wartet',
+  'Game {0} against {1}: your turn.': 'Partie {0} gegen {1}: du bist am Zug.',
+  'Hall': 'Saal',
+  '{0} to {1} of {2}': '{0} bis {1} von {2}',
+  'It could not be copied. Mark it, and copy it by hand.':
+    'Das Kopieren ging nicht. Markiere den Link und kopiere ihn von Hand.',
+  'Make a new link for {0}?': 'Einen neuen Link für {0} machen?',
+  'Make it': 'Machen',
+  'That is your own. The link that you have holds no more; this page goes on with the new one.':
+    'Das ist dein eigener. Der Link, den du hast, gilt nicht mehr; diese Seite macht mit dem neuen weiter.',
+  'The link that {0} has holds no more: a page that is open with it asks for the new one. Clocks run on.':
+    'Der Link von {0} gilt nicht mehr: eine Seite, die damit offen ist, verlangt den neuen. Uhren laufen weiter.',
+  'Make a link once more: it takes the place of one that was made.':
+    'Mache noch einmal einen Link: er tritt an die Stelle eines schon gemachten.',
+  'The personal link of {0}, shown this once. Who opens it plays as {1}.':
+    'Der persönliche Link von {0}, nur dieses eine Mal gezeigt. Wer ihn öffnet, spielt als {1}.',
+  'Close the link of {0}?': 'Den Link von {0} schließen?',
+  'Close it': 'Schließen',
+  '{0} can do nothing here until a new link is made. Games go on, and clocks run on.':
+    '{0} kann hier nichts tun, bis ein neuer Link gemacht ist. Partien gehen weiter, und Uhren laufen weiter.',
+  'The link of {0} is closed.': 'Der Link von {0} ist geschlossen.',
+  'Close it once more: that does no harm.': 'Schließe ihn noch einmal: das schadet nicht.',
+  'The connection broke before the answer came. {0}': 'Die Verbindung ist abgerissen, bevor die Antwort kam. {0}',
+  '{0} of {1} are shown: find the others by name.': '{0} von {1} sind zu sehen: suche die anderen nach dem Namen.',
+  'No player has such a name.': 'Kein Spieler heißt so.',
+  'link closed from here': 'Link von hier geschlossen',
+  'New link': 'Neuer Link',
+  'Close the link': 'Link schließen',
+  'Taken: {0}; {1} more': 'Geschlagen: {0}; {1} mehr',
+  'Taken: {0}': 'Geschlagen: {0}',
+  '{0} · Chess club': '{0} · Schachklub',
+  'The connection broke before the answer came. Looking for your game …':
+    'Die Verbindung ist abgerissen, bevor die Antwort kam. Deine Partie wird gesucht …',
+  'Your game {0} against {1} {2}': 'Deine Partie {0} gegen {1} {2}',
+  'has begun': 'hat begonnen',
+  'goes on': 'geht weiter',
+  '{0}: the clocks run. ': '{0}: die Uhren laufen. ',
+  'Go there': 'Hingehen',
+  'The connection broke, and your game has not been opened so far. Look, and open it again.':
+    'Die Verbindung ist abgerissen, und deine Partie ist bisher nicht eröffnet. Sieh nach und eröffne sie noch '
+    + 'einmal.',
+  'Your game {0} against {1}, paired by {2}, has begun': 'Deine Partie {0} gegen {1}, angesetzt von {2}, hat begonnen',
+  '{0} has joined your game {1}': '{0} ist deiner Partie {1} beigetreten',
+  'The connection to the lobby is lost. Clocks run on. Trying again':
+    'Die Verbindung zur Lobby ist weg. Uhren laufen weiter. Neuer Versuch',
+  'The lobby does not answer. Trying again': 'Die Lobby antwortet nicht. Neuer Versuch',
+  'in {0} s.': 'in {0} s.',
+  'now.': 'jetzt.',
+  '{0} Trying again': '{0} Neuer Versuch',
+  'Choose a player': 'Spieler wählen',
+  'Choose two players: nobody plays against himself.': 'Wähle zwei Spieler: niemand spielt gegen sich selbst.',
+  'This FEN is too long.': 'Diese FEN ist zu lang.',
+  'The connection broke before the answer to the pairing came.':
+    'Die Verbindung ist abgerissen, bevor die Antwort auf die Ansetzung kam.',
+  'They were not paired. {0}': 'Sie wurden nicht angesetzt. {0}',
+  'Game {0} is open: {1} has White.': 'Partie {0} ist eröffnet: {1} hat Weiß.',
+  'The connection broke before the answer to the joining came.':
+    'Die Verbindung ist abgerissen, bevor die Antwort auf den Beitritt kam.',
+  '{0} was not joined. {1}': '{0} ist nicht beigetreten. {1}',
+  '{0} has Black: the clocks run.': '{0} hat Schwarz: die Uhren laufen.',
+  'Game {0} is off the table.': 'Partie {0} ist vom Tisch.',
+  'Game {0} was not taken off. {1}': 'Partie {0} wurde nicht vom Tisch genommen. {1}',
+  'Game {0} is left as it stands.': 'Partie {0} bleibt, wie sie steht.',
+  'This pairing is left.': 'Diese Ansetzung bleibt.',
+  '{0} against {1}: begun, and not ended here.': '{0} gegen {1}: hier begonnen und nicht beendet.',
+  '{0} Once the connection is there again, the table is looked at.':
+    '{0} Sobald die Verbindung wieder da ist, wird am Tisch nachgesehen.',
+  'Game {0} was taken off the table.': 'Partie {0} wurde vom Tisch genommen.',
+  '{0} has joined {1} in game {2}. It stays as it is; pair {3} anew.':
+    '{0} ist {1} in Partie {2} beigetreten. Das bleibt so; setze {3} neu an.',
+  'Game {0} stands open: {1} has White, and {2} has not joined.':
+    'Partie {0} steht offen: {1} hat Weiß, und {2} ist nicht beigetreten.',
+  'It may be any of these games: {0}. Look at them, and leave this pairing.':
+    'Es kann jede dieser Partien sein: {0}. Sieh sie an und lass diese Ansetzung.',
+  'No game has been opened so far.': 'Bisher ist keine Partie eröffnet.',
+  'Join {0} again': '{0} noch einmal beitreten lassen',
+  'Open it again': 'Noch einmal eröffnen',
+  'Take game {0} off': 'Partie {0} vom Tisch nehmen',
+  '{0} plays already, in game {1}.': '{0} spielt schon, in Partie {1}.',
+  '{0} is not connected.': '{0} ist nicht verbunden.',
+  'Enter it': 'Eintragen',
+  'The last moves': 'Die letzten Züge',
+  'Game {0} is not on the table.': 'Partie {0} ist nicht am Tisch.',
+  'As the system': 'Wie das System',
+  'Light': 'Hell',
+  'Dark': 'Dunkel',
+  'Wood': 'Holz',
+  'Green': 'Grün',
+  'Blue': 'Blau',
+  'Club': 'Klub',
+  'Bold': 'Kräftig',
+  'Plain': 'Schlicht',
+  'Sounds are on': 'Töne sind an',
+  'Sounds are off': 'Töne sind aus',
+  'waiting …': 'wartet …',
+  '{0}’s clock': 'Uhr von {0}',
+  ', Black': ', Schwarz',
+  'Draw offered': 'Remis angeboten',
+  'Offer draw': 'Remis',
+  'Play {0}?': '{0} spielen?',
+  'Waiting for an opponent': 'Wartet auf einen Gegner',
+  'This seat is free': 'Dieser Platz ist frei',
+  'The clocks start as soon as somebody joins.': 'Die Uhren laufen, sobald jemand beitritt.',
+  'The clocks start as soon as you join.': 'Die Uhren laufen, sobald du beitrittst.',
+  'To play, open your personal link.': 'Zum Spielen öffne deinen persönlichen Link.',
+  'Calling it …': 'Wird reklamiert …',
+  'A player has to call it.': 'Ein Spieler muss es reklamieren.',
+  'An earlier position': 'Eine frühere Stellung',
+  'The game goes on: go to the last move to play.': 'Die Partie geht weiter: zum Spielen geh zum letzten Zug.',
+  'Sending …': 'Wird gesendet …',
+  'The lobby has not answered yet.': 'Die Lobby hat noch nicht geantwortet.',
+  'Your turn': 'Du bist am Zug',
+  'Waiting for your opponent': 'Dein Gegner ist am Zug',
+  'Check!': 'Schach!',
+  'Then {0}–{1}: a click takes it back.': 'Dann {0}–{1}: ein Klick nimmt es zurück.',
+  'free seat': 'freier Platz',
+  'From a position': 'Ab einer Stellung',
+  '+{0}{1} in 1 move': '+{0}{1} in 1 Zug',
+  '+{0}{1} in {2} moves': '+{0}{1} in {2} Zügen',
+  'second period': 'zweite Zeitstufe',
+  'It is your turn.': 'Du bist am Zug.',
+  'Games': 'Partien',
+  'Your turn in 1 game': 'Am Zug in 1 Partie',
+  'Your turn in {0} games': 'Am Zug in {0} Partien',
+  'Show all {0}': 'Alle {0} zeigen',
+  'white: ': 'weiß: ',
+  'black: ': 'schwarz: ',
+  'free': 'frei',
+  'Game ': 'Partie ',
+  'from a position': 'ab einer Stellung',
+  'Join game {0}': 'Partie {0} beitreten',
+  'Join': 'Beitreten',
+  'your turn': 'am Zug',
+  'watch': 'ansehen',
+  'their turn': 'Gegner am Zug',
+  'Nobody waits for an opponent.': 'Niemand wartet auf einen Gegner.',
+  'No game is being played.': 'Keine Partie läuft.',
+  'No game is over yet.': 'Noch keine Partie ist zu Ende.',
+  'Chess club': 'Schachklub',
+  '{0}’s flag has fallen, and nobody has called it': 'Die Zeit von {0} ist abgelaufen, und niemand hat es reklamiert',
+  'White and Black offer a draw': 'Weiß und Schwarz bieten Remis an',
+  '{0} of {1} are shown.': '{0} von {1} sind zu sehen.',
+  'Arbiter': 'Schiedsrichter',
+  'Arbiter: 1 waits': 'Schiedsrichter: 1 wartet',
+  'Arbiter: {0} wait': 'Schiedsrichter: {0} warten',
+  'Game {0}: {1}.': 'Partie {0}: {1}.',
+  '{0} more things wait for an arbiter.': '{0} weitere Dinge warten auf einen Schiedsrichter.',
+  'Show it': 'Zeigen',
+  ['Your personal link does not hold at the moment: an arbiter has made another one or closed it, or the list of '
+    + 'players is being changed. You are watching. This page keeps the link, and tries it again. To play on with a new '
+    + 'one, open it, or ask your arbiter for it.']:
+    'Dein persönlicher Link gilt im Moment nicht: ein Schiedsrichter hat einen anderen gemacht oder ihn geschlossen, '
+    + 'oder die Liste der Spieler wird gerade geändert. Du siehst zu. Diese Seite behält den Link und versucht ihn '
+    + 'wieder. Um mit einem neuen weiterzuspielen, öffne ihn, oder frage deinen Schiedsrichter danach.',
+  ['This link is cut short: {0} of its 32 last letters and digits have come. Copy the whole link, and open it again.']:
+    'Dieser Link ist abgeschnitten: von seinen letzten 32 Buchstaben und Ziffern sind {0} da. Kopiere den ganzen '
+    + 'Link und öffne ihn noch einmal.',
+  'That is no personal link. Copy the whole link, and open it again.':
+    'Das ist kein persönlicher Link. Kopiere den ganzen Link und öffne ihn noch einmal.',
+  'You are {0} here. Play as {1} instead?': 'Du bist hier {0}. Stattdessen als {1} spielen?',
+  'Play as {0}': 'Als {0} spielen',
+  'Stay {0}': '{0} bleiben',
+  'Not signed in': 'Nicht angemeldet',
+  'Watching': 'Zuschauer',
+  'arbiter': 'Schiedsrichter',
+  'player': 'Spieler',
+  'The lobby could not read that line.': 'Die Lobby konnte diese Zeile nicht lesen.',
+  'You have not signed in.': 'Du bist nicht angemeldet.',
+  'There is no game of this number.': 'Eine Partie dieser Nummer gibt es nicht.',
+  'You do not play in this game.': 'Du spielst in dieser Partie nicht mit.',
+  'The game has not begun: a seat is empty.': 'Die Partie hat nicht begonnen: ein Platz ist frei.',
+  'The game is over.': 'Die Partie ist zu Ende.',
+  'Another move was made meanwhile. Look at the position again.':
+    'Inzwischen wurde ein anderer Zug gemacht. Sieh die Stellung noch einmal an.',
+  'It is not your turn.': 'Du bist nicht am Zug.',
+  'That is no legal move in this position.': 'Das ist in dieser Stellung kein möglicher Zug.',
+  'An offer of a draw stands already.': 'Ein Remisangebot steht schon.',
+  'No offer of your opponent stands.': 'Von deinem Gegner steht kein Angebot.',
+  'You have claimed in this turn already.': 'Du hast in diesem Zug schon reklamiert.',
+  'The flag has not fallen.': 'Die Zeit ist nicht abgelaufen.',
+  'Both seats of this game are taken.': 'Beide Plätze dieser Partie sind besetzt.',
+  'You cannot play against yourself.': 'Gegen dich selbst kannst du nicht spielen.',
+  'That is no FEN of a valid position.': 'Das ist keine FEN einer gültigen Stellung.',
+  ['These times are out of range: 1 second to 24 hours a period, 0 to 60 seconds a move, 1 to 255 moves before the '
+    + 'second period.']:
+    'Diese Zeiten gehen nicht: je Stufe 1 Sekunde bis 24 Stunden, je Zug 0 bis 60 Sekunden, 1 bis 255 Züge vor der '
+    + 'zweiten Stufe.',
+  'The server has no room for another game.': 'Der Server hat keinen Platz für eine weitere Partie.',
+  'This game has as many moves as the server keeps for one.':
+    'Diese Partie hat so viele Züge, wie der Server für eine aufhebt.',
+  'The game goes on, so it stays on the table.': 'Die Partie läuft noch und bleibt am Tisch.',
+  'The server was short of memory. Nothing has changed; try again.':
+    'Dem Server fehlte Speicher. Nichts hat sich geändert; versuche es noch einmal.',
+  'The server’s clock is out of range. Tell your arbiter.':
+    'Die Uhr des Servers geht nicht recht. Sage es deinem Schiedsrichter.',
+  'From that position the game would be over at once.': 'Aus dieser Stellung wäre die Partie sofort zu Ende.',
+  'You are watching. To play, open your personal link.': 'Du siehst zu. Zum Spielen öffne deinen persönlichen Link.',
+  'This personal link is not known here, at least not now. Ask your arbiter for a new one.':
+    'Diesen persönlichen Link kennt hier niemand, wenigstens jetzt nicht. Bitte deinen Schiedsrichter um einen neuen.',
+  'Only an arbiter may do that.': 'Das darf nur ein Schiedsrichter.',
+  'That was too much within a second. Nothing was sent; try again.':
+    'Das war zu viel in einer Sekunde. Nichts wurde gesendet; versuche es noch einmal.',
+  ['As many of your games as may wait for an opponent already. Wait until one is joined, or ask an arbiter to take '
+    + 'one off.']:
+    'So viele deiner Partien, wie dürfen, warten schon auf einen Gegner. Warte, bis jemand einer beitritt, oder '
+    + 'bitte einen Schiedsrichter, eine vom Tisch zu nehmen.',
+  'The lobby has no connection to the game server at the moment. Nothing was done; try again soon.':
+    'Die Lobby hat im Moment keine Verbindung zum Spielserver. Nichts ist geschehen; versuche es bald noch einmal.',
+  'This page watches sixteen games already.': 'Diese Seite verfolgt schon sechzehn Partien.',
+  'No player of this name is known here.': 'Einen Spieler dieses Namens kennt hier niemand.',
+  'An arbiter has stopped new games for the moment. Games that were begun go on.':
+    'Ein Schiedsrichter hat neue Partien für den Moment gesperrt. Begonnene gehen weiter.',
+  ['The lobby could not change the file of the players, or another writes it at the moment. Try again; if that does '
+    + 'not help, tell who runs the lobby.']:
+    'Die Lobby konnte die Datei der Spieler nicht ändern, oder jemand anders schreibt sie gerade. Versuche es noch '
+    + 'einmal; hilft das nicht, sage es dem, der die Lobby betreibt.',
+  ['This game does not wait for a second player, so it is not taken off from here. One that is over goes by itself '
+    + 'once it is kept.']:
+    'Diese Partie wartet nicht auf einen zweiten Spieler und wird deshalb nicht von hier vom Tisch genommen. Eine '
+    + 'beendete geht von selbst, sobald sie aufgehoben ist.',
+  'This game waits for nobody, or for another player. Look at the table again.':
+    'Diese Partie wartet auf niemanden oder auf einen anderen Spieler. Sieh noch einmal am Tisch nach.',
+  'The table is nearly full, and its last places are for arbiters. Wait until a game is taken off, or ask one.':
+    'Der Tisch ist fast voll, und seine letzten Plätze sind für Schiedsrichter. Warte, bis eine Partie vom Tisch '
+    + 'genommen ist, oder frage einen.',
+  ['Too many of your games that are over are still on the table. They go once they are kept; try again then, or ask '
+    + 'an arbiter.']:
+    'Zu viele deiner beendeten Partien sind noch am Tisch. Sie gehen, sobald sie aufgehoben sind; versuche es dann '
+    + 'wieder, oder frage einen Schiedsrichter.',
+  'You play in as many games as a player may. End one first, or ask an arbiter.':
+    'Du spielst in so vielen Partien, wie ein Spieler darf. Beende erst eine, oder frage einen Schiedsrichter.',
+  'This player does not play in this game.': 'Dieser Spieler spielt in dieser Partie nicht mit.',
+  'It is not this player’s turn.': 'Dieser Spieler ist nicht am Zug.',
+  'No offer of a draw stands: it was declined, or a move was made.':
+    'Kein Remisangebot steht: es wurde abgelehnt, oder ein Zug wurde gemacht.',
+  ['As many games of this player as may wait for an opponent already: one of them has to be joined or taken off '
+    + 'first.']:
+    'So viele Partien dieses Spielers, wie dürfen, warten schon auf einen Gegner: erst muss jemand einer beitreten, '
+    + 'oder eine vom Tisch genommen werden.',
+  'The server refused it: {0} (number {1}).': 'Der Server hat es abgelehnt: {0} (Nummer {1}).',
+  'A FEN has letters, digits and the signs / and - alone.':
+    'Eine FEN hat nur Buchstaben, Ziffern und die Zeichen / und -.',
+  'White wins': 'Weiß gewinnt',
+  'Black wins': 'Schwarz gewinnt',
+  'by checkmate': 'durch Matt',
+  'by resignation': 'durch Aufgabe',
+  'by stalemate': 'durch Patt',
+  'since neither side can give mate': 'da keine Seite matt setzen kann',
+  'by agreement': 'durch Vereinbarung',
+  'on time': 'durch Zeitüberschreitung',
+  'by claim: the position stood for the third time': 'durch Reklamation: die Stellung stand zum dritten Mal',
+  'by claim: fifty moves without a capture or a pawn’s move':
+    'durch Reklamation: fünfzig Züge ohne Schlagen und Bauernzug',
+  'since the position stood for the fifth time': 'da die Stellung zum fünften Mal stand',
+  'since 75 moves were made without a capture or a pawn’s move':
+    'da 75 Züge ohne Schlagen und Bauernzug gemacht wurden',
+  'since a flag fell, and the opponent has the king alone': 'da eine Zeit ablief und der Gegner nur den König hat',
+  'Article {0} of the FIDE Laws': 'Artikel {0} der FIDE-Regeln',
+  'the opening of this game': 'die Eröffnung dieser Partie',
+  'the joining of this game': 'den Beitritt zu dieser Partie',
+  'a move': 'einen Zug',
+  'an offer of a draw': 'ein Remisangebot',
+  'the agreement to a draw': 'die Annahme des Remis',
+  'the refusal of a draw': 'die Ablehnung des Remis',
+  'the resignation': 'die Aufgabe',
+  'a claim of a draw': 'eine Remisreklamation',
+  'the call of the flag': 'die Zeitreklamation',
+  'an act': 'eine Handlung',
+  '{0}’s flag had fallen': 'Die Zeit von {0} war abgelaufen',
+  '{0}: called by {1} for {2}': '{0}: reklamiert von {1} für {2}',
+  '{0}: called by {1}': '{0}: reklamiert von {1}',
+  '{0} before {1}, which {2} entered for {3}': '{0}; danach von {2} für {3} eingetragen: {1}',
+  '{0} before {1} by {2}': '{0}; danach von {2}: {1}',
+  '{0} by {1}, entered by {2}': '{0} von {1}, eingetragen von {2}',
+  '{0} by {1}': '{0} von {1}',
+  'pawn': 'Bauer',
+  'knight': 'Springer',
+  'bishop': 'Läufer',
+  'rook': 'Turm',
+  'queen': 'Dame',
+  'king': 'König',
+  '{0} pawns': '{0} Bauern',
+  '{0} knights': '{0} Springer',
+  '{0} bishops': '{0} Läufer',
+  '{0} rooks': '{0} Türme',
+  '{0} queens': '{0} Damen',
+  '{0} kings': '{0} Könige',
+  'white pawn': 'weißer Bauer',
+  'white knight': 'weißer Springer',
+  'white bishop': 'weißer Läufer',
+  'white rook': 'weißer Turm',
+  'white queen': 'weiße Dame',
+  'white king': 'weißer König',
+  'black pawn': 'schwarzer Bauer',
+  'black knight': 'schwarzer Springer',
+  'black bishop': 'schwarzer Läufer',
+  'black rook': 'schwarzer Turm',
+  'black queen': 'schwarze Dame',
+  'black king': 'schwarzer König',
+  ', checkmate': ', matt',
+  ', check': ', Schach',
+  'castles kingside': 'kurze Rochade',
+  'castles queenside': 'lange Rochade',
+  'takes': 'schlägt',
+  'becomes a {0}': 'wird {0}',
+  'White': 'Weiß',
+  'Black': 'Schwarz',
+  '1 hour': '1 Stunde',
+  '{0} hours': '{0} Stunden',
+  '1 minute': '1 Minute',
+  '{0} minutes': '{0} Minuten',
+  '1 second': '1 Sekunde',
+  '{0} seconds': '{0} Sekunden',
+  ', {0} seconds more a move': ', {0} Sekunden mehr je Zug',
+  '{0} a side{1}': '{0} je Seite{1}',
+  '{0} for {1} moves, then {2}{3}': '{0} für {1} Züge, dann {2}{3}',
+  'no time': 'keine Zeit',
+  'Running games': 'Laufende Partien',
+  'This page wants JavaScript.': 'Diese Seite braucht JavaScript.',
+  'The games before': 'Die Partien davor',
+  'The next games': 'Die nächsten Partien',
+  'eight boards': 'acht Bretter',
+  'The game server does not answer. It is tried again by itself; the clocks run on.':
+    'Der Spielserver antwortet nicht. Es wird von selbst wieder versucht; die Uhren laufen weiter.',
+  'every 20 seconds': 'alle 20 Sekunden',
+  'Full screen': 'Vollbild',
+  'The connection to the lobby is lost. It is tried again by itself; the clocks run on.':
+    'Die Verbindung zur Lobby ist weg. Es wird von selbst wieder versucht; die Uhren laufen weiter.',
+  'To the games': 'Zu den Partien',
+  'Copy link': 'Link kopieren',
+  'There is no game here.': 'Hier ist keine Partie.',
+  'Copy PGN': 'PGN kopieren',
+  'Finished': 'Beendet',
+  'to the board': 'zum Brett',
+  'Rematch': 'Revanche',
+  'To the board or the games': 'Zum Brett oder zu den Partien',
+  'FEN, empty for the usual start': 'FEN, leer für die übliche Grundstellung',
+  'Minutes': 'Minuten',
+  'Keys that are letters': 'Buchstaben als Tasten',
+  'What you can do': 'Was du tun kannst',
+  'You are watching. To play, open the personal link that you were given, or paste it here.':
+    'Du siehst zu. Zum Spielen öffne den persönlichen Link, den du bekommen hast, oder füge ihn hier ein.',
+  'Try now': 'Jetzt versuchen',
+  'Projector': 'Projektor',
+  'half moves of 100': 'von 100 Halbzügen',
+  'A move back (←)': 'Ein Zug zurück (←)',
+  'Copy the link': 'Link kopieren',
+  'Adjourned games': 'Vertagte Partien',
+  'Seconds a move': 'Sekunden je Zug',
+  'What waits': 'Was wartet',
+  'Black:': 'Schwarz:',
+  'The arbiter’s desk': 'Der Tisch des Schiedsrichters',
+  'Open and join the game': 'Partie eröffnen und beitreten lassen',
+  'All boards': 'Alle Bretter',
+  'Your colour': 'Deine Farbe',
+  'Turn the board': 'Brett drehen',
+  'In the record this game stays a draw. The game that goes on with it later is the board’s.':
+    'In der Aufzeichnung bleibt diese Partie remis. Für das Brett zählt die Partie, die sie später fortsetzt.',
+  'To the last move': 'Zum letzten Zug',
+  'Your move': 'Dein Zug',
+  'Your opponent wins. It cannot be taken back.': 'Dein Gegner gewinnt. Das lässt sich nicht zurücknehmen.',
+  'This desk is an arbiter’s. Sign in by an arbiter’s personal link.':
+    'Dieser Tisch ist für Schiedsrichter. Melde dich mit dem persönlichen Link eines Schiedsrichters an.',
+  'To the start (Home)': 'Zum Anfang (Pos1)',
+  'Players and links': 'Spieler und Links',
+  'A move on': 'Ein Zug vor',
+  'Leave it so': 'So lassen',
+  'The game server does not answer. The lobby tries again by itself; every game is kept, and the clocks run on.':
+    'Der Spielserver antwortet nicht. Die Lobby versucht es von selbst wieder; jede Partie ist bewahrt, und die '
+    + 'Uhren laufen weiter.',
+  'Help and keys': 'Hilfe und Tasten',
+  'About this game': 'Über diese Partie',
+  'Go through the game': 'Durch die Partie gehen',
+  'FEN of the board shown': 'FEN des gezeigten Bretts',
+  'Your opponent offers a draw.': 'Dein Gegner bietet Remis an.',
+  'Resign this game?': 'Diese Partie aufgeben?',
+  'After moves': 'Nach Zügen',
+  'Play on': 'Weiterspielen',
+  'With the move that you are about to make': 'Mit dem Zug, den du machen willst',
+  'say the clocks': 'die Uhren ansagen',
+  'A link of another player was opened. One tab plays for one player.':
+    'Der Link eines anderen Spielers wurde geöffnet. Ein Tab spielt für einen Spieler.',
+  'Minutes more': 'Minuten mehr',
+  'For the hall’s screen (h)': 'Für die Leinwand im Saal (h)',
+  'Personal link': 'Persönlicher Link',
+  'Sounds': 'Töne',
+  'Either': 'Egal',
+  'Moves': 'Züge',
+  'fifty moves of each side without a capture or a pawn’s move (9.3): the board counts':
+    'fünfzig Züge jeder Seite ohne Schlagen und Bauernzug (9.3): das Brett zählt',
+  'Ask before a move on the board is sent': 'Nachfragen, bevor ein Zug vom Brett gesendet wird',
+  'You are:': 'Du bist:',
+  'Find a player of the club': 'Einen Spieler des Klubs suchen',
+  'A new game of the same times, with the colours changed':
+    'Eine neue Partie mit derselben Bedenkzeit und vertauschten Farben',
+  'Take this game off the table?': 'Diese Partie vom Tisch nehmen?',
+  'Decline': 'Ablehnen',
+  ['While your opponent thinks, the same gives your next move: it is played at once if it can be, and a click on '
+    + 'the board takes it back. A king that is put on its rook castles. The right button draws circles and arrows for '
+    + 'you alone, with Shift in another colour. Sounds, boards, men and more are chosen at the head of the page.']:
+    'Während dein Gegner denkt, gibt dasselbe deinen nächsten Zug: er wird sofort gespielt, wenn er möglich ist, und '
+    + 'ein Klick auf das Brett nimmt ihn zurück. Ein König, der auf seinen Turm gestellt wird, rochiert. Die rechte '
+    + 'Taste zeichnet Kreise und Pfeile für dich allein, mit der Umschalttaste in anderer Farbe. Töne, Bretter, '
+    + 'Figuren und mehr wählst du oben auf der Seite.',
+  ['This browser keeps the note. Then the game is closed as a draw: an offer is entered for White and its '
+    + 'acceptance for Black, in your name as arbiter. The clocks run until then, and are noted as they stand at the '
+    + 'end.']:
+    'Dieser Browser behält die Notiz. Dann wird die Partie als Remis geschlossen: für Weiß wird ein Angebot und für '
+    + 'Schwarz die Annahme eingetragen, in deinem Namen als Schiedsrichter. Bis dahin laufen die Uhren, und sie werden '
+    + 'notiert, wie sie am Ende stehen.',
+  'The new link': 'Der neue Link',
+  ['A claim that is right ends the game. A wrong one gives your opponent two minutes, stands as an offer of a draw, '
+    + 'and its move is made. You may claim once in a turn.']:
+    'Eine richtige Reklamation beendet die Partie. Eine falsche gibt deinem Gegner zwei Minuten, gilt als '
+    + 'Remisangebot, und ihr Zug wird gemacht. Je Zug darfst du einmal reklamieren.',
+  'Colours': 'Farben',
+  'Find a player': 'Spieler suchen',
+  'Men': 'Figuren',
+  'Keep me signed in here': 'Hier angemeldet bleiben',
+  ['The page asks nothing of any other host. Your personal link is kept in this tab, or in this browser where you '
+    + 'say so; it is never part of an address that is sent.']:
+    'Die Seite fragt keinen anderen Rechner nach etwas. Dein persönlicher Link bleibt in diesem Tab, oder in diesem '
+    + 'Browser, wenn du es sagst; er ist nie Teil einer gesendeten Adresse.',
+  'Resign': 'Aufgeben',
+  'Open the game': 'Partie eröffnen',
+  'Because': 'Weil',
+  'turn the board': 'das Brett drehen',
+  'Shall this browser tell you when it is your turn and you look elsewhere?':
+    'Soll dieser Browser dir sagen, wenn du am Zug bist und woanders hinsiehst?',
+  'e4, Nf3, e2e4': 'e4, Nf3, e2e4',
+  'The pairing that was begun': 'Die begonnene Ansetzung',
+  'A move back': 'Ein Zug zurück',
+  'say the position': 'die Stellung ansagen',
+  'Copy and save': 'Kopieren und sichern',
+  'Pages': 'Seiten',
+  'Offer of a draw': 'Remisangebot',
+  'White:': 'Weiß:',
+  'a draw': 'Remis',
+  'Minutes and seconds a move': 'Minuten und Sekunden je Zug',
+  'Leave it': 'Lassen',
+  'A move on (→)': 'Ein Zug vor (→)',
+  'Pair by hand': 'Von Hand ansetzen',
+  'Save FEN': 'FEN sichern',
+  'Sign in': 'Anmelden',
+  'to the field for a move': 'zum Feld für einen Zug',
+  'This tab alone': 'Nur dieser Tab',
+  'the hall’s view, for a projector, and back': 'die Ansicht für den Saal, für einen Projektor, und zurück',
+  'Yes': 'Ja',
+  'Your link has signed you in, in this tab. Shall this browser keep it?':
+    'Dein Link hat dich in diesem Tab angemeldet. Soll dieser Browser ihn behalten?',
+  'You are watching.': 'Du siehst zu.',
+  'What was done': 'Was getan wurde',
+  'Move': 'Zug',
+  'This browser alone knows these notes.': 'Nur dieser Browser kennt diese Notizen.',
+  'Copy FEN': 'FEN kopieren',
+  'No': 'Nein',
+  'Join this game': 'Dieser Partie beitreten',
+  'Forget the link that is kept here': 'Den hier behaltenen Link vergessen',
+  'the start, the last move': 'der Anfang, der letzte Zug',
+  'Open a game': 'Eine Partie eröffnen',
+  'To the start': 'Zum Anfang',
+  'Settings': 'Einstellungen',
+  'A second period': 'Eine zweite Zeitstufe',
+  'Play': 'Ziehen',
+  'Take off the table': 'Vom Tisch nehmen',
+  'the same position stands for the third time (9.2)': 'dieselbe Stellung steht zum dritten Mal (9.2)',
+  'Keep it': 'Behalten',
+  'Claim a draw': 'Remis reklamieren',
+  'Copy the game’s link': 'Link der Partie kopieren',
+  'Claim': 'Reklamieren',
+  'Done: show it no more': 'Fertig: nicht mehr zeigen',
+  'Empty the form': 'Formular leeren',
+  'To the last move (End)': 'Zum letzten Zug (Ende)',
+  ['Click a man and then a square, or drag it. The squares that it may reach are marked. On the board, the arrow '
+    + 'keys go over the squares, Enter takes a man and puts it down, Escape puts it back. Or type the move:']:
+    'Klicke eine Figur und dann ein Feld an, oder ziehe sie. Die Felder, die sie erreichen kann, sind markiert. Auf '
+    + 'dem Brett gehen die Pfeiltasten über die Felder, die Eingabetaste nimmt eine Figur und setzt sie ab, Escape '
+    + 'stellt sie zurück. Oder schreibe den Zug:',
+  ['The game is opened for White and joined for Black, in your name as arbiter. From then on the clock of who is to '
+    + 'move runs.']:
+    'Die Partie wird für Weiß eröffnet, und Schwarz tritt bei, in deinem Namen als Schiedsrichter. Von da an läuft '
+    + 'die Uhr dessen, der am Zug ist.',
+  'a move back, a move on (on the board and in the list of moves the arrows walk)':
+    'ein Zug zurück, ein Zug vor (auf dem Brett und in der Zugliste wandern die Pfeile)',
+  'Close': 'Schließen',
+  'Turn the board (f)': 'Brett drehen (f)',
+  'Play it': 'Spielen',
+  'Accept': 'Annehmen',
+  'Language': 'Sprache',
+  'Take it back': 'Zurücknehmen',
+  'Running': 'Laufend',
+  'Else this tab alone knows your link, until it is closed. Don’t keep it on a computer that others use.':
+    'Sonst kennt nur dieser Tab deinen Link, bis er geschlossen wird. Behalte ihn nicht auf einem Rechner, den '
+    + 'andere benutzen.',
+  'Adjourn it': 'Vertagen',
+  'Sign out': 'Abmelden',
+  'You are watching. To play, open the personal link that you were given.':
+    'Du siehst zu. Zum Spielen öffne den persönlichen Link, den du bekommen hast.',
+  'Your games': 'Deine Partien',
+};
