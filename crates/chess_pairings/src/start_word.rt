@@ -8,6 +8,7 @@ use round_games::{
     Became, Board, LobbyLink, RoundFile, boards_of, check_notes, check_players, check_times,
     pairings_of, take_words, token_of,
 };
+use std::alloc::Global;
 use std::fs::File;
 use std::net::{Net, SocketAddr, TcpStream};
 use std::random::RandomSource;
@@ -27,8 +28,7 @@ struct Arbiter<'a> {
 
 /// What became of the boards of a round.
 #[derive(Drop)]
-struct Rounds<'a, R> {
-    rt: &'a R,
+struct Rounds<'a> {
     arbiter: Arbiter<'a>,
     file: RoundFile,
     // The boards, by their numbers, of which the arbiter is asked.
@@ -49,51 +49,35 @@ fn moment<R: Clock>(rt: &R) -> Result<i64> {
     }
 }
 
-impl<'a, R> Rounds<'a, R>
-where
-    R: Net<Stream = TcpStream> + RandomSource + AllocGlobal + Clock + Clone + Drop + Print + Eprint,
-{
-    // Nothing has become of boards yet.
-    fn new(rt: &'a R, arbiter: Arbiter<'a>, file: RoundFile) -> Self {
-        Rounds {
-            rt,
-            arbiter,
-            file,
-            asks: Vec::new(rt.alloc()),
-            done: Vec::new(rt.alloc()),
-            is_unheard: false,
-            is_barred: false,
-        }
-    }
-
+impl<'a> Rounds<'a> {
     // Whether it cannot go on.
     fn has_failed(&self) -> bool {
         self.is_unheard || self.is_barred || self.file.has_failed()
     }
 
     // Tells that a board has its game.
-    fn tell_game(&mut self, board: &Board, game: u32) -> Result<()> {
+    fn tell_game<R: Print>(&mut self, rt: &R, board: &Board, game: u32) -> Result<()> {
         let number = board.pairing.board;
         let (white, black) = (board.pairing.white.as_str(), board.game.black.as_str());
-        println!(self.rt; "board {number}: game {game}, {white} against {black}")?;
+        println!(rt; "board {number}: game {game}, {white} against {black}")?;
         self.done.push(number)?;
         Ok(())
     }
 
     // Asks the arbiter about a board.
-    fn tell_question(&mut self, board: &Board) -> Result<()> {
+    fn tell_question<R: Eprint>(&mut self, rt: &R, board: &Board) -> Result<()> {
         let question = board.question(&self.file)?;
-        eprintln!(self.rt; "chess-pairings: {question}")?;
+        eprintln!(rt; "chess-pairings: {question}")?;
         self.asks.push(board.pairing.board)?;
         Ok(())
     }
 
     // Tells what became of a board.
-    fn tell(&mut self, board: &Board, became: Became) -> Result<()> {
+    fn tell<R: Print + Eprint>(&mut self, rt: &R, board: &Board, became: Became) -> Result<()> {
         self.is_unheard = true;
         match became {
-            Became::Has(game) => self.tell_game(board, game)?,
-            Became::Asks => self.tell_question(board)?,
+            Became::Has(game) => self.tell_game(rt, board, game)?,
+            Became::Asks => self.tell_question(rt, board)?,
         }
         self.is_unheard = false;
         Ok(())
@@ -110,9 +94,12 @@ where
     }
 
     // Connects to the lobby as the arbiter. Where the token is no arbiter's, it cannot go on.
-    fn link(&mut self) -> Result<LobbyLink<'a, R>> {
+    fn link<'b, R>(&mut self, rt: &'b R) -> Result<LobbyLink<'b, R>>
+    where
+        R: Net<Stream = TcpStream> + RandomSource + AllocGlobal + Clock + Clone + Drop,
+    {
         let lobby = self.arbiter.lobby;
-        let mut link = LobbyLink::open(self.rt, lobby)?;
+        let mut link = LobbyLink::open(rt, lobby)?;
         if !link.log_in(self.arbiter.token)? {
             self.is_barred = true;
             anyhow::bail!("the lobby at {lobby} knows no arbiter with this token");
@@ -121,33 +108,69 @@ where
     }
 
     // Goes on with a board over a connection.
-    fn go_on_over(&mut self, link: &mut LobbyLink<'_, R>, board: &Board) -> Result<()> {
+    fn go_on_over<R>(&mut self, rt: &R, link: &mut LobbyLink<'_, R>, board: &Board) -> Result<()>
+    where
+        R: Net<Stream = TcpStream>
+            + RandomSource
+            + AllocGlobal
+            + Clock
+            + Clone
+            + Drop
+            + Print
+            + Eprint,
+    {
         let (number, lobby) = (board.pairing.board, self.arbiter.lobby);
         let became = board
             .go_on(link, &mut self.file)
             .context(format_args!("board {number}, by the lobby at {lobby}"))?;
-        self.tell(board, became)
+        self.tell(rt, board, became)
     }
 
     // Goes on with a board over a connection, which is made where there is none, and is given up where it fails.
-    fn go_on_with(&mut self, link: &mut Option<LobbyLink<'a, R>>, board: &Board) -> Result<()> {
+    fn go_on_with<'b, R>(
+        &mut self,
+        rt: &'b R,
+        link: &mut Option<LobbyLink<'b, R>>,
+        board: &Board,
+    ) -> Result<()>
+    where
+        R: Net<Stream = TcpStream>
+            + RandomSource
+            + AllocGlobal
+            + Clock
+            + Clone
+            + Drop
+            + Print
+            + Eprint,
+    {
         let mut held = match link.take() {
             Some(held) => held,
-            None => self.link()?,
+            None => self.link(rt)?,
         };
-        self.go_on_over(&mut held, board)?;
+        self.go_on_over(rt, &mut held, board)?;
         *link = Some(held);
         Ok(())
     }
 
     // The same, where a failure after which boards may be gone on with is kept, if it is the first.
-    fn go_on_at(
+    fn go_on_at<'b, R>(
         &mut self,
-        link: &mut Option<LobbyLink<'a, R>>,
+        rt: &'b R,
+        link: &mut Option<LobbyLink<'b, R>>,
         board: &Board,
         first: &mut Result<()>,
-    ) -> Result<()> {
-        let done = self.go_on_with(link, board);
+    ) -> Result<()>
+    where
+        R: Net<Stream = TcpStream>
+            + RandomSource
+            + AllocGlobal
+            + Clock
+            + Clone
+            + Drop
+            + Print
+            + Eprint,
+    {
+        let done = self.go_on_with(rt, link, board);
         if self.has_failed() {
             return done;
         }
@@ -159,42 +182,26 @@ where
 
     // Goes on with each board whose start has come. It tells the first of the failures, after which a board may be gone on
     // with again.
-    fn go_on(&mut self, boards: &[Board]) -> Result<()> {
-        let now = moment(self.rt)?;
+    fn go_on<R>(&mut self, rt: &R, boards: &[Board]) -> Result<()>
+    where
+        R: Net<Stream = TcpStream>
+            + RandomSource
+            + AllocGlobal
+            + Clock
+            + Clone
+            + Drop
+            + Print
+            + Eprint,
+    {
+        let now = moment(rt)?;
         let mut link = None;
         let mut first = Ok(());
         for board in boards {
             if !self.rests(board, now) {
-                self.go_on_at(&mut link, board, &mut first)?;
+                self.go_on_at(rt, &mut link, board, &mut first)?;
             }
         }
         first
-    }
-
-    // Goes once round the boards. Where the lobby or its server is gone it is tried again.
-    fn go_once(&mut self, boards: &[Board], told: &mut String) -> Result<()> {
-        match self.go_on(boards) {
-            Ok(()) => {
-                told.clear();
-                Ok(())
-            }
-            Err(error) if self.has_failed() => Err(error),
-            Err(error) => tell_failure(self.rt, told, error),
-        }
-    }
-
-    // Goes round the boards until each has its game or is the arbiter's, and tells how many have their games.
-    fn go_round(&mut self, boards: &[Board]) -> Result<usize> {
-        tell_waits(self.rt, boards)?;
-        let mut told = String::new(self.rt.alloc());
-        for _ in 0..u64::MAX {
-            self.go_once(boards, &mut told)?;
-            if self.asks.len().saturating_add(self.done.len()) >= boards.len() {
-                break;
-            }
-            thread::sleep(self.rt, Duration::from_millis(PAUSE));
-        }
-        Ok(self.done.len())
     }
 }
 
@@ -206,6 +213,21 @@ fn tell_failure<R: AllocGlobal + Eprint>(rt: &R, told: &mut String, error: Error
         *told = text;
     }
     Ok(())
+}
+
+// Goes once round the boards. Where the lobby or its server is gone it is tried again.
+fn go_once<R>(rt: &R, rounds: &mut Rounds<'_>, boards: &[Board], told: &mut String) -> Result<()>
+where
+    R: Net<Stream = TcpStream> + RandomSource + AllocGlobal + Clock + Clone + Drop + Print + Eprint,
+{
+    match rounds.go_on(rt, boards) {
+        Ok(()) => {
+            told.clear();
+            Ok(())
+        }
+        Err(error) if rounds.has_failed() => Err(error),
+        Err(error) => tell_failure(rt, told, error),
+    }
 }
 
 // Tells that a board waits for its start.
@@ -225,6 +247,22 @@ fn tell_waits<R: Eprint + Clock>(rt: &R, boards: &[Board]) -> Result<()> {
         {
             tell_wait(rt, board.pairing.board, start)?;
         }
+    }
+    Ok(())
+}
+
+// Goes round the boards until each has its game or is the arbiter's.
+fn go_round<R>(rt: &R, rounds: &mut Rounds<'_>, boards: &[Board]) -> Result<()>
+where
+    R: Net<Stream = TcpStream> + RandomSource + AllocGlobal + Clock + Clone + Drop + Print + Eprint,
+{
+    let mut told = String::new(rt.alloc());
+    for _ in 0..u64::MAX {
+        go_once(rt, rounds, boards, &mut told)?;
+        if rounds.asks.len().saturating_add(rounds.done.len()) >= boards.len() {
+            return Ok(());
+        }
+        thread::sleep(rt, Duration::from_millis(PAUSE));
     }
     Ok(())
 }
@@ -283,6 +321,28 @@ fn file_of<R: Files<File = File> + AllocGlobal>(
     Ok(file)
 }
 
+// Nothing has become of boards yet.
+fn rounds_of<'a>(alloc: Global, arbiter: Arbiter<'a>, file: RoundFile) -> Rounds<'a> {
+    Rounds {
+        arbiter,
+        file,
+        asks: Vec::new(alloc),
+        done: Vec::new(alloc),
+        is_unheard: false,
+        is_barred: false,
+    }
+}
+
+// Goes round the boards to the end, and tells how many have their games.
+fn go_through<R>(rt: &R, rounds: &mut Rounds<'_>, boards: &[Board]) -> Result<usize>
+where
+    R: Net<Stream = TcpStream> + RandomSource + AllocGlobal + Clock + Clone + Drop + Print + Eprint,
+{
+    tell_waits(rt, boards)?;
+    go_round(rt, rounds, boards)?;
+    Ok(rounds.done.len())
+}
+
 // Opens the games of boards, and tells how many have theirs.
 fn open_games<R>(
     rt: &R,
@@ -306,7 +366,8 @@ where
         lobby: starting.lobby,
         token: token.as_str(),
     };
-    Rounds::new(rt, arbiter, file).go_round(boards)
+    let mut rounds = rounds_of(rt.alloc(), arbiter, file);
+    go_through(rt, &mut rounds, boards)
 }
 
 // Tells how many boards have their games. It fails where not all have.
