@@ -625,6 +625,7 @@ export class GameView {
     setText(byId('no-game-words'), this.wasTaken ? TAKEN_OFF : refusalWords({ number: NO_GAME }));
     document.body.classList.toggle('plays', !this.gone && this.isPlaying());
     if (!standing || this.gone) return;
+    if (this.plan && this.myTurn()) this.back = null;
     drawPlayers(this);
     this.renderBoard();
     drawActions(this);

@@ -133,9 +133,9 @@ export class TableView {
     for (const key of this.items.keys()) {
       if (!this.used.has(key)) this.items.delete(key);
     }
-    const yours = groups.own.filter((row) => this.mayMove(row)).length;
+    const turns = groups.own.filter((row) => this.mayMove(row)), yours = turns.length;
     this.app.turns.offer(Boolean(me));
-    this.app.turned(yours ? `table ${yours}` : '', t`It is your turn.`);
+    this.app.turned(turns.map(({ number, ply }) => `${number} ${ply}`).join(), t`It is your turn.`);
     this.app.titled(yours === 0 ? t`Games` : yours === 1 ? t`Your turn in 1 game` : t`Your turn in ${yours} games`);
   }
 

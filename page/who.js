@@ -101,7 +101,8 @@ export class Who {
   /** A link was opened while there is another one. Of the same player it takes its place, and of another only where
    * that is agreed to: who was here is here until then. What is to be told. */
   async weigh() {
-    const { opened } = this, there = await this.ask(opened), here = await this.ask(this.token);
+    // (both are sent at once, so that nothing of who is here goes out under the other's name)
+    const { opened } = this, [there, here] = await Promise.all([opened, this.token].map((token) => this.ask(token)));
     if (this.opened !== opened || !there.player && !there.refusal || !here.player && !here.refusal) return '';
     this.opened = '';
     if (!there.player) return refusalWords(there.refusal);
