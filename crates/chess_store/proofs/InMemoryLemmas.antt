@@ -127,7 +127,7 @@ lived_out limits lives lived failures none reported images returned sectors =
 
 pub not_begun : (limits : Limits) (lives : List Life) (device : MemoryDevice) (fault : StoreFault)
     → IsUnbegun fault device.failures → sector_count_of device ≡ need limits
-    → IsLivedInMemory limits lives (record { device = device; report = Err fault })
+    → IsLivedInMemory limits lives (record { dev = device; report = Err fault })
 not_begun limits lives device fault is sectors = record {
   reported = tt;
   images = tt;

@@ -355,15 +355,19 @@ fn is_host(host: &str) -> bool {
         }
 }
 
-// The hosts that are taken besides, if each is one.
-fn hosts_of<'v, 'a>(values: &'v ArgMatches<'a>) -> Option<&'v [&'a str]> {
-    let hosts = values.get_strs("host").unwrap_or(&[]);
-    for host in hosts {
+// The hosts that are taken besides; none where one of them is no host.
+fn hosts_of<'a>(
+    alloc: Global,
+    values: &ArgMatches<'a>,
+) -> Result<Option<Vec<&'a str>>, AllocError> {
+    let mut hosts = Vec::new(alloc);
+    for host in values.get_strs("host").unwrap_or(&[]) {
         if !is_host(host) {
-            return None;
+            return Ok(None);
         }
+        hosts.push(*host)?;
     }
-    Some(hosts)
+    Ok(Some(hosts))
 }
 
 // What `serve` asks for; none where an address is none.
@@ -373,7 +377,7 @@ fn serving_of<'a>(alloc: Global, values: &ArgMatches<'a>) -> Result<Option<Word<
         server_address(values),
         own_address(values),
         proxy_of(values),
-        hosts_of(values),
+        hosts_of(alloc, values)?,
     ) else {
         return Ok(None);
     };
@@ -389,7 +393,7 @@ fn serving_of<'a>(alloc: Global, values: &ArgMatches<'a>) -> Result<Option<Word<
         games: values.get_one("games"),
         live: values.get_str("live"),
         log: values.get_str("log"),
-        hosts: Vec::from_slice(alloc, hosts)?,
+        hosts,
     })))
 }
 

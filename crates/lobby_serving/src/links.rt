@@ -42,16 +42,14 @@ impl<'a, R: Files<File = File> + AllocGlobal + RandomSource> FileLinks<'a, R> {
             (bytes : List ℕ) × G.may_fill source.old bytes source.new × (string_bytes new.linked.token ≡ encode_lower bytes)) }
     {
         let text = lobby_players::read_file(self.rt, self.file)?;
-        let mut token = new_token(source)?;
+        let token = new_token(source)?;
         let new = relinked(
             self.rt.alloc(),
             players,
             text.as_slice(),
             &order.name,
             &token,
-        );
-        token.fill(0);
-        let new = new?;
+        )?;
         lobby_players::put_file(self.rt, self.rt.alloc(), self.file, new.text.as_str())?;
         Ok(new)
     }

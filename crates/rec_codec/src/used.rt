@@ -8,10 +8,10 @@ ghost use Rattle.rec_codec.specs.NameField.{name as name_field, name_bytes};
 ghost use Rattle.rec_codec.specs.Position.{position as position_field, position_bytes};
 ghost use Rattle.rec_codec.specs.Period.{period_moves, period_second};
 
+use crate::Name;
 use crate::fields::{put, u32_at};
 use crate::position::{board_of, position_bytes};
 use chess_board::Board;
-use crate::Name;
 
 // The 17 bytes of a name.
 fn some_name_bytes(name: Name) -> [u8; 17]

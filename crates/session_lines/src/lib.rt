@@ -1,4 +1,7 @@
 //! What comes of a stream, where its lines end, and what a session has sent of them.
+//!
+//! Modules: `cuts` finds where a line ends, `pieces` has the bytes that come of a stream a piece at a time, `heard` the
+//! lines that a session has sent and that were not taken.
 #![tactic(auto)]
 
 mod cuts;

@@ -1,6 +1,24 @@
 //! `chess_bits`: squares, colours, kinds and sets of squares.
 use chess_bits::{Bits, Colour, Kind, Square};
 
+// Both colours, and the six kinds. (A name that is not there is not compiled, and one too few is a match with a gap.)
+fn value_of(kind: Kind) -> u32 {
+    match kind {
+        Kind::Pawn => 1,
+        Kind::Knight | Kind::Bishop => 3,
+        Kind::Rook => 5,
+        Kind::Queen => 9,
+        Kind::King => 0,
+    }
+}
+
+fn is_first(colour: Colour) -> bool {
+    match colour {
+        Colour::White => true,
+        Colour::Black => false,
+    }
+}
+
 // a1 is 0, h1 is 7, h8 is 63.
 #[test]
 fn sets_of_squares(rt: HostRuntime) {
@@ -20,27 +38,5 @@ fn sets_of_squares(rt: HostRuntime) {
     ends.remove(Square::new(0));
     let first: Option<Square> = ends.first();
     assert!(rt; first == Some(Square::at(8, 8)));
-}
-
-// Both colours, and the six kinds. (A name that is not there is not compiled, and one too few is a match with a gap.)
-fn values_of(kind: Kind) -> u32 {
-    match kind {
-        Kind::Pawn => 1,
-        Kind::Knight | Kind::Bishop => 3,
-        Kind::Rook => 5,
-        Kind::Queen => 9,
-        Kind::King => 0,
-    }
-}
-
-fn is_first(colour: Colour) -> bool {
-    match colour {
-        Colour::White => true,
-        Colour::Black => false,
-    }
-}
-
-#[test]
-fn colours_and_kinds(rt: HostRuntime) {
-    assert!(rt; values_of(Kind::Queen) == 9 && is_first(Colour::White));
+    assert!(rt; value_of(Kind::Queen) == 9 && is_first(Colour::White));
 }

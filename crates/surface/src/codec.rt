@@ -15,7 +15,7 @@ static NEEDS: [(u32, u32, u32); 5] = [
 ];
 
 #[test]
-fn sectors_that_limits_need(rt: HostRuntime) {
+fn needs_and_names(rt: HostRuntime) {
     for (games, plies, sectors) in &NEEDS {
         let limits = Limits {
             games: *games,
@@ -24,6 +24,8 @@ fn sectors_that_limits_need(rt: HostRuntime) {
         assert!(rt; limits.is_in_range(Version::Two));
         assert!(rt; need(limits) == *sectors);
     }
+    let name: Option<Name> = Name::try_new("a-b");
+    assert!(rt; name.is_none());
 }
 
 fn are_zeros(bytes: &[u8]) -> bool {
@@ -91,11 +93,4 @@ fn a_record_and_a_sector(rt: HostRuntime) {
     assert!(rt; starts_so(&sector, &MOVED));
     let records: Option<ArrayVec<Record, 4>> = read_sector(&sector);
     assert!(rt; records.expect(&rt, "records").len() == 1);
-}
-
-#[test]
-fn names(rt: HostRuntime) {
-    let made: Option<Name> = Name::try_new("ann");
-    assert!(rt; made.expect(&rt, "a name").as_str() == "ann");
-    assert!(rt; Name::try_new("a-b").is_none());
 }

@@ -47,19 +47,6 @@ fn word(act: &Act) -> &'static str {
     }
 }
 
-#[test]
-fn acts_of_commands(rt: HostRuntime) {
-    let text = Text::from("e4").ok().expect(&rt, "a text");
-    let command = Command {
-        at: 1_000,
-        who: Name::try_new("ann"),
-        act: play(1, 0, text),
-    };
-    assert!(rt; command.who.is_some() && word(&command.act) == "move");
-    assert!(rt; word(&new_game(Colour::White, 60, 2, Some((1, 30)))) == "open");
-    assert!(rt; word(&claim(1, 8, true, None)) == "claim");
-}
-
 // The number that an answer has for a refusal.
 fn number(refusal: Refusal) -> u32 {
     match refusal {
@@ -99,7 +86,16 @@ fn entered(verdict: Verdict, _limits: Limits) -> Option<Entry> {
 }
 
 #[test]
-fn refusals_and_verdicts(rt: HostRuntime) {
+fn commands_refusals_and_verdicts(rt: HostRuntime) {
+    let text = Text::from("e4").ok().expect(&rt, "a text");
+    let command = Command {
+        at: 1_000,
+        who: Name::try_new("ann"),
+        act: play(1, 0, text),
+    };
+    assert!(rt; command.who.is_some() && word(&command.act) == "move");
+    assert!(rt; word(&new_game(Colour::White, 60, 2, Some((1, 30)))) == "open");
+    assert!(rt; word(&claim(1, 8, true, None)) == "claim");
     let limits = Limits {
         games: 4,
         plies: 60,

@@ -5,13 +5,12 @@ use chess_table::Reply;
 use sector_dev::MemoryDevice;
 use std::process::Abort;
 
-#[test]
-fn lines(rt: HostRuntime) {
-    let name = match parse(b"name ann") {
-        Some(Line::Called(name)) => name.as_str() == "ann",
-        _ => false,
-    };
-    assert!(rt; name && parse(b"name a-b").is_none());
+// Whether a line gives its session this name.
+fn is_called(line: &[u8], text: &str) -> bool {
+    match parse(line) {
+        Some(Line::Called(name)) => name.as_str() == text,
+        Some(Line::Act(_)) | None => false,
+    }
 }
 
 fn feed(rt: &impl Abort, hub: &mut Hub<MemoryDevice>, sid: Sid, piece: &str) {
@@ -104,5 +103,5 @@ fn a_session_from_a_reader(rt: HostRuntime) {
     let mut written = Vec::new(rt.alloc());
     let ran: Result<(), RunFault> = run(rt.alloc(), &mut reader, &mut written, store, moments);
     assert!(rt; ran.is_ok() && written.as_slice() == b"ok list 0\n".as_slice());
-    assert!(rt; place(RunFault::LineTooLong) == 5);
+    assert!(rt; place(RunFault::LineTooLong) == 5 && is_called(b"name ann", "ann"));
 }

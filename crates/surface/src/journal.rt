@@ -35,6 +35,14 @@ fn compact(rt: &impl Abort, alloc: Global, journal: &mut Journal<MemoryDevice>) 
     assert!(rt; journal.finish(&[Record::default()]) == Ok(()));
 }
 
+fn widen(rt: &impl Abort, journal: &mut Journal<MemoryDevice>, base: &[Record; 1]) {
+    let limits: Limits = journal.limits();
+    assert!(rt; journal.half() == Half::Zero && limits.games <= 8 && limits.plies <= 60);
+    assert!(rt; EIGHT_AND_SIXTY.is_in_range(Version::Two));
+    assert!(rt; journal.holds(EIGHT_AND_SIXTY) && snapshot_records(EIGHT_AND_SIXTY) >= 1);
+    assert!(rt; journal.widen(EIGHT_AND_SIXTY, base) == Ok(()));
+}
+
 // An append, a compaction, a switch and a widening: each is a commit, and the last three change the half.
 fn commit_all(rt: &impl Abort, alloc: Global, journal: &mut Journal<MemoryDevice>) {
     let one = [Record::default()];
@@ -43,11 +51,7 @@ fn commit_all(rt: &impl Abort, alloc: Global, journal: &mut Journal<MemoryDevice
     compact(rt, alloc, journal);
     assert!(rt; journal.fits_switch(1, 1));
     assert!(rt; journal.switch(&one, &one) == Ok(()));
-    let limits: Limits = journal.limits();
-    assert!(rt; journal.half() == Half::Zero && limits.games <= 8 && limits.plies <= 60);
-    assert!(rt; EIGHT_AND_SIXTY.is_in_range(Version::Two));
-    assert!(rt; journal.holds(EIGHT_AND_SIXTY) && snapshot_records(EIGHT_AND_SIXTY) >= 1);
-    assert!(rt; journal.widen(EIGHT_AND_SIXTY, &one) == Ok(()));
+    widen(rt, journal, &one);
 }
 
 #[test]

@@ -3,6 +3,7 @@ use arrayvec::ArrayString;
 use chess_board::{BadBoard, Board, Move};
 use chess_end::{Article, Ending, GameResult};
 use chess_text::{FenError, GameText, coordinate, fen_read, fen_write, is_playable, pgn};
+use std::alloc::Global;
 use std::process::Abort;
 
 // Each but the last has faults of later kinds too, as it has no kings. `perft` tells both faults of a target alike, and
@@ -39,6 +40,12 @@ fn named(rt: &impl Abort, text: &str) -> Move {
     mv.expect(rt, "a move")
 }
 
+fn check_pgn(rt: &impl Abort, alloc: Global, game: &GameText<'_>) {
+    assert!(rt; is_playable(&game.start, game.moves));
+    let text: String = pgn(alloc, game).expect(rt, "memory");
+    assert!(rt; text.as_str() == GAME);
+}
+
 #[test]
 fn the_text_of_a_game(rt: HostRuntime) {
     let [first, second] = [named(&rt, "f2f3"), named(&rt, "e7e5")];
@@ -57,7 +64,5 @@ fn the_text_of_a_game(rt: HostRuntime) {
         period: None,
     };
     assert!(rt; !is_playable(&game.start, &[named(&rt, "e2e5")]));
-    assert!(rt; is_playable(&game.start, game.moves));
-    let text: String = pgn(rt.alloc(), &game).expect(&rt, "memory");
-    assert!(rt; text.as_str() == GAME);
+    check_pgn(&rt, rt.alloc(), &game);
 }
