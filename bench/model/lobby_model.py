@@ -16,6 +16,8 @@ from its standard input, and answers each by `ok` once it holds, so that a test 
     slow MS  each answer comes MS milliseconds late
     beside WHITE BLACK   a game is opened and joined on the server, past the lobby: nobody is told
     off G    a game that is over is taken off the table there, as by who keeps games: nobody is told
+    end      there the games that go on are resigned, and those that wait and all but the last twelve that are over are
+             taken off: nobody is told
 
 Wants Debian's python3-websockets."""
 
@@ -372,9 +374,20 @@ class Lobby:
             white, black = word.split()[1:]
             number = self.server.ask(white, 'open white 300 2')[0].split()[2]
             self.server.ask(black, 'join ' + number)
+        elif word == 'end':
+            self.end_games()
         elif word.startswith('off '):
             white = self.server.ask(None, 'show ' + word[4:])[0].split(' ')[3]
             self.server.ask(white, 'drop ' + word[4:])
+
+    def end_games(self):
+        rows = [row.split(' ') for row in self.server.ask(None, 'list')[1:]]
+        for number, white, black, _, result in rows:
+            if result == '*':
+                waits = '-' in (white, black)
+                self.server.ask(black if white == '-' else white, ('drop ' if waits else 'resign ') + number)
+        for number, white, _, _, _ in [row for row in rows if row[4] != '*'][:-12]:
+            self.server.ask(white, 'drop ' + number)
 
     # ---- a connection
 

@@ -235,7 +235,8 @@ class Programs:
         self.at_server(pairs)
 
     def end_games(self):
-        """Past the lobby the games that go on are resigned, and those that wait are taken off."""
+        """Past the lobby the games that go on are resigned, and those that wait and all but the last twelve that are over
+        are taken off."""
         with socket.create_connection(('127.0.0.1', self.server.port)) as line:
             answers = line.makefile('rb')
 
@@ -247,6 +248,9 @@ class Programs:
                 if result == '*':
                     ask('name ' + (black if white == '-' else white))
                     ask(('drop ' if '-' in (white, black) else 'resign ') + number)
+            for number, white, _, _, _ in [row for row in rows if row[4] != '*'][:-12]:
+                ask('name ' + white)
+                ask('drop ' + number)
 
     def off(self, number):
         def takes(ask):

@@ -44,6 +44,14 @@ fn put_connections(
         "counter",
         "Connections that were turned away since the lobby began.",
         lobby.turned_away(),
+    )?;
+    put_number(
+        text,
+        alloc,
+        "logins_refused_total",
+        "counter",
+        "Logins that were refused since the lobby began.",
+        lobby.counts().logins_refused,
     )
 }
 

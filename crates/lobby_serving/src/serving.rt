@@ -19,18 +19,45 @@ use std::net::{Net, SocketAddr};
 use std::random::RandomSource;
 use std::rt::{Clock, Files};
 
+// So many milliseconds lie at least between two lines that tell of one count.
+const REST: u64 = 60_000;
+
+// A count as it was told last, and from when on another is told.
+#[derive(Clone, Copy)]
+struct ToldCount {
+    count: u64,
+    next_at: u64,
+}
+
+impl ToldCount {
+    // Nothing was told.
+    fn new() -> ToldCount {
+        ToldCount {
+            count: 0,
+            next_at: 0,
+        }
+    }
+
+    // Whether a count is to be told now: it is another than the last one, which was told a minute ago or before.
+    fn is_news(&mut self, count: u64, at: u64) -> bool {
+        let is_news = count != self.count && at >= self.next_at;
+        if is_news {
+            self.count = count;
+            self.next_at = at.saturating_add(REST);
+        }
+        is_news
+    }
+}
+
 /// What an operator was told on standard error.
 #[derive(Drop)]
 struct Telling<'a, R> {
     rt: &'a R,
     server: ServerAddress,
     is_here: bool,
-    turned_away: u64,
-    next_at: u64,
+    turned_away: ToldCount,
+    logins_refused: ToldCount,
 }
-
-// So many milliseconds lie at least between two lines about connections that were turned away.
-const REST: u64 = 60_000;
 
 impl<R: Eprint> Telling<'_, R> {
     // That the server came or went.
@@ -49,11 +76,18 @@ impl<R: Eprint> Telling<'_, R> {
 
     // That connections were turned away, so many since it began.
     fn tell_turned_away(&mut self, count: u64, at: u64) {
-        if count != self.turned_away && at >= self.next_at {
-            self.turned_away = count;
-            self.next_at = at.saturating_add(REST);
+        if self.turned_away.is_news(count, at) {
             let _ = eprintln!(self.rt;
                 "so many connections were turned away or made room by now: {count}"
+            );
+        }
+    }
+
+    // That logins were refused, so many since it began.
+    fn tell_logins_refused(&mut self, count: u64, at: u64) {
+        if self.logins_refused.is_news(count, at) {
+            let _ = eprintln!(self.rt;
+                "so many logins were refused by now, by links that hold no more or by guesses: {count}"
             );
         }
     }
@@ -91,8 +125,8 @@ where
                 rt,
                 server: serving.server,
                 is_here: false,
-                turned_away: 0,
-                next_at: 0,
+                turned_away: ToldCount::new(),
+                logins_refused: ToldCount::new(),
             },
             table: Table::new(rt.alloc(), serving.server),
             health: Health::new(rt.alloc()),
@@ -130,6 +164,8 @@ where
         let turned = lobby.turn(self.rt, at, log, &mut self.links)?;
         self.telling.tell_server(lobby.has_server());
         self.telling.tell_turned_away(lobby.turned_away(), at);
+        self.telling
+            .tell_logins_refused(lobby.counts().logins_refused, at);
         lobby.rest(within(turned, self.table.rest(at)))?;
         Ok(())
     }
