@@ -1,4 +1,8 @@
 //! Games as texts of an archive.
+//!
+//! Modules: `heading` has the values of tags, `tags` writes tags, `moves` puts the clocks between the moves, `lines`
+//! writes tokens in lines, `whole` joins the three; `law` has the law. `proofs/Kept` shows that the moves stay,
+//! `proofs/Fits` which tokens fit.
 #![tactic(auto)]
 
 mod heading;

@@ -1,4 +1,10 @@
 //! The words of chess-archive, by which games are kept, exported and written live; and their command line.
+//!
+//! Modules: `command_line` has the words, `keeping`, `exporting` and `living` are what the three do. `keeper` does what
+//! the clerk decides, `telling` does work again and again, and tells what goes wrong once. `rows` has the games of the
+//! server's list, `asking` asks for a game's PGN, `sources` has what PGNs are made with: `players` has the players of
+//! their file, `log_reader` the log, read on as it grows; `reading` reads files. `specs/Games` says which games of a
+//! list are over.
 #![tactic(auto)]
 
 mod asking;

@@ -1,4 +1,6 @@
 //! The archive of a chess club's games: its words.
+//!
+//! What was read of its words goes to `archive_words`.
 #![tactic(auto)]
 
 use archive_words::{Word, command, export, keep, live, read_words};

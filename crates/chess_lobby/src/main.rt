@@ -1,4 +1,6 @@
 //! The lobby of a chess club: its words.
+//!
+//! What was read of its words goes to `lobby_commands` and `lobby_serving`.
 #![tactic(auto)]
 
 use command_words::{NotDone, end_of, words_given};

@@ -1,4 +1,6 @@
 //! The rounds of a league: games opened for pairings, their results, and the report of a tournament.
+//!
+//! Modules: `start_word` goes round the boards.
 #![tactic(auto)]
 
 mod start_word;

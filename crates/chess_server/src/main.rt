@@ -1,4 +1,6 @@
 //! A chess game server: its words.
+//!
+//! What was read of its words goes to `journal_words`, `server_playing` and `server_work`; then it tells how it ended.
 #![tactic(auto)]
 
 use clap::Error;

@@ -1,5 +1,10 @@
 //! What the command lines of programs share: the words that were given, the options of each word as a table, and how a program
 //! ends.
+//!
+//! Modules: `given` has the words that were given, `argument` makes an argument, `options` a command line of a table of
+//! words, and arguments of a table of options, `ending` ends a program, `version` is the version of all; `reading`
+//! hands on what a command line finds in a program's words, and makes a usage fault where these ask for nothing;
+//! `addresses` reads the addresses that options give.
 #![tactic(auto)]
 
 mod addresses;

@@ -1,8 +1,7 @@
 //! What copies are made, and when none is.
 use crate::sectors::{byte_at, sector};
 use journal_copy::{Copied, CopyFault, Slots, Source, Still, copy};
-use rec_codec::write_header;
-use rec_codec::{Half, Header, Limits, Version};
+use rec_codec::{Half, Header, Limits, Version, write_header};
 use sector_dev::{CrashDevice, DeviceFault, Got, MemoryDevice};
 use std::alloc::Global;
 use std::process::Abort;

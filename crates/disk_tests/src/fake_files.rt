@@ -1,8 +1,9 @@
 //! Devices on files that stand for the system's: on one of which nothing but a place is known, and on sectors in memory.
 use crate::files::{Call, last_kind, make};
 use crate::sectors::{byte_at, check_first, fill};
-use sector_dev::{FileDevice, PositionedFile, SectorFile, Standing};
-use sector_dev::{CrashDevice, Device, MemoryDevice, OnceDevice};
+use sector_dev::{
+    CrashDevice, Device, FileDevice, MemoryDevice, OnceDevice, PositionedFile, SectorFile, Standing,
+};
 use std::io::{self, ErrorKind};
 use std::process::Abort;
 

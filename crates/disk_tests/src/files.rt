@@ -1,7 +1,6 @@
 //! The system's files as devices of sectors, under their names.
 use crate::sectors::{byte_at, fill, sector};
-use sector_dev::{FileDevice, PositionedFile};
-use sector_dev::{Device, Got};
+use sector_dev::{Device, FileDevice, Got, PositionedFile};
 use std::fs::{File, Metadata, OpenOptions};
 use std::io::{self, ErrorKind};
 use std::os::fd::AsRawFd;

@@ -8,9 +8,8 @@ ghost use Rattle.server_work.specs.Faults.{IsOpenFault};
 ghost use Rattle.journal_words.specs.Faults.{IsBlankFault, IsFormatFault, IsWidenFault, MayWiden};
 
 use chess_store::{Store, StoreFault};
-use sector_dev::FileDevice;
 use rec_codec::{Limits, need};
-use sector_dev::{Device, Got};
+use sector_dev::{Device, FileDevice, Got};
 use server_telling::{Teller, TellingDevice};
 use server_work::{Fault, Formatting, JournalLimits, open_file, open_on, opened, printed, told};
 use std::alloc::Global;

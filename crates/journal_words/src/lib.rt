@@ -1,4 +1,6 @@
 //! The words that make, widen, copy and show a journal.
+//!
+//! Modules: `journals` makes and widens files, `reading` has `copy` and `show`.
 #![tactic(auto)]
 
 mod journals;

@@ -12,10 +12,10 @@ ghost use Rattle.rec_codec.specs.Limits.{IsInRange};
 
 use chess_entry::Command;
 use chess_store::{Store, StoreFault};
-use sector_dev::FileDevice;
 use player_lines::commits::{CommitFault, Plan, make_commits};
 use player_lines::{Fault, LIMITS, read_command, read_limits, split};
 use rec_codec::{Limits, need};
+use sector_dev::FileDevice;
 use sector_journal::{Journal, JournalFault, format, open};
 
 /// The commands that came since the last batches.

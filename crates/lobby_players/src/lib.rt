@@ -1,5 +1,12 @@
 //! The players' file: a line a player, and the tokens that players show; who is put into it, and who has a new link. On a
 //! disk it is read whole and put whole in its own place, by one at a time; beside it stands whether entries are paused.
+//!
+//! Modules: `line` has the line of a player, `lines` what stands in front of a line and which names are alike,
+//! `reading` the file, `adding` a player more, `relinking` a player's new link, `token` tokens and links, `faults` what
+//! is wrong; `file` reads and puts the file on a disk, by one at a time (`Hold`), `entries` keeps beside it whether
+//! entries are paused, `players` has who stands in a file. `proofs/Told` has what a line tells, `proofs/EachLine` the
+//! players of lines, `proofs/Written` that a file that was written is read back, `proofs/NewLink` whose the new link
+//! is, `proofs/Same` which players are the same, and `proofs/TokenText` that a token's text is one.
 #![tactic(auto)]
 
 mod adding;

@@ -13,8 +13,7 @@ use chess_entry::{Command, Entry, GREATEST_MOMENT, Name, Refusal, Verdict, know_
 use chess_line::{Line, parse};
 use chess_table::{Table, answer, enter_answered, judge};
 use player_lines::{Fault, LIMITS, Sent, push_reply, read_limits, read_sent, split, text_line};
-use rec_codec::write_record;
-use rec_codec::{Limits, Record};
+use rec_codec::{Limits, Record, write_record};
 use std::alloc::{AllocError, Global};
 use std::mem;
 use stored::{Change, Stored};

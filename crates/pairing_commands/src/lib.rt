@@ -1,4 +1,6 @@
 //! The command line of `chess_pairings`: its words, with the texts of their help.
+//!
+//! Modules: `command_line` has the words, `days` what `--begins` and `--ends` may say.
 #![tactic(auto)]
 
 mod command_line;

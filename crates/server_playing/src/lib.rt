@@ -1,4 +1,7 @@
 //! The words of the program that play games: the lines of an input, players on a port, the drill.
+//!
+//! Modules: `running` has `run`, `serving` has `serve`, `clock` their moments, `drilling` the drill of the lives of a
+//! store.
 #![tactic(auto)]
 
 mod clock;

@@ -2,8 +2,7 @@
 ghost use Rattle.std.specs.Prelude.{◌≡◌};
 
 use crate::telling::Teller;
-use sector_dev::{FileDevice, PositionedFile};
-use sector_dev::{Device, DeviceFault, Got};
+use sector_dev::{Device, DeviceFault, FileDevice, Got, PositionedFile};
 use std::io;
 
 /// A device that keeps the system's error.

@@ -1,4 +1,7 @@
 //! What an operator is told on standard error: of a journal's file, of standard input and output, of a port.
+//!
+//! It knows no fault and no store. Modules: `telling` tells an operator, `device` is a journal's file that tells of
+//! each call that failed, `streams` are standard input and output that do.
 #![tactic(auto)]
 
 mod device;

@@ -2,8 +2,7 @@
 use chess_entry::Entry;
 use chess_table::{Table, TableFault, entry_record};
 use player_lines::Fault;
-use rec_codec::{read_record, write_record};
-use rec_codec::{Limits, Record, Version};
+use rec_codec::{Limits, Record, Version, read_record, write_record};
 use std::alloc::Global;
 
 /// A byte of a record of the snapshot, both counted from 0, and its other value.
