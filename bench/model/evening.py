@@ -64,6 +64,22 @@ def handy_moves(hall):
         person.is_so(-1 < mate < end, 'behind the move: ' + said)
 
 
+def full_names(hall):
+    """Who watches without a link sees full names, also of players that sat down after the page was loaded."""
+    hall.sit()
+    sue = hall.sue
+    number = hall.set_up()
+    hall.watch(number)
+    sue.until(lambda: hall.lobby.full['ann'] in sue.text('.facts'), 'who waits')
+    hall.bob.click('[data-key="join-%s"]' % number)
+    for name in ('ann', 'bob'):
+        sue.until(lambda: hall.lobby.full[name] in sue.text('.facts'), 'who plays: ' + name)
+    sue.run('location.hash = "#/hall/%s"' % number)
+    sue.reads('#near .name', hall.lobby.full['ann'])
+    sue.run('location.hash = "#/"')
+    sue.until(lambda: hall.lobby.full['bob'] in sue.text('#running-list'), 'at the table too')
+
+
 def planned(person):
     return person.lit('.planned')
 
@@ -574,5 +590,5 @@ def in_german(hall):
 
 
 NEEDS_CONTROL_TOO = (no_dead_buttons, slow_answers)
-EVENING = (no_dead_buttons, handy_moves, planned_moves, asked_first, heard_tones, own_marks, taken_men, boards_and_men,
-           told_elsewhere, slow_answers, foreign_links, room_for_all, read_by_all, in_german)
+EVENING = (no_dead_buttons, handy_moves, full_names, planned_moves, asked_first, heard_tones, own_marks, taken_men,
+           boards_and_men, told_elsewhere, slow_answers, foreign_links, room_for_all, read_by_all, in_german)
