@@ -70,8 +70,9 @@ fn start() -> AnsweredBoard
     }
 }
 
-// The same as `board`, of a reader whose failure is marked.
-fn board_reads<R: Read, W: Write>(
+/// The same as `board`, of a reader whose failure is marked: `Read` comes of nothing else. The mark starts as `Reads::new`
+/// gives it.
+pub fn board_reads<R: Read, W: Write>(
     reader: &mut R,
     reads: &mut Reads,
     writer: &mut W,

@@ -5,4 +5,5 @@ mod answer;
 mod board_loop;
 mod line;
 
-pub use board_loop::{BoardFault, board};
+pub use board_loop::{BoardFault, board, board_reads};
+pub use line_loop::Reads;

@@ -46,8 +46,9 @@ impl From<LoopFault<HubFault>> for RunFault {
     }
 }
 
-// The same as `run`, of a reader whose failure is marked.
-fn run_reads<R: Read, W: Write, D: Device + Drop, M: Moments + Drop>(
+/// The same as `run`, of a reader whose failure is marked: `Read` comes of nothing else. The mark starts as `Reads::new`
+/// gives it.
+pub fn run_reads<R: Read, W: Write, D: Device + Drop, M: Moments + Drop>(
     alloc: Global,
     reader: &mut R,
     reads: &mut Reads,

@@ -1,7 +1,7 @@
 //! The word `board` of the server as a program of its own: it stands on a third of the crates, so that it is proved first.
 #![tactic(auto)]
 
-use board_session::{BoardFault, board};
+use board_session::{BoardFault, Reads, board_reads};
 use server_telling::{Teller, TellingReader, TellingWriter};
 use std::process::ExitCode;
 
@@ -17,7 +17,7 @@ fn main(rt: HostRuntime) -> ExitCode {
     let teller = Teller::new(&rt, false);
     let mut reader = TellingReader::new(rt.stdin(), &teller);
     let mut writer = TellingWriter::new(rt.stdout(), &teller);
-    match board(&mut reader, &mut writer) {
+    match board_reads(&mut reader, &mut Reads::new(), &mut writer) {
         Ok(()) => ExitCode::SUCCESS,
         Err(fault) => {
             let name = name(fault);

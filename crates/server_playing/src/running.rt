@@ -3,7 +3,7 @@ ghost use Rattle.std.specs.Prelude.{◌≡◌, IfErr};
 ghost use Rattle.server_playing.specs.Faults.{IsRunFault, of_run};
 
 use crate::clock::SteadyClock;
-use chess_hub::{Moments, RunFault, run};
+use chess_hub::{Moments, Reads, RunFault, run_reads};
 use sector_dev::Device;
 use server_telling::{INPUT, Teller, TellingDevice, TellingReader, TellingWriter};
 use server_work::{Fault, open_file, open_on, told};
@@ -35,7 +35,7 @@ fn play_on<D: Device + Drop, I: Read, W: Write, M: Moments + Drop>(
     ensures { IfErr result IsRunFault }
 {
     let store = open_on(alloc, device)?;
-    match run(alloc, reader, writer, store, moments) {
+    match run_reads(alloc, reader, &mut Reads::new(), writer, store, moments) {
         Ok(()) => Ok(()),
         Err(fault) => Err(fault_of_run(fault)),
     }

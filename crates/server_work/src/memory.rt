@@ -3,7 +3,7 @@ ghost use Rattle.std.specs.Prelude.{IfErr};
 ghost use Rattle.server_work.specs.Faults.{IsBoardFault};
 
 use crate::ends::{Fault, fault_of_board};
-use board_session::board;
+use board_session::{Reads, board_reads};
 use server_telling::{Teller, TellingReader, TellingWriter};
 use std::io::{Read, Write};
 
@@ -18,7 +18,7 @@ pub fn play_board<R: Eprint, I: Read, O: Write>(
     let teller = Teller::new(rt, false);
     let mut reader = TellingReader::new(input, &teller);
     let mut writer = TellingWriter::new(output, &teller);
-    match board(&mut reader, &mut writer) {
+    match board_reads(&mut reader, &mut Reads::new(), &mut writer) {
         Ok(()) => Ok(()),
         Err(fault) => Err(fault_of_board(fault)),
     }
