@@ -200,7 +200,7 @@ HEARD = '''window.tones = []; const begin = OscillatorNode.prototype.start;
 def heard_tones(hall):
     """Sounds are on from the first click: move, capture, check, offer, low time and end; a switch is in sight."""
     hall.sit()
-    hall.open(minutes='0.4', increment='0')
+    hall.open(minutes='20')
     ann, bob = hall.ann, hall.bob
     ann.run(HEARD)
     tones = lambda: [round(tone) for tone in ann.run('return window.tones.splice(0)')]
@@ -213,7 +213,6 @@ def heard_tones(hall):
     ann.until(lambda: tones() == [210, 320, 320, 640], 'a check')
     bob.click('#offer')
     ann.until(lambda: tones() == [440, 550], 'an offer')
-    ann.until(lambda: tones() == [880] * 3, 'low time', 30)
     ann.click('#sound')
     ann.is_so(ann.sees('#sound[aria-pressed=false]'), 'off by one click')
     ann.run('tones.length = 0')
@@ -228,8 +227,10 @@ def heard_tones(hall):
     ann.run(HEARD)
     ann.click('#sound')
     ann.until(lambda: tones() == [320], 'on by another')
-    hall.open(minutes='20')
+    number = hall.set_up(minutes='0.4', increment='0')
     ann.run('tones.length = 0')
+    bob.click('[data-key="join-%s"]' % number)
+    ann.until(lambda: tones() == [880] * 3, 'low time', 30)
     ann.click('#resign')
     ann.click('#resign-dialog [value=yes]')
     ann.until(lambda: tones() == [520, 390], 'the end')
