@@ -194,6 +194,7 @@ export class GameView {
     }
     if (!standing || standing.article) this.plan = null;
     this.standing = standing && { ...standing, at: performance.now() };
+    if (standing) this.app.learnNames([standing.white, standing.black]);
     this.gone = !standing;
     if (ended) this.note('');
     if (!standing || standing.article || standing.ply !== this.claimAt) byId('claim-dialog').close();

@@ -215,7 +215,7 @@ class Page {
       return false;
     }
     this.table.load(readRows(answer.slice(2)));
-    this.learnNames();
+    this.learnNames([...this.table.rows.values()].flatMap((row) => [row.white, row.black]));
     if (this.lostOpen) this.findOpened();
     this.findBegun();
     return true;
@@ -299,9 +299,8 @@ class Page {
   }
 
   /** Without a link only who sits in a game is told: who sits down later is asked for then. */
-  async learnNames() {
+  async learnNames(names) {
     if (this.who.player || this.asksNames) return;
-    const names = [...this.table.rows.values()].flatMap((row) => [row.white, row.black]);
     if (!names.some((name) => name && !this.players.has(name) && !this.nameless.has(name))) return;
     this.asksNames = true;
     await this.askPlayers();
@@ -320,6 +319,7 @@ class Page {
       return;
     }
     this.table.notice(number, sent, standing);
+    if (standing) this.learnNames([standing.white, standing.black]);
     if (this.view === this.game && this.game.number === number) this.game.notice(act, answer, standing);
     if (this.view === this.hall) this.hall.notice(number, sent, answer, standing);
     if (this.view === this.desk) this.desk.notice(number, act, answer, standing);

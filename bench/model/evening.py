@@ -64,6 +64,22 @@ def handy_moves(hall):
         person.is_so(-1 < mate < end, 'behind the move: ' + said)
 
 
+def full_names(hall):
+    """Who watches without a link sees full names, also of players that sat down after the page was loaded."""
+    hall.sit()
+    sue = hall.sue
+    number = hall.set_up()
+    hall.watch(number)
+    sue.until(lambda: hall.lobby.full['ann'] in sue.text('.facts'), 'who waits')
+    hall.bob.click('[data-key="join-%s"]' % number)
+    for name in ('ann', 'bob'):
+        sue.until(lambda: hall.lobby.full[name] in sue.text('.facts'), 'who plays: ' + name)
+    sue.run('location.hash = "#/hall/%s"' % number)
+    sue.reads('#near .name', hall.lobby.full['ann'])
+    sue.run('location.hash = "#/"')
+    sue.until(lambda: hall.lobby.full['bob'] in sue.text('#running-list'), 'at the table too')
+
+
 def planned(person):
     return person.lit('.planned')
 
@@ -184,7 +200,7 @@ HEARD = '''window.tones = []; const begin = OscillatorNode.prototype.start;
 def heard_tones(hall):
     """Sounds are on from the first click: move, capture, check, offer, low time and end; a switch is in sight."""
     hall.sit()
-    hall.open(minutes='0.4', increment='0')
+    hall.open(minutes='20')
     ann, bob = hall.ann, hall.bob
     ann.run(HEARD)
     tones = lambda: [round(tone) for tone in ann.run('return window.tones.splice(0)')]
@@ -197,7 +213,6 @@ def heard_tones(hall):
     ann.until(lambda: tones() == [210, 320, 320, 640], 'a check')
     bob.click('#offer')
     ann.until(lambda: tones() == [440, 550], 'an offer')
-    ann.until(lambda: tones() == [880] * 3, 'low time', 30)
     ann.click('#sound')
     ann.is_so(ann.sees('#sound[aria-pressed=false]'), 'off by one click')
     ann.run('tones.length = 0')
@@ -212,8 +227,10 @@ def heard_tones(hall):
     ann.run(HEARD)
     ann.click('#sound')
     ann.until(lambda: tones() == [320], 'on by another')
-    hall.open(minutes='20')
+    number = hall.set_up(minutes='0.4', increment='0')
     ann.run('tones.length = 0')
+    bob.click('[data-key="join-%s"]' % number)
+    ann.until(lambda: tones() == [880] * 3, 'low time', 30)
     ann.click('#resign')
     ann.click('#resign-dialog [value=yes]')
     ann.until(lambda: tones() == [520, 390], 'the end')
@@ -574,5 +591,5 @@ def in_german(hall):
 
 
 NEEDS_CONTROL_TOO = (no_dead_buttons, slow_answers)
-EVENING = (no_dead_buttons, handy_moves, planned_moves, asked_first, heard_tones, own_marks, taken_men, boards_and_men,
-           told_elsewhere, slow_answers, foreign_links, room_for_all, read_by_all, in_german)
+EVENING = (no_dead_buttons, handy_moves, full_names, planned_moves, asked_first, heard_tones, own_marks, taken_men,
+           boards_and_men, told_elsewhere, slow_answers, foreign_links, room_for_all, read_by_all, in_german)
