@@ -657,29 +657,37 @@ fewer_own name (p ∷ ps) (q ∷ qs) kept =
     let there : count_of None (Own name) (q ∷ qs) ≡ cond (counted None (Own name) q) 1 0 + count_of None (Own name) qs = count_more P q qs in
     omega (arith, one_own name p q kept.0, fewer_own name ps qs kept.1, here, there)
 
--- so many of them are closed
-leave_less : (name : List ℕ) (n : ℕ) (ps : List Place) →
-    count_of None (Own name) (leave (counted None (Own name)) n ps) ≤ count_of None (Own name) ps - n
-leave_less name n [] = omega arith
-leave_less name n (p ∷ ps) =
-    let P = counted None (Own name) in
+-- so many fewer are there, or none
+leaves_own : (name : List ℕ) (n : ℕ) (ps : List Place) →
+    (count_of None (Own name) (leave (counted None (Own name)) n ps) + n ≤ count_of None (Own name) ps)
+    ⊎ (count_of None (Own name) (leave (counted None (Own name)) n ps) ≡ 0)
+leaves_own name n [] = inr refl
+leaves_own name n (p ∷ ps) =
+    let P : Place → Bool = counted None (Own name) in
     elim (leave_step (counted None (Own name)) n p ps) [
       | inl one ↦
           let here : count_of None (Own name) (p ∷ ps) ≡ 1 + count_of None (Own name) ps = count_in P p ps one.held in
           let there : count_of None (Own name) (gone p ∷ leave (counted None (Own name)) (n - 1) ps)
           ≡ count_of None (Own name) (leave (counted None (Own name)) (n - 1) ps) =
           count_out P (gone p) (leave P (n - 1) ps) (own_gone name p) in
-          rw one.is (omega (arith, here, there, leave_less name (n - 1) ps, one.more))
+          elim (leaves_own name (n - 1) ps) [
+            | inl enough ↦ inl (rw one.is (omega (arith, here, there, enough, one.more)))
+            | inr none ↦ inr (rw one.is (count_out P (gone p) (leave P (n - 1) ps) (own_gone name p) ∙ none))
+          ]
       | inr passes ↦
           let here : count_of None (Own name) (p ∷ ps) ≡ cond (counted None (Own name) p) 1 0 + count_of None (Own name) ps = count_more P p ps in
           let there : count_of None (Own name) (p ∷ leave (counted None (Own name)) n ps)
           ≡ cond (counted None (Own name) p) 1 0 + count_of None (Own name) (leave (counted None (Own name)) n ps) =
           count_more P p (leave P n ps) in
           elim passes.fails [
-            | inl none ↦ rw passes.is (omega (arith, here, there, leave_less name n ps, none))
-            | inr not_so ↦
-                let zero_is : cond (counted None (Own name) p) 1 0 ≡ 0 = ap (λ (b : Bool). cond b 1 0) not_so in
-                rw passes.is (omega (arith, here, there, zero_is, leave_less name n ps))
+            | inl none ↦
+                let less : count_of None (Own name) (leave (counted None (Own name)) n ps) ≤ count_of None (Own name) ps =
+                fewer_own name ps (leave P n ps) (leave_owns name n ps) in
+                inl (rw passes.is (omega (arith, here, there, less, none)))
+            | inr not_so ↦ elim (leaves_own name n ps) [
+              | inl enough ↦ inl (rw passes.is (omega (arith, here, there, enough)))
+              | inr none ↦ inr (rw passes.is (count_out P p (leave P n ps) not_so ∙ none))
+            ]
           ]
     ]
 
@@ -688,10 +696,11 @@ room_few : (name : List ℕ) (player : Option (List ℕ)) (ps : List Place) → 
 room_few name None ps is = absurd (cc)
 room_few name (Some other) ps is =
     let same : other ≡ name = (bytes_eq-Decides other name).0 is in
-    let less : count_of None (Own name) (leave (counted None (Own name)) (count_of None (Own name) ps - 16) ps)
-    ≤ count_of None (Own name) ps - (count_of None (Own name) ps - 16) =
-    leave_less name (count_of None (Own name) ps - 16) ps in
-    let few : count_of None (Own name) (leave (counted None (Own name)) (count_of None (Own name) ps - 16) ps) ≤ 16 = omega (arith, less) in
+    let few : count_of None (Own name) (leave (counted None (Own name)) (count_of None (Own name) ps - 16) ps) ≤ 16 =
+    elim (leaves_own name (count_of None (Own name) ps - 16) ps) [
+      | inl enough ↦ omega (arith, enough)
+      | inr none ↦ omega (arith, none)
+    ] in
     subst (λ (n : List ℕ). count_of None (Own name) (own_room (Some n) ps) ≤ 16) (sym same) few
 
 each_own_few : (name : List ℕ) (qs ps : List Place) → (count_of None (Own name) ps ≤ 16) ⊎ (0 < count_of None (Own name) qs) →

@@ -1,8 +1,9 @@
 -- One browser more.
-use Rattle.std.proofs.Common.{◌<◌, ◌≡◌, ◌∙◌, List, length, sym, subst, arith}
+use Rattle.std.proofs.Common.{◌<◌, ◌≡◌, ◌∙◌, List, length, get_or, sym, subst, arith}
 use Rattle.std.proofs.lemmas.List.{with_items_is}
 use Rattle.lobby_guests.specs.declared.guest.Guest.{Guest}
-use Rattle.lobby_guests.specs.Seating.{AreYielding}
+use Rattle.lobby_guests.specs.declared.places.Place.{Place}
+use Rattle.lobby_guests.specs.Seating.{Yields, AreYielding}
 use Rattle.lobby_guests.proofs.Seats.{yielding_none, yielding_further, yielding_all}
 use Rattle.lobby_guests.proofs.seating.yield_all.Goals as goal
 
@@ -18,8 +19,11 @@ pub loop-i-preserved : goal.loop-i-preserved
 loop-i-preserved g c =
     let items = c.loop-i.guest-items in
     let lt : c.loop-i.i < length items = omega (arith, c.loop-i-test.true, c.loop-i.auto.guest-items) in
-    yielding_further c.args.places.now c.args.guests.now.items items c.loop-i.i c.guest-item.result c.yield_to.new.self _ lt
-    c.requires c.loop-i.invariant c.yield_to.ensures
+    let place = c.index-places-i.result in
+    let guest = get_or c.loop-i.guest-items c.loop-i.i c.guest-item.result in
+    yielding_further c.args.places.now c.args.guests.now.items items c.loop-i.i c.guest-item.result c.yield_to.new.self place lt
+    c.requires c.loop-i.invariant
+    (subst (λ (p : Place). Yields p guest c.yield_to.new.self) c.index-places-i.is c.yield_to.ensures)
 
 pub returns : goal.returns
 returns g c =
