@@ -1,13 +1,13 @@
 -- How other protocols begin.
-use Rattle.std.proofs.Common.{◌≡◌, ◌↔◌, ◌∙◌, ◌<◌, ◌≤◌, ◌+◌, ℕ, Bool, true, false, List, [], ◌∷◌, ◌++◌, Option, Some, None, length, get_or, take, drop, refl, ap, sym, subst, inl, inr, arith, append_assoc, take-append-drop, length-append}
+use Rattle.std.proofs.Common.{◌≡◌, ◌↔◌, ◌∙◌, ◌<◌, ◌≤◌, ◌+◌, ℕ, Bool, true, false, List, [], ◌∷◌, ◌++◌, length, get_or, take, drop, refl, ap, sym, subst, inl, inr, arith, append_assoc, take-append-drop, length-append}
 use Rattle.std.specs.Prelude.{IsTrue, eqb, codes}
 use Rattle.std.specs.List.{starts_with}
-use Rattle.std.proofs.lemmas.Bool.{cases_Bool, false≢true}
+use Rattle.std.proofs.lemmas.Bool.{false≢true}
 use Rattle.std.proofs.lemmas.Bool.Decides.{Decides-eqb}
 use Rattle.std.proofs.lemmas.List.{length-take-le}
 use Rattle.std.proofs.lemmas.List.Elements.{All-head, All-tail}
 use Rattle.std.proofs.lemmas.Slice.Eq.{starts_is}
-use Rattle.session_lines.specs.Lines.{is_feed, HasNoFeed, IsUnfinished}
+use Rattle.session_lines.specs.Lines.{is_feed, HasNoFeed}
 use Rattle.client_streams.specs.Protocols.{IsRequest, BeginHttp, BeginTls, AreOfAnotherProtocol}
 use Rattle.client_streams.proofs.PortionLemmas.{line-taken}
 
