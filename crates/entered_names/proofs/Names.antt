@@ -18,7 +18,7 @@ use Rattle.chess_hub.specs.Session.{Said as Answer}
 use Rattle.chess_hub.specs.Turn.{IsReading}
 use Rattle.chess_hub.specs.Answers.{is_late, given_name, renamed, own_answer, alone, asked}
 use Rattle.lobby_roster.specs.declared.players.Player.{Player}
-use Rattle.lobby_words.specs.Words.{word_of, rest_of, as_name, pair_line, sort_of, is_read_word, is_act_word, is_play_word, is_name_sort}
+use Rattle.lobby_words.specs.Words.{rest_of, as_name, pair_line, sort_of, is_read_word, is_act_word, is_play_word}
 use Rattle.lobby_words.specs.Naming.{takes_name}
 use Rattle.lobby_words.specs.Answers.{ended, answer}
 use Rattle.lobby_desk.specs.Events.{DeskInput, Opened, Closed, Said, Hurried, Heard, ServerTurned, Renewed, Linked, ForItself, ForPositions, ForTable, ForGame, ForAct, Owed, Nobody, Naming, Asker, Dropper, Pairer, Followers, Behind}
