@@ -4,8 +4,8 @@ use chess_bits::Colour;
 use chess_entry::{Command, Limits, Name, Verdict};
 use chess_hub::{Line, parse};
 use chess_table::{
-    Reply, Table, TableFault, act_line, answer, enter, entry_record, judge, record_entry,
-    refusal_line,
+    Game, Reply, Table, TableFault, Times, act_line, answer, enter, entry_record, judge,
+    record_entry, refusal_line,
 };
 use rec_codec::{Record, Version, write_record};
 use std::process::Abort;
@@ -64,10 +64,30 @@ fn answered(rt: &impl Abort, table: &mut Table, command: &Command) -> ArrayStrin
     }
 }
 
+// Who plays a game, and what was offered and claimed.
+fn check_players(rt: &impl Abort, game: &Game) {
+    let white = game.player(Colour::White).expect(rt, "a player");
+    assert!(rt; white.as_str() == "ann" && game.number().get() == 1);
+    let marks = [
+        game.offers(Colour::White),
+        game.offers(Colour::Black),
+        game.claimed(),
+    ];
+    assert!(rt; marks == [true, true, true] && game.ending().is_none());
+}
+
+// Its start, its times, and what each side held as the turn began.
+fn check_times(rt: &impl Abort, game: &Game) {
+    let times: Times = game.times();
+    assert!(rt; times.initial == 300 && times.increment == 0);
+    let held: [u32; 2] = [game.held(Colour::White), game.held(Colour::Black)];
+    assert!(rt; held == [416_000, 420_000] && game.start().fullmove() == 1);
+}
+
 // What is seen of the one game of a table.
 fn check_game(rt: &impl Abort, table: &Table) {
     let counts = (table.games(), table.entries());
-    assert!(rt; counts == (1, 12));
+    assert!(rt; counts == (1, 12) && table.moment() == 6_000 && table.last() == 1);
     let game = table.game_at(0).expect(rt, "a game");
     assert!(rt; game.moves().len() == 9 && game.moment() == 5_000);
     let left: [u32; 2] = [
@@ -75,6 +95,8 @@ fn check_game(rt: &impl Abort, table: &Table) {
         game.left(Colour::Black, 6_000),
     ];
     assert!(rt; left == [416_000, 419_000]);
+    check_players(rt, game);
+    check_times(rt, game);
 }
 
 // Of these three records the head has the flags 31.
