@@ -40,7 +40,7 @@ const REQUESTS: [Request; 26] = [
     ),
     (
         b"GET http://a:1/ HTTP/1.1\r\nHost: a:1\r\n\r\n",
-        b"HTTP/1.1 403 ",
+        b"HTTP/1.1 200 OK\r\n",
         b"",
         false,
     ),
