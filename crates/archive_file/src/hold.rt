@@ -5,8 +5,8 @@ use std::fs::File;
 use std::io::{self, ErrorKind};
 use std::rt::Files;
 
-/// The right to keep games in an archive, which nobody else has who asks for it: a file beside the archive is locked (`flock`).
-/// It ends with this value, and where the process is killed.
+/// The right to keep games in an archive, which nobody else has who asks for it: a file beside the archive is locked
+/// (`flock`). It ends with this value, and where the process is killed.
 #[derive(Drop)]
 pub struct Hold {
     file: DiskFile,

@@ -1,4 +1,5 @@
-//! An archive of games in a file of records: a line a game, each game once; and these lines for those who only read them.
+//! An archive of games in a file of records: a line a game, each game once; and these lines for those who only read
+//! them.
 //!
 //! Modules: `line` makes a game's line, `reading` reads one, `behind` looks at what stands behind the lines, `archive`
 //! keeps games, `lines` has the lines for those who only read them, `hold` the lock of who keeps games, `opened` an

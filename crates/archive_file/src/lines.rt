@@ -1,5 +1,5 @@
-//! The lines of an archive's file. Opening an archive cuts off what stands behind its last line, so a file that is no archive
-//! is refused before.
+//! The lines of an archive's file. Opening an archive cuts off what stands behind its last line, so a file that is no
+//! archive is refused before.
 use crate::archive::games_of;
 use crate::behind::look_behind;
 use crate::reading::game_of;
@@ -19,7 +19,8 @@ fn lacks_feed(alloc: Global, bytes: &[u8]) -> Result<bool> {
     }
 }
 
-// Leaves the whole lines of an archive's bytes, each with its line feed. It fails where more stands behind them than a torn line.
+// Leaves the whole lines of an archive's bytes, each with its line feed. It fails where more stands behind them than a
+// torn line.
 fn leave_lines(alloc: Global, bytes: &mut Vec<u8>) -> Result<()> {
     if lacks_feed(alloc, bytes.as_slice())? {
         bytes.push(b'\n')?;
@@ -38,8 +39,8 @@ fn look_at_games(alloc: Global, text: &str) -> Result<()> {
     Ok(())
 }
 
-/// The lines of an archive's file; the last one may lack its line feed. It fails where one is no game's, where a game has two, or
-/// where more stands behind them than a torn line.
+/// The lines of an archive's file; the last one may lack its line feed. It fails where one is no game's, where a game
+/// has two, or where more stands behind them than a torn line.
 pub fn lines_of<R: Files + AllocGlobal>(rt: &R, file: &str) -> Result<String> {
     let mut bytes = fs::read(rt, file).context(format_args!("reading {file}"))?;
     leave_lines(rt.alloc(), &mut bytes).context(format_args!("{file} is no archive"))?;

@@ -23,9 +23,9 @@ where
     Ok(Archive::open(rt.alloc(), file)?)
 }
 
-/// The archive of a file, which is made where there is none, and its lines; the last one is ended where it lacks only its
-/// line feed. It fails where the file is no archive, as `lines_of` does, and then the file is as it was; and where the system
-/// refuses a call.
+/// The archive of a file, which is made where there is none, and its lines; the last one is ended where it lacks only
+/// its line feed. It fails where the file is no archive, as `lines_of` does, and then the file is as it was; and where
+/// the system refuses a call.
 pub fn open_archive<R>(rt: &R, path: &str) -> Result<Opened>
 where
     R: Files<File = File> + AllocGlobal,

@@ -1,5 +1,5 @@
--- The texts of a spreadsheet's cells. A program of spreadsheets takes one that begins with `=`, `+`, `-` or `@` for a formula, and
--- may do what that says; so an apostrophe stands before it.
+-- The texts of a spreadsheet's cells. A program of spreadsheets takes one that begins with `=`, `+`, `-` or `@` for a
+-- formula, and may do what that says; so an apostrophe stands before it.
 use Rattle.std.specs.Prelude.{ℕ, ◌==◌, ◌||◌, Bool, false, List, [], ◌∷◌, if◌then◌else◌}
 
 abbrev pub begins_formula : ℕ → Bool

@@ -15,7 +15,8 @@ fn is_formula(text: &str) -> bool
     }
 }
 
-/// A text as it stands in a cell: with an apostrophe before it, where it might be taken for a formula (OWASP, "CSV Injection").
+/// A text as it stands in a cell: with an apostrophe before it, where it might be taken for a formula (OWASP, "CSV
+/// Injection").
 pub fn cell_text(alloc: Global, text: &str) -> Result<String, AllocError>
     ensures { IfOk result (λ cell. string_bytes cell ≡ spec.cell_text text.now) }
 {

@@ -13,8 +13,8 @@ fn is_of_the_call(line: &str) -> bool {
         || line.starts_with("[Continues ")
 }
 
-// The words of a line of moves, but for the numbers of moves and the comments, which tell what clocks showed. It tells whether a
-// comment goes on behind the line.
+// The words of a line of moves, but for the numbers of moves and the comments, which tell what clocks showed. It tells
+// whether a comment goes on behind the line.
 fn push_words<'a>(
     telling: &mut Vec<&'a str>,
     alloc: Global,
@@ -46,7 +46,8 @@ pub fn telling_parts<'a>(alloc: Global, pgn: &'a str) -> Result<Vec<&'a str>, Al
     Ok(telling)
 }
 
-// Whether two PGNs are of one game, whatever their events, sites, dates, rounds and clocks, and whatever game they continue.
+// Whether two PGNs are of one game, whatever their events, sites, dates, rounds and clocks, and whatever game they
+// continue.
 fn is_same(alloc: Global, one: &[u8], other: &[u8]) -> Result<bool, AllocError> {
     let (Ok(one), Ok(other)) = (str::from_utf8(one), str::from_utf8(other)) else {
         return Ok(false);

@@ -42,7 +42,8 @@ fn second_of(halves: &[Halves], first: u32) -> Option<u32> {
     second
 }
 
-/// The PGN of a game where another continues it: it says by which. None where no game does, and its PGN is told as it was kept.
+/// The PGN of a game where another continues it: it says by which. None where no game does, and its PGN is told as it
+/// was kept.
 pub fn pgn_continued(
     alloc: Global,
     kept: &Kept,

@@ -29,7 +29,8 @@ fn kept_in(alloc: Global, lines: &[&str]) -> Result<Vec<Kept>> {
     Ok(games)
 }
 
-/// The games of a text of an archive's lines, in their order. It fails where a line is no game's, and where memory is refused.
+/// The games of a text of an archive's lines, in their order. It fails where a line is no game's, and where memory is
+/// refused.
 pub fn games_kept(alloc: Global, text: &str) -> Result<Vec<Kept>> {
     let lines = parts(alloc, text, '\n')?;
     kept_in(alloc, lines.as_slice())

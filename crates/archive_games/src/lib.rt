@@ -1,5 +1,5 @@
-//! The games of an archive, and what is told of them: whether one is another, which go on in others; and all of them written as
-//! PGN or as rows.
+//! The games of an archive, and what is told of them: whether one is another, which go on in others; and all of them
+//! written as PGN or as rows.
 //!
 //! Modules: `kept` has the games of an archive's lines, `compared` tells whether a game is the one that was kept,
 //! `halves` finds where kept games of the same two ended, `continued` which games say that they go on in others,

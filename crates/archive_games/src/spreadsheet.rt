@@ -134,9 +134,9 @@ fn put_games(rows: &mut Writer<Vec<u8>>, alloc: Global, games: &[Kept]) -> Resul
     Ok(())
 }
 
-/// A line for each of these games, in their order, behind one with the names of the columns: the game's number, the values of its
-/// tags, how many moves were made, the position from which it began where that is not the initial one, the adjourned game that it
-/// continues, and its PGN. Each text stands as `cell_text` has it.
+/// A line for each of these games, in their order, behind one with the names of the columns: the game's number, the
+/// values of its tags, how many moves were made, the position from which it began where that is not the initial one,
+/// the adjourned game that it continues, and its PGN. Each text stands as `cell_text` has it.
 pub fn rows_of_games(alloc: Global, games: &[Kept]) -> Result<Vec<u8>> {
     let mut rows = WriterBuilder::new()
         .terminator(Terminator::CRLF)

@@ -14,8 +14,8 @@ fn write_game<R: AllocGlobal + Print>(rt: &R, kept: &Kept, halves: &[Halves]) ->
     Ok(())
 }
 
-/// Writes the PGN of each game, in their order; where another of them continues it, it says by which. It fails where memory is
-/// refused, or the output takes no more.
+/// Writes the PGN of each game, in their order; where another of them continues it, it says by which. It fails where
+/// memory is refused, or the output takes no more.
 pub fn write_games<R: AllocGlobal + Print>(rt: &R, games: &[Kept]) -> Result<()> {
     let halves = halves_of(rt.alloc(), games)?;
     for kept in games {
@@ -24,8 +24,8 @@ pub fn write_games<R: AllocGlobal + Print>(rt: &R, games: &[Kept]) -> Result<()>
     Ok(())
 }
 
-/// Writes a row for each game as CSV, in their order, behind one with the names of the columns. It fails where memory is
-/// refused, or the output takes no more.
+/// Writes a row for each game as CSV, in their order, behind one with the names of the columns. It fails where memory
+/// is refused, or the output takes no more.
 pub fn write_rows<R: AllocGlobal + Print>(rt: &R, games: &[Kept]) -> Result<()> {
     let rows = rows_of_games(rt.alloc(), games)?;
     io::writer(rt).write_all(rows.as_slice())?;

@@ -16,8 +16,8 @@ abbrev pub is_laid : List (List ℕ) → Bool
 is_laid [] = false
 is_laid (token ∷ tokens) = are_tokens (token ∷ tokens)
 
--- The tags of lines in their order, an empty line, tokens in lines of at most 79 characters that each take as many as fit, an empty
--- line (PGN Standard, section 8).
+-- The tags of lines in their order, an empty line, tokens in lines of at most 79 characters that each take as many as
+-- fit, an empty line (PGN Standard, section 8).
 pub record IsLaidOut (h : Heading) (lines : List (List ℕ)) (tokens : List (List ℕ)) (text : List ℕ) : Type 0 where
   pub movetext : List ℕ
   pub is_movetext : IsMovetext movetext tokens

@@ -38,8 +38,8 @@ again_tokens false number = []
 abbrev pub move_tokens : Bool → List ℕ → List ℕ → Option ℕ → List (List ℕ)
 move_tokens again number token clock = again_tokens again number ++ (token ∷ clock_tokens clock)
 
--- The tokens with the clocks between them. Told are the number that came last, and whether a comment stands behind the move
--- before.
+-- The tokens with the clocks between them. Told are the number that came last, and whether a comment stands behind the
+-- move before.
 abbrev pub told_tokens : List ℕ → Bool → List (List ℕ) → List (Option ℕ) → List (List ℕ)
 told_tokens number again [] clocks = []
 told_tokens number again (token ∷ tokens) clocks =

@@ -1,6 +1,7 @@
 //! What stands in the tags.
 
-/// What the server does not know of a game: values of the tags Event, Site, Date and Round, and the players' full names.
+/// What the server does not know of a game: values of the tags Event, Site, Date and Round, and the players' full
+/// names.
 #[derive(Clone, Copy)]
 pub struct Heading<'a> {
     pub event: &'a str,

@@ -28,8 +28,8 @@ pub fn are_laid(tokens: &[Vec<u8>]) -> bool
     !tokens.is_empty() && are_short(tokens)
 }
 
-// Writes a token behind those of the movetext under way, whose last line has `width` characters: in that line, if it fits there,
-// else in a new one. It answers the width of the last line then, and fails where memory is refused.
+// Writes a token behind those of the movetext under way, whose last line has `width` characters: in that line, if it
+// fits there, else in a new one. It answers the width of the last line then, and fails where memory is refused.
 fn push_token(out: &mut Vec<u8>, width: usize, token: &[u8]) -> Result<usize, AllocError>
     requires width { width ≤ 79 }
     requires token { IsToken token.now }
@@ -44,8 +44,8 @@ fn push_token(out: &mut Vec<u8>, width: usize, token: &[u8]) -> Result<usize, Al
     Ok(before + len)
 }
 
-/// Writes tokens behind a text, in lines that each take as many as fit (PGN Standard, section 8.2.1), each with its line feed. It
-/// fails where memory is refused.
+/// Writes tokens behind a text, in lines that each take as many as fit (PGN Standard, section 8.2.1), each with its
+/// line feed. It fails where memory is refused.
 pub fn push_lines(out: &mut Vec<u8>, tokens: &[Vec<u8>]) -> Result<(), AllocError>
     requires { is_laid (map (λ t. t.items) tokens.now) ≡ true }
     ensures { OnOk result (PutsMovetext out.old.items out.new.items (map (λ t. t.items) tokens.now)) }

@@ -98,8 +98,8 @@ fn cut_clock(clocks: &[Option<u64>]) -> (Option<u64>, &[Option<u64>])
     }
 }
 
-/// The tokens of a game with the clocks between them: behind each move what its player's clock showed, where that is known. It
-/// fails where memory is refused.
+/// The tokens of a game with the clocks between them: behind each move what its player's clock showed, where that is
+/// known. It fails where memory is refused.
 pub fn told_tokens(
     alloc: Global,
     tokens: &[&str],

@@ -48,9 +48,10 @@ fn laid_out(
     Ok(text)
 }
 
-/// The PGN of a game for the archive, made of the server's: its tags in their order, with the heading's values in the places of
-/// Event, Site, Date, Round, White and Black; and its moves, each with a comment that tells what the clock of its player showed
-/// after it, in milliseconds, where that is known (`[%clk H:MM:SS]`, rounded down). No line of moves has more than 79 characters.
+/// The PGN of a game for the archive, made of the server's: its tags in their order, with the heading's values in the
+/// places of Event, Site, Date, Round, White and Black; and its moves, each with a comment that tells what the clock of
+/// its player showed after it, in milliseconds, where that is known (`[%clk H:MM:SS]`, rounded down). No line of moves
+/// has more than 79 characters.
 pub fn archived(
     alloc: Global,
     heading: &Heading<'_>,

@@ -75,8 +75,8 @@ fn clocks_of(
     Ok(clocks(alloc, known.entries, asked, game, ply)?)
 }
 
-/// Asks for the PGN of a game, and makes it as the archive has it, with the clocks that the log knows, and where it is given
-/// that of the last move by the server; none where the game has left the table since.
+/// Asks for the PGN of a game, and makes it as the archive has it, with the clocks that the log knows, and where it is
+/// given that of the last move by the server; none where the game has left the table since.
 pub fn pgn_of(
     alloc: Global,
     link: &mut Link,

@@ -251,8 +251,8 @@ const LIVE: WordText = WordText {
     ],
 };
 
-// The words, in the order in which help lists them. (They have a function of their own, since each step of a function that has
-// texts tells of all their bytes.)
+// The words, in the order in which help lists them. (They have a function of their own, since each step of a function
+// that has texts tells of all their bytes.)
 fn words() -> [WordText; 3] {
     [KEEP, EXPORT, LIVE]
 }

@@ -63,8 +63,9 @@ impl<'a, R: Files + AllocGlobal + Eprint> Looking<'a, R> {
 }
 
 impl<R: Files + AllocGlobal> Looking<'_, R> {
-    // Those games of a list that are over, a first half before its second one, which is linked with it. Where one of them
-    // was not kept the log is read on before: behind the list, so that it has what is told of the games that are over in it.
+    // Those games of a list that are over, a first half before its second one, which is linked with it. Where one of
+    // them was not kept the log is read on before: behind the list, so that it has what is told of the games that are
+    // over in it.
     fn games_in_order(&mut self, archive: &Archive<DiskFile>, rows: &[Row<'_>]) -> Result<Vec<u32>>
         ensures { IfOk result (λ games. AreAll (λ game. contains game (games_over_in rows.now)) games.items) }
     {
@@ -141,8 +142,8 @@ impl<R> Looking<'_, R>
 where
     R: Files<File = File> + Net<Stream = TcpStream> + AllocGlobal + Eprint + Clock,
 {
-    // Keeps the games of a list that are over, and drops them where that is asked. What went wrong though the work went on
-    // comes beside the counts.
+    // Keeps the games of a list that are over, and drops them where that is asked. What went wrong though the work went
+    // on comes beside the counts.
     fn look_at(&mut self, link: Link, rows: &[Row<'_>]) -> Result<(Counts, Result<()>)> {
         let Some(opened) = self.open(rows)? else {
             return Ok((NOTHING, Ok(())));
@@ -182,8 +183,8 @@ fn tell_counts<R: Print + AllocGlobal>(rt: &R, counts: Counts) -> Result<()> {
 }
 
 /// Keeps the games of a server that are over, and drops them where that is asked: once, or again and again until it is
-/// killed. It fails where another does so in this archive, where the players' file is none, and, where it is done once, at
-/// whatever goes wrong.
+/// killed. It fails where another does so in this archive, where the players' file is none, and, where it is done once,
+/// at whatever goes wrong.
 pub fn keep<R>(rt: &R, keeping: &Keeping<'_>) -> Result<()>
 where
     R: Files<File = File> + Net<Stream = TcpStream> + AllocGlobal + Print + Eprint + Clock,

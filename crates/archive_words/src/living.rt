@@ -92,8 +92,8 @@ fn length_of<R: Files>(rt: &R, path: &str) -> Result<u64> {
     Ok(found(rt, path)?.len())
 }
 
-// Puts the game of a line of the archive behind others, where it is written: each one, or those of this night alone where
-// its date is given.
+// Puts the game of a line of the archive behind others, where it is written: each one, or those of this night alone
+// where its date is given.
 fn push_line(boards: &mut Vec<Board>, alloc: Global, line: &str, date: Option<&str>) -> Result<()> {
     let Some(game) = game_of(alloc, line)? else {
         return Ok(());
@@ -179,8 +179,8 @@ impl<'a, R: Files + AllocGlobal + Eprint> Writer<'a, R> {
         })
     }
 
-    // Those games of the list as it is now that are played or over, but those that were kept, with the players and the log
-    // as they are behind it.
+    // Those games of the list as it is now that are played or over, but those that were kept, with the players and the
+    // log as they are behind it.
     fn push_table(&mut self, boards: &mut Vec<Board>, link: &mut Link) -> Result<()> {
         let alloc = self.rt.alloc();
         let list = link.list()?;
@@ -248,9 +248,9 @@ where
     }
 }
 
-/// Writes all games that are played on the server's table, those that are over, and those of the archive to a file: once, or
-/// again and again until it is killed. It fails where the players' file is none, and, where it is done once, at whatever
-/// goes wrong.
+/// Writes all games that are played on the server's table, those that are over, and those of the archive to a file:
+/// once, or again and again until it is killed. It fails where the players' file is none, and, where it is done once,
+/// at whatever goes wrong.
 pub fn live<R>(rt: &R, living: &Living<'_>) -> Result<()>
 where
     R: Files + Net<Stream = TcpStream> + AllocGlobal + Eprint + Clock,

@@ -15,8 +15,8 @@ pub struct Players<'a, R> {
     telling: Telling<'a, R>,
 }
 
-// The players of a file that is read again. It fails also for what is no regular file, since to read of a pipe may last for
-// ever, and where there are none, as while somebody writes it.
+// The players of a file that is read again. It fails also for what is no regular file, since to read of a pipe may last
+// for ever, and where there are none, as while somebody writes it.
 fn read_again<R: Files + AllocGlobal>(rt: &R, file: &str) -> Result<Vec<Player>> {
     if !found(rt, file)?.is_file() {
         bail!("{file} is no regular file");
@@ -51,7 +51,8 @@ impl<'a, R: Files + AllocGlobal + Eprint> Players<'a, R> {
         })
     }
 
-    /// Reads the file again. Where it cannot be read, or is no players' file, that is told, and the players are as they were.
+    /// Reads the file again. Where it cannot be read, or is no players' file, that is told, and the players are as they
+    /// were.
     pub fn renew(&mut self) -> Result<()> {
         let Some(file) = self.file else {
             return Ok(());

@@ -49,8 +49,8 @@ pub trait Work {
     fn work(&mut self, is_once: bool) -> Result<()>;
 }
 
-/// Does work once, or, where so many seconds are to lie between two times, again and again until the program is killed. What is
-/// wrong is then told, and that all is well again.
+/// Does work once, or, where so many seconds are to lie between two times, again and again until the program is killed.
+/// What is wrong is then told, and that all is well again.
 pub fn go_on<R, W>(rt: &R, work: &mut W, every: Option<u32>, well: &str) -> Result<()>
 where
     R: AllocGlobal + Eprint + Clock,

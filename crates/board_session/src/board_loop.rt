@@ -70,8 +70,8 @@ fn start() -> AnsweredBoard
     }
 }
 
-/// The same as `board`, of a reader whose failure is marked: `Read` comes of nothing else. The mark starts as `Reads::new`
-/// gives it.
+/// The same as `board`, of a reader whose failure is marked: `Read` comes of nothing else. The mark starts as
+/// `Reads::new` gives it.
 pub fn board_reads<R: Read, W: Write>(
     reader: &mut R,
     reads: &mut Reads,
@@ -101,9 +101,9 @@ pub fn board_reads<R: Read, W: Write>(
     }
 }
 
-/// Answers the lines of the reader, from the initial position on, until the reader ends or a line is too long. `Read`: a
-/// read failed, or 4,294,967,295 pieces were read (one that a signal interrupts is made again, and counts once). `Write`:
-/// a write failed. It takes no memory.
+/// Answers the lines of the reader, from the initial position on, until the reader ends or a line is too long. `Read`:
+/// a read failed, or 4,294,967,295 pieces were read (one that a signal interrupts is made again, and counts once).
+/// `Write`: a write failed. It takes no memory.
 pub fn board<R: Read, W: Write>(reader: &mut R, writer: &mut W) -> Result<(), BoardFault>
     // What is written is the text that the input calls for, and nothing else.
     ensures whole { OnOk result (IfSome (R.remaining reader.old)

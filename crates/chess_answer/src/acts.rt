@@ -92,8 +92,8 @@ fn push_made(text: &mut AnswerLine, before: &Board, mv: &Move, game: &Game)
     push_ending(text, game.ending());
 }
 
-/// Makes a move in a game, and gives the answer to it that `game_line` gives before it: the position after the move, and
-/// its ending, are found once. It fails where memory is refused, and then the game is as it was.
+/// Makes a move in a game, and gives the answer to it that `game_line` gives before it: the position after the move,
+/// and its ending, are found once. It fails where memory is refused, and then the game is as it was.
 pub fn play_answered(game: &mut Game, at: u64, mv: Move) -> Result<AnswerLine, AllocError>
     requires in_time { IsInTime game.old at }
     requires playable { IsPlayable game.old mv }
@@ -151,8 +151,8 @@ fn fallen_line(game: &Game) -> AnswerLine
     text
 }
 
-/// The answer to an act that becomes an entry in a game that stands: on the game before the entry. It takes no memory. A
-/// move that the entry tells may be made.
+/// The answer to an act that becomes an entry in a game that stands: on the game before the entry. It takes no memory.
+/// A move that the entry tells may be made.
 pub fn game_line(game: &Game, entry: &Entry) -> AnswerLine
     requires { MayCome game.now entry.now.event }
     ensures { IsGameLine game.now entry.now.event result.bytes }

@@ -8,8 +8,8 @@ use chess_text::{article_code, result_code};
 use itoa::Buffer;
 use rec_codec::Name;
 
-/// Room for the line of an answer, without its line feed. The longest is that of `fen`: at most 18 bytes before the FEN,
-/// which has at most 93.
+/// Room for the line of an answer, without its line feed. The longest is that of `fen`: at most 18 bytes before the
+/// FEN, which has at most 93.
 pub type AnswerLine = ArrayString<160>;
 
 /// An answer's first word, of at most 16 bytes.

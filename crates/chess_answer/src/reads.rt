@@ -18,7 +18,8 @@ use itoa::Buffer;
 use rec_codec::Name;
 use std::alloc::{AllocError, Global};
 
-/// An answer: a line without its line feed, and a body of whole lines behind it, which only those to `pgn` and `list` have.
+/// An answer: a line without its line feed, and a body of whole lines behind it, which only those to `pgn` and `list`
+/// have.
 #[derive(Drop)]
 pub struct Reply {
     pub line: AnswerLine,
@@ -92,9 +93,9 @@ fn time_shown(game: &Game, colour: Colour, at: u64) -> u64
     u64::from(game.left(colour, at))
 }
 
-/// The answer to `show`, at a moment that is not before the running turn: `ok show G`, both players, how many moves were
-/// made, the side on move, what both sides have left in milliseconds, the offers that stand, the result and the article.
-/// It takes no memory.
+/// The answer to `show`, at a moment that is not before the running turn: `ok show G`, both players, how many moves
+/// were made, the side on move, what both sides have left in milliseconds, the offers that stand, the result and the
+/// article. It takes no memory.
 pub fn show_line(game: &Game, at: u64) -> AnswerLine
     requires { game.now.moment ≤ at }
     ensures { result.bytes ≡ show_text game.now at }
@@ -187,8 +188,8 @@ pub fn pgn_reply(alloc: Global, game: &Game) -> Result<Reply, AllocError>
     Ok(Reply { line, body })
 }
 
-/// Appends a game's line of `list` with its line feed: `G WHITE BLACK PLY RESULT`. It fails where memory is refused, and
-/// then the text is as it was.
+/// Appends a game's line of `list` with its line feed: `G WHITE BLACK PLY RESULT`. It fails where memory is refused,
+/// and then the text is as it was.
 pub fn write_row(text: &mut String, game: &Game) -> Result<(), AllocError>
     ensures written { OnOk result (string_bytes text.new ≡ string_bytes text.old ++ list_row game.now) }
     ensures refused { OnErr result (string_bytes text.new ≡ string_bytes text.old) }

@@ -69,8 +69,8 @@ fn name_of(refusal: Refusal) -> &'static str
     }
 }
 
-/// The answer to what is refused, `no NUMBER NAME`: the numbers are 1 to 24, and number 7, a wrong PLY, tells the present
-/// one behind its name.
+/// The answer to what is refused, `no NUMBER NAME`: the numbers are 1 to 24, and number 7, a wrong PLY, tells the
+/// present one behind its name.
 pub fn refusal_line(refusal: Refusal) -> AnswerLine
     ensures { result.bytes ≡ refusal_text refusal }
 {

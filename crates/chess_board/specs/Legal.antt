@@ -79,8 +79,8 @@ abbrev pub EachOf : {A : Type 0} → (A → Type 0) → List A → Type 0
 EachOf P [] = Unit {0}
 EachOf P (x ∷ xs) = P x × EachOf P xs
 
--- From its home two squares toward the rook of that wing, with the right, with no man between king and rook, and
--- with no attack on the square that the king leaves, crosses or reaches (FIDE articles 3.8.2 to 3.8.2.2). An attack on the
+-- From its home two squares toward the rook of that wing, with the right, with no man between king and rook, and with
+-- no attack on the square that the king leaves, crosses or reaches (FIDE articles 3.8.2 to 3.8.2.2). An attack on the
 -- rook, or on the square beside a rook of the queen's wing, does not prevent it.
 pub record Castles (p : Position) (m : Move) (wing : Wing) : Type 0 where
   pub right : has_right p.rights p.side wing ≡ true

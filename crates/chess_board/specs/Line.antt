@@ -14,7 +14,8 @@ abbrev pub position_after : Position → List Move → Position
 position_after start [] = start
 position_after start (m ∷ moves) = position_after (next start m) moves
 
--- Each move is legal at its place. A line is one of valid positions where its start is valid and the counters stay in range.
+-- Each move is legal at its place. A line is one of valid positions where its start is valid and the counters stay in
+-- range.
 abbrev pub IsLegalLine : Position → List Move → Type 0
 IsLegalLine start [] = Unit {0}
 IsLegalLine start (m ∷ ms) = IsLegal start m × IsLegalLine (next start m) ms

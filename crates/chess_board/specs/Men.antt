@@ -43,6 +43,7 @@ sets_of placement = record {
   kings = squares_with (is_a King) placement;
 }
 
--- the sets are those of the placement that they tell: each square is in one set of colours and in one of kinds, or in none
+-- the sets are those of the placement that they tell: each square is in one set of colours and in one of kinds, or in
+-- none
 abbrev pub IsConsistent : Inside → Type 0
 IsConsistent sets = sets_of (placement_of sets) ≡ sets

@@ -47,7 +47,8 @@ IsAttacked placement side b = (a : Square) × IsAttacker placement side b a
 abbrev pub IsInCheck : Placement → Colour → Type 0
 IsInCheck placement side = (k : Square) × (man_at placement k ≡ Some (side, King)) × IsAttacked placement (other side) k
 
--- the rank on which a side's pieces start, and the squares from which king and rook castle (FIDE articles 2.3 and 3.8.2)
+-- the rank on which a side's pieces start, and the squares from which king and rook castle (FIDE articles 2.3 and
+-- 3.8.2)
 abbrev pub home_rank : Colour → ℕ
 home_rank White = 1
 home_rank Black = 8

@@ -1,4 +1,8 @@
 //! A chess board: a valid position, and the position after a move.
+//!
+//! Modules: `board` has the position and its moves' outcome, `men` where the men stand, `castling` the rights and the
+//! squares of castling, `attack` what is attacked, `moves` a move, `parts` a position in parts, as it is given and
+//! told, `draft` the position that is being made.
 #![tactic(auto)]
 
 mod attack;

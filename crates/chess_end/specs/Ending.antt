@@ -30,9 +30,9 @@ IsFifthTime times = 5 ≤ times
 abbrev pub IsSeventyFiveMoves : ℕ → Type 0
 IsSeventyFiveMoves quiet = 150 ≤ quiet
 
--- The article that ends a game after a move: the first that applies, in this order, which is this project's own but that
--- checkmate goes before article 9.6.2. The position has come `times` times, and the run without a capture or a pawn
--- move is of `quiet` moves. The other articles need an act of a player, or a clock.
+-- The article that ends a game after a move: the first that applies, in this order, which is this project's own but
+-- that checkmate goes before article 9.6.2. The position has come `times` times, and the run without a capture or a
+-- pawn move is of `quiet` moves. The other articles need an act of a player, or a clock.
 abbrev pub IsEndedBy : Position → ℕ → ℕ → Article → Type 0
 IsEndedBy p times quiet A511 = IsCheckmate p
 IsEndedBy p times quiet A521 = ¬ IsCheckmate p × IsStalemate p
@@ -75,8 +75,9 @@ pub record IsEnding (p : Position) (times quiet : ℕ) (ending : Ending) : Type 
   pub article : IsEndedBy p times quiet ending.article
   pub result : IsResultAfter p ending.article ending.result
 
--- What a fallen flag gives (FIDE article 6.9): a draw just where the opponent has the king alone, else the opponent wins.
--- The article asks whether the opponent can checkmate by any series of legal moves; this is the project's reduction of it.
+-- What a fallen flag gives (FIDE article 6.9): a draw just where the opponent has the king alone, else the opponent
+-- wins. The article asks whether the opponent can checkmate by any series of legal moves; this is the project's
+-- reduction of it.
 abbrev pub IsFlagResult : Placement → Colour → GameResult → Type 0
 IsFlagResult placement fallen result =
     (HasKingAlone placement (other fallen) × (result ≡ Draw)) ⊎ (¬ HasKingAlone placement (other fallen) ×

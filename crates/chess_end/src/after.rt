@@ -47,15 +47,16 @@ pub fn after_move(board: &Board, times: u32, quiet: u32) -> Option<Ending>
     }
 }
 
-/// Whether a claim of a draw is correct since the position has come `times` times (FIDE article 9.2): at least three times.
+/// Whether a claim of a draw is correct since the position has come `times` times (FIDE article 9.2): at least three
+/// times.
 pub fn claim_three(times: u32) -> bool
     ensures { IsTrue result ↔ (3 ≤ times) }
 {
     times >= 3
 }
 
-/// Whether a claim of a draw is correct since `quiet` moves of either side have gone without a capture or a pawn move (FIDE
-/// article 9.3): at least 100, fifty of each side.
+/// Whether a claim of a draw is correct since `quiet` moves of either side have gone without a capture or a pawn move
+/// (FIDE article 9.3): at least 100, fifty of each side.
 pub fn claim_fifty(quiet: u32) -> bool
     ensures { IsTrue result ↔ (100 ≤ quiet) }
 {

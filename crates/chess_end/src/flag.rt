@@ -24,8 +24,8 @@ fn has_king_alone(men: &Men, side: Colour) -> bool
     men.of(side).without(men.of_kind(Kind::King)).is_empty()
 }
 
-/// The ending where a side's flag has fallen (FIDE article 6.9): a draw just where the opponent has the king alone, else
-/// the opponent wins. It is this project's reduction of the article (`docs/design/LAWS.md`).
+/// The ending where a side's flag has fallen (FIDE article 6.9): a draw just where the opponent has the king alone,
+/// else the opponent wins. It is this project's reduction of the article (`docs/design/LAWS.md`).
 pub fn flag_result(board: &Board, fallen: Colour) -> Ending
     ensures result { IsFlagResult board.now.placement fallen result.result }
     ensures article { result.article ≡ articles.A69 }

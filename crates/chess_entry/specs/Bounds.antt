@@ -97,8 +97,8 @@ AreDifferent (Some white) (Some black) = white ≢ black
 AreDifferent None None = ⊥
 AreDifferent _ _ = Unit {0}
 
--- Such times, start and players as a game may have: times in range, a start that is not over, names of the form, and players in
--- one seat at least, two that differ.
+-- Such times, start and players as a game may have: times in range, a start that is not over, names of the form, and
+-- players in one seat at least, two that differ.
 pub record IsOpenedWith (times : TimeControl) (first : Position) (white black : Option (List ℕ)) : Type 0 where
   pub control : IsTimeControl times
   pub start : IsStart first

@@ -37,8 +37,8 @@ abbrev pub ending : GameResult → Article → Ending
 ending result article = record { result = result; article = article }
 
 -- The ending of a line after a move, by its last position and the whole line: the first that applies of checkmate (FIDE
--- article 5.1.1), stalemate (5.2.1), listed dead material (5.2.2), the fifth occurrence (9.6.1) and 75 moves of each side
--- without a capture or a pawn move (9.6.2).
+-- article 5.1.1), stalemate (5.2.1), listed dead material (5.2.2), the fifth occurrence (9.6.1) and 75 moves of each
+-- side without a capture or a pawn move (9.6.2).
 abbrev pub ending_of_line : Position → List Position → Option Ending
 ending_of_line p line =
     if is_checkmate p then Some (ending (won_by (other p.side)) articles.A511)
@@ -59,8 +59,8 @@ abbrev pub IsEndingOrNone : Position → ℕ → ℕ → Option Ending → Type 
 IsEndingOrNone p n q None = IsRunning p n q
 IsEndingOrNone p n q (Some e) = IsEnding p n q e
 
--- The ending of a line is that of the FIDE articles, for how often its last position has come and its quiet run; that of
--- a fallen flag is that of article 6.9.
+-- The ending of a line is that of the FIDE articles, for how often its last position has come and its quiet run; that
+-- of a fallen flag is that of article 6.9.
 pub record LawOfEndings : Type 0 where
   pub line : (p : Position) (line : List Position) →
       IsEndingOrNone p (times p line) (quiet_run line) (ending_of_line p line)

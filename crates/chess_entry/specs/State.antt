@@ -9,16 +9,16 @@ use Rattle.chess_end.specs.declared.ending.Ending.{Ending}
 use Rattle.chess_clock.specs.TimeControl.{TimeControl}
 use Rattle.rec_codec.specs.declared.limits.Limits.{Limits}
 
--- A side of a game: who plays it, the milliseconds that it held at the start of the running turn (of a game that is over,
--- what it had left at the end), and whether an offer of a draw by it stands.
+-- A side of a game: who plays it, the milliseconds that it held at the start of the running turn (of a game that is
+-- over, what it had left at the end), and whether an offer of a draw by it stands.
 pub record SeatState : Type 0 where
   pub name : Option (List ℕ)
   pub held : ℕ
   pub offers : Bool
 
--- A game: its number, the position and the times that it started with, its sides, the moves made, the moment at which the
--- running turn began (of a game that is over, at which it ended; 0 before both seats are taken), whether the side to move
--- has claimed in this turn, and the ending.
+-- A game: its number, the position and the times that it started with, its sides, the moves made, the moment at which
+-- the running turn began (of a game that is over, at which it ended; 0 before both seats are taken), whether the side
+-- to move has claimed in this turn, and the ending.
 pub record GameState : Type 0 where
   pub number : ℕ
   pub start : Position
@@ -30,8 +30,8 @@ pub record GameState : Type 0 where
   pub claimed : Bool
   pub ending : Option Ending
 
--- A table: how many games and moves a game it may have, the games by rising number, the greatest moment of any entry, the
--- last number given to a game, and the number of entries.
+-- A table: how many games and moves a game it may have, the games by rising number, the greatest moment of any entry,
+-- the last number given to a game, and the number of entries.
 pub record TableState : Type 0 where
   pub limits : Limits
   pub games : List GameState

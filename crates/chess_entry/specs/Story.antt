@@ -89,8 +89,8 @@ offers_for side (event.Offer by) = is_colour side by
 offers_for side (event.Claim claim) = is_colour side claim.by
 offers_for side _ = false
 
--- Whether the side makes the move of an entry: in a game whose first move is `first`'s, a move after so many moves is of
--- the side on move then.
+-- Whether the side makes the move of an entry: in a game whose first move is `first`'s, a move after so many moves is
+-- of the side on move then.
 abbrev pub moves_for : Colour → Colour → Event → Bool
 moves_for first side (event.Move made) = is_colour side (on_move_after first made.ply)
 moves_for first side (event.Claim claim) = is_colour side claim.by && is_some claim.mv

@@ -14,14 +14,14 @@ pub fn law_of_times()
     ensures { LawOfTimes }
 {}
 
-/// The law that ties the ending of a line to the articles of the FIDE Laws (5.1.1, 5.2.1, 5.2.2, 9.6.1 and 9.6.2, and 6.9
-/// for a fallen flag), as `chess_end` states them. It does nothing when it runs.
+/// The law that ties the ending of a line to the articles of the FIDE Laws (5.1.1, 5.2.1, 5.2.2, 9.6.1 and 9.6.2, and
+/// 6.9 for a fallen flag), as `chess_end` states them. It does nothing when it runs.
 pub fn law_of_endings()
     ensures { LawOfEndings }
 {}
 
-/// The law that a content means one table at most: of a snapshot and the journal's records after it, two tables that they
-/// mean under the same limits are one. It does nothing when it runs.
+/// The law that a content means one table at most: of a snapshot and the journal's records after it, two tables that
+/// they mean under the same limits are one. It does nothing when it runs.
 pub fn law_of_meaning()
     ensures { LawOfMeaning }
 {}

@@ -1,6 +1,6 @@
-//! What players ask of the server and what comes to pass: commands, entries, and the rules by which a command becomes an
-//! entry. The rules are definitions in `specs/`: `Games` reads a table off the whole list of its entries, `Verdict` is
-//! the first check that a command meets, and `Follow` is a table with one entry more.
+//! What players ask of the server and what comes to pass: commands, entries, and the rules by which a command becomes
+//! an entry. The rules are definitions in `specs/`: `Games` reads a table off the whole list of its entries, `Verdict`
+//! is the first check that a command meets, and `Follow` is a table with one entry more.
 #![tactic(auto)]
 
 mod commands;

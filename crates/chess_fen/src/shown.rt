@@ -20,8 +20,8 @@ struct RankText {
     end: usize,
 }
 
-/// A board and its FEN. It keeps the texts of its ranks, so that after a move only those are written anew on which a man
-/// came or went.
+/// A board and its FEN. It keeps the texts of its ranks, so that after a move only those are written anew on which a
+/// man came or went.
 #[derive(Drop)]
 pub struct ShownBoard {
     board: Board,

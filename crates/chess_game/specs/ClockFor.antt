@@ -14,7 +14,8 @@ use Rattle.chess_game.specs.Scoresheet.{ScoresheetState}
 abbrev pub to_go_for : GameState → Colour → ℕ
 to_go_for game side = moves_to_go game.control.period (completed game.start.side side (ply_of game))
 
--- Each side holds its time, and has the moves to go that it has not completed. The clock of a game that is over is stopped. Before the join it stands at 0, and is not asked.
+-- Each side holds its time, and has the moves to go that it has not completed. The clock of a game that is over is
+-- stopped. Before the join it stands at 0, and is not asked.
 abbrev pub clock_for : GameState → ClockState
 clock_for game = record {
   control = game.control;

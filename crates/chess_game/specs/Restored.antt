@@ -1,4 +1,5 @@
--- A game that the records of a snapshot name: its moves are played again, and what they do not decide is within its bounds.
+-- A game that the records of a snapshot name: its moves are played again, and what they do not decide is within its
+-- bounds.
 use Rattle.std.specs.Prelude.{◌≡◌, ◌≤◌, false, true, List, Option}
 use Rattle.chess_bits.specs.declared.men.Colour.TheVariants.{White, Black}
 use Rattle.chess_board.specs.declared.moves.Move.{Move}

@@ -123,8 +123,8 @@ impl Game {
         })
     }
 
-    /// The game that a snapshot names by its head and its moves, which are played again; `None` where no game of at most
-    /// 20,000 moves has that head and these moves. It fails where memory is refused.
+    /// The game that a snapshot names by its head and its moves, which are played again; `None` where no game of at
+    /// most 20,000 moves has that head and these moves. It fails where memory is refused.
     pub fn restore(alloc: Global, head: &Head, moves: &[Move]) -> Result<Option<Game>, AllocError>
         ensures some { IfOk result (λ told. IfSome told (IsRestored head.now moves.now)) }
         ensures none { IfOk result (λ told. IfNone told (NamesNoGame head.now moves.now)) }
@@ -345,8 +345,8 @@ impl Game {
         self.sides.seat_player(name);
     }
 
-    /// A move is made: the turn ends, an offer of the opponent is answered, and the game may end. It fails where memory is
-    /// refused, and then all is as it was.
+    /// A move is made: the turn ends, an offer of the opponent is answered, and the game may end. It fails where memory
+    /// is refused, and then all is as it was.
     pub fn play(&mut self, at: u64, mv: Move) -> Result<(), AllocError>
         requires in_time { IsInTime self.old at }
         requires playable { IsPlayable self.old mv }

@@ -1,5 +1,5 @@
-//! One game of the table: its line, its clock, its offers and claims, and its ending. Each change is one of the entries'
-//! of `chess_entry`, whose definitions the contracts cite.
+//! One game of the table: its line, its clock, its offers and claims, and its ending. Each change is one of the
+//! entries' of `chess_entry`, whose definitions the contracts cite.
 //!
 //! Inside, `scoresheet` has the start, the moves, the position that stands and the history of all positions; `sides`
 //! has the clock, the seats, the claim of the turn and the ending; `endings` has the endings by an act of a player;

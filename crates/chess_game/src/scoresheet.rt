@@ -63,8 +63,8 @@ impl Scoresheet {
         })
     }
 
-    /// The line of these moves, and the ending that the last of them gives; `None` where a move is not legal or comes after
-    /// one that ends the game. It fails where memory is refused.
+    /// The line of these moves, and the ending that the last of them gives; `None` where a move is not legal or comes
+    /// after one that ends the game. It fails where memory is refused.
     pub fn replay(
         alloc: Global,
         start: &Board,
@@ -110,8 +110,8 @@ impl Scoresheet {
         &self.moves
     }
 
-    /// Makes a legal move, and tells the ending that it gives, if it gives one. It fails where memory is refused, and then
-    /// all is as it was.
+    /// Makes a legal move, and tells the ending that it gives, if it gives one. It fails where memory is refused, and
+    /// then all is as it was.
     pub fn push(&mut self, mv: &Move) -> Result<Option<Ending>, AllocError>
         requires legal { IsLegal (last_of self.old) mv.now }
         requires room { HasRoom self.old }

@@ -26,7 +26,8 @@ abbrev pub GiveAll : {M : Type 0} → (M → ℕ → M → Type 0) → M → Lis
 GiveAll gives from [] to = to ≡ from
 GiveAll {M = M} gives from (at ∷ ats) to = (between : M) × gives from at between × GiveAll gives between ats to
 
--- after these calls more, each standing before the one that came earlier: the first session, of the number 1, sends pieces
+-- after these calls more, each standing before the one that came earlier: the first session, of the number 1, sends
+-- pieces
 abbrev pub sent_after : List Call → List (List ℕ) → List Call
 sent_after calls [] = calls
 sent_after calls (piece ∷ pieces) = sent_after (Fed 1 piece ∷ calls) pieces
@@ -42,8 +43,8 @@ abbrev pub calls_of : List (List ℕ) → List Merged → List Call
 calls_of pieces merged = turns_after (sent_after (Connected 1 ∷ []) pieces) (map (λ m. m.at) merged)
 
 -- Lines, all of the first session of a hub, each taken at the next moment by a turn of its own, have answers by the
--- verdicts on the table; and this is what the session is given for them, as it is written. Of every input that begins with
--- these lines, in whatever pieces it is sent, they are the merged list of these calls.
+-- verdicts on the table; and this is what the session is given for them, as it is written. Of every input that begins
+-- with these lines, in whatever pieces it is sent, they are the merged list of these calls.
 pub record AreTold {M : Type 0} (gives : M → ℕ → M → Type 0) (from to : M) (before after : TableState)
     (lines : List (List ℕ)) (told : List ℕ) : Type 0 where
   pub merged : List Merged
@@ -63,8 +64,8 @@ pub record IsSessionText {M : Type 0} (gives : M → ℕ → M → Type 0) (from
   pub is : (pieces : List (List ℕ)) → concat pieces ≡ input
       → text ≡ written_all (session_text (calls_of pieces lines.merged) lines.merged lines.answers 1)
 
--- The text of a run is the text of a session; and of the first lines of a run, where it ends before all are answered, it is
--- what the session is given for these.
+-- The text of a run is the text of a session; and of the first lines of a run, where it ends before all are answered,
+-- it is what the session is given for these.
 pub record LawOfRun {D M : Type 0} (state : D → State) (sector_count failures : D → ℕ) (gives : M → ℕ → M → Type 0)
     : Type 0 where
   pub whole : (store : Kept D) (moments : M) (input text : List ℕ) (end : Standing D M)

@@ -77,8 +77,9 @@ pub record LineAsksFor (at : ℕ) (name : Option (List ℕ)) (line : List ℕ) (
   pub reads : IsReading line read
   pub those : P (asked at name read)
 
--- A line takes the next moment and is answered, on the table that the store has; of a store whose device has failed only a
--- line that asks nothing of the table, and none that would wear it out. What the store and its device do is said as of any turn.
+-- A line takes the next moment and is answered, on the table that the store has; of a store whose device has failed
+-- only a line that asks nothing of the table, and none that would wear it out. What the store and its device do is said
+-- as of any turn.
 pub record AnswersLine {D M : Type 0} (state : D → State) (sector_count failures : D → ℕ) (gives : M → ℕ → M → Type 0)
     (old : Standing D M) (line text : List ℕ) (new : Standing D M) : Type 0 where
   pub at : ℕ

@@ -42,15 +42,16 @@ pub record AsksFor (at most : ℕ) (old : Sessions) (P : List Command → Type 0
   pub lines : AreTurnLines (turn_lines most (waiting_of old)) taken
   pub those : P (commands_of at (name_at old) taken)
 
--- A store may be asked these commands: its device has not failed, unless there is no command, and they do not wear it out.
+-- A store may be asked these commands: its device has not failed, unless there is no command, and they do not wear it
+-- out.
 abbrev pub MayBeAsked : Bool → ℕ → ℕ → List Command → Type 0
 MayBeAsked failed seq entries commands =
     (failed ≡ true → commands ≡ []) × (IsWornOut seq entries (change_count commands) → ⊥)
 
 -- ---- which fault
 
--- Why a store refused a batch, and what is left of the batch. A batch that would wear it out is refused for that alone, and only
--- where the device failed its entries may last or not.
+-- Why a store refused a batch, and what is left of the batch. A batch that would wear it out is refused for that alone,
+-- and only where the device failed its entries may last or not.
 abbrev pub IsBatchFault : StoreFault → ℕ → Bool → TableState → TableState → List Command → Type 0
 IsBatchFault (store.Device pending) seq failed before after commands =
     (failed ≡ false) × (IsWornOut seq before.entries (change_count commands) → ⊥)

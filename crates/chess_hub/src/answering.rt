@@ -189,8 +189,8 @@ impl Sessions {
         Ok(())
     }
 
-    /// Takes lines of sessions that wait and gives each its answer: to those that ask something of the table these replies,
-    /// one after the other. A name holds from its line on. It takes no memory, for which room was made.
+    /// Takes lines of sessions that wait and gives each its answer: to those that ask something of the table these
+    /// replies, one after the other. A name holds from its line on. It takes no memory, for which room was made.
     pub(crate) fn deliver(&mut self, at: u64, lines: &[TurnLine], replies: Vec<Reply>)
         requires room { HaveRoom (length lines.now) self.old.slab lines.now }
         requires replies { length replies.items ≡ asking_count at lines.now }

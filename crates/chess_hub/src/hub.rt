@@ -163,8 +163,8 @@ impl<D: Device> Hub<D> {
     /// session without a name asks by none. Without a command the store is not called.
     ///
     /// After a fault every session is as it was, and no answer has left: `NoMemory`, where memory was refused to the
-    /// sessions, and the store is as it was; or `Store`, the store's own, with what it leaves as `submit` says. `refusals`
-    /// counts the turns that end by either's `NoMemory`, and no others.
+    /// sessions, and the store is as it was; or `Store`, the store's own, with what it leaves as `submit` says.
+    /// `refusals` counts the turns that end by either's `NoMemory`, and no others.
     ///
     /// Where the store was kept, a crash at any moment of the turn leaves what means the table from before or that with
     /// the whole batch; at `Ok` every image means the latter.

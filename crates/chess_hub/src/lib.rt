@@ -1,6 +1,6 @@
 //! The hub: sessions over a store. What players send is cut into lines, which are taken in turn from all sessions;
-//! their commands go to the store as one batch, and each session is given the answers to its lines. `run` is one session
-//! from a reader to a writer, each line of which has a turn of its own.
+//! their commands go to the store as one batch, and each session is given the answers to its lines. `run` is one
+//! session from a reader to a writer, each line of which has a turn of its own.
 #![tactic(auto)]
 
 mod answering;

@@ -46,8 +46,8 @@ impl From<LoopFault<HubFault>> for RunFault {
     }
 }
 
-/// The same as `run`, of a reader whose failure is marked: `Read` comes of nothing else. The mark starts as `Reads::new`
-/// gives it.
+/// The same as `run`, of a reader whose failure is marked: `Read` comes of nothing else. The mark starts as
+/// `Reads::new` gives it.
 pub fn run_reads<R: Read, W: Write, D: Device + Drop, M: Moments + Drop>(
     alloc: Global,
     reader: &mut R,
@@ -76,13 +76,13 @@ pub fn run_reads<R: Read, W: Write, D: Device + Drop, M: Moments + Drop>(
 }
 
 /// Answers the lines of a reader on a writer, as one session over a store, which it keeps: each whole line has a turn
-/// of its own at the next of the moments, and each command is a batch of its own. The answers to the lines of one piece,
-/// of at most 4,096 bytes, are gathered and written once all are answered, before that only as often as they outgrow
-/// 65,536 bytes. It ends where the reader does; a rest without a line feed is no line.
+/// of its own at the next of the moments, and each command is a batch of its own. The answers to the lines of one
+/// piece, of at most 4,096 bytes, are gathered and written once all are answered, before that only as often as they
+/// outgrow 65,536 bytes. It ends where the reader does; a rest without a line feed is no line.
 ///
-/// `LineTooLong`: a line was, and `bye LineTooLong` was written. `Read`: a read failed, or 4,294,967,295 pieces were read
-/// (one that a signal interrupts is made again, and counts once). `Write`: a write did. `Hub`: a line was refused memory,
-/// or the store refused it; the answers before it were written.
+/// `LineTooLong`: a line was, and `bye LineTooLong` was written. `Read`: a read failed, or 4,294,967,295 pieces were
+/// read (one that a signal interrupts is made again, and counts once). `Write`: a write did. `Hub`: a line was refused
+/// memory, or the store refused it; the answers before it were written.
 pub fn run<R: Read, W: Write, D: Device + Drop, M: Moments + Drop>(
     alloc: Global,
     reader: &mut R,

@@ -109,8 +109,8 @@ impl Sessions {
         }
     }
 
-    /// Begins a session, under a number that no open one has. `Busy` exactly where 64 are open, or more; `NoMemory` where
-    /// memory is refused. After both all sessions are as they were.
+    /// Begins a session, under a number that no open one has. `Busy` exactly where 64 are open, or more; `NoMemory`
+    /// where memory is refused. After both all sessions are as they were.
     pub(crate) fn connect(&mut self) -> Result<Sid, ConnectFault>
         ensures new { IfOk result (λ sid. session_at self.old sid ≡ None) }
         ensures opened { IfOk result (λ sid. Changes self.old self.new sid (Some fresh)) }
@@ -150,8 +150,8 @@ impl Sessions {
         }
     }
 
-    /// The oldest answer that a session was not given, if there is one; behind all its answers, where a line was too long
-    /// and no line before that waits, once `bye LineTooLong`.
+    /// The oldest answer that a session was not given, if there is one; behind all its answers, where a line was too
+    /// long and no line before that waits, once `bye LineTooLong`.
     pub(crate) fn output(&mut self, sid: Sid) -> Option<Reply>
         requires { IsSome (session_at self.old sid) }
         ensures given { IfSome (session_at self.old sid) (λ s. option_map said result ≡ first_due (due s)) }

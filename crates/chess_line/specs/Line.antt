@@ -61,8 +61,8 @@ pub record HasForm (text : List ℕ) (line : Line) : Type 0 where
   pub spelled : text ≡ join_with_byte 32 (line_fields line)
   pub sayable : IsSayableLine line
 
--- The text, without the line feed and the carriage return at its end, is this line of the protocol, which has at most 255
--- bytes.
+-- The text, without the line feed and the carriage return at its end, is this line of the protocol, which has at most
+-- 255 bytes.
 pub record IsLineOf (text : List ℕ) (line : Line) : Type 0 where
   pub short : length text ≤ 255
   pub form : HasForm text line

@@ -15,8 +15,8 @@ use Rattle.chess_moves.specs.Listing.{legal_from}
 abbrev pub moves_of : Position → List Bool → ℕ
 moves_of p men = length (flat_map (legal_from p) (members men))
 
--- A man of the side to move and of the kind that no slider pins, and no pawn that could take en passant: where it may go,
--- it goes safely if that ends every check.
+-- A man of the side to move and of the kind that no slider pins, and no pawn that could take en passant: where it may
+-- go, it goes safely if that ends every check.
 pub record IsFree (p : Position) (pinned : List Bool) (kind : Kind) (s : Square) : Type 0 where
   pub own : man_at p.placement s ≡ Some (p.side, kind)
   pub unpinned : has pinned s ≡ false

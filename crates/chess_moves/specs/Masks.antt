@@ -15,8 +15,8 @@ use Rattle.chess_moves.specs.declared.masks.Masks.{Masks}
 
 -- What a man of the side to move may do while its king stands on k: checks that it has to end, and pins.
 
--- The ways of a kind's slides: even ways are those of ranks and files, odd ones those of diagonals (FIDE articles 3.2 to
--- 3.4).
+-- The ways of a kind's slides: even ways are those of ranks and files, odd ones those of diagonals (FIDE articles 3.2
+-- to 3.4).
 abbrev pub SlidesIn : Kind → ℕ → Type 0
 SlidesIn Pawn way = ⊥
 SlidesIn Knight way = ⊥
@@ -61,8 +61,8 @@ pub record IsAloneBetween (occupied : List Bool) (k c from : Square) (direction 
   pub between : IsBetween k c from direction
   pub alone : (j : ℕ) → 1 ≤ j → j < between.far → j ≢ between.near → has occupied (along j direction k) ≡ false
 
--- A man that reaches q ends the checks of men that leap, and of sliders in the ways below n: it takes a man that leaps, and
--- takes a slider or stands in its way.
+-- A man that reaches q ends the checks of men that leap, and of sliders in the ways below n: it takes a man that leaps,
+-- and takes a slider or stands in its way.
 pub record EndsBelow (p : Position) (k : Square) (n : ℕ) (q : Square) : Type 0 where
   pub leaps : (c : Square) → IsLeaper p k c → q ≡ c
   pub slides : (way : ℕ) (c : Square) → way < n → IsSlider p way c →
@@ -72,8 +72,8 @@ pub record EndsBelow (p : Position) (k : Square) (n : ℕ) (q : Square) : Type 0
 abbrev pub EndsChecks : Position → Square → Square → Type 0
 EndsChecks p k q = EndsBelow p k 8 q
 
--- Where a slider in one of the ways below n pins the man on `from`, as the one man between it and the king, the man stays on
--- that line, at most as far as the slider.
+-- Where a slider in one of the ways below n pins the man on `from`, as the one man between it and the king, the man
+-- stays on that line, at most as far as the slider.
 abbrev pub KeepsBelow : Position → Square → Square → ℕ → Square → Type 0
 KeepsBelow p k from n q =
     (way : ℕ) (c : Square) → way < n → IsSlider p way c →
@@ -108,7 +108,8 @@ pub record IsWatch (p : Position) (sliders : List Bool) (k : Square) (way : ℕ)
   pub path : IsPathTo sliders k (way_step way) watch.path
   pub between : watch.between ≡ without (meet watch.path (occupied_of p.placement)) sliders
 
--- A man of the side to move that is pinned in one of the ways below n: it is the one man between the king on k and a slider.
+-- A man of the side to move that is pinned in one of the ways below n: it is the one man between the king on k and a
+-- slider.
 abbrev pub IsPinnedBelow : Position → Square → ℕ → Square → Type 0
 IsPinnedBelow p k n from =
     HoldsColour p from p.side ×

@@ -1,4 +1,9 @@
 //! The legal moves of a position.
+//!
+//! Modules: `targets`, with `pawns` and `castling`, says where a man goes whatever its king meets; `masks` finds once
+//! what a position's moves are judged by, with what `watch` sees from the king; `safe` and `free` keep the moves that
+//! leave the king safe, for men that may be pinned and for all others; `promotions` makes moves of squares. `listing`
+//! and `counting` go through all men, `legality` judges one move.
 #![tactic(auto)]
 
 mod castling;

@@ -43,8 +43,8 @@ fn push_moves_from(board: &Board, masks: &Masks, from: Square, moves: &mut Moves
     }
 }
 
-/// Puts the legal moves of the side to move into a list, as `legal_moves` tells them, in place of what it held. It is for
-/// who lists the moves of many positions: a new list has each of its 512 places filled.
+/// Puts the legal moves of the side to move into a list, as `legal_moves` tells them, in place of what it held. It is
+/// for who lists the moves of many positions: a new list has each of its 512 places filled.
 pub fn relist_legal_moves(board: &Board, moves: &mut ArrayVec<Move, 512>)
     ensures { IsListOfLegalMoves board.now moves.new.items }
 {

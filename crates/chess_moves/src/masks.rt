@@ -133,8 +133,8 @@ fn with_pinned(masks: Masks, men: Bits) -> Masks
     }
 }
 
-// The masks once the way is watched: a slider that nothing stands before gives check, and pins the one man before it, if
-// that is an own one.
+// The masks once the way is watched: a slider that nothing stands before gives check, and pins the one man before it,
+// if that is an own one.
 fn watched(board: &Board, masks: Masks, way: u8) -> Masks
     requires way { way < 8 }
     requires masks { HoldsMasksBelow board.now way masks }

@@ -101,7 +101,8 @@ fn king_goes(board: &Board, masks: &Masks, from: Square) -> Bits
     safe
 }
 
-// The squares, and the target of a capture en passant where the king is not exposed by it, whatever the masks say of it.
+// The squares, and the target of a capture en passant where the king is not exposed by it, whatever the masks say of
+// it.
 fn with_target(safe: Bits, target: Square, is_exposed: bool) -> Bits
     ensures { result ≡ put safe target (not is_exposed) }
 {

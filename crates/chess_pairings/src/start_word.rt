@@ -180,8 +180,8 @@ impl<'a> Rounds<'a> {
         Ok(())
     }
 
-    // Goes on with each board whose start has come. It tells the first of the failures, after which a board may be gone on
-    // with again.
+    // Goes on with each board whose start has come. It tells the first of the failures, after which a board may be gone
+    // on with again.
     fn go_on<R>(&mut self, rt: &R, boards: &[Board]) -> Result<()>
     where
         R: Net<Stream = TcpStream>

@@ -15,9 +15,9 @@ pub record IsLegalEnPassant (p : Position) (m : Move) : Type 0 where
 abbrev pub HasLegalEnPassant : Position → Type 0
 HasLegalEnPassant p = (m : Move) × IsLegalEnPassant p m
 
--- The same side is to move, men of the same kind and colour stand on the same squares, the same castling rights are left,
--- and the same captures en passant are legal. A target that no pawn can legally reach does not count (our own choice,
--- where the Laws speak of pawns that could have been taken en passant), nor do the counters.
+-- The same side is to move, men of the same kind and colour stand on the same squares, the same castling rights are
+-- left, and the same captures en passant are legal. A target that no pawn can legally reach does not count (our own
+-- choice, where the Laws speak of pawns that could have been taken en passant), nor do the counters.
 pub record IsSamePosition (p q : Position) : Type 0 where
   pub side : p.side ≡ q.side
   pub placement : p.placement ≡ q.placement

@@ -12,8 +12,8 @@ use indexmap::IndexMap;
 use std::alloc::{AllocError, Global};
 use std::marker::Model;
 
-/// The positions of a game in their order: of each its halfmove clock, and how often its key stood; and the last of them
-/// with its key, from which that of the next is made.
+/// The positions of a game in their order: of each its halfmove clock, and how often its key stood; and the last of
+/// them with its key, from which that of the next is made.
 #[derive(Drop)]
 pub struct History {
     clocks: Vec<u16>,
@@ -61,8 +61,8 @@ impl History {
         self.clocks.len() as u32
     }
 
-    /// Appends a position, and tells how many members are the same position then (FIDE articles 9.2 and 9.6.1). It fails
-    /// where memory is refused, and then all is as it was.
+    /// Appends a position, and tells how many members are the same position then (FIDE articles 9.2 and 9.6.1). It
+    /// fails where memory is refused, and then all is as it was.
     pub fn push(&mut self, board: &Board) -> Result<u32, AllocError>
         requires { length self.old.clocks < 65535 }
         ensures clocks { OnOk result (self.new.clocks ≡ self.old.clocks ++ board.now.halfmove ∷ []) }
@@ -84,8 +84,8 @@ impl History {
         Ok(count + 1)
     }
 
-    /// How many members of the history are the same position (FIDE articles 9.2 and 9.6.1). It is one look-up, and takes no
-    /// memory.
+    /// How many members of the history are the same position (FIDE articles 9.2 and 9.6.1). It is one look-up, and
+    /// takes no memory.
     pub fn times(&self, board: &Board) -> u32
         ensures count { result ≡ count_in self.now.counts (key_of board.now) }
         ensures times { (list : List Position) → IsHistoryOf self.now list → IsTimes board.now list result }

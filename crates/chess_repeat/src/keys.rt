@@ -66,8 +66,8 @@ fn state_byte(board: &Board) -> u8
         + 16 * u8::from(rights.allows(Colour::Black, Wing::Queen))
 }
 
-// Whether a pawn of the side to move can legally take on the target: those that can are on the squares that a pawn of the
-// opponent on the target attacks.
+// Whether a pawn of the side to move can legally take on the target: those that can are on the squares that a pawn of
+// the opponent on the target attacks.
 fn is_live(board: &Board, target: Square) -> bool
     requires { board.now.target ≡ Some target }
     ensures { result ≡ is_live board.now target }
@@ -98,10 +98,10 @@ fn target_byte(board: &Board) -> u8
     }
 }
 
-/// The key of a position, equal exactly for the same positions (FIDE article 9.2.3). Byte k, from 0 to 31, holds square 2k
-/// in its low four bits and square 2k + 1 in its high four: 0 is no man, 1 to 6 are a white pawn, knight, bishop, rook,
-/// queen and king, and 9 to 14 the black ones. Byte 32 has bit 0 for Black to move and bits 1 to 4 for the rights K, Q, k
-/// and q. Byte 33 is the number of the en passant target where a capture there is legal, and else 64.
+/// The key of a position, equal exactly for the same positions (FIDE article 9.2.3). Byte k, from 0 to 31, holds square
+/// 2k in its low four bits and square 2k + 1 in its high four: 0 is no man, 1 to 6 are a white pawn, knight, bishop,
+/// rook, queen and king, and 9 to 14 the black ones. Byte 32 has bit 0 for Black to move and bits 1 to 4 for the rights
+/// K, Q, k and q. Byte 33 is the number of the en passant target where a capture there is legal, and else 64.
 pub fn key(board: &Board) -> [u8; 34]
     ensures key { result ≡ key_of board.now }
     ensures live_target { (m : Move) → IsLegalEnPassant board.now m → slice_index result 33 ≡ number_of m.to }
@@ -117,8 +117,8 @@ pub fn key(board: &Board) -> [u8; 34]
     bytes
 }
 
-/// The key of a position, by that of another: only where not the same stands the bytes are made anew, so that it is soon
-/// done after a move.
+/// The key of a position, by that of another: only where not the same stands the bytes are made anew, so that it is
+/// soon done after a move.
 pub fn key_from(before: &Board, known: &[u8; 34], board: &Board) -> [u8; 34]
     requires { known.now ≡ key_of before.now }
     ensures { result ≡ key_of board.now }
@@ -133,8 +133,8 @@ pub fn key_from(before: &Board, known: &[u8; 34], board: &Board) -> [u8; 34]
     bytes
 }
 
-/// Whether two positions are the same (FIDE article 9.2.3): equal sides to move, men, castling rights and legal captures en
-/// passant. It compares their keys, which are equal exactly for the same positions.
+/// Whether two positions are the same (FIDE article 9.2.3): equal sides to move, men, castling rights and legal
+/// captures en passant. It compares their keys, which are equal exactly for the same positions.
 pub fn is_same(first: &Board, second: &Board) -> bool
     ensures same { IsTrue result ↔ IsSamePosition first.now second.now }
     ensures keys { (key_of first.now ≡ key_of second.now) ↔ IsSamePosition first.now second.now }

@@ -11,8 +11,8 @@ use Rattle.chess_notation.specs.Name.{square_named}
 use Rattle.chess_san.specs.declared.parsing.Asked.{Asked}
 use Rattle.chess_san.specs.declared.parsing.Arrival.{Arrival}
 
--- What a text asks for, read from its two ends. No public contract speaks of it: it is a guess that no SAN is missed by,
--- and the text is then compared with the SAN of the move that is found.
+-- What a text asks for, read from its two ends. No public contract speaks of it: it is a guess that no SAN is missed
+-- by, and the text is then compared with the SAN of the move that is found.
 
 -- the piece that a capital letter names
 unfoldable pub piece_named : ℕ → Option Kind

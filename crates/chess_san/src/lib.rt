@@ -1,4 +1,7 @@
 //! Moves in standard algebraic notation (PGN Standard, section 8.2.3), both ways.
+//!
+//! Modules: `writing` writes a move, with `origin` for the square that it has to name and `threat` for check and mate;
+//! `reading` finds the legal move that a text spells, with `parsing` for what the text asks for.
 #![tactic(auto)]
 
 mod origin;

@@ -14,8 +14,8 @@ use chess_board::{Board, Move};
 use chess_moves::legal;
 use chess_notation::{Among, Origin};
 
-/// Squares with men of the side to move and the kind, among them all from which a legal move goes to the square. It looks
-/// outward from that square: a piece attacks it from where a piece of that kind on it would attack.
+/// Squares with men of the side to move and the kind, among them all from which a legal move goes to the square. It
+/// looks outward from that square: a piece attacks it from where a piece of that kind on it would attack.
 pub fn sources(board: &Board, kind: Kind, to: Square) -> Bits
     ensures own { (s : Square) → has result s ≡ true →
         man_at board.now.placement s ≡ Some (board.now.side, kind) }

@@ -8,8 +8,8 @@ use Rattle.chess_hub.specs.Turn.{IsReading}
 use Rattle.chess_hub.specs.Sessions.{IsLineAnswered}
 use Rattle.client_streams.specs.Portions.{is_dear}
 
--- The answer to a line that asks for little, as that stands before its line feed, is one line: it has no body, whoever asks,
--- at whatever moment, of whatever table.
+-- The answer to a line that asks for little, as that stands before its line feed, is one line: it has no body, whoever
+-- asks, at whatever moment, of whatever table.
 abbrev pub LawOfShortAnswers : Type 0
 LawOfShortAnswers =
     (line : List ℕ) (read : Option Line) (table after : TableState) (name : Option (List ℕ)) (at : ℕ) (answer : Said)

@@ -75,8 +75,8 @@ pub record AreWritten {S : Type 0} (contents : S → Option (List ℕ)) (clients
 abbrev pub open_in : {S : Type 0} → Sessions → List (Client S) → List (Client S)
 open_in sessions clients = filter (λ client. is_some (session_at sessions client.sid)) clients
 
--- A client begins at this moment: its stream is as it is made of a connection, nothing of it is held back, nothing waits for
--- it, it has not waited, its session was given nothing yet, it may send more, and no trouble has come about.
+-- A client begins at this moment: its stream is as it is made of a connection, nothing of it is held back, nothing
+-- waits for it, it has not waited, its session was given nothing yet, it may send more, and no trouble has come about.
 pub record Begins {C S : Type 0} (IsMade : C → S → Type 0) (client : Client S) (at : ℕ) : Type 0 where
   pub connection : C
   pub made : IsMade connection client.wire.stream
@@ -102,8 +102,8 @@ pub record Welcomes {C S : Type 0} (IsMade : C → S → Type 0) (at : ℕ) (cli
   pub whole : after ≡ clients ++ came
   pub welcomed : AreWelcomed IsMade at came old new
 
--- The listener had given so many connections before and so many after: it gave none; or one, who is a client, or is counted
--- as turned away.
+-- The listener had given so many connections before and so many after: it gave none; or one, who is a client, or is
+-- counted as turned away.
 abbrev pub AreCounted : {S : Type 0} → List (Client S) → ℕ → ℕ → ℕ → ℕ → Type 0
 AreCounted [] given gives count counted =
     (gives ≡ given) × (counted ≡ count) ⊎ (gives ≡ given + 1) × (counted ≡ min (count + 1) (2 ^ 64 - 1))
@@ -115,14 +115,14 @@ pub record IsWelcomed {C S : Type 0} (IsMade : C → S → Type 0) (at given giv
   pub welcomes : Welcomes IsMade at clients after old new
   pub counts : AreCounted welcomes.came given gives count counted
 
--- After rests of this kind, or none, the listener is asked for a connection; but not where they were calm and its last try
--- had found that nobody waits, for then it is left alone.
+-- After rests of this kind, or none, the listener is asked for a connection; but not where they were calm and its last
+-- try had found that nobody waits, for then it is left alone.
 pub record IsAskedFor (rested : Rested) (old new : LocalListener) : Type 0 where
   pub asked : ((rested ≡ Calm) × (old.outcome ≡ Nobody) → ⊥) → IsAsked old.tries new.tries
   pub alone : (rested ≡ Calm) × (old.outcome ≡ Nobody) → new ≡ old
 
--- Each client is read for, and then the hub answers at most 64 lines of what the sessions had sent by then, as one batch
--- at this moment, which the store may be asked for.
+-- Each client is read for, and then the hub answers at most 64 lines of what the sessions had sent by then, as one
+-- batch at this moment, which the store may be asked for.
 pub record HasReadAndAnswered {S : Type 0} (remaining : S → Option (List ℕ)) (silence : Option ℕ)
     (May : List Command → Type 0) (at : ℕ) (clients read : List (Client S)) (old answered : HubState) : Type 0 where
   pub heard : HubState

@@ -18,8 +18,8 @@ EndsServing (Store fault) = IsSubmitFault fault
 EndsServing Busy = ⊥
 EndsServing LineTooLong = ⊥
 
--- The clients were read for, and then no line of what their sessions had heard by then was answered: so they are left, and
--- nothing is lost for who is served again.
+-- The clients were read for, and then no line of what their sessions had heard by then was answered: so they are left,
+-- and nothing is lost for who is served again.
 pub record HasReadAlone {S : Type 0} (remaining : S → Option (List ℕ)) (silence : Option ℕ) (at : ℕ)
     (clients left : List (Client S)) (old new : HubState) (Why : Sessions → Type 0) : Type 0 where
   pub heard : HubState
@@ -27,9 +27,9 @@ pub record HasReadAlone {S : Type 0} (remaining : S → Option (List ℕ)) (sile
   pub kept : IsUnchanged heard.sessions new.sessions
   pub why : Why heard.sessions
 
--- Why clients are not served on, and what is left. Where memory was refused to the hub, the table is as it was; a store's
--- fault is that of the commands of at most 64 lines, of what the sessions had sent by then, which went to it as one batch
--- at this moment.
+-- Why clients are not served on, and what is left. Where memory was refused to the hub, the table is as it was; a
+-- store's fault is that of the commands of at most 64 lines, of what the sessions had sent by then, which went to it as
+-- one batch at this moment.
 abbrev pub IsRefusal : {S : Type 0} → (S → Option (List ℕ)) → Option ℕ → HubFault → ℕ → ℕ → Bool → List (Client S) → List (Client S)
     → HubState → HubState → Type 0
 IsRefusal remaining silence NoMemory at seq failed clients left old new =

@@ -55,8 +55,8 @@ pub struct Server<D: Device, S = Connection> {
 /// The most lines that a turn takes: one at least of each session that has one.
 const LINES: usize = 64;
 
-// Whether a turn asks for a connection: always, but after calm rests only where the last try has not found that none waits.
-// So a failure leaves no connection waiting.
+// Whether a turn asks for a connection: always, but after calm rests only where the last try has not found that none
+// waits. So a failure leaves no connection waiting.
 fn asks_for_one(rested: Rested, outcome: AcceptOutcome) -> bool
     ensures { result ≡ false ↔ ((rested ≡ Rested.Calm) × (outcome ≡ AcceptOutcome.Nobody)) }
 {
@@ -75,8 +75,8 @@ fn told_as(has_worked: bool) -> Turned
     }
 }
 
-// Begins a session for a connection, and tells whether it did: the connection is dropped where the hub is busy or memory is
-// refused.
+// Begins a session for a connection, and tells whether it did: the connection is dropped where the hub is busy or
+// memory is refused.
 fn admit<S: Read + Write + From<Connection> + Drop, D: Device>(
     alloc: Global,
     clients: &mut Vec<Client<S>>,
@@ -108,8 +108,8 @@ fn admit<S: Read + Write + From<Connection> + Drop, D: Device>(
     true
 }
 
-/// Reads for each session, has the hub answer lines that wait, and writes; and tells whether there was anything to read or
-/// to write.
+/// Reads for each session, has the hub answer lines that wait, and writes; and tells whether there was anything to read
+/// or to write.
 pub fn serve_clients<S: Read + Write, D: Device>(
     clients: &mut Vec<Client<S>>,
     hub: &mut Hub<D>,
@@ -146,8 +146,8 @@ pub fn serve_clients<S: Read + Write, D: Device>(
 }
 
 impl<D: Device, S: Read + Write + From<Connection> + Drop> Server<D, S> {
-    /// Listens on a port of 127.0.0.1, of port 0 on one that the system chooses, and serves as `new` does, where no client
-    /// is closed for silence. `Socket` where it cannot be bound or watched; the hub is then given up.
+    /// Listens on a port of 127.0.0.1, of port 0 on one that the system chooses, and serves as `new` does, where no
+    /// client is closed for silence. `Socket` where it cannot be bound or watched; the hub is then given up.
     pub fn bind<R: Net<Listener = TcpListener, Stream = TcpStream>>(
         net: &R,
         alloc: Global,
@@ -165,9 +165,9 @@ impl<D: Device, S: Read + Write + From<Connection> + Drop> Server<D, S> {
         Server::new(net, alloc, listener, None, hub)
     }
 
-    /// Serves who connects to this listener. `Socket` where that cannot be watched; the hub is then given up. A
-    /// client from which nothing came for `silence` milliseconds, and for which nothing waits, is closed; without that none
-    /// is closed for silence.
+    /// Serves who connects to this listener. `Socket` where that cannot be watched; the hub is then given up. A client
+    /// from which nothing came for `silence` milliseconds, and for which nothing waits, is closed; without that none is
+    /// closed for silence.
     pub fn new(
         net: &impl Net,
         alloc: Global,
@@ -212,8 +212,9 @@ impl<D: Device, S: Read + Write + From<Connection> + Drop> Server<D, S> {
         self.turned_away
     }
 
-    // Accepts at most one connection, and tells whether one came; after calm rests none, unless one may wait. One that came
-    // and is no client is counted. What fails at it ends nothing, and is no turn's work, so that a rest comes before the next.
+    // Accepts at most one connection, and tells whether one came; after calm rests none, unless one may wait. One that
+    // came and is no client is counted. What fails at it ends nothing, and is no turn's work, so that a rest comes
+    // before the next.
     fn welcome(&mut self, at: u64) -> bool
         ensures asked { IsAskedFor self.old.rested self.old.listener self.new.listener }
         ensures came { OnTrue result (self.new.listener.given ≡ self.old.listener.given + 1) }
@@ -300,8 +301,8 @@ impl<D: Device, S: Read + Write + From<Connection> + Drop> Server<D, S> {
             ⊎ (0 < length (open_in self.old.hub.sessions self.old.clients.items))) }
         // The next turn reads for every client, unless a rest comes first.
         ensures again { OnOk result (self.new.rested ≡ Rested.Not) }
-        // Each session hears what its client's stream gave, and what it is given goes to that stream, whatever the streams
-        // are. At most one comes, who is a client or is counted as turned away.
+        // Each session hears what its client's stream gave, and what it is given goes to that stream, whatever the
+        // streams are. At most one comes, who is a client or is counted as turned away.
         ensures served { OnOk result (HasGoneRound S.from_gives S.remaining S.contents self.old.silence
             self.old.listener.given self.new.listener.given self.old.turned_away self.new.turned_away (MayBeAsked self.old.hub.store.failed
             self.old.hub.store.journal.header.seq self.old.hub.store.table.entries) at self.old.clients.items
@@ -329,8 +330,8 @@ impl<D: Device, S: Read + Write + From<Connection> + Drop> Server<D, S> {
         Ok(told_as(came | has_served))
     }
 
-    /// Waits until a socket is ready or 10 ms have passed, for use after a turn that found nothing to do. A rest is calm
-    /// where no socket was ready, but not each hundredth on end, so that all are asked once a second.
+    /// Waits until a socket is ready or 10 ms have passed, for use after a turn that found nothing to do. A rest is
+    /// calm where no socket was ready, but not each hundredth on end, so that all are asked once a second.
     pub fn rest(&mut self)
         ensures hub { self.new.hub ≡ self.old.hub }
         ensures clients { self.new.clients ≡ self.old.clients }

@@ -45,8 +45,8 @@ IsEntering before e reply entries after =
     IsTaken before e reply entries after
     ⊎ (MayNeedMemory before e × IsRefused NoMemory reply × IsNothing before entries after)
 
--- What becomes of a command by its verdict. Where memory was refused, which happens only to the entries and the reads that
--- need it, it is answered 22 and changes nothing.
+-- What becomes of a command by its verdict. Where memory was refused, which happens only to the entries and the reads
+-- that need it, it is answered 22 and changes nothing.
 abbrev pub Becomes : Verdict → TableState → Command → Reply → List Entry → TableState → Type 0
 Becomes (Refuse refusal) before command reply entries after = IsRefused refusal reply × IsNothing before entries after
 Becomes Read before command reply entries after =

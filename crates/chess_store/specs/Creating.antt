@@ -11,9 +11,9 @@ use Rattle.chess_store.specs.declared.fault.StoreFault.{StoreFault}
 use Rattle.chess_store.specs.declared.fault.StoreFault.TheVariants.{Exists, TooSmall, Device}
 use Rattle.chess_store.specs.Means.{Means}
 
--- What a crash may leave of these sectors while a store is created: what they were; and, only where no header slot starts
--- with the eight bytes, what means the empty table, or the same sectors with sector 1 unreadable, of which no header slot
--- starts so either.
+-- What a crash may leave of these sectors while a store is created: what they were; and, only where no header slot
+-- starts with the eight bytes, what means the empty table, or the same sectors with sector 1 unreadable, of which no
+-- header slot starts so either.
 abbrev pub IsCreated : Sectors → Limits → Sectors → Type 0
 IsCreated old limits image = (image ≡ old)
     ⊎ ((IsOurs old → ⊥) × (Means image (empty_table limits)

@@ -11,11 +11,12 @@ pub record HasGoneOn (old new : State) : Type 0 where
   pub unstopped : new.stops ≡ old.stops
   pub later : old.moment ≤ new.moment
 
--- Of a device: its state, how often it has failed, how many calls it has left, its stable values and its pending writes.
+-- Of a device: its state, how often it has failed, how many calls it has left, its stable values and its pending
+-- writes.
 module _ {D : Type 0} (state : D → State) (failures : D → ℕ) (calls_left : D → Option ℕ) (stable : D → Sectors)
     (pending : D → List Write) where
-  -- What a life's stop makes of its device: it has stopped once more, each pending write has the life's fate, the calls are not
-  -- limited any more, and it has failed as often as before.
+  -- What a life's stop makes of its device: it has stopped once more, each pending write has the life's fate, the calls
+  -- are not limited any more, and it has failed as often as before.
   pub record IsStopOf (life : Life) (left ended : D) : Type 0 where
     pub stopped : HasStopped (state left) (state ended)
     pub fates : stable ended ≡ left_by (stable left) (pending left) life.fates.items
@@ -28,8 +29,9 @@ module _ {D : Type 0} (state : D → State) (failures : D → ℕ) (calls_left :
     pub failed : HasRisen (failures old) (failures new)
     pub unwritten : (image : Sectors) → (state new).image image → (state old).image image
 
-  -- A life from one device to another: one crash comes, its stop, at which the device has failed as often as is reported; and its
-  -- opening is told as failed only where the device has failed between the stop before it and its own, and nothing was written.
+  -- A life from one device to another: one crash comes, its stop, at which the device has failed as often as is
+  -- reported; and its opening is told as failed only where the device has failed between the stop before it and its
+  -- own, and nothing was written.
   pub record IsLivedOn (life : Life) (report : LifeReport) (begun ended : D) : Type 0 where
     pub left : D
     pub on : HasGoneOn (state begun) (state left)

@@ -30,9 +30,9 @@ IsFaultInMemory (Device pending) = ⊤
 IsFaultInMemory Worn = ⊤
 IsFaultInMemory fault = ⊥
 
--- What came of lives that begin with the empty table on a device which has not failed, and the device that is left of it.
--- Their report goes from no entry and no failure to the failures of this device, on which every image means the table that
--- is reported. Or a fault was returned: before them, or in their midst, and it left this device.
+-- What came of lives that begin with the empty table on a device which has not failed, and the device that is left of
+-- it. Their report goes from no entry and no failure to the failures of this device, on which every image means the
+-- table that is reported. Or a fault was returned: before them, or in their midst, and it left this device.
 pub record IsLivedInMemory (limits : Limits) (lives : List Life) (lived : Lived MemoryDevice) : Type 0 where
   pub reported : IfOk lived.report (λ report. IsReport limits [] 0 lives report lived.dev.failures)
   pub images : IfOk lived.report (λ report. AllMean (state_of lived.dev) report.table)

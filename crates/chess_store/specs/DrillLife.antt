@@ -1,5 +1,5 @@
--- The lives of the drill: in each a game is opened and five moves are made as one batch, at one of whose device calls the
--- life stops, with one of the fates for each write that is pending there.
+-- The lives of the drill: in each a game is opened and five moves are made as one batch, at one of whose device calls
+-- the life stops, with one of the fates for each write that is pending there.
 use Rattle.std.specs.Prelude.{ℕ, zero, suc, ◌≡◌, ◌+◌, ◌-◌, ◌/◌, ◌%◌, ◌^◌, nat_lt, if◌then◌else◌, List, [], ◌∷◌, map, codes, Option, Some, None}
 use Rattle.chess_bits.specs.declared.men.Colour.TheVariants.{White}
 use Rattle.sector_dev.specs.declared.device.Fate.{Fate}
@@ -62,8 +62,8 @@ stop_among (pending ∷ others) before case =
     if nat_lt case (3 ^ pending) then record { calls = Some before; way = case }
     else stop_among others (before + 1) (case - 3 ^ pending)
 
--- The opening takes three calls and the opening batch four. The batch of moves takes five: it writes two sectors, syncs,
--- writes the header, and syncs. So many writes are pending where each of the five fails, its own among them.
+-- The opening takes three calls and the opening batch four. The batch of moves takes five: it writes two sectors,
+-- syncs, writes the header, and syncs. So many writes are pending where each of the five fails, its own among them.
 abbrev pub stop_of : ℕ → Stop
 stop_of case = stop_among (1 ∷ 2 ∷ 2 ∷ 1 ∷ 1 ∷ []) (3 + 4) case
 

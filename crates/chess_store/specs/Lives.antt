@@ -91,8 +91,8 @@ pub record IsBegun (limits : Limits) (k : List Entry) (now : State) : Type 0 whe
   pub lawful : IsLawful limits k
   pub means : AllMean now (table_of limits k)
 
--- What is reported at the end of the lives: what the entries are that the last opening shows, which are the ones that are
--- kept then. They are a lawful list, and every move in its games is legal.
+-- What is reported at the end of the lives: what the entries are that the last opening shows, which are the ones that
+-- are kept then. They are a lawful list, and every move in its games is legal.
 pub record IsReport (limits : Limits) (k : List Entry) (failures : ℕ) (lives : List Life) (report : Report) (after : ℕ)
     : Type 0 where
   pub last : List Entry

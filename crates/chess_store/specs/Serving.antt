@@ -27,8 +27,8 @@ AreJudgedOn before [] after = after ≡ before
 AreJudgedOn before (batch ∷ batches) after =
     IsJudgedThen (λ between. AreJudgedOn between batches after) before batch
 
--- the course of these batches on a table: `kept` is the table after those that were answered, and `accepted` the one after
--- all that were judged
+-- the course of these batches on a table: `kept` is the table after those that were answered, and `accepted` the one
+-- after all that were judged
 pub record IsCourseOn (before : TableState) (batches : List (List Command)) (course : Course)
     (left : List (List Command)) (kept accepted : TableState) : Type 0 where
   pub order : batches ≡ map (λ b. b.commands) course.answered ++ (map (λ b. b.commands) (list_of course.failed) ++ left)
@@ -49,8 +49,8 @@ EndsWith (Some NoMemory) failed left failures after = (failed ≡ None) × (afte
 EndsWith (Some Worn) failed left failures after = (failed ≡ None) × (after ≡ failures)
 EndsWith (Some fault) failed left failures after = ⊥
 
--- What came of batches that were submitted to a store that works: the table that it showed last, and what the images are,
--- where every one was kept.
+-- What came of batches that were submitted to a store that works: the table that it showed last, and what the images
+-- are, where every one was kept.
 pub record IsTallied (before : TableState) (batches : List (List Command)) (submitted : Submitted) (failures : ℕ) (WasKept : Type 0)
     (now : State) (after : ℕ) : Type 0 where
   pub course : Course

@@ -68,8 +68,8 @@ pub record MeansLeft (limits : Limits) (k : List Entry) (course : Course) (image
   pub lawful : IsLawful limits next
   pub means : Means image (table_of limits next)
 
--- A fault was returned in the first of these lives, or in the last opening, where none is left. Every image means the table
--- of a list that a stop would have left there.
+-- A fault was returned in the first of these lives, or in the last opening, where none is left. Every image means the
+-- table of a list that a stop would have left there.
 pub record IsStopped (limits : Limits) (k : List Entry) (failures : ℕ) (lives : List Life) (fault : StoreFault)
     (now : State) (after : ℕ) : Type 0 where
   pub course : Course

@@ -45,9 +45,9 @@ const WITHOUT_MOVES: u64 = 2;
 
 const WITH_MOVES: u64 = 7;
 
-// After how many calls the life of a case stops, and in which of the ways: each write that is pending then may have three
-// fates. The opening makes three calls and the batch that opens and joins a game four. The batch of five moves makes five:
-// it writes two sectors, syncs, writes the header, and syncs.
+// After how many calls the life of a case stops, and in which of the ways: each write that is pending then may have
+// three fates. The opening makes three calls and the batch that opens and joins a game four. The batch of five moves
+// makes five: it writes two sectors, syncs, writes the header, and syncs.
 fn stop(case: u32) -> (Option<u64>, u32)
     ensures calls { result.0 ≡ (stop_of case).calls }
     ensures way { result.1 ≡ (stop_of case).way }
@@ -183,9 +183,9 @@ fn tallied(cases: &[Lived<MemoryDevice>]) -> Result<Tally, StoreFault>
 }
 
 /// Plays every case: a life on a device in memory, from the empty table, in which a game is opened and five moves are
-/// made as one batch, and which stops at one of the device calls of that batch, or at none, with each pending write lost,
-/// kept or unreadable. A fault is that of its case, as `lives_in_memory` says it. `AllocError`: memory was refused for a
-/// plan, for a device or for the cases.
+/// made as one batch, and which stops at one of the device calls of that batch, or at none, with each pending write
+/// lost, kept or unreadable. A fault is that of its case, as `lives_in_memory` says it. `AllocError`: memory was
+/// refused for a plan, for a device or for the cases.
 pub fn drill(alloc: Global) -> Result<Drilled, AllocError>
     ensures cases { IfOk result (λ drilled. AreCases 0 drilled.cases.items) }
     ensures all { IfOk result (λ drilled. length drilled.cases.items ≡ 28) }

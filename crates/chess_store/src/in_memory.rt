@@ -13,10 +13,10 @@ use sector_dev::MemoryDevice;
 use std::alloc::{AllocError, Global};
 
 /// Lives the lives of a plan as `lives` does, on a new device in memory that has the sectors which the limits need, and
-/// that is made a store of the empty table first. It answers the device that is left and what is reported of these lives
-/// from the empty table, or the fault: of the lives `NoMemory`, `Worn` or `Device`, with the count of the entries that may
-/// last or not; or `Device` with none, which the device counted while it was made a store. No other fault comes.
-/// `AllocError`: memory was refused for the device.
+/// that is made a store of the empty table first. It answers the device that is left and what is reported of these
+/// lives from the empty table, or the fault: of the lives `NoMemory`, `Worn` or `Device`, with the count of the entries
+/// that may last or not; or `Device` with none, which the device counted while it was made a store. No other fault
+/// comes. `AllocError`: memory was refused for the device.
 pub fn lives_in_memory(
     alloc: Global,
     limits: Limits,

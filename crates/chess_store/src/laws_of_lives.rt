@@ -1,8 +1,8 @@
 //! Laws of the definitions that the contracts cite.
 ghost use Rattle.chess_store.specs.Laws.{LawOfBatches, LawOfBeginning, LawOfKept, LawOfRaising};
 
-/// The law that the list without an entry is lawful and that its table is the empty one, with which lives may begin on a
-/// device that a store was created on. It does nothing when it runs.
+/// The law that the list without an entry is lawful and that its table is the empty one, with which lives may begin on
+/// a device that a store was created on. It does nothing when it runs.
 pub fn law_of_beginning()
     ensures { LawOfBeginning }
 {}

@@ -1,6 +1,7 @@
 //! The store: a table whose commands last. `Store::create` makes one, `Store::open` finds the one that a device holds,
-//! `Store::widen` sets greater limits. A batch of commands lasts whole or not at all, and its replies leave only once it
-//! lasts; a crash at any moment of a call leaves what means the table from before it or that after it, where one was meant.
+//! `Store::widen` sets greater limits. A batch of commands lasts whole or not at all, and its replies leave only once
+//! it lasts; a crash at any moment of a call leaves what means the table from before it or that after it, where one was
+//! meant.
 //!
 //! `lives` opens, serves and stops a store, over and over, wherever the device stops.
 #![tactic(auto)]

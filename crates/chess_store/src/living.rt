@@ -152,9 +152,9 @@ fn show<D: Device>(alloc: Global, device: D, reports: Vec<LifeReport>) -> Lived<
 /// `Damaged` and `TooSmall`, as an opening says it. On any device `Device` comes only where the count of its failures
 /// rose.
 ///
-/// What is reported of a life is of that life (`told`): the device goes from life to life, each of which has one stop, its
-/// last, and at the stop the device has failed as often as is reported. Where an opening is told as failed, the device has
-/// failed since the stop before it, and nothing was written.
+/// What is reported of a life is of that life (`told`): the device goes from life to life, each of which has one stop,
+/// its last, and at the stop the device has failed as often as is reported. Where an opening is told as failed, the
+/// device has failed since the stop before it, and nothing was written.
 pub fn lives<D: CrashDevice>(alloc: Global, device: D, plan: &Plan) -> Lived<D>
     requires { AreSubmittable plan.now.lives.items }
     ensures reported { (limits : Limits) (k : List Entry) → IsBegun limits k (D.state device)

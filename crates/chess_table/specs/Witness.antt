@@ -34,8 +34,8 @@ abbrev pub opening_verdict : TableState → ℕ → Opening → Verdict
 opening_verdict table at opening = open_verdict table at (opening_from opening.colour (times_of opening) opening.name)
     (are_times opening.initial opening.increment opening.period) (Some opening.start)
 
--- The verdict on the act that becomes this in a game: by whom the event says, or else by who is on move; nothing opens a
--- game that stands.
+-- The verdict on the act that becomes this in a game: by whom the event says, or else by who is on move; nothing opens
+-- a game that stands.
 abbrev pub witness_verdict : TableState → ℕ → GameState → Event → Verdict
 witness_verdict table at game (event.Open opening) = Refuse Taken
 witness_verdict table at game (event.Join name) = join_verdict at name game

@@ -568,9 +568,9 @@ fn checked(table: &Table, found: Option<&Game>, command: &Command, named: &Parse
     player_verdict(table, found, at, &name, named, &command.act)
 }
 
-/// What a command meets on a table: the first check that applies refuses it, or makes it the entry that a flag has fallen;
-/// else it is a read, or becomes an entry, which may come on the table. The texts of moves are read in the position that
-/// stands. It takes no memory and changes nothing.
+/// What a command meets on a table: the first check that applies refuses it, or makes it the entry that a flag has
+/// fallen; else it is a read, or becomes an entry, which may come on the table. The texts of moves are read in the
+/// position that stands. It takes no memory and changes nothing.
 pub fn judge(table: &Table, command: &Command) -> Verdict
     ensures verdict { IsVerdict table.now command.now result }
     ensures one { (other : Verdict) → IsVerdict table.now command.now other → other ≡ result }

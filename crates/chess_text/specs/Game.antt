@@ -15,7 +15,8 @@ numbers_before White is_first n = (decimal n ++ codes ".") ∷ []
 numbers_before Black true n = (decimal n ++ codes "...") ∷ []
 numbers_before Black false n = []
 
--- tokens that begin with these numbers, then a move of which that is said, and go on with the rest, of which that is said
+-- tokens that begin with these numbers, then a move of which that is said, and go on with the rest, of which that is
+-- said
 pub record BeginWithMove (Says : List ℕ → Type 0) (Rest : List (List ℕ) → Type 0) (numbers tokens : List (List ℕ))
     : Type 0 where
   pub san : List ℕ

@@ -89,9 +89,9 @@ fn push_movetext(text: &mut String, game: &GameText<'_>) -> Result<(), AllocErro
     Ok(())
 }
 
-/// The PGN of a game (PGN Standard, section 8): tags, an empty line, the moves in SAN and the result in lines of at most
-/// 79 characters, an empty line. For a game there is one. The moves are legal, one after the other from the start, and
-/// before each both counters are below 65,535. It fails where memory is refused.
+/// The PGN of a game (PGN Standard, section 8): tags, an empty line, the moves in SAN and the result in lines of at
+/// most 79 characters, an empty line. For a game there is one. The moves are legal, one after the other from the start,
+/// and before each both counters are below 65,535. It fails where memory is refused.
 pub fn pgn(alloc: Global, game: &GameText<'_>) -> Result<String, AllocError>
     requires legal { IsLegalLine game.now.start game.now.moves.now }
     requires room { HasRoom game.now.start game.now.moves.now }

@@ -7,9 +7,9 @@ use std::alloc::AllocError;
 /// The greatest number of characters of a line (PGN Standard, section 8.2.1).
 pub const WIDEST: usize = 79;
 
-/// What stands in front of a token of this length, which comes behind the movetext under way, whose last line has `width`
-/// characters, and how many the token's line has before it: it is that line, if the token fits there, else a new one.
-/// `width` and `len` are at most 79.
+/// What stands in front of a token of this length, which comes behind the movetext under way, whose last line has
+/// `width` characters, and how many the token's line has before it: it is that line, if the token fits there, else a
+/// new one. `width` and `len` are at most 79.
 pub fn separated(width: usize, len: usize) -> (&'static str, usize)
     requires width { width ≤ 79 }
     requires len { len ≤ 79 }

@@ -24,8 +24,8 @@ IsOpen sessions sid = IsSome (session_at sessions sid)
 abbrev pub OthersStay : Sessions → Sessions → ℕ → Type 0
 OthersStay old new sid = (other : ℕ) → other ≢ sid → session_at new other ≡ session_at old other
 
--- What is known of a client from one turn to the next: for how many turns on end it has waited with a line that asks for
--- much, and whether its session was given anything yet.
+-- What is known of a client from one turn to the next: for how many turns on end it has waited with a line that asks
+-- for much, and whether its session was given anything yet.
 pub record Standing : Type 0 where
   pub waited : ℕ
   pub has_spoken : Bool
@@ -75,15 +75,15 @@ HasHeard old fed new = (old.heard.is_long ≡ false) × IsPortion fed × (old.he
     ⊎ (new ≡ old) × (fed ≡ [])
     ⊎ (new ≡ old) × (old.heard.is_long ≡ true)
 
--- No line of a client can go on in this turn: answers wait to be taken by it, a line of its session waits, that is closed
--- after it, or no line is held back.
+-- No line of a client can go on in this turn: answers wait to be taken by it, a line of its session waits, that is
+-- closed after it, or no line is held back.
 abbrev pub IsHeldUp : List ℕ → List ℕ → SessionState → Option SessionState → Type 0
 IsHeldUp unsent keeps old new = (unsent ≢ []) ⊎ (old.heard.bytes ≢ []) ⊎ (new ≡ None) ⊎ IsUnfinished keeps
 
--- For how many turns on end a line has waited that asks for much, once its session was given this and that is still held
--- back: for none once it was given anything, or where no line is held back; for one more where what is held back begins as
--- such a line and the turn had no room for it, or somebody has waited longer; and for as many as before only where the
--- client was held up. So who is not held up, and has a line, is given it or waits so.
+-- For how many turns on end a line has waited that asks for much, once its session was given this and that is still
+-- held back: for none once it was given anything, or where no line is held back; for one more where what is held back
+-- begins as such a line and the turn had no room for it, or somebody has waited longer; and for as many as before only
+-- where the client was held up. So who is not held up, and has a line, is given it or waits so.
 pub record HasWaitedOn (HeldUp : Type 0) (room longest : ℕ) (fed keeps : List ℕ) (old new : ℕ) : Type 0 where
   pub given : fed ≢ [] → new ≡ 0
   pub kept : fed ≡ [] → HeldUp × (new ≡ old) ⊎ (new ≡ 0) × IsUnfinished keeps
@@ -96,9 +96,9 @@ pub record HasSpokenOn (holds fed : List ℕ) (old new : Bool) : Type 0 where
   pub kept : fed ≡ [] → new ≡ old
   pub foreign : old ≡ false → AreOfAnotherProtocol holds → fed ≡ []
 
--- The session is given what stands in front of what is held back for it, as much as may be at once; a line that asks for
--- much takes of the room that the turn has for such lines, and nothing else does, and it is given only where nobody has
--- waited longer. It is closed only where it is given nothing.
+-- The session is given what stands in front of what is held back for it, as much as may be at once; a line that asks
+-- for much takes of the room that the turn has for such lines, and nothing else does, and it is given only where nobody
+-- has waited longer. It is closed only where it is given nothing.
 pub record GivesOn (room left longest : ℕ) (unsent holds keeps : List ℕ) (stood stands : Standing) (old : SessionState)
     (new : Option SessionState) : Type 0 where
   pub fed : List ℕ
@@ -112,8 +112,8 @@ pub record GivesOn (room left longest : ℕ) (unsent holds keeps : List ℕ) (st
   pub wait : HasWaitedOn (IsHeldUp unsent keeps old new) room longest fed keeps stood.waited stands.waited
   pub first : HasSpokenOn holds fed stood.has_spoken stands.has_spoken
 
--- Bytes came from the peer, none where a line is held back, and the session is given what stands in front of all that is
--- held back. It is closed where by these a client that has not spoken begins as another protocol does.
+-- Bytes came from the peer, none where a line is held back, and the session is given what stands in front of all that
+-- is held back. It is closed where by these a client that has not spoken begins as another protocol does.
 pub record TakesIn (room left longest : ℕ) (before after : Option (List ℕ)) (unsent holds keeps : List ℕ)
     (stood stands : Standing) (old : SessionState) (new : Option SessionState) : Type 0 where
   pub taken : List ℕ

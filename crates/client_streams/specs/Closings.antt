@@ -35,8 +35,8 @@ ByReason (Some Silence) failed refused foreign silent ended left = silent
 ByReason (Some End) failed refused foreign silent ended left = ended
 ByReason (Some Farewell) failed refused foreign silent ended left = left
 
--- A client's reason is that its connection has failed, or that memory was refused for it; or it is foreign, or silent, or
--- has ended, or has left, where this means that.
+-- A client's reason is that its connection has failed, or that memory was refused for it; or it is foreign, or silent,
+-- or has ended, or has left, where this means that.
 abbrev pub IsReason : {S : Type 0} → Client S → Type 0 → Type 0 → Type 0 → Type 0 → Type 0
 IsReason client foreign silent ended left =
     ByReason client.closing (HasFailed client) (WasRefused client) foreign silent ended left
@@ -62,7 +62,7 @@ pub record HasLeft (session : Option SessionState) (left : List ℕ) : Type 0 wh
   pub told : IsSomeAnd session (λ s. s.has_left ≡ true)
   pub all : HasAll session left
 
--- Why a session is closed behind a write: the connection has failed, or memory was refused; or its peer has ended, or it has
--- left.
+-- Why a session is closed behind a write: the connection has failed, or memory was refused; or its peer has ended, or
+-- it has left.
 abbrev pub IsOver : {S : Type 0} → Client S → Option SessionState → List ℕ → Type 0
 IsOver client session left = IsReason client ⊥ ⊥ (HasEnded client session left) (HasLeft session left)

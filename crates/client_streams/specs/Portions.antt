@@ -43,8 +43,8 @@ AreFewLines bytes = (count : ℕ) × (count ≤ 16) × AreLines count bytes
 abbrev pub IsPortion : List ℕ → Type 0
 IsPortion bytes = AreFewLines bytes ⊎ IsDearLine bytes ⊎ IsTooLong bytes
 
--- No line can be given with these of those that are left: they are sixteen, or one that asks for much; or no line is left, or
--- the next asks for much.
+-- No line can be given with these of those that are left: they are sixteen, or one that asks for much; or no line is
+-- left, or the next asks for much.
 abbrev pub AreMost : List ℕ → List ℕ → Type 0
 AreMost bytes rest = AreLines 16 bytes ⊎ IsDearLine bytes ⊎ HasNoFeed rest ⊎ BeginDear rest
 

@@ -1,5 +1,5 @@
--- What is done for clients one after the other: where what their sessions hear comes from, and where what these are given
--- goes.
+-- What is done for clients one after the other: where what their sessions hear comes from, and where what these are
+-- given goes.
 use Rattle.std.specs.Prelude.{ℕ, ◌≡◌, ◌≢◌, ◌≤◌, ◌+◌, ◌⊎◌, true, false, List, [], ◌∷◌, ◌++◌, Option, Some, None, IsSome, IsSomeAnd, IfSome, length}
 use Rattle.std.specs.Io.KnownBytes.{Consumes}
 use Rattle.session_lines.specs.Lines.{IsUnfinished}
@@ -36,8 +36,8 @@ pub record Hears (sid : ℕ) (fed : List ℕ) (old new : Sessions) : Type 0 wher
   pub short : state.heard.is_long ≡ false
   pub heard : Changes old new sid (Some (record state { heard = heard_more state.heard fed }))
 
--- A session is given bytes that were held back for it: a portion, where nothing of it waits; or none, and it is as it was
--- or closed; or a line of it was too long before, and what comes behind that is dropped.
+-- A session is given bytes that were held back for it: a portion, where nothing of it waits; or none, and it is as it
+-- was or closed; or a line of it was too long before, and what comes behind that is dropped.
 abbrev pub IsSent : ℕ → List ℕ → Sessions → Sessions → Type 0
 IsSent sid fed old new =
     IsPortion fed × IsSomeAnd (session_at old sid) (λ s. s.heard.bytes ≡ []) × Hears sid fed old new
@@ -56,14 +56,14 @@ intake sessions room = record { sessions = sessions; room = room }
 abbrev pub Holds : Intake → Intake → Type 0
 Holds old new = IsUnchanged old.sessions new.sessions × (new.room ≡ old.room)
 
--- What comes on a client's connection is held back, and its session is given what stands in front of that, as much as may
--- be at once, and nothing else. None is read where a line is held back, and no more is held back than a piece. A line that
--- asks for much is given only where there is room, which nothing else takes but one that memory was refused for, and to
--- who has waited longest; the turns are counted that one waits for it. Of a client for which answers wait nothing is read,
--- and nothing that it sent goes on. Of one whose session was given nothing yet nothing goes on either where it begins as
--- another protocol does, and its session is closed in the turn that shows it. A session is closed for a reason: the
--- connection has failed, memory was refused, the client begins as another protocol does, or it has been silent for as long
--- as it may.
+-- What comes on a client's connection is held back, and its session is given what stands in front of that, as much as
+-- may be at once, and nothing else. None is read where a line is held back, and no more is held back than a piece. A
+-- line that asks for much is given only where there is room, which nothing else takes but one that memory was refused
+-- for, and to who has waited longest; the turns are counted that one waits for it. Of a client for which answers wait
+-- nothing is read, and nothing that it sent goes on. Of one whose session was given nothing yet nothing goes on either
+-- where it begins as another protocol does, and its session is closed in the turn that shows it. A session is closed
+-- for a reason: the connection has failed, memory was refused, the client begins as another protocol does, or it has
+-- been silent for as long as it may.
 pub record IsRead {S : Type 0} (remaining : S → Option (List ℕ)) (silence : Option ℕ) (at longest : ℕ)
     (client after : Client S) (old new : Intake) : Type 0 where
   pub sid : after.sid ≡ client.sid
@@ -128,8 +128,8 @@ pub record IsGivenOut (sid : ℕ) (old new : Sessions) : Type 0 where
   pub given : AreGiven sid old between
   pub closed : IsUnchanged between new ⊎ Changes between new sid None
 
--- A client's session is given answers, which go to its connection behind what waited, as far as that takes them; and then it
--- may be closed, for a reason.
+-- A client's session is given answers, which go to its connection behind what waited, as far as that takes them; and
+-- then it may be closed, for a reason.
 pub record IsHandedOut {S : Type 0} (contents : S → Option (List ℕ)) (client after : Client S) (old new : Sessions)
     : Type 0 where
   pub given : IsGivenOut client.sid old new

@@ -171,8 +171,8 @@ struct Gathered {
     is_all: bool,
 }
 
-// Puts the answers of a session behind what waits to be written: all, or 4,294,967,295. Where memory is refused an answer
-// may be lost, and then the session is to be closed.
+// Puts the answers of a session behind what waits to be written: all, or 4,294,967,295. Where memory is refused an
+// answer may be lost, and then the session is to be closed.
 fn gather<D: Device>(
     hub: &mut Hub<D>,
     sid: Sid,
@@ -232,8 +232,8 @@ impl Wrote {
 
 impl<S: Read + Write> Client<S> {
     #[tactic(auto, using(crate::proofs::HeardLemmas::heard_as_before, crate::proofs::HeardLemmas::heard_now, crate::proofs::HeardLemmas::heard_nothing, crate::proofs::HeardLemmas::heard_interrupted, crate::proofs::HeardLemmas::heard_end, crate::proofs::HeardLemmas::heard_fault, crate::proofs::HeardLemmas::end_now))]
-    // Reads at most one piece, unless the peer sends no more, and holds it back. `Nothing` where there is none to read for
-    // now.
+    // Reads at most one piece, unless the peer sends no more, and holds it back. `Nothing` where there is none to read
+    // for now.
     fn read_more(&mut self, at: u64, piece: &mut [u8; PIECE_ROOM]) -> Came
         requires { IsUnfinished (held self.old.incoming) }
         ensures takes { Takes (S.remaining self.old.wire.stream) (S.remaining self.new.wire.stream) (held self.old.incoming)
@@ -264,9 +264,9 @@ impl<S: Read + Write> Client<S> {
         came
     }
 
-    // Gives the session a portion of what is held back for it, unless something of it waits, or a line asks for much and the
-    // turn has no room for it. Where memory is refused the session is closed, and so is, with nothing given to it, that of a
-    // peer that begins as another protocol does.
+    // Gives the session a portion of what is held back for it, unless something of it waits, or a line asks for much
+    // and the turn has no room for it. Where memory is refused the session is closed, and so is, with nothing given to
+    // it, that of a peer that begins as another protocol does.
     fn hand_on<D: Device>(&mut self, hub: &mut Hub<D>, room: &mut Room)
         requires { IsOpen hub.old.sessions self.old.sid }
         ensures gives { IfSome (session_at hub.old.sessions self.old.sid) (λ s. GivesOn room.old.lines room.new.lines
@@ -309,11 +309,11 @@ impl<S: Read + Write> Client<S> {
     }
 
     #[tactic(auto, using(crate::proofs::HeardLemmas::heard_as_before))]
-    /// Reads at most one piece for the session, unless a line of it is held back or the peer doesn't take its answers; and
-    /// gives the session a portion, once the lines before are answered and the answers are written: one line that asks for
-    /// much, where the turn has room for it, or up to 16 that don't. The session is closed after a fault, where memory is
-    /// refused for it, and, with nothing given to it, where the peer begins as HTTP or TLS does. It tells whether there may
-    /// be more to do.
+    /// Reads at most one piece for the session, unless a line of it is held back or the peer doesn't take its answers;
+    /// and gives the session a portion, once the lines before are answered and the answers are written: one line that
+    /// asks for much, where the turn has room for it, or up to 16 that don't. The session is closed after a fault,
+    /// where memory is refused for it, and, with nothing given to it, where the peer begins as HTTP or TLS does. It
+    /// tells whether there may be more to do.
     pub(crate) fn take_in<D: Device>(
         &mut self,
         hub: &mut Hub<D>,
@@ -365,8 +365,8 @@ impl<S: Read + Write> Client<S> {
         true
     }
 
-    // Writes what waits and what the session is due, as far as the peer takes it. Where memory is refused an answer may be
-    // lost.
+    // Writes what waits and what the session is due, as far as the peer takes it. Where memory is refused an answer may
+    // be lost.
     fn write_out<D: Device>(&mut self, hub: &mut Hub<D>) -> Result<Wrote, AllocError>
         requires { IsOpen hub.old.sessions self.old.sid }
         ensures open { IsOpen hub.new.sessions self.old.sid }
@@ -403,8 +403,8 @@ impl<S: Read + Write> Client<S> {
         })
     }
 
-    // Whether the session is over, after a write. Where the peer sends no more, that is once its whole lines are answered.
-    // After its farewell it is once nothing comes, or after 255 turns.
+    // Whether the session is over, after a write. Where the peer sends no more, that is once its whole lines are
+    // answered. After its farewell it is once nothing comes, or after 255 turns.
     fn is_over<D: Device>(&mut self, hub: &Hub<D>, wrote: Wrote) -> bool
         requires { IsOpen hub.now.sessions self.old.sid }
         ensures fault { wrote.sent ≡ Sent.Fault → result ≡ true }
@@ -455,10 +455,10 @@ impl<S: Read + Write> Client<S> {
         }
     }
 
-    /// Writes what can be written of the session's answers, after a turn. The session is closed after a fault,
-    /// and where memory is refused for it; where the peer sends no more, once its whole lines are answered; and after its
-    /// farewell to a line that is too long, once nothing comes behind that line, or after 255 turns. It tells whether there
-    /// was anything to do.
+    /// Writes what can be written of the session's answers, after a turn. The session is closed after a fault, and
+    /// where memory is refused for it; where the peer sends no more, once its whole lines are answered; and after its
+    /// farewell to a line that is too long, once nothing comes behind that line, or after 255 turns. It tells whether
+    /// there was anything to do.
     pub(crate) fn hand_out<D: Device>(&mut self, hub: &mut Hub<D>) -> bool
         requires { IsOpen hub.old.sessions self.old.sid }
         ensures given { IsHandedOut S.contents self.old self.new hub.old.sessions hub.new.sessions }

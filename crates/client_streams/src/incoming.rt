@@ -105,7 +105,8 @@ impl Incoming {
         self.bytes.len() <= LINE_ROOM && first_feed(self.bytes.as_slice()).is_none()
     }
 
-    /// Whether what is held back begins as HTTP or TLS does: with a whole line that is a request, or with a handshake's byte.
+    /// Whether what is held back begins as HTTP or TLS does: with a whole line that is a request, or with a handshake's
+    /// byte.
     pub fn is_of_another_protocol(&self) -> bool
         ensures { IsTrue result ↔ AreOfAnotherProtocol (held self.now) }
     {

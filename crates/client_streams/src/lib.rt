@@ -1,5 +1,5 @@
-//! The connections of clients, each with its session. What comes on a connection is held back and goes to the session line by
-//! line, and what the session is given goes back, as far as the connection takes it.
+//! The connections of clients, each with its session. What comes on a connection is held back and goes to the session
+//! line by line, and what the session is given goes back, as far as the connection takes it.
 //!
 //! Modules: `client` is a connection and its session, `closing` why that is closed, `wire` its stream and whether that
 //! has failed, `incoming` what came and the session was not given yet, `memory` gives it to the session and knows

@@ -22,8 +22,8 @@ impl Memory {
         Memory { was_refused: false }
     }
 
-    /// Gives a session of which nothing waits a portion; what comes behind a line that is too long is dropped. Where memory
-    /// is refused the session is closed, and it answers false.
+    /// Gives a session of which nothing waits a portion; what comes behind a line that is too long is dropped. Where
+    /// memory is refused the session is closed, and it answers false.
     pub fn feed<D: Device>(&mut self, hub: &mut Hub<D>, sid: Sid, portion: &[u8]) -> bool
         requires open { IsOpen hub.old.sessions sid }
         requires small { length portion.now ≤ 4096 }

@@ -29,8 +29,8 @@ impl Room {
         }
     }
 
-    /// Whether a client that has waited for so many turns may be given this portion: one that asks for little always may; a
-    /// line that asks for much where there is room, which it takes, and nobody has waited longer.
+    /// Whether a client that has waited for so many turns may be given this portion: one that asks for little always
+    /// may; a line that asks for much where there is room, which it takes, and nobody has waited longer.
     pub fn admit(&mut self, portion: &[u8], waited: u32) -> bool
         ensures may { IsTrue result ↔ ((is_dear portion.now ≡ false)
             ⊎ ((0 < self.old.lines) × (self.old.longest ≤ waited))) }

@@ -38,8 +38,8 @@ fn is_over_silent<S, D: Device>(client: &Client<S>, hub: &Hub<D>, reading: Readi
     }
 }
 
-// Closes the session of a client that has been silent for as long as it may, behind a read that found nothing, and tells
-// whether it did.
+// Closes the session of a client that has been silent for as long as it may, behind a read that found nothing, and
+// tells whether it did.
 fn close_silent<S, D: Device>(client: &mut Client<S>, hub: &mut Hub<D>, reading: Reading) -> bool
     requires open { IsOpen hub.old.sessions client.old.sid }
     requires quiet { client.old.is_quiet ≡ true }
@@ -61,8 +61,8 @@ fn close_silent<S, D: Device>(client: &mut Client<S>, hub: &mut Hub<D>, reading:
     true
 }
 
-// Whether a client is passed over: after calm rests one that was read to its end and of which no line is held back, unless
-// it has been silent for too long.
+// Whether a client is passed over: after calm rests one that was read to its end and of which no line is held back,
+// unless it has been silent for too long.
 fn is_passed_over<S, D: Device>(client: &Client<S>, hub: &Hub<D>, reading: Reading) -> bool
     requires { IsOpen hub.now.sessions client.now.sid }
     ensures { result ≡ true → IsUnfinished (held client.now.incoming) }
@@ -73,8 +73,8 @@ fn is_passed_over<S, D: Device>(client: &Client<S>, hub: &Hub<D>, reading: Readi
         && !is_over_silent(client, hub, reading)
 }
 
-// Reads for a session that is open, but after calm rests not for a quiet client; and where the read finds nothing, closes
-// that of a client that has been silent for too long. It tells whether there may be more to do.
+// Reads for a session that is open, but after calm rests not for a quiet client; and where the read finds nothing,
+// closes that of a client that has been silent for too long. It tells whether there may be more to do.
 fn read_for<S: Read + Write, D: Device>(
     client: &mut Client<S>,
     hub: &mut Hub<D>,
@@ -163,8 +163,8 @@ fn write_for<S: Read + Write, D: Device>(client: &mut Client<S>, hub: &mut Hub<D
     client.hand_out(hub)
 }
 
-/// Writes for each client what can be written, closes the sessions that are over, and tells whether there was anything to
-/// do.
+/// Writes for each client what can be written, closes the sessions that are over, and tells whether there was anything
+/// to do.
 pub fn hand_out_all<S: Read + Write, D: Device>(
     clients: &mut Vec<Client<S>>,
     hub: &mut Hub<D>,

@@ -69,9 +69,9 @@ show 1\nshow 2\nshow 3\nshow 4\nshow 5\nshow 6\nshow 7\nshow 8\npgn 1\npgn 1\nsh
 
 const NO_GAME: &str = "no 3 NoGame\n";
 
-/// What a connection gives and takes, and the line of which its answers are; the turns; and what is wanted then of it: whether
-/// it is open, how many answers it has, all of them that line, and how often it was read. It is served beside another, which
-/// says its name in each turn.
+/// What a connection gives and takes, and the line of which its answers are; the turns; and what is wanted then of it:
+/// whether it is open, how many answers it has, all of them that line, and how often it was read. It is served beside
+/// another, which says its name in each turn.
 type Row = (
     (&'static [Gives], &'static Takes, &'static str),
     Turns,
@@ -223,8 +223,8 @@ const LISTS_ONE_A_TURN: [Row; 2] = [
     ),
 ];
 
-// What has come is read before a client counts as silent, also where it is passed over for as long as all is calm. A server that
-// was held up for long reads first.
+// What has come is read before a client counts as silent, also where it is passed over for as long as all is calm. A
+// server that was held up for long reads first.
 const SENT_AND_NOT_SILENT: [Row; 3] = [
     (
         (AGAIN, &Takes::All, NAMED),
@@ -272,8 +272,8 @@ const LINES_IN_PORTIONS: [Row; 5] = [
     ),
 ];
 
-// A request of HTTP, whole and in pieces, and a handshake of TLS are closed unanswered; a request behind another line is a
-// line.
+// A request of HTTP, whole and in pieces, and a handshake of TLS are closed unanswered; a request behind another line
+// is a line.
 const OTHER_PROTOCOLS: [Row; 4] = [
     (
         (

@@ -1,5 +1,5 @@
-//! Memory that is refused to clients over connections: `bench/refused-memory` refuses each allocation in turn. And a device
-//! that fails under them.
+//! Memory that is refused to clients over connections: `bench/refused-memory` refuses each allocation in turn. And a
+//! device that fails under them.
 use crate::peers::{Gives, Takes};
 use crate::serving::{Crowd, SECTORS, comes, nobody, nobody_over, take_turn};
 use chess_hub::HubFault;
@@ -37,8 +37,8 @@ const BOB: &[Gives] = &[
 /// How many answers each is to have.
 static ANSWERS: [usize; 2] = [4, 8];
 
-/// What was seen of a refusal: how many turns ended by want of memory; how many commands were answered so; how many clients
-/// were closed; and how many answers are to lines that want what was refused.
+/// What was seen of a refusal: how many turns ended by want of memory; how many commands were answered so; how many
+/// clients were closed; and how many answers are to lines that want what was refused.
 type Seen = (u64, usize, usize, usize);
 
 /// What is seen where no memory was refused.
@@ -58,8 +58,8 @@ fn is_first(line: &str) -> bool {
     line.starts_with("ok ") || line.starts_with("no ")
 }
 
-// The answers to lines that want what was refused: the game is one's own, or not one's own; nobody has joined it; or the other
-// has not moved.
+// The answers to lines that want what was refused: the game is one's own, or not one's own; nobody has joined it; or
+// the other has not moved.
 static BEHIND: [&str; 4] = [
     "no 16 SamePlayer",
     "no 4 NotSeated",
@@ -67,8 +67,8 @@ static BEHIND: [&str; 4] = [
     "no 7 WrongPly 0",
 ];
 
-// How many answers there are, how many say that memory was refused, and how many are to lines that want what was. `None` where
-// one is another than `ok` and these.
+// How many answers there are, how many say that memory was refused, and how many are to lines that want what was.
+// `None` where one is another than `ok` and these.
 fn told_of(written: &[u8]) -> Option<[usize; 3]> {
     let (mut answers, mut refused, mut behind) = (0usize, 0usize, 0usize);
     for line in str::from_utf8(written).ok()?.lines() {
@@ -105,8 +105,8 @@ fn look(crowd: &Crowd) -> Option<Seen> {
     Some((crowd.hub.refusals(), told, closed, behind))
 }
 
-// Serves both for so many turns that they have all their answers, and goes on where a turn was refused memory. A fault, where
-// it is another.
+// Serves both for so many turns that they have all their answers, and goes on where a turn was refused memory. A fault,
+// where it is another.
 fn serve(crowd: &mut Crowd) -> Result<(), HubFault> {
     for at in 1_000..1_020 {
         let reading = Reading {

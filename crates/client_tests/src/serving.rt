@@ -67,7 +67,8 @@ pub fn take_turn(crowd: &mut Crowd, reading: Reading) -> Result<(), HubFault> {
     }
 }
 
-/// So many turns, so many milliseconds apart; whether a calm rest comes before each; and for how long a client may be silent.
+/// So many turns, so many milliseconds apart; whether a calm rest comes before each; and for how long a client may be
+/// silent.
 pub type Turns = (u64, u64, bool, Option<u64>);
 
 /// What is done with a crowd, and what is seen of it.

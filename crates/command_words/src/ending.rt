@@ -48,8 +48,8 @@ fn status_after(text: &Error) -> ExitCode
     }
 }
 
-/// Prints why a program did not do what its words ask for, and ends it: with status 0 where it did, or printed a text that was
-/// asked for, with 1 where the work broke off or memory was refused, and else with 2.
+/// Prints why a program did not do what its words ask for, and ends it: with status 0 where it did, or printed a text
+/// that was asked for, with 1 where the work broke off or memory was refused, and else with 2.
 pub fn end_of<R: Print + Eprint>(rt: &R, program: &str, done: Result<(), NotDone>) -> ExitCode
     ensures done { IsOk done → exit_status result ≡ 0 }
     ensures not_done { IfErr done (λ fault. exit_status result ≡ status_of fault) }

@@ -8,8 +8,8 @@ use std::alloc::AllocError;
 use std::rt::Env;
 use std::{env, io};
 
-// The words of the command line. An `Err` is a usage fault of `command` where one of them is no text, and `OutOfMemory` where
-// memory was refused.
+// The words of the command line. An `Err` is a usage fault of `command` where one of them is no text, and `OutOfMemory`
+// where memory was refused.
 fn words_or_fault<R: Env + AllocGlobal>(
     rt: &R,
     command: &mut Command<'_>,
@@ -23,8 +23,8 @@ fn words_or_fault<R: Env + AllocGlobal>(
     }
 }
 
-/// The words of the command line, the program's own name first. An `Err` is a usage fault of `command` where one of them is no
-/// text, and `OutOfMemory` where memory was refused.
+/// The words of the command line, the program's own name first. An `Err` is a usage fault of `command` where one of
+/// them is no text, and `OutOfMemory` where memory was refused.
 pub fn words_given<R: Env + AllocGlobal>(
     rt: &R,
     mut command: Command<'_>,

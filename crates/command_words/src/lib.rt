@@ -1,5 +1,5 @@
-//! What the command lines of programs share: the words that were given, the options of each word as a table, and how a program
-//! ends.
+//! What the command lines of programs share: the words that were given, the options of each word as a table, and how a
+//! program ends.
 //!
 //! Modules: `given` has the words that were given, `argument` makes an argument, `options` a command line of a table of
 //! words, and arguments of a table of options, `ending` ends a program, `version` is the version of all; `reading`

@@ -105,8 +105,8 @@ fn word_commands<'a>(alloc: Global, words: &[WordText]) -> Result<Vec<Command<'a
     Ok(commands)
 }
 
-/// The command line of a program that is given one of these words, each with its options, in the order in which help lists them;
-/// a line without a word is refused. It fails where memory is refused.
+/// The command line of a program that is given one of these words, each with its options, in the order in which help
+/// lists them; a line without a word is refused. It fails where memory is refused.
 pub fn command_line<'a>(
     alloc: Global,
     name: &'static str,

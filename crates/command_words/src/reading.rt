@@ -9,8 +9,8 @@ use clap::{ArgMatches, Command, Error};
 use std::alloc::Global;
 use std::convert::AsStr;
 
-/// What was read of the words, or a usage fault of the command with this text where nothing was. `OutOfMemory` where memory was
-/// refused for the fault.
+/// What was read of the words, or a usage fault of the command with this text where nothing was. `OutOfMemory` where
+/// memory was refused for the fault.
 pub fn read_or_fault<T: Drop>(
     command: &mut Command<'_>,
     read: Option<T>,
@@ -26,8 +26,8 @@ pub fn read_or_fault<T: Drop>(
     }
 }
 
-/// What was read of the words, or a usage fault of the command with what was told of them, and where nothing was told and nothing
-/// read, with this text. `OutOfMemory` where memory was refused for the fault.
+/// What was read of the words, or a usage fault of the command with what was told of them, and where nothing was told
+/// and nothing read, with this text. `OutOfMemory` where memory was refused for the fault.
 pub fn read_or_told<T: Drop>(
     command: &mut Command<'_>,
     told: Option<String>,
@@ -44,8 +44,9 @@ pub fn read_or_told<T: Drop>(
     }
 }
 
-/// What `read` answers of what the command has of the words, the program's own name first. An `Err` is its fault, or one of the
-/// command, which is a request for help too. The command has a fault of words that it takes only where memory was refused.
+/// What `read` answers of what the command has of the words, the program's own name first. An `Err` is its fault, or
+/// one of the command, which is a request for help too. The command has a fault of words that it takes only where
+/// memory was refused.
 pub fn read_by<'a, S: AsStr, T, F>(
     alloc: Global,
     mut command: Command<'a>,

@@ -9,8 +9,8 @@ const KEPT: Fate = Fate::Kept;
 
 const RUINED: Fate = Fate::Unreadable;
 
-// How many calls are served, which sector is written second, behind sector 0, the fates of both writes, and what is left.
-// A write that fails as the first is pending; the sync is the third call.
+// How many calls are served, which sector is written second, behind sector 0, the fates of both writes, and what is
+// left. A write that fails as the first is pending; the sync is the third call.
 static LIVES: [(u64, u32, Fate, Fate, [u8; 2]); 17] = [
     (0, 1, LOST, LOST, [0, 0]),
     (0, 1, KEPT, KEPT, [1, 0]),

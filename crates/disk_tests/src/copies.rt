@@ -6,7 +6,8 @@ use sector_dev::{CrashDevice, DeviceFault, Got, MemoryDevice};
 use std::alloc::Global;
 use std::process::Abort;
 
-/// A source that has one header when it is asked first and another later, and whose sectors have their number in each byte.
+/// A source that has one header when it is asked first and another later, and whose sectors have their number in each
+/// byte.
 #[derive(Drop)]
 struct Scripted {
     first: Slots,
@@ -91,7 +92,8 @@ fn source_of(later: &Header) -> Scripted {
     }
 }
 
-// The header that is read later, in how many tries it is copied, and the header that stands in the copy, if one is made.
+// The header that is read later, in how many tries it is copied, and the header that stands in the copy, if one is
+// made.
 type Row = (Header, u32, Option<Header>);
 
 static ROWS: [Row; 7] = [

@@ -1,4 +1,5 @@
-//! Devices on files that stand for the system's: on one of which nothing but a place is known, and on sectors in memory.
+//! Devices on files that stand for the system's: on one of which nothing but a place is known, and on sectors in
+//! memory.
 use crate::files::{Call, last_kind, make};
 use crate::sectors::{byte_at, check_first, fill};
 use sector_dev::{

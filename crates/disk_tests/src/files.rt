@@ -402,8 +402,8 @@ const LINKED: [Step; 7] = [
     REMOVE,
 ];
 
-// A file that is long enough may have no room on the disk. The bytes that are not zero stay, and there are zeros up to the
-// end of 32 sectors.
+// A file that is long enough may have no room on the disk. The bytes that are not zero stay, and there are zeros up to
+// the end of 32 sectors.
 const HOLES: [Step; 6] = [
     Step::File(Act::Holes),
     Step::Lengthen(32, 32),

@@ -1,5 +1,5 @@
-//! Tests of the crates of the disk, by what these export alone: so none of them is proved twice. They have what neither the
-//! part `store` of the stored run of `line_player` nor a clause shows.
+//! Tests of the crates of the disk, by what these export alone: so none of them is proved twice. They have what neither
+//! the part `store` of the stored run of `line_player` nor a clause shows.
 #![tactic(auto)]
 
 #[cfg(test)]

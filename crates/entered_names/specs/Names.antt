@@ -67,7 +67,8 @@ AreTaken [] (t ∷ taken) = ⊥
 AreTaken (a ∷ told) [] = ⊥
 AreTaken (a ∷ told) (t ∷ taken) = (t.text ≡ a.line) × (text_of t.said ≡ a.answer) × IsTaken t × AreTaken told taken
 
--- The line that is answered next is this one, and the session asks what it reads as an act of the table under this name.
+-- The line that is answered next is this one, and the session asks what it reads as an act of the table under this
+-- name.
 pub record IsEnteredAs (IsLine IsName : List ℕ → Type 0) (sent : List Sent) (told : List Told) : Type 0 where
   pub line : List ℕ
   pub name : List ℕ

@@ -7,8 +7,8 @@ use chess_game::Game;
 use rec_codec::Record;
 use std::alloc::{AllocError, Global};
 
-/// The games whose parts the records are, one after the other; `None` where the records are not the parts of games of at
-/// most 20,000 moves: their moves are played again. It fails where memory is refused.
+/// The games whose parts the records are, one after the other; `None` where the records are not the parts of games of
+/// at most 20,000 moves: their moves are played again. It fails where memory is refused.
 pub fn read_games(alloc: Global, records: &[Record]) -> Result<Option<Vec<Game>>, AllocError>
     ensures some { IfOk result (λ told. IfSome told (λ games. HoldsGames records.now games.items)) }
     ensures none { IfOk result (λ told. IfNone told ((all : List GameState) → ¬ HoldsGames records.now all)) }

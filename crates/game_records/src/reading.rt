@@ -49,9 +49,9 @@ fn read_with_head(
     }
 }
 
-/// The game whose part stands at the front of records, with the number of the part's records; `None` where no game of at
-/// most 20,000 moves has its part there: its moves are played again. What stood in the buffer of moves is lost. It fails
-/// where memory is refused.
+/// The game whose part stands at the front of records, with the number of the part's records; `None` where no game of
+/// at most 20,000 moves has its part there: its moves are played again. What stood in the buffer of moves is lost. It
+/// fails where memory is refused.
 pub fn read_game(
     alloc: Global,
     moves: &mut Vec<Move>,

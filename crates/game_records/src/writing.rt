@@ -47,8 +47,8 @@ fn put_moves(
     Ok(())
 }
 
-/// Appends a game's part of a snapshot: its head record, and its moves, 60 a record. It fails where memory is refused; then
-/// the records that were there still are, and some of the game's may stand behind them.
+/// Appends a game's part of a snapshot: its head record, and its moves, 60 a record. It fails where memory is refused;
+/// then the records that were there still are, and some of the game's may stand behind them.
 pub fn push_game(records: &mut Vec<Record>, game: &Game) -> Result<(), AllocError>
     ensures written { OnOk result (HasGameMore records.old.items records.new.items game.now) }
     ensures refused { OnErr result (IsFrontOf records.old.items records.new.items) }

@@ -116,8 +116,8 @@ impl Lab {
         }
     }
 
-    /// Whether the browser said this, and what was written to it begins and ends so. Where it said something, or this is how
-    /// nothing begins, nothing stands between.
+    /// Whether the browser said this, and what was written to it begins and ends so. Where it said something, or this
+    /// is how nothing begins, nothing stands between.
     pub fn has(&self, said: &[u8], front: &[u8], end: &[u8], is_over: bool) -> bool {
         let Some(rest) = self.written.as_slice().strip_prefix(front) else {
             return false;

@@ -150,8 +150,8 @@ fn who_takes_nothing_is_closed(
     assert!(rt; lab.browser.say(b"more") == said && lab.browser.is_over() == said.is_err());
 }
 
-// So often these bytes come, with letters behind them up to so many, and nothing is heard or written. It tells whether more are
-// wanted.
+// So often these bytes come, with letters behind them up to so many, and nothing is heard or written. It tells whether
+// more are wanted.
 fn takes(rt: &impl Abort, lab: &mut Lab, front: &[u8], count: usize, times: usize) -> bool {
     let one = lab.long(rt, front, count);
     let all = one.as_slice().repeat(lab.alloc, times).expect(rt, "memory");

@@ -15,8 +15,8 @@ use std::net::{IpAddr, Ipv4Addr};
 use std::process::Abort;
 use std::{io, mem};
 
-/// A stream that gives at each read what stands up to the next `~`, nothing where nothing stands there, and takes so many bytes at a
-/// write.
+/// A stream that gives at each read what stands up to the next `~`, nothing where nothing stands there, and takes so
+/// many bytes at a write.
 #[derive(Drop)]
 struct Peer {
     gives: &'static [u8],
@@ -219,8 +219,8 @@ impl Lab {
         self.links.is_paused = false;
     }
 
-    // So many turns with all sockets awake, so many milliseconds apart, or until the log fails; that entries are paused is kept before
-    // it is told. It tells whether it was kept before the turn in which the log failed, if it did.
+    // So many turns with all sockets awake, so many milliseconds apart, or until the log fails; that entries are paused
+    // is kept before it is told. It tells whether it was kept before the turn in which the log failed, if it did.
     fn turn(&mut self, rt: &impl Abort, turns: u64, apart: u64) -> Option<bool> {
         for turn in 0..turns {
             let was_paused = self.links.is_paused;
@@ -264,7 +264,8 @@ impl Lab {
         }
     }
 
-    // Whether the server was sent this, and what the browser was sent ends so; each where it is there, and not where it is gone.
+    // Whether the server was sent this, and what the browser was sent ends so; each where it is there, and not where it
+    // is gone.
     fn is_so(&self, asked: &[u8], told: &[u8]) -> bool {
         let is_asked = self.is_asked(asked) || asked == GONE && !self.hall.has_server();
         let is_told = self.is_told(told) || told == GONE && self.hall.len() == 0;
@@ -274,8 +275,8 @@ impl Lab {
 
 const GONE: &[u8] = b"GONE";
 
-/// A script, in how many turns and how many milliseconds apart it is played, what the server is sent, and how what the browser is
-/// sent ends.
+/// A script, in how many turns and how many milliseconds apart it is played, what the server is sent, and how what the
+/// browser is sent ends.
 type Case = (Script, (u64, u64), &'static [u8], &'static [u8]);
 
 const PAUSED: &[u8] = b"\x81\x11ok pause entries\n";
@@ -691,7 +692,8 @@ fn turn_three(rt: &impl Abort, lab: &mut Lab, server: &'static [u8], turns: u64)
     }
 }
 
-// The act goes first, though who opens a game came last; and of all who ask without a token one waits for the server at a time.
+// The act goes first, though who opens a game came last; and of all who ask without a token one waits for the server at
+// a time.
 fn players_come_before_strangers(rt: &impl Abort, lab: &mut Lab) {
     turn_three(rt, lab, b"", 90);
     assert!(rt; lab.is_asked(b"name ann\nopen white 300 2\nfen 1\n"));

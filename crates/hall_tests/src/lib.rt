@@ -1,4 +1,5 @@
-//! Tests of the lobby's browsers, of its loop and of its figures, by what their crates export alone: so none of them is proved twice.
+//! Tests of the lobby's browsers, of its loop and of its figures, by what their crates export alone: so none of them is
+//! proved twice.
 #![tactic(auto)]
 
 #[cfg(test)]

@@ -35,8 +35,8 @@ pub record ReadsOn {S : Type 0} (told : S → Type 0) (image : S → ℕ → Sec
   pub same : told old → image new ≡ image old
   pub later : told old → moment old ≤ moment new
 
--- From one moment to the next: the header in force stays, or gives way to one of the next number; either way each sector
--- that it names stays as it is.
+-- From one moment to the next: the header in force stays, or gives way to one of the next number; either way each
+-- sector that it names stays as it is.
 pub record IsStep (before after : Sectors) : Type 0 where
   pub header : Header
   pub in_force : IsInForce before header

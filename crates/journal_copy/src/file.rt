@@ -9,8 +9,8 @@ use std::os::unix::fs::{FileExt, FileTypeExt};
 use std::rt::Files;
 use std::{fs, io};
 
-/// A regular file or a block device, opened for reading only and without a lock: its sector `n` is the 512 bytes from byte
-/// `512 * n` on. What the system reads is not promised, so nothing is told of it.
+/// A regular file or a block device, opened for reading only and without a lock: its sector `n` is the 512 bytes from
+/// byte `512 * n` on. What the system reads is not promised, so nothing is told of it.
 #[derive(Drop)]
 pub struct FileSource {
     file: File,
@@ -19,8 +19,9 @@ pub struct FileSource {
 }
 
 impl FileSource {
-    /// Opens a file that is there. Its sectors are as many as it has whole, at most `u32::MAX`. What the system's memory
-    /// holds of it is dropped first, so that reads give what the disk has, and not what a write brought there that failed.
+    /// Opens a file that is there. Its sectors are as many as it has whole, at most `u32::MAX`. What the system's
+    /// memory holds of it is dropped first, so that reads give what the disk has, and not what a write brought there
+    /// that failed.
     ///
     /// Each failure is an error of the system, or `InvalidInput` for what is no regular file and no block device.
     pub fn open<R: Files<File = File>>(files: &R, path: &str) -> io::Result<FileSource> {

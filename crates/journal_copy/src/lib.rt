@@ -1,4 +1,5 @@
-//! Copies of a journal, also of one in which somebody writes: what the header in force names is read, and the header again.
+//! Copies of a journal, also of one in which somebody writes: what the header in force names is read, and the header
+//! again.
 //!
 //! Modules: `source` has the trait `Source`, sectors that somebody else may write while they are read; `file` a file as
 //! one, `still` a device as one. `slots` finds the header in force, `copying` copies. `specs/Source` say what is read

@@ -12,8 +12,8 @@ pub struct Slots {
     pub one: [u8; 512],
 }
 
-/// Sectors of 512 bytes that are read and not written here, and that may change between one read and the next. Each read
-/// gives what a sector holds at some moment between the call's start and its end.
+/// Sectors of 512 bytes that are read and not written here, and that may change between one read and the next. Each
+/// read gives what a sector holds at some moment between the call's start and its end.
 pub trait Source {
     /// Whether it is told what reads give. Without it only the number of sectors is promised.
     ghost told: { Self → Type 0 };

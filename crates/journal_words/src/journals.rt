@@ -87,8 +87,8 @@ fn are_zeros(bytes: &[u8]) -> bool
     bytes.iter().all(|byte| *byte == 0)
 }
 
-/// Whether the first 1,024 bytes that a reader gives, or all where there are fewer, are zeros. It fails where a read fails, or
-/// memory is refused.
+/// Whether the first 1,024 bytes that a reader gives, or all where there are fewer, are zeros. It fails where a read
+/// fails, or memory is refused.
 pub fn is_blank<R: Read + Drop>(alloc: Global, reader: R) -> io::Result<bool>
     ensures { IfOk result (λ blank. IfSome (R.remaining reader) (λ bytes.
         IsTrue blank ↔ All (λ b. b ≡ 0) (take 1024 bytes))) }
@@ -160,9 +160,9 @@ fn stays_blank_at<D: Device>(device: &mut D, at: u32) -> Result<(), Fault>
     }
 }
 
-/// `Exists` where one of a device's first two sectors holds something or is unreadable, and `Device` where a read of it fails; a
-/// sector that the device does not have is blank. Of a file this is asked once it is locked: another program may have made it a
-/// journal meanwhile.
+/// `Exists` where one of a device's first two sectors holds something or is unreadable, and `Device` where a read of it
+/// fails; a sector that the device does not have is blank. Of a file this is asked once it is locked: another program
+/// may have made it a journal meanwhile.
 pub fn stays_blank<D: Device>(device: &mut D) -> Result<(), Fault>
     ensures blank { (D.state device.old).keeps_model
         → OnOk result (IsBlankAt (D.state device.old).reads (D.sector_count device.old) 0

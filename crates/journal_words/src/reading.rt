@@ -121,9 +121,9 @@ fn at_fault<'a>(copying: &Copying<'a>, copied: Result<(), Fault>) -> &'a str {
     }
 }
 
-/// Makes a file a copy of a journal, also of one in which somebody plays, and prints `ok copy S`, S being its sectors. It
-/// has been opened then, and means a table. `Exists` where the file may not be made a journal: nothing of it has changed.
-/// Of two that make one file at once, one at most answers so.
+/// Makes a file a copy of a journal, also of one in which somebody plays, and prints `ok copy S`, S being its sectors.
+/// It has been opened then, and means a table. `Exists` where the file may not be made a journal: nothing of it has
+/// changed. Of two that make one file at once, one at most answers so.
 pub fn copy_journal<R: Files<File = File> + Print + Eprint>(
     rt: &R,
     alloc: Global,
@@ -166,8 +166,8 @@ fn write_game<W: Write>(alloc: Global, game: &Game, output: &mut W) -> Result<()
     }
 }
 
-/// Writes the games of a table as PGN, in the table's order, an empty line behind each. `NoMemory` where memory is refused, and
-/// `Write` where the output fails.
+/// Writes the games of a table as PGN, in the table's order, an empty line behind each. `NoMemory` where memory is
+/// refused, and `Write` where the output fails.
 pub fn write_games<W: Write>(alloc: Global, table: &Table, output: &mut W) -> Result<(), Fault>
     ensures written { OnOk result (WritesGames (W.contents output.old) (W.contents output.new) table.now.games
         (length table.now.games)) }

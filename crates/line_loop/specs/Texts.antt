@@ -1,4 +1,5 @@
--- What the lines of an input are answered, by a rule: at this state a line is answered with this text, and that state comes.
+-- What the lines of an input are answered, by a rule: at this state a line is answered with this text, and that state
+-- comes.
 use Rattle.std.specs.Prelude.{ℕ, ◌≡◌, ◌⊎◌, ◌<◌, Bool, true, false, List, [], ◌∷◌, ◌++◌, Option, Some, None, String, Result, Ok, Err, length, codes, string_bytes}
 use Rattle.std.specs.Io.KnownBytes.{Appends, Consumes}
 use Rattle.session_lines.specs.Lines.{lines_of, has_long_line}
@@ -80,8 +81,8 @@ pub record FindsNone {S F : Type 0} (Breaks : S → List ℕ → F → S → Typ
   pub fault : F
   pub breaks : Breaks s line fault t
 
--- Some bytes were read, the first lines of them were answered, and of the text of these a front was written, but not all
--- of it. The farewell belongs to the text only where all lines were answered and the next is too long.
+-- Some bytes were read, the first lines of them were answered, and of the text of these a front was written, but not
+-- all of it. The farewell belongs to the text only where all lines were answered and the next is too long.
 pub record AnswersInPart {S F : Type 0} (Answers : S → List ℕ → List ℕ → S → Type 0)
     (Breaks : S → List ℕ → F → S → Type 0) (before after old new : Option (List ℕ)) (start end : S) : Type 0 where
   pub taken : List ℕ

@@ -40,8 +40,8 @@ pub trait Answerer {
     /// At this state a line finds no answer, for this reason, and that state comes.
     ghost breaks: { Self → List ℕ → Self.Fault → Self → Type 0 };
 
-    /// Answers a line that came before a line feed, and writes the answer over what stands in `said`, since an answer is
-    /// dear to move. After a fault it is not asked again.
+    /// Answers a line that came before a line feed, and writes the answer over what stands in `said`, since an answer
+    /// is dear to move. After a fault it is not asked again.
     fn answer(&mut self, line: &[u8], said: &mut Answer) -> Result<(), Self::Fault>
         requires ready { is_ready self.old }
         requires unfinished { IsUnfinished line.now }

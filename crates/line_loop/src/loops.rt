@@ -179,9 +179,9 @@ impl<A: Answerer> LoopState<A> {
 
 /// Answers the lines of the reader on the writer until the reader ends, a line is too long or one finds no answer, and
 /// hands who answers back. A piece has at most 4,096 bytes; the answers to its lines are gathered and written once all
-/// are answered, before that only as often as they outgrow 65,536 bytes. Between the bytes of a line any number of pieces
-/// may come; a rest without a line feed is no line. After a line that is too long the farewell is written. `Read` exactly
-/// where the reader failed, by its mark.
+/// are answered, before that only as often as they outgrow 65,536 bytes. Between the bytes of a line any number of
+/// pieces may come; a rest without a line feed is no line. After a line that is too long the farewell is written.
+/// `Read` exactly where the reader failed, by its mark.
 pub fn answer_lines<A: Answerer + Drop, R: Read, W: Write>(
     answerer: A,
     reader: &mut R,

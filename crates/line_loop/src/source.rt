@@ -9,8 +9,8 @@ use std::io::{ErrorKind, Read};
 #[derive(Clone, Copy)]
 pub(crate) struct ReadFault;
 
-/// What is known of a reader that is read to its end. std's reads leave no trace of a failure in their clauses; here it is
-/// marked.
+/// What is known of a reader that is read to its end. std's reads leave no trace of a failure in their clauses; here it
+/// is marked.
 #[derive(Drop)]
 pub struct Reads {
     /// Whether a read failed, 4,294,967,295 pieces were read, or so many reads on end were interrupted.
@@ -40,8 +40,8 @@ impl Reads {
     }
 }
 
-/// The next bytes of a reader: none at the end, or where there is no room for any. A read that a signal interrupts is made
-/// again. A fault comes only where the reader failed, and nothing is lost by it.
+/// The next bytes of a reader: none at the end, or where there is no room for any. A read that a signal interrupts is
+/// made again. A fault comes only where the reader failed, and nothing is lost by it.
 pub(crate) fn next_piece<R: Read>(
     reader: &mut R,
     reads: &mut Reads,

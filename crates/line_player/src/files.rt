@@ -1,5 +1,5 @@
-//! Journals and stores on files, for `bench/journal` and `bench/store`. FILE, without spaces, is made where it isn't there, and
-//! a journal or a store on it where it holds none.
+//! Journals and stores on files, for `bench/journal` and `bench/store`. FILE, without spaces, is made where it isn't
+//! there, and a journal or a store on it where it holds none.
 //!
 //! - `commits FILE RECORDS COMMITS SNAPSHOT` makes so many commits of so many records, 1 to 64, in a journal, and writes how
 //!   many; a compaction to a snapshot of so many records is always under way beside them, `-` for none;
@@ -138,8 +138,8 @@ impl<'a> FilePlayer<'a> {
     }
 }
 
-// Submits the first so many batches of so many commands, 1 to 64; the last batch may have fewer. How many entries the table
-// has then.
+// Submits the first so many batches of so many commands, 1 to 64; the last batch may have fewer. How many entries the
+// table has then.
 fn submit_batches(
     store: &mut Store<FileDevice>,
     commands: &[Command],

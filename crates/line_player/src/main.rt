@@ -1,8 +1,8 @@
-//! Plays lines of standard input, for tests by whole runs and for measuring. A line `play WORD` says on what the lines after
-//! it are played, anew: a table in memory (`table`), a store in memory (`store`), lives of a store (`lives`), a hub (`hub`),
-//! a server over loopback (`sockets`), journals and stores on files (`files`). The head of each of these modules has its
-//! lines; those in memory are modules of `memory_players`. What a line answers is written; one that cannot be played is the
-//! last, and standard error says why.
+//! Plays lines of standard input, for tests by whole runs and for measuring. A line `play WORD` says on what the lines
+//! after it are played, anew: a table in memory (`table`), a store in memory (`store`), lives of a store (`lives`), a
+//! hub (`hub`), a server over loopback (`sockets`), journals and stores on files (`files`). The head of each of these
+//! modules has its lines; those in memory are modules of `memory_players`. What a line answers is written; one that
+//! cannot be played is the last, and standard error says why.
 #![tactic(auto)]
 
 mod files;

@@ -9,8 +9,8 @@ use Rattle.lobby_archive.specs.declared.clerk.Clerk.{Clerk}
 use Rattle.lobby_archive.specs.Steps.{Step, Begun, Over, Came, Refused, Synced, Left}
 use Rattle.lobby_archive.specs.Files.{contains}
 
--- Which games stand in the archive, those of them that were handed to it since the last sync that has answered, and how far each
--- game is that was seen to be over.
+-- Which games stand in the archive, those of them that were handed to it since the last sync that has answered, and how
+-- far each game is that was seen to be over.
 pub record View : Type 0 where
   pub has : ℕ → Bool
   pub fresh : List ℕ
@@ -31,8 +31,8 @@ abbrev pub is_kept : Option Stage → Bool
 is_kept (Some stages.Kept) = true
 is_kept _ = false
 
--- whether the PGN of a game that is seen to be over is asked for: it was not seen before, and is not in the archive, or is to be
--- compared with what stands there
+-- whether the PGN of a game that is seen to be over is asked for: it was not seen before, and is not in the archive, or
+-- is to be compared with what stands there
 abbrev pub asks : View → ℕ → Bool → Bool
 asks old game droppable = is_none (old.stage game) && (droppable || not (old.has game))
 
@@ -40,8 +40,8 @@ asks old game droppable = is_none (old.stage game) && (droppable || not (old.has
 abbrev pub puts : View → ℕ → Bool
 puts old game = is_asked (old.stage game) && not (old.has game)
 
--- whether a drop is sent: the game was handed to the archive or compared with what stands there, it stands there, and a sync has
--- answered since it was handed over
+-- whether a drop is sent: the game was handed to the archive or compared with what stands there, it stands there, and a
+-- sync has answered since it was handed over
 abbrev pub drops : View → ℕ → Bool
 drops old game = is_kept (old.stage game) && (old.has game && not (contains game old.fresh))
 

@@ -27,8 +27,8 @@ abbrev pub safe_in : List Step → List ℕ
 safe_in [] = []
 safe_in (s ∷ past) = safe_after s (archive_in past) (safe_in past)
 
--- what of it a clerk does not know to be safe: what it found when it began, and what it handed over, since its last sync that has
--- answered
+-- what of it a clerk does not know to be safe: what it found when it began, and what it handed over, since its last
+-- sync that has answered
 abbrev pub fresh_after : Step → List ℕ → List ℕ
 fresh_after (Begun archive) games = archive
 fresh_after (Came game same puts) games = if puts then games ++ game ∷ [] else games
@@ -39,8 +39,8 @@ abbrev pub fresh_in : List Step → List ℕ
 fresh_in [] = []
 fresh_in (s ∷ past) = fresh_after s (fresh_in past)
 
--- The file, when a clerk begins: it shows all that is safe, and no more than was handed to it, in that order. What was handed over
--- and is not safe may be there or not, up to some place.
+-- The file, when a clerk begins: it shows all that is safe, and no more than was handed to it, in that order. What was
+-- handed over and is not safe may be there or not, up to some place.
 abbrev pub IsHonestStep : Step → List Step → Type 0
 IsHonestStep (Begun archive) past = IsShown (safe_in past) (archive_in past) archive
 IsHonestStep _ past = Unit {0}

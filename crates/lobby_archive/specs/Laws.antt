@@ -31,8 +31,8 @@ abbrev pub is_waiting : List Step → ℕ → Bool
 is_waiting [] game = false
 is_waiting (s ∷ past) game = waiting_after s game (is_waiting past game)
 
--- whether the table's PGN of it, which was waited for, was handed to the archive or is the one that stands there, and nothing was
--- refused since
+-- whether the table's PGN of it, which was waited for, was handed to the archive or is the one that stands there, and
+-- nothing was refused since
 abbrev pub matched_after : Step → ℕ → Bool → Bool → Bool
 matched_after (Begun archive) game waits before = false
 matched_after (Came g same puts) game waits before = (g == game && (waits && (puts || same))) || before
@@ -54,10 +54,10 @@ abbrev pub is_sent : List Step → ℕ → Bool
 is_sent [] game = false
 is_sent (s ∷ past) game = sent_after s game (is_sent past game)
 
--- What is decided, by what happened before. The PGN of a game that is seen to be over is asked for where it was not seen before,
--- and is not in the archive or may be dropped. What comes is handed to the archive where it is waited for and not there. A drop is
--- sent for a game of which the table's PGN was handed to the archive or is the one that stands there, since before a sync that has
--- answered; and once.
+-- What is decided, by what happened before. The PGN of a game that is seen to be over is asked for where it was not
+-- seen before, and is not in the archive or may be dropped. What comes is handed to the archive where it is waited for
+-- and not there. A drop is sent for a game of which the table's PGN was handed to the archive or is the one that stands
+-- there, since before a sync that has answered; and once.
 abbrev pub may_go : List Step → ℕ → Bool
 may_go past game =
     (is_matched past game && not (is_sent past game)) && (contains game (archive_in past) && not (contains game (fresh_in past)))
@@ -90,8 +90,8 @@ abbrev pub is_dropped : List Step → ℕ → Bool
 is_dropped [] game = false
 is_dropped (s ∷ past) game = dropped_after s game (is_dropped past game)
 
--- a drop is sent for a game that was seen to be over, of which the table's PGN was handed to the archive or is the one that stands
--- there, and that is safe there
+-- a drop is sent for a game that was seen to be over, of which the table's PGN was handed to the archive or is the one
+-- that stands there, and that is safe there
 abbrev pub IsDropStep : Step → List Step → Type 0
 IsDropStep (Left game drops) past =
     drops ≡ true → (is_seen past game ≡ true) × (is_matched past game ≡ true) × (contains game (safe_in past) ≡ true)

@@ -3,8 +3,8 @@ use Rattle.std.specs.Prelude.{ℕ, ◌≡◌, Bool, true, false, ◌==◌, ◌&&
 use Rattle.lobby_archive.specs.Files.{contains}
 use Rattle.lobby_archive.specs.Clerk.{View, is_asked, is_kept}
 
--- What the clerk takes to be in the archive is safe there, nothing else is, and each game that was seen is. Of a game that the clerk
--- takes to be kept, the archive has the PGN that the table told.
+-- What the clerk takes to be in the archive is safe there, nothing else is, and each game that was seen is. Of a game
+-- that the clerk takes to be kept, the archive has the PGN that the table told.
 pub record IsTold (now : View) (is_safe is_matched : ℕ → Bool) : Type 0 where
   pub fresh : now.fresh ≡ []
   pub has : (g : ℕ) → now.has g ≡ is_safe g

@@ -109,8 +109,8 @@ fn next_stage(is_other: bool) -> Stage
 }
 
 impl Clerk {
-    /// A clerk for an archive that shows these games, each record whole, in their order. Of them none counts as safe before a
-    /// sync has answered.
+    /// A clerk for an archive that shows these games, each record whole, in their order. Of them none counts as safe
+    /// before a sync has answered.
     pub fn new(alloc: Global, archive: &[u32]) -> Result<Clerk, AllocError>
         ensures { IfOk result (λ clerk. (old : View) → IsStep old (Begun archive.now) (view clerk)) }
     {
@@ -123,8 +123,8 @@ impl Clerk {
         })
     }
 
-    /// A game is seen to be over, and may be dropped or not. It answers whether its PGN is to be asked for: to be handed to the
-    /// archive, or to be compared with what stands there.
+    /// A game is seen to be over, and may be dropped or not. It answers whether its PGN is to be asked for: to be
+    /// handed to the archive, or to be compared with what stands there.
     pub fn over(&mut self, game: u32, droppable: bool) -> Result<bool, AllocError>
         ensures { IfOk result (λ asks. IsStep (view self.old) (Over game droppable asks) (view self.new)) }
     {
@@ -136,8 +136,8 @@ impl Clerk {
         Ok(asks)
     }
 
-    /// The PGN of a game has come; `is_same` says that the archive has the game with just this one. It answers whether it is to
-    /// be handed to the archive.
+    /// The PGN of a game has come; `is_same` says that the archive has the game with just this one. It answers whether
+    /// it is to be handed to the archive.
     pub fn came(&mut self, game: u32, is_same: bool) -> Result<bool, AllocError>
         ensures { IfOk result (λ puts. IsStep (view self.old) (Came game is_same puts) (view self.new)) }
     {

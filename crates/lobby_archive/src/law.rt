@@ -11,18 +11,18 @@ pub fn law_of_decisions()
     ensures { (steps : List Step) (now : View) → IsRun steps now → AllRight steps }
 {}
 
-/// Whatever happens, and wherever a clerk's process is killed: a drop is sent only for a game that was seen to be over, whose PGN on
-/// the table was handed to the archive or is the one that stands there, and that stands in the archive as the last sync which
-/// answered has left it; so behind its PGN's being handed to the archive, and a sync that has answered since. A game for which a
-/// drop was sent stands there ever after.
+/// Whatever happens, and wherever a clerk's process is killed: a drop is sent only for a game that was seen to be over,
+/// whose PGN on the table was handed to the archive or is the one that stands there, and that stands in the archive as
+/// the last sync which answered has left it; so behind its PGN's being handed to the archive, and a sync that has
+/// answered since. A game for which a drop was sent stands there ever after.
 pub fn law_of_drops()
     ensures sent { (steps : List Step) (now : View) → IsRun steps now → AllDrops steps }
     ensures handed { (steps : List Step) (now : View) → IsRun steps now → IsHonest steps → AllHanded steps }
     ensures kept { (steps : List Step) (now : View) → IsRun steps now → IsHonest steps → (game : ℕ) → is_dropped steps game ≡ true → contains game (safe_in steps) ≡ true }
 {}
 
-/// In each such run no game stands in the archive twice, and none that was never seen to be over; and each game that was seen to
-/// be over, since the clerk began, stands in the archive, or its PGN was asked for and has not come yet.
+/// In each such run no game stands in the archive twice, and none that was never seen to be over; and each game that
+/// was seen to be over, since the clerk began, stands in the archive, or its PGN was asked for and has not come yet.
 pub fn law_of_games()
     ensures once { (steps : List Step) (now : View) → IsRun steps now → IsHonest steps → IsOnce (archive_in steps) }
     ensures finished { (steps : List Step) (now : View) → IsRun steps now → IsHonest steps → (game : ℕ) →

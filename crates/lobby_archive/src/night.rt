@@ -7,8 +7,8 @@ ghost use Rattle.lobby_archive.specs.Night.{IsTold, IsAsking, AreSettled, AreSet
 use crate::clerk::Clerk;
 use std::alloc::{AllocError, Global};
 
-/// A server's table, an archive, and who looks at games. An implementation says what is so of which games; the calls are to be
-/// proved to keep to it.
+/// A server's table, an archive, and who looks at games. An implementation says what is so of which games; the calls
+/// are to be proved to keep to it.
 pub trait Night {
     /// A game's PGN.
     type Pgn: Drop;
@@ -37,8 +37,8 @@ pub trait Night {
     /// Whether nobody looks at a game, by an answer since which nothing else was done.
     ghost is_unwatched: { Self → ℕ → Bool };
 
-    /// Whether it is settled what comes of a game since it was asked for: the archive has another PGN of it, somebody looks at it,
-    /// or a drop was sent.
+    /// Whether it is settled what comes of a game since it was asked for: the archive has another PGN of it, somebody
+    /// looks at it, or a drop was sent.
     ghost is_settled: { Self → ℕ → Bool };
 
     /// The games of the archive, which are safe.
@@ -49,8 +49,8 @@ pub trait Night {
     fn drops(&self) -> bool
         ensures { result ≡ drops_games self.now };
 
-    /// Asks the table for the PGN of a game that is over; `None` where it has not the game any more. What stood in the archive
-    /// before is not known to be this PGN.
+    /// Asks the table for the PGN of a game that is over; `None` where it has not the game any more. What stood in the
+    /// archive before is not known to be this PGN.
     fn ask(&mut self, game: u32) -> Result<Option<Self::Pgn>, Self::Fault>
         requires over { is_over self.now game ≡ true }
         ensures over { Stays (is_over self.old) (is_over self.new) }
@@ -76,8 +76,8 @@ pub trait Night {
         ensures unwatched { IsNowhere (is_unwatched self.new) }
         ensures settled { IfOk result (λ is_same. BecomesAt game (not is_same) (is_settled self.old) (is_settled self.new)) };
 
-    /// Puts the PGN of a game that is over and not there, which the table told last, into the archive, and syncs. `Ok` says that the
-    /// sync has answered.
+    /// Puts the PGN of a game that is over and not there, which the table told last, into the archive, and syncs. `Ok`
+    /// says that the sync has answered.
     fn put(&mut self, game: u32, pgn: Self::Pgn) -> Result<(), Self::Fault>
         requires over { is_over self.now game ≡ true }
         requires new { is_safe self.now game ≡ false }
@@ -103,8 +103,9 @@ pub trait Night {
         ensures unknown { OnErr result (IsNowhere (is_unwatched self.new)) }
         ensures settled { IfOk result (λ is_left. BecomesAt game (not is_left) (is_settled self.old) (is_settled self.new)) };
 
-    /// Sends a drop for a game that is over, which has to be safe: where games are dropped, the archive has just the PGN that the
-    /// table told last of it, and nobody looks at it, as was asked last. It answers whether the table took it.
+    /// Sends a drop for a game that is over, which has to be safe: where games are dropped, the archive has just the
+    /// PGN that the table told last of it, and nobody looks at it, as was asked last. It answers whether the table took
+    /// it.
     fn drop_game(&mut self, game: u32) -> Result<bool, Self::Fault>
         requires over { is_over self.now game ≡ true }
         requires safe { is_safe self.now game ≡ true }
@@ -120,7 +121,8 @@ pub trait Night {
         ensures settled { OnOk result (BecomesAt game true (is_settled self.old) (is_settled self.new)) };
 }
 
-// Asks for the PGN of a game, and puts it into the archive where the clerk says so. It answers whether the table has the game still.
+// Asks for the PGN of a game, and puts it into the archive where the clerk says so. It answers whether the table has
+// the game still.
 fn take_in<N: Night>(night: &mut N, clerk: &mut Clerk, game: u32) -> Result<bool, N::Fault>
     requires over { N.is_over night.now game ≡ true }
     requires asking { IsAsking game (view clerk.now) (N.is_safe night.now) (N.is_matched night.now) }
@@ -211,10 +213,10 @@ fn clerk_of<N: Night>(night: &N, alloc: Global) -> Result<Clerk, AllocError>
     Ok(clerk)
 }
 
-/// Looks once at the games of a table that are over, and does what a clerk decides: the PGN of each is asked for and put into the
-/// archive where it is not there; and while games are dropped it is compared with what stands there, and a drop is sent where
-/// nobody looks at the game. At `Ok` each of the games is safe, or has left the table. When a drop may be sent, and what may be put,
-/// is what `drop_game` and `put` require.
+/// Looks once at the games of a table that are over, and does what a clerk decides: the PGN of each is asked for and
+/// put into the archive where it is not there; and while games are dropped it is compared with what stands there, and a
+/// drop is sent where nobody looks at the game. At `Ok` each of the games is safe, or has left the table. When a drop
+/// may be sent, and what may be put, is what `drop_game` and `put` require.
 pub fn look<N: Night>(night: &mut N, alloc: Global, over: &[u32]) -> Result<(), N::Fault>
     requires { AreAll (N.is_over night.now) over.now }
     ensures done { OnOk result (AreDone (N.is_safe night.new) (N.has_left night.new) over.now) }

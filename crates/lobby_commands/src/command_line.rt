@@ -269,8 +269,8 @@ const EVIDENCE: WordText = WordText {
     options: &[GAME, ITS_LOG],
 };
 
-// The words, in the order in which help lists them. (They have a function of their own, since each step of a function that has
-// texts tells of all their bytes.)
+// The words, in the order in which help lists them. (They have a function of their own, since each step of a function
+// that has texts tells of all their bytes.)
 fn words() -> [WordText; 3] {
     [SERVE, PLAYER, EVIDENCE]
 }

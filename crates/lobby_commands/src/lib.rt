@@ -1,4 +1,5 @@
-//! The command line of the lobby, and its words that do not serve: a player is put into the file, the log tells of a game.
+//! The command line of the lobby, and its words that do not serve: a player is put into the file, the log tells of a
+//! game.
 //!
 //! Modules: `command_line` has the words, `adding` puts in a player, `evidence` tells of the log, by `gaps` of what is
 //! missing there.

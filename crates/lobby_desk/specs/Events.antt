@@ -16,8 +16,8 @@ use Rattle.lobby_desk.specs.declared.server_line.Notice.{Notice}
 use Rattle.lobby_desk.specs.Refusals.{game_named}
 use Rattle.lobby_words.specs.Answers.{act_game, is_table_act}
 
--- What comes in; of a message that comes too fast nothing is read. The players are these from now on: by themselves, or for a message
--- that asks for a player's link, and for which this token was made.
+-- What comes in; of a message that comes too fast nothing is read. The players are these from now on: by themselves, or
+-- for a message that asks for a player's link, and for which this token was made.
 pub data DeskInput : Type 0 where
   Opened : (c : ℕ) → DeskInput
   Closed : (c : ℕ) → DeskInput
@@ -58,8 +58,9 @@ to_one c text = to_one_as c kinds.Whole text
 abbrev pub to_log : List ℕ → MessageValue
 to_log text = record { to = []; kind = kinds.Log; text = text }
 
--- What the server's answer to a message is for: for the message itself, which changes nothing; for the positions of a game, whose
--- `pgn` it is; for the table, and to be told of it from then on; for a game, to watch it; for this act of this player.
+-- What the server's answer to a message is for: for the message itself, which changes nothing; for the positions of a
+-- game, whose `pgn` it is; for the table, and to be told of it from then on; for a game, to watch it; for this act of
+-- this player.
 pub data Ask : Type 0 where
   ForItself : Ask
   ForPositions : Ask
@@ -67,10 +68,11 @@ pub data Ask : Type 0 where
   ForGame : (game : ℕ) → Ask
   ForAct : (by : List ℕ) → (text : List ℕ) → Ask
 
--- For whom the server's answer to a line is: for nobody; for the desk, which has said this name; for the connection whose message
--- it answers; for the one whose `drop`, by this arbiter, waits for it; for the one whose pairing, by this arbiter, has its game opened,
--- for this player to join it; for those who are told of a game, with the lines that tell of the act, and whether the table is told;
--- for those who are told of the act right behind which the line went out, if the server accepted it.
+-- For whom the server's answer to a line is: for nobody; for the desk, which has said this name; for the connection
+-- whose message it answers; for the one whose `drop`, by this arbiter, waits for it; for the one whose pairing, by this
+-- arbiter, has its game opened, for this player to join it; for those who are told of a game, with the lines that tell
+-- of the act, and whether the table is told; for those who are told of the act right behind which the line went out, if
+-- the server accepted it.
 pub data Owed : Type 0 where
   Nobody : Owed
   Naming : (name : List ℕ) → Owed
@@ -100,8 +102,8 @@ owed_last who [] = []
 owed_last who (line ∷ []) = who ∷ []
 owed_last who (line ∷ next ∷ lines) = Nobody ∷ owed_last who (next ∷ lines)
 
--- Of the lines of an act, with a `name` line before it or not, the answer to the act is for somebody; that to the `name` line for the
--- desk; and that to `fen`, where `show` and `fen` stand behind it, for those who are told of it.
+-- Of the lines of an act, with a `name` line before it or not, the answer to the act is for somebody; that to the
+-- `name` line for the desk; and that to `fen`, where `show` and `fen` stand behind it, for those who are told of it.
 abbrev pub owed_acted : Owed → List (List ℕ) → List Owed
 owed_acted who [] = []
 owed_acted who (act ∷ []) = who ∷ []
@@ -169,8 +171,8 @@ abbrev pub following : Option Notice → Option Following
 following None = None
 following (Some notice) = Some (record { game = notice.game; act = string_bytes notice.act; is_table = notice.is_table })
 
--- Of the game that the answer to an act names it was asked how it stands right behind the act, where the act names that very game;
--- else it is asked once the answer is there.
+-- Of the game that the answer to an act names it was asked how it stands right behind the act, where the act names that
+-- very game; else it is asked once the answer is there.
 abbrev pub is_same_game : Option ℕ → Option ℕ → Bool
 is_same_game (Some a) (Some b) = a == b
 is_same_game _ _ = false
@@ -188,8 +190,8 @@ asked_behind text game = game_if (is_asked_behind text game) game
 abbrev pub asked_after : List ℕ → Option ℕ → Option ℕ
 asked_after text game = game_if (not (is_asked_behind text game)) game
 
--- Whose the answers are to the lines that go out for an answer: the drop's for which that was asked, or the pairing's for which its game
--- was opened; or those who are told of the game in which an act was done.
+-- Whose the answers are to the lines that go out for an answer: the drop's for which that was asked, or the pairing's
+-- for which its game was opened; or those who are told of the game in which an act was done.
 abbrev pub followers_of : Option ℕ → List ℕ → List ℕ → List ℕ → Owed
 followers_of game by text answer = owed_to (following_of game by text answer)
 
@@ -199,8 +201,8 @@ follower (Pairer c by black text) answer = Asker c (ForAct by text)
 follower (Asker c (ForAct by text)) answer = followers_of (asked_after text (act_game answer)) by text answer
 follower _ answer = Nobody
 
--- The act of which those are told for whom the answers behind it are, after an answer, by whose that is: none where the server
--- refused it, and none once they are told.
+-- The act of which those are told for whom the answers behind it are, after an answer, by whose that is: none where the
+-- server refused it, and none once they are told.
 abbrev pub follows_heard : Owed → List ℕ → Option Following → Option Following
 follows_heard (Asker c (ForAct by text)) answer follows = following_of (asked_behind text (act_game answer)) by text answer
 follows_heard Behind answer follows = None

@@ -48,8 +48,8 @@ abbrev pub players_in : List Player → List Step → List Player
 players_in players [] = players
 players_in players (s ∷ past) = players_now s.event (players_in players past)
 
--- The player whose token connection c has shown, the last if several, since it came, as long as each list of players since then has
--- his name with the same sum.
+-- The player whose token connection c has shown, the last if several, since it came, as long as each list of players
+-- since then has his name with the same sum.
 abbrev pub player_in : List Player → List Step → ℕ → Option Identity
 player_in players [] c = None
 player_in players (s ∷ past) c = player_after (players_in players past) s.event c (player_in players past c)
@@ -99,9 +99,9 @@ NoActs lines = AllByRecursion (λ line. is_act line ≡ false) lines
 abbrev pub NoDrops : List (List ℕ) → Type 0
 NoDrops lines = AllByRecursion (λ line. is_drop line ≡ false) lines
 
--- The name under which the acts for a message may stand, where its connection has shown the token of this player: his own; but
--- for `as NAME LINE` that name, and for `pair WHITE ..` that of White, where he is an arbiter and a player has it, and else none.
--- Without a token there is none.
+-- The name under which the acts for a message may stand, where its connection has shown the token of this player: his
+-- own; but for `as NAME LINE` that name, and for `pair WHITE ..` that of White, where he is an arbiter and a player has
+-- it, and else none. Without a token there is none.
 abbrev pub name_as : List Player → Bool → List ℕ → Option (List ℕ)
 name_as players is_arbiter text = if is_arbiter then known_name players (as_name text) else None
 
@@ -114,9 +114,10 @@ abbrev pub ActsRight : Option (List ℕ) → Option (List ℕ) → List (List �
 ActsRight None said lines = NoActs lines
 ActsRight (Some name) said lines = ActsUnder said lines name
 
--- What a message has the desk say to the server, by its sort and by the number behind its word: itself, or of `as NAME LINE` the
--- line, or of a pairing the line that opens its game; and right behind an act how the game stands that it names, if it names one; or for the game or the table that it names what
--- the server is asked; for all else nothing.
+-- What a message has the desk say to the server, by its sort and by the number behind its word: itself, or of
+-- `as NAME LINE` the line, or of a pairing the line that opens its game; and right behind an act how the game stands
+-- that it names, if it names one; or for the game or the table that it names what the server is asked; for all else
+-- nothing.
 abbrev pub sort_asks : Sort → ℕ → List ℕ → List (List ℕ)
 sort_asks sorts.Read game text = text ∷ []
 sort_asks sorts.Act game text = text ∷ notice_lines (game_named text)
@@ -160,10 +161,10 @@ abbrev pub HasAsked : List Player → List Step → ℕ → List ℕ → Type 0
 HasAsked players [] c text = ⊥
 HasAsked players (s ∷ past) c text = AsksNow players past s.event c text ⊎ HasAsked players past c text
 
--- A drop goes out behind an answer of the server. It is the message of a connection that had shown an arbiter's token when it
--- said it; the answer is the one for which this message waits, and shows the game with an empty seat, so that it waits for its
--- second player; and the drop stands under the name of the player who, as that answer says, has the other seat, which is a name of
--- the protocol. Right behind it is asked how its game stands.
+-- A drop goes out behind an answer of the server. It is the message of a connection that had shown an arbiter's token
+-- when it said it; the answer is the one for which this message waits, and shows the game with an empty seat, so that
+-- it waits for its second player; and the drop stands under the name of the player who, as that answer says, has the
+-- other seat, which is a name of the protocol. Right behind it is asked how its game stands.
 pub record IsDropOf (players : List Player) (past : List Step) (line : List ℕ) (lines : List (List ℕ)) : Type 0 where
   pub c : ℕ
   pub by : List ℕ
@@ -179,8 +180,8 @@ pub record IsDropOf (players : List Player) (past : List Step) (line : List ℕ)
   pub acts : ActsUnder (name_in past) lines name
   pub of_text : IsOf (text ∷ notice_lines (game_named text)) lines
 
--- Behind the server's answer to an act it is asked how the game stands that this answer names, if it names one of which that was not
--- asked right behind the act, as that of an `open` does.
+-- Behind the server's answer to an act it is asked how the game stands that this answer names, if it names one of which
+-- that was not asked right behind the act, as that of an `open` does.
 pub record IsNoticeOf (players : List Player) (past : List Step) (line : List ℕ) (lines : List (List ℕ)) : Type 0 where
   pub c : ℕ
   pub by : List ℕ
@@ -200,8 +201,9 @@ abbrev pub HasPaired : List Player → List Step → ℕ → List ℕ → List �
 HasPaired players [] c black text = ⊥
 HasPaired players (s ∷ past) c black text = PairsNow players past s.event c black text ⊎ HasPaired players past c black text
 
--- Behind the server's answer to the opening of a pairing, which a connection had said that had shown an arbiter's token, Black joins
--- the game that this answer names: under the name that the message has for Black, which was a player's.
+-- Behind the server's answer to the opening of a pairing, which a connection had said that had shown an arbiter's
+-- token, Black joins the game that this answer names: under the name that the message has for Black, which was a
+-- player's.
 pub record IsJoinOf (players : List Player) (past : List Step) (line : List ℕ) (lines : List (List ℕ)) : Type 0 where
   pub c : ℕ
   pub by : List ℕ
@@ -224,9 +226,9 @@ abbrev pub has_come : List Step → ℕ → Bool
 has_come [] c = false
 has_come (s ∷ past) c = comes s.event c || has_come past c
 
--- What goes out for an event; for a message no `drop` does. A connection that comes has a number that none had before. A link is
--- changed for a message of an arbiter's that asks for that; the players are then those before, but that the one whom
--- the message names has its token, which nobody had.
+-- What goes out for an event; for a message no `drop` does. A connection that comes has a number that none had before.
+-- A link is changed for a message of an arbiter's that asks for that; the players are then those before, but that the
+-- one whom the message names has its token, which nobody had.
 abbrev pub IsRight : List Player → List Step → DeskInput → List (List ℕ) → Type 0
 IsRight players past (Said c text) lines =
     ActsRight (name_for (players_in players past) (player_in players past c) text) (name_in past) lines × NoDrops lines × IsOf (asks_of text) lines
@@ -252,8 +254,8 @@ abbrev pub AllTold : List Player → List Step → Type 0
 AllTold players [] = Unit {0}
 AllTold players (s ∷ past) = IsTold s.event s.lines s.tells (open_in past) (known_in players past) × AllTold players past
 
--- The lines for an event, under the name that holds before each: none joins a game that is kept for another. A game is kept for Black
--- from the server's answer to the opening of its pairing until that to its join, or its drop.
+-- The lines for an event, under the name that holds before each: none joins a game that is kept for another. A game is
+-- kept for Black from the server's answer to the opening of its pairing until that to its join, or its drop.
 abbrev pub AreFree : List Pairing → Option (List ℕ) → List (List ℕ) → Type 0
 AreFree pairings said [] = Unit {0}
 AreFree pairings said (line ∷ lines) = IsFree pairings said (game_joined line) × AreFree pairings (name_behind said line) lines
@@ -294,7 +296,8 @@ abbrev pub acted_now : DeskInput → Known → List Acted
 acted_now (Heard line) k = if is_counted k line then acted_next k.owed (answer k.begun line) else []
 acted_now _ k = []
 
--- The acts that the server answered, the newest first. An act is among them once its answer has come, with all its lines.
+-- The acts that the server answered, the newest first. An act is among them once its answer has come, with all its
+-- lines.
 abbrev pub acted_in : List Player → List Step → List Acted
 acted_in players [] = []
 acted_in players (s ∷ past) = acted_now s.event (known_in players past) ++ acted_in players past
@@ -316,8 +319,8 @@ abbrev pub refused_since : Option ℕ → List Acted → ℕ
 refused_since None acts = 0
 refused_since (Some game) acts = length (filter (refuses game) (since game acts))
 
--- an act that the server accepted: whose it is, the message, the server's whole answer, and how many acts were refused in its game
--- since one was accepted there
+-- an act that the server accepted: whose it is, the message, the server's whole answer, and how many acts were refused
+-- in its game since one was accepted there
 pub record Accepted : Type 0 where
   pub by : List ℕ
   pub text : List ℕ
@@ -340,14 +343,14 @@ abbrev pub accepted_now : List Acted → DeskInput → Known → List Accepted
 accepted_now acts (Heard line) k = if is_counted k line then accepted_next acts k.owed (answer k.begun line) else []
 accepted_now acts _ k = []
 
--- The acts that the server accepted, in the order of its answers. An act is among them once its answer has come, with all its lines:
--- what the server accepted, but the connection broke before the answer came, is not.
+-- The acts that the server accepted, in the order of its answers. An act is among them once its answer has come, with
+-- all its lines: what the server accepted, but the connection broke before the answer came, is not.
 abbrev pub accepted_in : List Player → List Step → List Accepted
 accepted_in players [] = []
 accepted_in players (s ∷ past) = accepted_in players past ++ accepted_now (acted_in players past) s.event (known_in players past)
 
--- What the log is to have of an answer, by whose it is, behind these acts: the act that the server accepts by it; or how the game of
--- such an act stands, as the answer to `show` says, which stands before that to `fen`.
+-- What the log is to have of an answer, by whose it is, behind these acts: the act that the server accepts by it; or
+-- how the game of such an act stands, as the answer to `show` says, which stands before that to `fen`.
 abbrev pub entries_for : List Acted → List ℕ → Owed → List ℕ → List (List ℕ)
 entries_for acts before (Asker c (ForAct by text)) now =
     one_if (is_act_accepted now) (act_logged by text now (refused_since (act_game now) acts))
@@ -373,8 +376,8 @@ abbrev pub logged_in : List Step → List (List ℕ)
 logged_in [] = []
 logged_in (s ∷ past) = logged_in past ++ log_texts s.tells
 
--- The log was told these, each once and in their order, and nothing else. Its texts of acts are those of all accepted acts: who did
--- it, the act, the server's whole answer, and how many acts were refused in its game before it.
+-- The log was told these, each once and in their order, and nothing else. Its texts of acts are those of all accepted
+-- acts: who did it, the act, the server's whole answer, and how many acts were refused in its game before it.
 abbrev pub accepted_text : Accepted → List ℕ
 accepted_text act = act_logged act.by act.text act.answer act.refused
 
@@ -397,8 +400,8 @@ abbrev pub but_first : List Sent → List Sent
 but_first [] = []
 but_first (s ∷ sent) = sent
 
--- The lines that went to the server on the connection that stands, and that it has not answered, the oldest first: it answers each
--- line, in the order in which they went to it.
+-- The lines that went to the server on the connection that stands, and that it has not answered, the oldest first: it
+-- answers each line, in the order in which they went to it.
 abbrev pub unanswered_now : DeskInput → Known → List Sent → List Sent
 unanswered_now (Heard line) k sent = if is_counted k line then but_first sent else sent
 unanswered_now (ServerTurned is_here) k sent = []
@@ -409,8 +412,8 @@ unanswered_in players [] = []
 unanswered_in players (s ∷ past) =
     unanswered_now s.event (known_in players past) (unanswered_in players past) ++ sent_under (name_before s.event (name_in past)) s.lines
 
--- The name that holds at the server behind its answer to a line, as that answer shows: behind `ok name NAME` to `name NAME` that one,
--- behind another answer to such a line none, and behind any other line the one before.
+-- The name that holds at the server behind its answer to a line, as that answer shows: behind `ok name NAME` to
+-- `name NAME` that one, behind another answer to such a line none, and behind any other line the one before.
 abbrev pub shown_behind : Option (List ℕ) → List ℕ → List ℕ → Option (List ℕ)
 shown_behind shown line now =
     if says_name line then (if takes_name (rest_of line) now then Some (rest_of line) else None) else shown
@@ -429,9 +432,9 @@ abbrev pub shown_in : List Player → List Step → Option (List ℕ)
 shown_in players [] = None
 shown_in players (s ∷ past) = shown_now s.event (known_in players past) (unanswered_in players past) (shown_in players past)
 
--- Which line goes for an act of this player's message, and under which name: that is his own message, of `as NAME LINE` the LINE and
--- that NAME; of a `drop` the name of who waits in its game (`IsDropOf`); and of a pairing, once its game is opened, the line that joins
--- it, and the name of Black.
+-- Which line goes for an act of this player's message, and under which name: that is his own message, of `as NAME LINE`
+-- the LINE and that NAME; of a `drop` the name of who waits in its game (`IsDropOf`); and of a pairing, once its game
+-- is opened, the line that joins it, and the name of Black.
 abbrev pub IsLineIf : Bool → List ℕ → List ℕ → Type 0
 IsLineIf true text line = (game : ℕ) × (line ≡ join_line game)
 IsLineIf false text line = line ≡ line_said text
@@ -446,8 +449,9 @@ IsNameIf false by text name = is_drop text ≡ false → name ≡ actor by text
 abbrev pub IsNameOf : List ℕ → List ℕ → List ℕ → Type 0
 IsNameOf by text name = IsNameIf (is_pairing text) by text name
 
--- An answer to an act counts where it is the answer to that very act's line, the first that has none; and where the server's
--- answers before it show that at it the very name holds that was said last before that line went out, under which the act stands.
+-- An answer to an act counts where it is the answer to that very act's line, the first that has none; and where the
+-- server's answers before it show that at it the very name holds that was said last before that line went out, under
+-- which the act stands.
 pub record IsOfAct (IsLine IsName : List ℕ → Type 0) (sent : List Sent) (shown : Option (List ℕ)) : Type 0 where
   pub line : List ℕ
   pub name : List ℕ

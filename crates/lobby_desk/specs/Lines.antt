@@ -31,8 +31,8 @@ notice_lines (Some game) = game_line (codes "show ") game ∷ game_line (codes "
 abbrev pub name_lines : Option (List ℕ) → List ℕ → List (List ℕ)
 name_lines said name = if is_said said name then [] else name_line name ∷ []
 
--- An act under a name, which is said before it where another or none was said last; and right behind it what asks how its game
--- stands, if it names one.
+-- An act under a name, which is said before it where another or none was said last; and right behind it what asks how
+-- its game stands, if it names one.
 abbrev pub act_lines : Option (List ℕ) → List ℕ → List ℕ → Option ℕ → List (List ℕ)
 act_lines said name line game =
     if is_said said name then line ∷ notice_lines game else name_line name ∷ line ∷ notice_lines game

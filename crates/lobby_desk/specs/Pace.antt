@@ -5,8 +5,8 @@ use Rattle.std.specs.Prelude.{ℕ, ◌+◌, ◌-◌, Bool, true, false, ◌&&◌
 abbrev pub later : ℕ → ℕ → ℕ
 later a b = if nat_lt a b then b else a
 
--- Each message takes 50 ms of a connection's time, and its time runs at most 1,000 ms ahead: up to 20 messages at once, and
--- 20 a second. Until when its time is taken after a message at this moment; none where the message comes too fast.
+-- Each message takes 50 ms of a connection's time, and its time runs at most 1,000 ms ahead: up to 20 messages at once,
+-- and 20 a second. Until when its time is taken after a message at this moment; none where the message comes too fast.
 abbrev pub paced : ℕ → ℕ → Option ℕ
 paced until now =
     if nat_le (later until now - now) 950 && nat_le (later until now) 18446744073709551565 then Some (later until now + 50) else None

@@ -37,14 +37,15 @@ pairings_told text (Some game) pairings = if ends_wait text then others game pai
 abbrev pub game_bar : Bool → Bool → Option Refusal
 game_bar is_busy is_spent = if is_busy then Some refusals.TooManyGames else (if is_spent then Some refusals.TooManyOver else None)
 
--- Why he may not join a game that a message names: it names none; or no such game was told as one that waits, or it is kept for
--- another; or he may not play in one more.
+-- Why he may not join a game that a message names: it names none; or no such game was told as one that waits, or it is
+-- kept for another; or he may not play in one more.
 abbrev pub join_bar : List Seat → List Pairing → Option Refusal → List ℕ → Option ℕ → Option Refusal
 join_bar seats pairings bar name None = Some refusals.BadLine
 join_bar seats pairings bar name (Some game) =
     if waits seats game && not (is_kept pairings game name) then bar else Some refusals.NotOffered
 
--- Why he may not open one: as many of his wait as may; or he may not play in one more; or the last places are for others.
+-- Why he may not open one: as many of his wait as may; or he may not play in one more; or the last places are for
+-- others.
 abbrev pub open_bar : Bool → Bool → Option Refusal → Option Refusal
 open_bar is_crowded is_full (Some bar) = if is_crowded then Some refusals.TooManyOpen else Some bar
 open_bar is_crowded is_full None =
@@ -54,7 +55,8 @@ open_bar is_crowded is_full None =
 abbrev pub game_joined : List ℕ → Option ℕ
 game_joined line = if bytes_eq (word_of line) (codes "join") then u32_in (word_of (rest_of line)) else None
 
--- A line, under the name that holds: where it joins a game, somebody's name holds, and the game is not kept for another.
+-- A line, under the name that holds: where it joins a game, somebody's name holds, and the game is not kept for
+-- another.
 abbrev pub IsFree : List Pairing → Option (List ℕ) → Option ℕ → Type 0
 IsFree pairings said None = Unit {0}
 IsFree pairings said (Some game) = (name : List ℕ) × (said ≡ Some name) × (is_kept pairings game name ≡ false)

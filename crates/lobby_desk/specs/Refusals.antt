@@ -12,9 +12,9 @@ is_fallen answer = starts_with (λ a b. a == b) answer (codes "fallen ")
 abbrev pub is_act_accepted : List ℕ → Bool
 is_act_accepted answer = is_accepted answer || is_fallen answer
 
--- Whether a refusal is of who plays in the game: its number is 5 to 24. By those below the line has no form, no name was said, there is
--- no such game, or who asks does not play in it. 23, which says that the clock is past all moments, is said before these are looked
--- at.
+-- Whether a refusal is of who plays in the game: its number is 5 to 24. By those below the line has no form, no name
+-- was said, there is no such game, or who asks does not play in it. 23, which says that the clock is past all moments,
+-- is said before these are looked at.
 abbrev pub is_of_seated : Option ℕ → Bool
 is_of_seated None = false
 is_of_seated (Some number) = nat_le 5 number && nat_le number 24
@@ -26,7 +26,8 @@ is_refusal answer = starts_with (λ a b. a == b) answer (codes "no ") && is_of_s
 abbrev pub game_named : List ℕ → Option ℕ
 game_named text = if is_pair text then None else u32_in (word_of (rest_of (line_said text)))
 
--- The game in which an answer refuses an act of who plays in it. An `open`, a `join`, a `drop` and a pairing are no acts of who plays.
+-- The game in which an answer refuses an act of who plays in it. An `open`, a `join`, a `drop` and a pairing are no
+-- acts of who plays.
 abbrev pub refused_game : List ℕ → List ℕ → Option ℕ
 refused_game text answer = if is_refusal answer && not (is_table_act text) then game_named text else None
 

@@ -20,12 +20,12 @@ use Rattle.lobby_desk.specs.Waiting.{seats_told, seats_opened, seats_listed}
 use Rattle.lobby_desk.specs.Pairings.{pairings_opened, pairings_told}
 use Rattle.lobby_desk.specs.Refusals.{refused_told}
 
--- What is known of the connections and of the server: for whom the next answers of the server are, the oldest first; how many
--- lines of the answer that has begun are still to come, and those that came; the last whole answer; who watches which game, and
--- who is told of the table, each in the order in which they came to; who has a seat in which game that waits or goes on, and which are kept
--- for whom; how many acts were refused in which game since one was accepted there; the last act of which it was asked right behind it
--- how its game stands, where the server accepted it and that is not told yet; and whether the server has not taken a name on the
--- connection that stands.
+-- What is known of the connections and of the server: for whom the next answers of the server are, the oldest first;
+-- how many lines of the answer that has begun are still to come, and those that came; the last whole answer; who
+-- watches which game, and who is told of the table, each in the order in which they came to; who has a seat in which
+-- game that waits or goes on, and which are kept for whom; how many acts were refused in which game since one was
+-- accepted there; the last act of which it was asked right behind it how its game stands, where the server accepted it
+-- and that is not told yet; and whether the server has not taken a name on the connection that stands.
 pub record Known : Type 0 where
   pub owed : List Owed
   pub left : ℕ
@@ -39,8 +39,8 @@ pub record Known : Type 0 where
   pub follows : Option Following
   pub misnamed : Bool
 
--- Whether a line ends an answer that counts. From the answer on by which the server does not take a name that was said to it, none
--- counts that comes on this connection: the lines behind may stand there under another name.
+-- Whether a line ends an answer that counts. From the answer on by which the server does not take a name that was said
+-- to it, none counts that comes on this connection: the lines behind may stand there under another name.
 abbrev pub is_counted : Known → List ℕ → Bool
 is_counted k line = is_whole k.left line && not k.misnamed
 
@@ -65,8 +65,8 @@ abbrev pub left_game : ℕ → Option ℕ → List Watch → List Watch
 left_game c None watches = watches
 left_game c (Some game) watches = unwatched c game watches
 
--- Who watches after an answer, by whose it is: whose `watch` it is, if its connection is open and the answer before it shows the
--- game.
+-- Who watches after an answer, by whose it is: whose `watch` it is, if its connection is open and the answer before it
+-- shows the game.
 abbrev pub watch_heard : (ℕ → Bool) → List ℕ → Owed → List Watch → List Watch
 watch_heard is_open before (Asker c (ForGame game)) watches = watch_if (is_accepted before && is_open c) c game watches
 watch_heard is_open before _ watches = watches
@@ -98,8 +98,8 @@ table_now (Said c text) is_open k = if leaves_table text then risen c k.table el
 table_now (Heard line) is_open k = if is_counted k line then table_next is_open k.owed k.table else k.table
 table_now _ is_open k = k.table
 
--- Who has a seat in which game after an answer, by whose it is: an act was done in the game that its answer names; and whoever asked
--- for it, the answer to `list` tells all.
+-- Who has a seat in which game after an answer, by whose it is: an act was done in the game that its answer names; and
+-- whoever asked for it, the answer to `list` tells all.
 abbrev pub seats_heard : Owed → List ℕ → List Seat → List Seat
 seats_heard (Asker c (ForAct by text)) now seats = seats_told by text (tells_end now) (act_game now) seats
 seats_heard (Pairer c by black text) now seats = seats_opened text (act_game now) seats
@@ -154,8 +154,8 @@ follows_now (Heard line) k = if is_counted k line then follows_next k.owed (answ
 follows_now (ServerTurned is_here) k = None
 follows_now _ k = k.follows
 
--- Whether the server has not taken a name, after an answer, by whose it is: to a `name` line any but `ok name` with its name. It
--- stays so on that connection.
+-- Whether the server has not taken a name, after an answer, by whose it is: to a `name` line any but `ok name` with its
+-- name. It stays so on that connection.
 abbrev pub misnamed_heard : Owed → List ℕ → Bool → Bool
 misnamed_heard (Naming name) now misnamed = not (takes_name name now)
 misnamed_heard _ now misnamed = misnamed
@@ -195,8 +195,8 @@ abbrev pub last_now : DeskInput → Known → List ℕ
 last_now (Heard line) k = if is_counted k line then answer k.begun line else k.last
 last_now _ k = k.last
 
--- What is known after an event, for which these lines went out; `by` is the name of the player for whom a connection acts that
--- has spoken.
+-- What is known after an event, for which these lines went out; `by` is the name of the player for whom a connection
+-- acts that has spoken.
 abbrev pub known_now : DeskInput → List ℕ → List (List ℕ) → (ℕ → Bool) → Known → Known
 known_now event by lines is_open k = record {
   owed = owed_now event by lines k;
@@ -229,9 +229,9 @@ pair_told (Some game) now = codes "ok pair " ++ decimal game ++ codes "\n"
 abbrev pub acted_text : List ℕ → List ℕ → List ℕ
 acted_text text now = if is_pair text then pair_told (act_game now) now else now
 
--- What a connection is told for the server's answers to its message, of which this is the last: that answer itself; for the table
--- `ok lobby` and the answer, which is to `list`. Two lines go out for a game to watch, `show` and `fen`: where the game is shown,
--- `ok watch G` and both answers; else the first of them.
+-- What a connection is told for the server's answers to its message, of which this is the last: that answer itself; for
+-- the table `ok lobby` and the answer, which is to `list`. Two lines go out for a game to watch, `show` and `fen`:
+-- where the game is shown, `ok watch G` and both answers; else the first of them.
 abbrev pub made_of : Ask → List ℕ → List ℕ → List ℕ
 made_of ForTable before now = table_front ++ now
 made_of (ForGame game) before now = if is_accepted before then watch_front game ++ before ++ now else before
@@ -251,8 +251,8 @@ kind_of ForPositions before now = positions_kind now
 kind_of (ForGame game) before now = if is_accepted before then position_kind now else kinds.Whole
 kind_of _ before now = kinds.Whole
 
--- A notice of an act, with the answers to `show` and `fen`: to all who watch the game, and to the table where that is told of the
--- act or the game is over.
+-- A notice of an act, with the answers to `show` and `fen`: to all who watch the game, and to the table where that is
+-- told of the act or the game is over.
 abbrev pub notice : List Watch → List ℕ → ℕ → List ℕ → Bool → List ℕ → List ℕ → MessageValue
 notice watches table game act is_table before now = record {
   to = followers watches table game (is_table || is_over before);
@@ -260,8 +260,8 @@ notice watches table game act is_table before now = record {
   text = codes "told " ++ decimal game ++ codes "\n" ++ act ++ before ++ now;
 }
 
--- What an arbiter's `drop` is answered that does not go out: where the game is shown, that it does not wait for a second player; else
--- the refusal to show it.
+-- What an arbiter's `drop` is answered that does not go out: where the game is shown, that it does not wait for a
+-- second player; else the refusal to show it.
 abbrev pub undropped : List ℕ → List ℕ
 undropped now = if is_accepted now then refusal_text refusals.NotWaiting else now
 
@@ -318,7 +318,8 @@ abbrev pub presence : Bool → List ℕ
 presence true = codes "server here\n"
 presence false = codes "server gone\n"
 
--- The answer to a message that asks for a link, `link NAME` or `close NAME`, once that is done: the token is told of a new one.
+-- The answer to a message that asks for a link, `link NAME` or `close NAME`, once that is done: the token is told of a
+-- new one.
 abbrev pub token_told : Bool → List ℕ → List ℕ
 token_told closes token = if closes then codes "\n" else codes " " ++ token ++ codes "\n"
 
@@ -330,8 +331,9 @@ abbrev pub AreToldAll : (ℕ → Bool) → List MessageValue → List ℕ → Li
 AreToldAll is_open first text tells =
     (to : List ℕ) × ((c : ℕ) → at_table to c ≡ is_open c) × (tells ≡ first ++ record { to = to; kind = kinds.Whole; text = text } ∷ [])
 
--- What connections are told for an event, where these are open and this is known before it, and these lines go out. A connection
--- says a message where it is open and no answer is owed to it, so that its answers come in the order of its messages.
+-- What connections are told for an event, where these are open and this is known before it, and these lines go out. A
+-- connection says a message where it is open and no answer is owed to it, so that its answers come in the order of its
+-- messages.
 abbrev pub IsTold : DeskInput → List (List ℕ) → List MessageValue → (ℕ → Bool) → Known → Type 0
 IsTold (Opened c) lines tells is_open k = IsToldOne c tells
 IsTold (Closed c) lines tells is_open k = tells ≡ []

@@ -1,4 +1,5 @@
--- The seats of players in the games on the server's table, as far as its answers have told, and who may open or join one more.
+-- The seats of players in the games on the server's table, as far as its answers have told, and who may open or join
+-- one more.
 use Rattle.std.specs.Prelude.{ℕ, Bool, true, false, ◌&&◌, ◌==◌, ◌+◌, ◌-◌, ◌*◌, ◌/◌, not, nat_le, List, [], ◌∷◌, ◌++◌, length, map, filter, Option, None, Some, if◌then◌else◌}
 use Rattle.std.specs.List.{count_by}
 use Rattle.std.specs.Str.{bytes_eq}
@@ -35,8 +36,8 @@ seats_joined game by seats = behind (behind (gone game seats) (still_by game (fi
 abbrev pub over_if : ℕ → Seat → Seat
 over_if game s = if s.game == game then record { game = s.game; by = s.by; stage = stages.Over } else s
 
--- The seats behind an act of this player in a game: one more, where it was opened, for him or for who is named; both where it was
--- joined, of a pairing by Black; none where it was dropped; and else it may be over then.
+-- The seats behind an act of this player in a game: one more, where it was opened, for him or for who is named; both
+-- where it was joined, of a pairing by Black; none where it was dropped; and else it may be over then.
 abbrev pub seats_ended : Bool → ℕ → List Seat → List Seat
 seats_ended is_over game seats = if is_over then map (over_if game) seats else seats
 
@@ -64,8 +65,8 @@ seats_listed answer seats = if is_list answer then seats_in answer else seats
 abbrev pub is_seat : Stage → List ℕ → Seat → Bool
 is_seat stage name s = is_stage s.stage stage && bytes_eq s.by name
 
--- Whether an answer is owed to an act for this player by which one more of his games stands so: to an `open`, by which one waits, or
--- to a `join`, by which one goes on.
+-- Whether an answer is owed to an act for this player by which one more of his games stands so: to an `open`, by which
+-- one waits, or to a `join`, by which one goes on.
 abbrev pub enters : Stage → List ℕ → Bool
 enters stages.Waits text = opens_game text
 enters stages.Plays text = joins_game text
@@ -82,8 +83,8 @@ is_entry stage name (Asker c (ForAct by text)) = enters_by stage name by text
 is_entry stage name (Pairer c by black text) = pairs_by stage name text
 is_entry stage name _ = false
 
--- Whether a player has so many such seats; those count of which the answer is owed. So many games of a player wait at most, go on,
--- and are over and still on the table, as the limits say.
+-- Whether a player has so many such seats; those count of which the answer is owed. So many games of a player wait at
+-- most, go on, and are over and still on the table, as the limits say.
 abbrev pub has_many : ℕ → Stage → List Seat → List Owed → List ℕ → Bool
 has_many most stage seats owed name = nat_le most (count_by (is_seat stage name) seats + count_by (is_entry stage name) owed)
 
@@ -96,8 +97,9 @@ is_busy limits seats owed name = has_many limits.playing stages.Plays seats owed
 abbrev pub is_spent : Limits → List Seat → List Owed → List ℕ → Bool
 is_spent limits seats owed name = has_many limits.over stages.Over seats owed name
 
--- Games take places of the table: that of a game which waits is its one seat's, and that of any other half each of its two seats'. So
--- many halves are taken, by these seats; and those count by which a game is opened of which the answer is owed.
+-- Games take places of the table: that of a game which waits is its one seat's, and that of any other half each of its
+-- two seats'. So many halves are taken, by these seats; and those count by which a game is opened of which the answer
+-- is owed.
 abbrev pub is_waiting : Seat → Bool
 is_waiting s = is_stage s.stage stages.Waits
 
@@ -109,7 +111,8 @@ is_opening _ = false
 abbrev pub halves_taken : List Seat → List Owed → ℕ
 halves_taken seats owed = length seats + (count_by is_waiting seats + 2 * count_by is_opening owed)
 
--- Whether the table has places left for arbiters and pairings alone: where it is known how many it has, these are an eighth of them.
+-- Whether the table has places left for arbiters and pairings alone: where it is known how many it has, these are an
+-- eighth of them.
 abbrev pub is_full_at : Option ℕ → List Seat → List Owed → Bool
 is_full_at None seats owed = false
 is_full_at (Some places) seats owed = nat_le (2 * (places - places / 8)) (halves_taken seats owed)

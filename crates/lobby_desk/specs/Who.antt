@@ -123,13 +123,15 @@ is_own plans.LeaveLobby = true
 is_own (plans.Leave game) = true
 is_own _ = false
 
--- The answer to `who` tells whether entries are paused, and the players for whom a connection acts that is open, and no other.
+-- The answer to `who` tells whether entries are paused, and the players for whom a connection acts that is open, and no
+-- other.
 abbrev pub IsPresence : Bool → List Player → (ℕ → Bool) → (ℕ → Option Identity) → List ℕ → Type 0
 IsPresence is_paused players is_open acts_for text =
     (all : List ℕ) × ((c : ℕ) → at_table all c ≡ is_open c) × (text ≡ who_text is_paused (present_names acts_for all players))
 
--- Such an answer, where entries are paused or not, these connections are open, and each acts for this player: a refusal says why;
--- the player is told, or all players are, or those who have a seat, or are there; what is left is named. An order is not carried out here.
+-- Such an answer, where entries are paused or not, these connections are open, and each acts for this player: a refusal
+-- says why; the player is told, or all players are, or those who have a seat, or are there; what is left is named. An
+-- order is not carried out here.
 abbrev pub IsOwnText : Bool → List Player → List Seat → (ℕ → Bool) → (ℕ → Option Identity) → Plan → List ℕ → Type 0
 IsOwnText is_paused players seats is_open acts_for (plans.Refuse refusal) text = text ≡ refusal_text refusal
 IsOwnText is_paused players seats is_open acts_for (plans.Login who) text = text ≡ login_text players who
@@ -170,8 +172,9 @@ known desk = record {
 abbrev pub IsReady : Desk → ℕ → Type 0
 IsReady desk c = (open_of desk c ≡ true) × (owes (known desk).owed c ≡ false)
 
--- what is seen of a desk: the number of the connection that comes next, which are open, for whom each acts, the name that was
--- said last to the server, whether that is there, whether entries are paused, how many games may be, and what is known
+-- what is seen of a desk: the number of the connection that comes next, which are open, for whom each acts, the name
+-- that was said last to the server, whether that is there, whether entries are paused, how many games may be, and what
+-- is known
 pub record View : Type 0 where
   pub next : ℕ
   pub is_open : ℕ → Bool
@@ -212,9 +215,9 @@ abbrev pub said_event : Bool → ℕ → List ℕ → DeskInput
 said_event true c text = Hurried c
 said_event false c text = Said c text
 
--- Why a message does not open a game, or does not join one, by the games that are known and the limits, where it would under this
--- name: no game more of this player may wait for a second one; or, but for an arbiter's message, no more may go on or be left on the
--- table, or the last places are for arbiters and pairings; or no such game waits for him.
+-- Why a message does not open a game, or does not join one, by the games that are known and the limits, where it would
+-- under this name: no game more of this player may wait for a second one; or, but for an arbiter's message, no more may
+-- go on or be left on the table, or the last places are for arbiters and pairings; or no such game waits for him.
 abbrev pub player_bar : Limits → Known → Bool → List ℕ → Option Refusal
 player_bar limits k is_arbiter name =
     game_bar (not is_arbiter && is_busy limits k.seats k.owed name) (not is_arbiter && is_spent limits k.seats k.owed name)
@@ -253,8 +256,8 @@ order_asked desk c text at =
     if is_too_fast (until_of desk c) at then None
     else order_of (plan_of (is_message text) (sort_of text) (standing_of desk c text) (u32_in (rest_of text)))
 
--- The plan for a message is carried out: these lines go out, and of the players for whom connections act no more changes
--- than a login says.
+-- The plan for a message is carried out: these lines go out, and of the players for whom connections act no more
+-- changes than a login says.
 pub record IsSaid (players : List Player) (old : View) (c : ℕ) (text : List ℕ) (lines : List (List ℕ)) (tells : List MessageValue) (new : View) : Type 0 where
   pub standing : Standing
   pub who : standing.who ≡ old.who c
@@ -277,7 +280,8 @@ pub record IsSaid (players : List Player) (old : View) (c : ℕ) (text : List �
   pub paused_is : new.paused ≡ paused_after plan old.paused
   pub who_is : (d : ℕ) → new.who d ≡ (if c == d then who_noted plan (old.who d) else old.who d)
 
--- A drop that waited goes out, under the name of the player who waits in its game for a second one, as the answer to `show` says.
+-- A drop that waited goes out, under the name of the player who waits in its game for a second one, as the answer to
+-- `show` says.
 pub record IsDropped (said : Option (List ℕ)) (now text : List ℕ) (lines : List (List ℕ)) (later : Option (List ℕ)) : Type 0 where
   pub name : List ℕ
   pub named : IsName name
@@ -299,9 +303,10 @@ IsPaired None said black lines later = (lines ≡ []) × (later ≡ said)
 IsPaired (Some game) said black lines later =
     (lines ≡ act_lines said black (join_line game) None) × (later ≡ Some black) × IsName black
 
--- What goes out for an answer, by whose it is, and the name that was said last then. For the answer to an act it is asked how the
--- game stands that it names, if that was not asked right behind the act; a drop goes out for the answer that it waits for, where a seat
--- is empty, and the join of a pairing for the answer that opens its game; else nothing does.
+-- What goes out for an answer, by whose it is, and the name that was said last then. For the answer to an act it is
+-- asked how the game stands that it names, if that was not asked right behind the act; a drop goes out for the answer
+-- that it waits for, where a seat is empty, and the join of a pairing for the answer that opens its game; else nothing
+-- does.
 abbrev pub IsSentFor : Owed → Option (List ℕ) → List ℕ → List (List ℕ) → Option (List ℕ) → Type 0
 IsSentFor (Asker c (ForAct by text)) said now lines later = (lines ≡ notice_lines (asked_after text (act_game now))) × (later ≡ said)
 IsSentFor (Dropper c by text) said now lines later = IsNotDropped said now text lines later ⊎ IsDropped said now text lines later
@@ -362,7 +367,8 @@ pub record IsTurned (old : View) (here : Bool) (lines : List (List ℕ)) (new : 
   pub paused_is : new.paused ≡ old.paused
   pub who_is : (d : ℕ) → new.who d ≡ old.who d
 
--- The players are others from now on: a connection acts for a player on just where his sum is the same. Nothing else changes.
+-- The players are others from now on: a connection acts for a player on just where his sum is the same. Nothing else
+-- changes.
 pub record IsRenewed (players : List Player) (old : View) (later : List Player) (lines : List (List ℕ)) (new : View) : Type 0 where
   pub none : lines ≡ []
   pub next_is : new.next ≡ old.next
@@ -393,7 +399,8 @@ IsDone players old (Renewed later) lines tells new = IsRenewed players old later
 IsDone players old (Linked c text later token) lines tells new = IsLinked players old c text later token lines new
 IsDone players old (ServerTurned is_here) lines tells new = IsTurned old is_here lines new
 
--- What is known then, where these connections are open before, and the one that has spoken acts for the player of this name.
+-- What is known then, where these connections are open before, and the one that has spoken acts for the player of this
+-- name.
 pub record IsKnown (event : DeskInput) (by : List ℕ) (lines : List (List ℕ)) (is_open : ℕ → Bool) (old new : Known) : Type 0 where
   pub owed : new.owed ≡ owed_now event by lines old
   pub left : new.left ≡ left_now event old
@@ -415,8 +422,8 @@ pub record IsStep (players : List Player) (old : View) (event : DeskInput) (line
   pub known : IsKnown event (speaker old.who event) lines old.is_open old.known new.known
   pub told : IsTold event lines tells old.is_open old.known
 
--- The same of the desk, of the bytes that go to the server, and of what connections are told. The time of no other connection is
--- taken.
+-- The same of the desk, of the bytes that go to the server, and of what connections are told. The time of no other
+-- connection is taken.
 pub record Steps (old : Desk) (event : DeskInput) (before after : List ℕ) (told_before told_after : List MessageValue) (new : Desk) : Type 0 where
   pub lines : List (List ℕ)
   pub tells : List MessageValue

@@ -1,5 +1,6 @@
-//! The lobby's desk: who is logged in, what is passed on to the server, whose answer comes next, and who is told what. It has
-//! no sockets: messages and lines go in, and lines to the server, messages to connections and texts for the log come out.
+//! The lobby's desk: who is logged in, what is passed on to the server, whose answer comes next, and who is told what.
+//! It has no sockets: messages and lines go in, and lines to the server, messages to connections and texts for the log
+//! come out.
 //!
 //! Modules: `desk` is what comes in; what is done about it is in `carrying` for a message and in `answering` for an
 //! answer of the server. `server_line` is the line to the server, with whose answers come, `telling` says messages to

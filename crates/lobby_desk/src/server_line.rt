@@ -1,5 +1,5 @@
-//! The lobby's line to the server: the connection to it, with the name that was said last and whose answers come, and what the
-//! server has told by it.
+//! The lobby's line to the server: the connection to it, with the name that was said last and whose answers come, and
+//! what the server has told by it.
 ghost use Rattle.std.specs.Prelude.{◌≡◌, ◌++◌, [], ◌∷◌, map, false, Some, None, IfOk, OnOk};
 ghost use Rattle.player_name.specs.Name.{IsName};
 ghost use Rattle.std.specs.String.{string_bytes};
@@ -70,8 +70,8 @@ pub enum Due {
     Behind,
 }
 
-/// The lobby's line to the server. The first six are of the connection that stands, and begin anew with the next one; what the
-/// server has told stays.
+/// The lobby's line to the server. The first six are of the connection that stands, and begin anew with the next one;
+/// what the server has told stays.
 #[derive(Drop)]
 pub struct ServerLine {
     pub is_here: bool,
@@ -133,8 +133,8 @@ impl ServerLine {
         }
     }
 
-    /// The connection is lost, or there is a new one: on what comes next nothing was said, no answer is due, and none has begun.
-    /// What the server has told stays.
+    /// The connection is lost, or there is a new one: on what comes next nothing was said, no answer is due, and none
+    /// has begun. What the server has told stays.
     pub fn renew(&mut self, is_here: bool)
         ensures here { self.new.is_here ≡ is_here }
         ensures said { self.new.said ≡ None }
@@ -254,8 +254,8 @@ impl ServerLine {
         }
     }
 
-    // Passes an act on under a name, which is said first where another was said last, and asks right behind it how its game stands,
-    // if it names one.
+    // Passes an act on under a name, which is said first where another was said last, and asks right behind it how its
+    // game stands, if it names one.
     fn act(
         &mut self,
         name: Name,
@@ -301,7 +301,8 @@ impl ServerLine {
         self.act(name, line, game_named(text), sent, wire)
     }
 
-    /// Opens the game of a connection's pairing under the name of White, which is said first where another was said last.
+    /// Opens the game of a connection's pairing under the name of White, which is said first where another was said
+    /// last.
     pub fn open_pair(
         &mut self,
         alloc: Global,
@@ -326,7 +327,8 @@ impl ServerLine {
         Ok(())
     }
 
-    /// Joins the game that a pairing has opened under the name of Black, which is said first where another was said last.
+    /// Joins the game that a pairing has opened under the name of Black, which is said first where another was said
+    /// last.
     pub fn join_pair(
         &mut self,
         alloc: Global,

@@ -144,7 +144,8 @@ fn own_halves(places: u32) -> usize
     2 * (places - places / 8) as usize
 }
 
-// Whether so many halves are taken by seats, by those in games that wait once more, and by openings, of which each takes two.
+// Whether so many halves are taken by seats, by those in games that wait once more, and by openings, of which each
+// takes two.
 fn are_taken(most: usize, seats: usize, waiting: usize, first: usize, second: usize) -> bool
     ensures { result ≡ nat_le most (seats + (waiting + 2 * (first + second))) }
 {

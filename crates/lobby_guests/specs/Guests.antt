@@ -36,8 +36,8 @@ pub record IsAsBefore {S : Type 0} (old new : Guest S) : Type 0 where
 
 -- ---- what comes
 
--- Bytes came of a browser's socket where they are wanted, and its connection takes them; none where it is told that no more come.
--- Or nothing came.
+-- Bytes came of a browser's socket where they are wanted, and its connection takes them; none where it is told that no
+-- more come. Or nothing came.
 pub record IsRead {S : Type 0} (remaining : S → Option (List ℕ)) (site : Site) (old new : Guest S) : Type 0 where
   pub number : new.number ≡ old.number
   pub taken : List ℕ
@@ -45,8 +45,9 @@ pub record IsRead {S : Type 0} (remaining : S → Option (List ℕ)) (site : Sit
   pub takes : (new.browser ≡ old.browser) × (taken ≡ [])
       ⊎ WantsBytes old.browser.stage × Takes site taken old.browser.stage new.browser.stage
 
--- What the desk is told of what a socket gave: that it is open, and then the connection has a number that none had before;
--- and each text, under that number. A socket gives no text before that it is open, and that but once: else nothing is told.
+-- What the desk is told of what a socket gave: that it is open, and then the connection has a number that none had
+-- before; and each text, under that number. A socket gives no text before that it is open, and that but once: else
+-- nothing is told.
 abbrev pub IsHeardAs : Option Heard → ℕ → Option ℕ → Option ℕ → Talk → Talk → Type 0
 IsHeardAs None at number after old new = (after ≡ number) × (new ≡ old)
 IsHeardAs (Some heards.Opened) at None after old new = (c : ℕ) × (after ≡ Some c) × Opens old c new
@@ -77,8 +78,8 @@ pub record IsAttended {S : Type 0} (remaining : S → Option (List ℕ)) (site :
   pub reads : IsRead remaining site old read
   pub hears : IsHeard at read new talk after
 
--- Where it is not lost then and the desk takes what comes next of it, it is asked for that at once: what is whole of it is not left
--- to a later turn.
+-- Where it is not lost then and the desk takes what comes next of it, it is asked for that at once: what is whole of it
+-- is not left to a later turn.
 pub record IsServed {S : Type 0} (remaining : S → Option (List ℕ)) (site : Site) (at : ℕ) (old new : Guest S)
     (talk after : Talk) : Type 0 where
   pub attended : IsAttended remaining site at old new talk after
@@ -88,8 +89,8 @@ pub record IsServed {S : Type 0} (remaining : S → Option (List ℕ)) (site : S
 abbrev pub refuses_login : List ℕ → Bool
 refuses_login text = starts_with (λ a b. a == b) text (codes "no 32 ")
 
--- Each takes 12 seconds of a connection's time for that, and where more than 48 are taken at its moment it is one too many: five at
--- once, and five a minute.
+-- Each takes 12 seconds of a connection's time for that, and where more than 48 are taken at its moment it is one too
+-- many: five at once, and five a minute.
 abbrev pub is_beyond : ℕ → ℕ → Bool
 is_beyond at until = nat_lt 48000 (until - at)
 
@@ -124,8 +125,8 @@ is_other Newcomers desk number = not (is_some number)
 is_other Strangers desk None = false
 is_other Strangers desk (Some c) = not (acts desk c)
 
--- Who acts for nobody is attended only where the server owes no answer to anybody like that: it has at most one message of all of
--- them together.
+-- Who acts for nobody is attended only where the server owes no answer to anybody like that: it has at most one message
+-- of all of them together.
 abbrev pub may_call : Others → Desk → Bool
 may_call Newcomers desk = true
 may_call Strangers desk = not (strangers_wait desk)
@@ -164,8 +165,8 @@ others_most = 16
 abbrev pub full_room : Talk → Room
 full_room talk = record { talk = talk; left = others_most }
 
--- In a turn players are served first, each of them; then some of those who have no socket yet; and then twice some of those who
--- act for nobody. That the first of these two passes is of who was told no answer yet is not said.
+-- In a turn players are served first, each of them; then some of those who have no socket yet; and then twice some of
+-- those who act for nobody. That the first of these two passes is of who was told no answer yet is not said.
 pub record AreAttended {S : Type 0} (remaining : S → Option (List ℕ)) (site : Site) (at : ℕ) (old new : List (Guest S))
     (talk after : Talk) : Type 0 where
   pub first : List (Guest S)
@@ -207,8 +208,8 @@ abbrev pub AreTold : {S : Type 0} → List Message → Guest S → Guest S → T
 AreTold [] old new = new ≡ old
 AreTold {S = S} (one ∷ made) old new = (between : Guest S) × IsTold one old between × AreTold made between new
 
--- Each browser is told those of these messages that are for its connection, whole and in their order, as they go out. One
--- whose socket may say nothing is told nothing, and one for which there is no room or memory has its socket ended.
+-- Each browser is told those of these messages that are for its connection, whole and in their order, as they go out.
+-- One whose socket may say nothing is told nothing, and one for which there is no room or memory has its socket ended.
 pub record AreDelivered {S : Type 0} (told : List Message) (old new : List (Guest S)) : Type 0 where
   pub made : List Message
   pub are_made : AllZip IsMadeOf told made

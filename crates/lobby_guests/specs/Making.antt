@@ -30,15 +30,15 @@ last_line (b ∷ bs) =
 abbrev pub fen_in : List ℕ → List ℕ
 fen_in text = rest_of (rest_of (rest_of (last_line text)))
 
--- The text ends with the position of this FEN, and the line of its legal moves stands behind it; where the FEN is none, the
--- text is as it was.
+-- The text ends with the position of this FEN, and the line of its legal moves stands behind it; where the FEN is none,
+-- the text is as it was.
 pub record IsWithMoves (text new : List ℕ) : Type 0 where
   pub told : (p : Position) → IsValid p → IsFenOf (fen_in text) p →
       (moves : List ℕ) × TellsMoves moves p × (new ≡ text ++ moves ++ 10 ∷ [])
   pub none : ((p : Position) → IsValid p → IsFenOf (fen_in text) p → ⊥) → new ≡ text
 
--- The text is `ok pgn G K` and the lines of a PGN: instead of it the positions of the game that this tells, or `lost` where it
--- tells none.
+-- The text is `ok pgn G K` and the lines of a PGN: instead of it the positions of the game that this tells, or `lost`
+-- where it tells none.
 pub record IsOfLine (text new : List ℕ) : Type 0 where
   pub told : (game : ℕ) (start : Position) (moves : List Move) → game < 2 ^ 32 →
       word_of (rest_of (rest_of text)) ≡ decimal game → TellsGame (lines_behind text) start moves →

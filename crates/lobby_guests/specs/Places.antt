@@ -98,8 +98,8 @@ beyond P n (p ∷ ps) =
 abbrev pub trim : Option ℕ → Class → ℕ → List Place → List Place
 trim address class most ps = leave (counted address class) (count_of address Nameless ps - most) ps
 
--- Nameless connections make room until so many are left: first newcomers who came 5 seconds ago or before, then watchers, then the
--- other newcomers; of each who came first.
+-- Nameless connections make room until so many are left: first newcomers who came 5 seconds ago or before, then
+-- watchers, then the other newcomers; of each who came first.
 abbrev pub make_room : Option ℕ → ℕ → ℕ → List Place → List Place
 make_room address most at ps = trim address Newcomers most (trim address Watchers most (trim address (Aged at 5000) most ps))
 

@@ -48,8 +48,8 @@ pub record YieldAt {S : Type 0} (at from : ℕ) (places : List Place) (old new :
   pub yields : AreYielding (judged at from places) old new
   pub fair : IsFair at from places (judged at from places)
 
--- Connections are judged: first those are to be closed that act for a player for whom too many do, then those that are to make room,
--- and nothing else changes.
+-- Connections are judged: first those are to be closed that act for a player for whom too many do, then those that are
+-- to make room, and nothing else changes.
 pub record AreSeated {S : Type 0} (at from : ℕ) (desk : Desk) (old new : List (Guest S)) : Type 0 where
   pub before : AllZip IsAsBefore old new
   pub owned : List Place

@@ -19,8 +19,8 @@ abbrev pub StepsAt : Talk → DeskInput → List ℕ → List ℕ → Talk → T
 StepsAt old event before after new =
     Steps old.desk event before after (message_values old.told.items) (message_values new.told.items) new.desk
 
--- The desk takes this event: the lines for it stand behind what is to go to the server, and the messages for it behind those
--- that are to go to connections.
+-- The desk takes this event: the lines for it stand behind what is to go to the server, and the messages for it behind
+-- those that are to go to connections.
 pub record Moves (old : Talk) (event : DeskInput) (new : Talk) : Type 0 where
   pub steps : StepsAt old event old.wire.items new.wire.items new
   pub next : new.next ≡ old.next
@@ -37,8 +37,8 @@ pub record MovesAnew (old : Talk) (event : DeskInput) (new : Talk) : Type 0 wher
   pub nothing : new.wire.items ≡ []
   pub next : new.next ≡ old.next
 
--- How the desk takes a message: it came in time; or too fast; or it asked for a player's link, for which the players' file has these
--- players and this token was made.
+-- How the desk takes a message: it came in time; or too fast; or it asked for a player's link, for which the players'
+-- file has these players and this token was made.
 pub data Saying : Type 0 where
   InTime : Saying
   TooFast : Saying

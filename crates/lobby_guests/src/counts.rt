@@ -116,8 +116,8 @@ impl Counts {
         }
     }
 
-    // A browser that asked at these moments is told a text: an answer, or a notice, which is not counted. It tells whether it is
-    // an answer.
+    // A browser that asked at these moments is told a text: an answer, or a notice, which is not counted. It tells
+    // whether it is an answer.
     pub(crate) fn told(&mut self, text: &str, asked: &mut Asked) -> bool {
         match first_word(text) {
             "ok" => {

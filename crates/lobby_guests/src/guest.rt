@@ -24,8 +24,8 @@ const ASKED_AFTER: u64 = 30_000;
 /// After so many milliseconds without a byte of it a connection is closed.
 const CLOSED_AFTER: u64 = 75_000;
 
-/// So many bytes of an answer take a millisecond of a connection's time, and so many milliseconds that of one which acts for nobody
-/// may run ahead before its next message is taken.
+/// So many bytes of an answer take a millisecond of a connection's time, and so many milliseconds that of one which
+/// acts for nobody may run ahead before its next message is taken.
 const BYTES_A_MILLISECOND: u64 = 200;
 
 const AHEAD: u64 = 1_000;
@@ -33,8 +33,8 @@ const AHEAD: u64 = 1_000;
 /// The same for one that acts for a player.
 const AHEAD_OF_PLAYERS: u64 = 10_000;
 
-/// A login that is refused takes so many milliseconds of a connection's time for that, and where so many are taken already it is one
-/// too many: five at once, and five a minute.
+/// A login that is refused takes so many milliseconds of a connection's time for that, and where so many are taken
+/// already it is one too many: five at once, and five a minute.
 const A_REFUSED_LOGIN: u64 = 12_000;
 
 const LOGINS_AHEAD: u64 = 48_000;
@@ -237,7 +237,8 @@ impl<S> Guest<S> {
         }
     }
 
-    // Whether the desk takes what comes next of it: that its socket is open, or a message where the one before it is answered.
+    // Whether the desk takes what comes next of it: that its socket is open, or a message where the one before it is
+    // answered.
     fn may_speak(&self, talk: &Talk) -> bool
         ensures { IsTrue result ↔ MaySpeak talk.now.desk self.now.number }
     {
@@ -289,8 +290,8 @@ impl<S> Guest<S> {
         }
     }
 
-    /// What came next of it is said to the desk: that its socket is open, or a message, once the one before it is answered.
-    /// It tells whether there was any.
+    /// What came next of it is said to the desk: that its socket is open, or a message, once the one before it is
+    /// answered. It tells whether there was any.
     pub fn hear<K: KeepsLinks>(
         &mut self,
         talk: &mut Talk,
@@ -387,7 +388,8 @@ impl<S> Guest<S> {
         self.is_asked = true;
     }
 
-    /// Where it is time, asks a browser that has been silent whether it is there, and lets one go that has been for too long.
+    /// Where it is time, asks a browser that has been silent whether it is there, and lets one go that has been for too
+    /// long.
     pub fn look_after(&mut self, is_time: bool, at: u64)
         ensures { IsLookedAfter self.old self.new }
     {

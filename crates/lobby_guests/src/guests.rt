@@ -149,8 +149,8 @@ fn attend_others<S: Read + Write, K: KeepsLinks>(
     Ok(any | can_more)
 }
 
-/// Reads for players, and says to the desk what came next of each of them; and then for some of the others. It tells whether
-/// there was anything.
+/// Reads for players, and says to the desk what came next of each of them; and then for some of the others. It tells
+/// whether there was anything.
 pub fn attend_all<S: Read + Write, K: KeepsLinks>(
     guests: &mut Vec<Guest<S>>,
     rounds: &mut Rounds,

@@ -82,8 +82,8 @@ impl KeptAnswers {
         None
     }
 
-    /// Keeps the answer that was made of this PGN of a game, in the place of the one that was kept of it. The oldest go where there
-    /// are too many bytes.
+    /// Keeps the answer that was made of this PGN of a game, in the place of the one that was kept of it. The oldest go
+    /// where there are too many bytes.
     pub fn keep(&mut self, game: u32, pgn: &str, answer: &str) -> Result<(), AllocError>
         requires { ∥ IsOfLine pgn.now answer.now ∥₁ }
     {

@@ -1,6 +1,6 @@
-//! The lobby's connections, browsers' and the one to the server, each a stream that does not wait, and the desk that they
-//! speak to with what goes from it: lines of the server and messages of browsers as the desk takes them, messages as
-//! browsers get them, and what is counted of these, and who has a place. Who changes players' links is a trait.
+//! The lobby's connections, browsers' and the one to the server, each a stream that does not wait, and the desk that
+//! they speak to with what goes from it: lines of the server and messages of browsers as the desk takes them, messages
+//! as browsers get them, and what is counted of these, and who has a place. Who changes players' links is a trait.
 //!
 //! Modules: `guest` has one browser's connection, `guests` what is done for all of them, `link` the connection to the
 //! server, `pieces` one write. `talk` has the desk with what goes from it, `said` a browser's message as the desk takes

@@ -24,8 +24,8 @@ fn hear_line(talk: &mut Talk, line: &[u8]) -> Result<bool, AllocError>
     }
 }
 
-// Tells the desk each whole line, up to the first that is no text; so many bytes were told, and whether there was none that is
-// no text.
+// Tells the desk each whole line, up to the first that is no text; so many bytes were told, and whether there was none
+// that is no text.
 pub(crate) fn hear_lines(talk: &mut Talk, held: &[u8]) -> Result<(usize, bool), AllocError>
     ensures within { IfOk result (λ told. told.0 ≤ length held.now) }
     ensures told { IfOk result (λ told. AreTaken held.now (drop told.0 held.now) talk.old talk.new) }

@@ -27,8 +27,8 @@ fn number_of(address: IpAddr) -> u64
 }
 
 impl Origin {
-    /// Of a peer: its address; but none for one of this machine, and none for the trusted proxy, if there is one, until it tells
-    /// another.
+    /// Of a peer: its address; but none for one of this machine, and none for the trusted proxy, if there is one, until
+    /// it tells another.
     pub fn of(peer: IpAddr, proxy: Option<IpAddr>) -> Origin
         ensures untrusted { proxy ≡ None → result.is_proxy ≡ false }
         ensures untold { result.is_proxy ≡ true → result.address ≡ None }

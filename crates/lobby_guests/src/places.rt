@@ -159,8 +159,8 @@ fn trim(places: &mut [Place], address: Option<u64>, class: &Class, most: usize)
     leave(places, address, class, excess);
 }
 
-// Nameless connections are to be closed until so many are left: first newcomers who had their chance, then watchers, then the
-// other newcomers; of each who came first.
+// Nameless connections are to be closed until so many are left: first newcomers who had their chance, then watchers,
+// then the other newcomers; of each who came first.
 fn make_room(places: &mut [Place], address: Option<u64>, most: usize, at: u64)
     ensures { places.new ≡ make_room address most at places.old }
 {
@@ -232,8 +232,8 @@ fn own_all(alloc: Global, all: &[Place]) -> Result<Vec<Place>, AllocError>
     Ok(places)
 }
 
-/// These connections, in the order in which they came: of those who act for one player who came first are to be closed, until 16 are
-/// left.
+/// These connections, in the order in which they came: of those who act for one player who came first are to be closed,
+/// until 16 are left.
 pub fn own(alloc: Global, all: &[Place]) -> Result<Vec<Place>, AllocError>
     ensures owned { IfOk result (λ places. places.items ≡ each_own all.now all.now) }
     ensures few { IfOk result (λ places. IsOwned all.now places.items) }
@@ -257,9 +257,9 @@ fn judge_all(alloc: Global, places: &mut [Place], at: u64, from: u64) -> Result<
     Ok(count(places, None, &Class::Gone).saturating_sub(late))
 }
 
-/// Which of these connections, in the order in which they came, are to be closed at a moment, in milliseconds: these have
-/// `Role::Gone` then. Whoever came before the moment `from` has his time from then on. It answers how many are to be closed for
-/// want of room.
+/// Which of these connections, in the order in which they came, are to be closed at a moment, in milliseconds: these
+/// have `Role::Gone` then. Whoever came before the moment `from` has his time from then on. It answers how many are to
+/// be closed for want of room.
 pub fn judge(alloc: Global, places: &mut [Place], at: u64, from: u64) -> Result<usize, AllocError>
     ensures judged { OnOk result (places.new ≡ judged at from places.old) }
     ensures fair { OnOk result (IsFair at from places.old places.new) }

@@ -59,8 +59,8 @@ fn seat_all<S>(
     Ok(seat_at(alloc, guests, owned.as_mut_slice(), at, from)?)
 }
 
-/// Where it is due, those are to be closed who are to make room at a moment, in milliseconds. Whoever came before the moment `from`
-/// has his time from then on. It answers how many are to be closed for want of room.
+/// Where it is due, those are to be closed who are to make room at a moment, in milliseconds. Whoever came before the
+/// moment `from` has his time from then on. It answers how many are to be closed for want of room.
 pub fn seat_if<S>(
     alloc: Global,
     guests: &mut Vec<Guest<S>>,

@@ -16,9 +16,9 @@ use Rattle.lobby_web.specs.Happening.{text_of, is_close}
 use Rattle.lobby_guests.specs.declared.guest.Guest.{Guest}
 use Rattle.lobby_guests.specs.Making.{IsFinished}
 
--- Bytes came of its socket, none where it is told that no more come; the socket was tried for nothing; it was asked what came
--- next, and gave this; it was to be told this, and that became of it; these bytes were written. Where bytes came or were written,
--- this site was served.
+-- Bytes came of its socket, none where it is told that no more come; the socket was tried for nothing; it was asked
+-- what came next, and gave this; it was to be told this, and that became of it; these bytes were written. Where bytes
+-- came or were written, this site was served.
 pub data Doing : Type 0 where
   Took : (site : Site) → (bytes : List ℕ) → Doing
   Tried : Doing
@@ -34,8 +34,8 @@ pub record Spot (S : Type 0) : Type 0 where
 abbrev pub spot : {S : Type 0} → Guest S → Spot S
 spot guest = record { stage = guest.browser.stage; stream = guest.stream }
 
--- The bytes that its socket gave, where they are wanted, are taken by its connection, and what is written stood in front of what
--- waits there. The lobby does not begin to close it.
+-- The bytes that its socket gave, where they are wanted, are taken by its connection, and what is written stood in
+-- front of what waits there. The lobby does not begin to close it.
 abbrev pub DoesAt : {S : Type 0} → (S → Option (List ℕ)) → (S → Option (List ℕ)) → Doing → Spot S → Spot S → Type 0
 DoesAt remaining contents (Took site bytes) old new =
     Consumes (remaining old.stream) (remaining new.stream) bytes × WantsBytes old.stage × Takes site bytes old.stage new.stage
@@ -141,8 +141,8 @@ IsSaidAs text (Hurried c) = Unit {0}
 IsSaidAs text (Linked c shown players token) = (IsUtf8 text → shown ≡ text) × (¬ IsUtf8 text → shown ≡ [])
 IsSaidAs text _ = ⊥
 
--- The desk was told, under the number of this connection, each text that came of it, once and in their order, and nothing
--- else; and nothing before its socket was open.
+-- The desk was told, under the number of this connection, each text that came of it, once and in their order, and
+-- nothing else; and nothing before its socket was open.
 abbrev pub IsSaidBy : List Step → Option ℕ → List Doing → Type 0
 IsSaidBy steps None past = has_opened past ≡ false
 IsSaidBy steps (Some c) past =
@@ -170,8 +170,8 @@ before_opening c (s ∷ past) = if is_opening c s.event then past else before_op
 abbrev pub IsToldAs : MessageValue → List ℕ → Type 0
 IsToldAs t text = IsFinished t.kind t.text text
 
--- Of what went out of the desk's hands this connection was to be told each message that is for it, once and in their order,
--- as it goes out, and nothing else: of all but a front of which nothing was told since it came.
+-- Of what went out of the desk's hands this connection was to be told each message that is for it, once and in their
+-- order, as it goes out, and nothing else: of all but a front of which nothing was told since it came.
 pub record IsToldOf (steps : List Step) (out : List MessageValue) (c : ℕ) (past : List Doing) : Type 0 where
   pub before : List MessageValue
   pub since : List MessageValue
@@ -189,13 +189,14 @@ abbrev pub IsAmong : {S : Type 0} → S → List S → Type 0
 IsAmong one [] = ⊥
 IsAmong one (other ∷ others) = (one ≡ other) ⊎ IsAmong one others
 
--- the streams by which browsers came, and the sites that were served before the one that is served now; the newest first
+-- the streams by which browsers came, and the sites that were served before the one that is served now; the newest
+-- first
 pub record Before (S : Type 0) : Type 0 where
   pub streams : List S
   pub sites : List Site
 
--- A browser with this number, at this place: it came by one of these streams, with nothing done; and of all that was done since,
--- while these sites were served, the desk has what it said, and it was told what went out for it.
+-- A browser with this number, at this place: it came by one of these streams, with nothing done; and of all that was
+-- done since, while these sites were served, the desk has what it said, and it was told what went out for it.
 pub record IsServed {S : Type 0} (remaining contents : S → Option (List ℕ)) (site : Site) (came : Before S) (steps : List Step)
     (out : List MessageValue) (number : Option ℕ) (now : Spot S) : Type 0 where
   pub first : Spot S
@@ -217,7 +218,8 @@ AreServed remaining contents site came steps out (guest ∷ guests) =
 
 -- ---- a browser that was let go
 
--- The desk was told that this connection is gone when these messages, all that it had told so far, had gone out of its hands.
+-- The desk was told that this connection is gone when these messages, all that it had told so far, had gone out of its
+-- hands.
 pub record IsClosedBehind (steps : List Step) (until : List MessageValue) (c : ℕ) : Type 0 where
   pub later : List Step
   pub closing : Step
@@ -230,8 +232,8 @@ abbrev pub WasClosed : List Step → List MessageValue → Option ℕ → Type 0
 WasClosed steps until None = Unit {0}
 WasClosed steps until (Some c) = IsClosedBehind steps until c
 
--- A browser that had this number and stood at this place when it was let go. Until then it was served: it was told what had gone
--- out for it; and all that the desk has of its number it has said.
+-- A browser that had this number and stood at this place when it was let go. Until then it was served: it was told what
+-- had gone out for it; and all that the desk has of its number it has said.
 pub record WasServed {S : Type 0} (remaining contents : S → Option (List ℕ)) (site : Site) (came : Before S) (steps : List Step)
     (out : List MessageValue) (number : Option ℕ) (last : Spot S) : Type 0 where
   pub until : List MessageValue

@@ -21,9 +21,10 @@ use Rattle.lobby_guests.specs.Held.{HoldsNoLine}
 use Rattle.lobby_loop.specs.Turning.{BeginsHall, Admits, IsServerAsBefore, ServerComes, HasTurned, bytes_heard, texts_put, IsLobbyTurn}
 use Rattle.lobby_loop.specs.Doing.{all_tells, AreServed, WereServed, Before}
 
--- What happens to a hall: a browser comes, sockets may be ready, the server is there, at a path another file is served from now on,
--- or none, in the place of what this site had, the players are these from now on, a turn. In a turn bytes come of the server, then the connection to it may be lost;
--- behind that the log has texts, and then bytes are written to the server.
+-- What happens to a hall: a browser comes, sockets may be ready, the server is there, at a path another file is served
+-- from now on, or none, in the place of what this site had, the players are these from now on, a turn. In a turn bytes
+-- come of the server, then the connection to it may be lost; behind that the log has texts, and then bytes are written
+-- to the server.
 pub data Happening (S : Type 0) : Type 0 where
   Came : (stream : S) → Happening S
   Woke : Happening S
@@ -60,8 +61,8 @@ pub record KeepsFiles {S : Type 0} (old new : Hall S) : Type 0 where
   pub server : new.server ≡ old.server
   pub site : IsSameSite old.site new.site
 
--- a turn in which these bytes come of the server, the connection to it is lost or not, the log has these texts, and these bytes are
--- written to the server
+-- a turn in which these bytes come of the server, the connection to it is lost or not, the log has these texts, and
+-- these bytes are written to the server
 pub record TurnsBy {S : Type 0} (remaining contents : S → Option (List ℕ)) (at : ℕ) (taken : List ℕ) (is_gone : Bool)
     (put : List (List ℕ)) (front : List ℕ) (old new : Hall S) : Type 0 where
   pub turned : HasTurned remaining contents at old new
@@ -213,14 +214,15 @@ abbrev pub NoLineWaits : {S : Type 0} → Option (Link S) → Type 0
 NoLineWaits None = Unit {0}
 NoLineWaits (Some link) = HoldsNoLine link
 
--- What is promised of whatever happened. The desk has taken a run of steps, in which every line to the server and every message to
--- a connection is right. What was written to the server since its connection began is a front of the bytes of these lines, and the
--- rest of them is to go. The lines that the desk heard since then stand in front of all bytes that came of the server, and where its
--- connection goes on no whole line of it waits; the desk was told that the server is there or gone just where it was. What the desk
--- told connections went out of its hands, and the rest of it is to go; of what went out the log has all texts for it, each once and in
--- their order. Of all browsers that came, those that were let go too, no two
--- have one connection's number, and the desk was told of no connection but theirs; the desk has, under its number, all that a browser
--- said, and of what went out it was told all that is for its number. Its requests have the answers of the sites that were served.
+-- What is promised of whatever happened. The desk has taken a run of steps, in which every line to the server and every
+-- message to a connection is right. What was written to the server since its connection began is a front of the bytes
+-- of these lines, and the rest of them is to go. The lines that the desk heard since then stand in front of all bytes
+-- that came of the server, and where its connection goes on no whole line of it waits; the desk was told that the
+-- server is there or gone just where it was. What the desk told connections went out of its hands, and the rest of it
+-- is to go; of what went out the log has all texts for it, each once and in their order. Of all browsers that came,
+-- those that were let go too, no two have one connection's number, and the desk was told of no connection but theirs;
+-- the desk has, under its number, all that a browser said, and of what went out it was told all that is for its number.
+-- Its requests have the answers of the sites that were served.
 pub record IsRightLife {S : Type 0} (remaining contents : S → Option (List ℕ)) (players : List Player) (is_paused : Bool)
     (past : List (Happening S)) (now : Hall S) : Type 0 where
   pub steps : List Step
@@ -244,8 +246,8 @@ pub record IsRightLife {S : Type 0} (remaining contents : S → Option (List ℕ
   pub served : AreServed remaining contents now.site (before_in past) steps out now.guests.items
   pub were : WereServed remaining contents now.site (before_in past) steps out gone
 
--- Turns of a lobby, at these moments, and between them rests, in which sockets may become ready, and files that are served from then
--- on, or no more, and other players.
+-- Turns of a lobby, at these moments, and between them rests, in which sockets may become ready, and files that are
+-- served from then on, or no more, and other players.
 pub data Passing : Type 0 where
   TurnAt : (at : ℕ) → Passing
   Enrolled : (players : List Player) → Passing

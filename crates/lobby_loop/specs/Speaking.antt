@@ -53,8 +53,8 @@ pub record IsSilent (past : List Doing) : Type 0 where
   pub told : texts_told past ≡ []
   pub said : texts_said past ≡ []
 
--- Requests were answered where bytes came, and where bytes were written for which they had waited; each by the site that was served
--- then.
+-- Requests were answered where bytes came, and where bytes were written for which they had waited; each by the site
+-- that was served then.
 abbrev pub AreAnsweredBy : List Doing → List Call → Type 0
 AreAnsweredBy [] calls = calls ≡ []
 AreAnsweredBy (Took site bytes ∷ past) calls =
@@ -74,8 +74,8 @@ IsSiteIn one (Gave heard ∷ past) = IsSiteIn one past
 IsSiteIn one (WasTold content answer ∷ past) = IsSiteIn one past
 IsSiteIn one (Wrote site bytes ∷ past) = (one ≡ site) ⊎ IsSiteIn one past
 
--- What HTTP has done with these bytes: the requests among those that came have the answers of the site that was served then, and
--- what was written and what waits are these.
+-- What HTTP has done with these bytes: the requests among those that came have the answers of the site that was served
+-- then, and what was written and what waits are these.
 pub record IsByHttp (past : List Doing) (came written : List ℕ) (h : History) : Type 0 where
   pub served : (h ≡ new_history) ⊎ ∥ IsServed web_config h ∥₁
   pub answered : AreAnsweredBy past h.calls
@@ -92,10 +92,11 @@ pub record IsSwitched (past : List Doing) (h : History) : Type 0 where
   pub among : IsSiteIn site past
   pub granted : IsGranted site last.0
 
--- What a socket has done. HTTP took a front of the bytes that came, up to the upgrade; behind that these are frames. The texts
--- of all frames that are whole were given to the desk, each once and in their order; but a last one may be lost for want of memory,
--- and then it is over. What was written and what waits are HTTP's answers and whole frames behind them, and the texts among these
--- are those that it was told, in their order: a front of all that it was to be told, and all of it while its socket is open.
+-- What a socket has done. HTTP took a front of the bytes that came, up to the upgrade; behind that these are frames.
+-- The texts of all frames that are whole were given to the desk, each once and in their order; but a last one may be
+-- lost for want of memory, and then it is over. What was written and what waits are HTTP's answers and whole frames
+-- behind them, and the texts among these are those that it was told, in their order: a front of all that it was to be
+-- told, and all of it while its socket is open.
 pub record IsBySocket (past : List Doing) (socket : Socket) : Type 0 where
   pub last : History
   pub first : Socket

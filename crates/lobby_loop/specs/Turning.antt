@@ -26,7 +26,8 @@ abbrev pub bytes_heard : {S : Type 0} → (remaining : S → Option (List ℕ)) 
 bytes_heard remaining None after old new (is, same) = []
 bytes_heard remaining (Some link) after old new (next, is, takes) = takes.taken
 
--- whether its connection is lost: it has ended or failed, or the server has not taken a name on it, so that none of its answers counts
+-- whether its connection is lost: it has ended or failed, or the server has not taken a name on it, so that none of its
+-- answers counts
 abbrev pub link_lost : {S : Type 0} → Option (Link S) → Talk → Bool
 link_lost None talk = false
 link_lost (Some link) talk = link.is_lost || talk.desk.line.is_misnamed
@@ -109,8 +110,8 @@ pub record TakesAllIn {S : Type 0} (remaining : S → Option (List ℕ)) (at : �
   pub away : new.away_at ≡ away_after (is_some new.server) old.away_at at
   pub site : new.site ≡ old.site
 
--- What is to go is handed out: what the desk told is delivered, and what is to go is written, to the server and to each browser; and
--- the desk is told who is let go.
+-- What is to go is handed out: what the desk told is delivered, and what is to go is written, to the server and to each
+-- browser; and the desk is told who is let go.
 pub record HandsAllOut {S : Type 0} (contents : S → Option (List ℕ)) (old new : Hall S) : Type 0 where
   pub told : List (Guest S)
   pub delivers : AreDelivered old.talk.told.items old.guests.items told
@@ -147,8 +148,8 @@ AreAdmitted {S} (stream ∷ before) old new = (between : Hall S) × AreAdmitted 
 abbrev pub IsReached : {S : Type 0} → Hall S → Hall S → Type 0
 IsReached {S} old new = (new ≡ old) ⊎ ((old.server ≡ None) × ((stream : S) × ServerComes stream old new))
 
--- One turn of the lobby: the server is reached or not, browsers come or are turned away, and then all who are connected have
--- one turn.
+-- One turn of the lobby: the server is reached or not, browsers come or are turned away, and then all who are connected
+-- have one turn.
 pub record IsLobbyTurn {S : Type 0} (remaining contents : S → Option (List ℕ)) (at : ℕ) (old new : Hall S) : Type 0 where
   pub reached : Hall S
   pub reaches : IsReached old reached

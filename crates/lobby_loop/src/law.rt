@@ -9,13 +9,14 @@ ghost use Rattle.lobby_loop.specs.Doing.{Spot, Before, IsServed};
 ghost use Rattle.lobby_loop.specs.Living.{Happening, IsLife, IsRightLife, Passing, IsLobbyLife};
 ghost use Rattle.lobby_loop.specs.Speaking.{Speaks};
 
-/// Whatever browsers and a server come, say and leave, by streams that give and take what they like: the desk has taken a run of
-/// steps, of which `lobby_desk::law_of_lines`, `law_of_names`, `law_of_tellings` and `law_of_logs` hold. The bytes that were
-/// written to the server since its connection began are a front of the bytes of the run's lines since then, and the lines that
-/// the desk heard since then are those in front of all bytes that came of it. No two browsers that came have one number at the desk, and it knows of
-/// no connection but theirs; it has, under a browser's number, each text that came of it, once and in their order, and nothing
-/// else; and of all that went out of the desk's hands while it was there a browser was to be told each message that is for its
-/// number, once and in their order, and nothing else; and the log has had all texts for it among what went out, likewise.
+/// Whatever browsers and a server come, say and leave, by streams that give and take what they like: the desk has taken
+/// a run of steps, of which `lobby_desk::law_of_lines`, `law_of_names`, `law_of_tellings` and `law_of_logs` hold. The
+/// bytes that were written to the server since its connection began are a front of the bytes of the run's lines since
+/// then, and the lines that the desk heard since then are those in front of all bytes that came of it. No two browsers
+/// that came have one number at the desk, and it knows of no connection but theirs; it has, under a browser's number,
+/// each text that came of it, once and in their order, and nothing else; and of all that went out of the desk's hands
+/// while it was there a browser was to be told each message that is for its number, once and in their order, and
+/// nothing else; and the log has had all texts for it among what went out, likewise.
 pub fn law_of_halls<S>()
     ensures { (remaining contents : S → Option (List ℕ)) (players : List Player) (is_paused : Bool) (past : List (Happening S))
         (now : Hall S) → IsLife remaining contents players is_paused past now → IsRightLife remaining contents players is_paused past now }
@@ -29,10 +30,10 @@ pub fn law_of_lobbies<S>()
         × IsRightLife remaining contents players is_paused past now }
 {}
 
-/// Of each browser of which such a life says what was done at its connection: the texts that the desk was told under its number
-/// are those of the whole frames among the bytes that came of it behind the upgrade, each once and in their order; and the texts
-/// that it was told are those of the frames among the bytes that were written to it and wait, in their order, all of them while
-/// its socket is open. Before that HTTP answers what came, and nothing is said.
+/// Of each browser of which such a life says what was done at its connection: the texts that the desk was told under
+/// its number are those of the whole frames among the bytes that came of it behind the upgrade, each once and in their
+/// order; and the texts that it was told are those of the frames among the bytes that were written to it and wait, in
+/// their order, all of them while its socket is open. Before that HTTP answers what came, and nothing is said.
 pub fn law_of_browsers<S>()
     ensures { (remaining contents : S → Option (List ℕ)) (site : Site) (came : Before S) (steps : List Step) (out : List MessageValue)
         (number : Option ℕ) (now : Spot S) → (served : IsServed remaining contents site came steps out number now) →

@@ -131,8 +131,8 @@ fn earlier(a: Option<u64>, b: Option<u64>) -> Option<u64> {
 }
 
 impl Lobby {
-    /// A lobby whose server is at this address, which begins with entries paused, or not, and has these limits, behind a trusted proxy
-    /// of this address, if there is one. The system's error where it cannot be watched.
+    /// A lobby whose server is at this address, which begins with entries paused, or not, and has these limits, behind
+    /// a trusted proxy of this address, if there is one. The system's error where it cannot be watched.
     pub fn new(
         net: &impl Net,
         alloc: Global,
@@ -208,15 +208,16 @@ impl Lobby {
         self.hall.take_off_file(path);
     }
 
-    /// The players are these from now on. A connection acts for a player on just where these have him with the sum that he had.
+    /// The players are these from now on. A connection acts for a player on just where these have him with the sum that
+    /// he had.
     pub fn renew(&mut self, players: Vec<Player>)
         ensures { Renews players.items self.old.hall self.new.hall }
     {
         self.hall.renew(players);
     }
 
-    // Where many wait to be heard for the first time, who comes next waits at the listener, a second at most: else so many could come
-    // that these make room before they are heard.
+    // Where many wait to be heard for the first time, who comes next waits at the listener, a second at most: else so
+    // many could come that these make room before they are heard.
     fn hold(&mut self, at: u64)
         ensures { self.new.hall ≡ self.old.hall }
     {

@@ -48,8 +48,8 @@ added_entries entries e = in_place (has_name e.name) e entries
 abbrev pub is_other : List ℕ → Entry → Bool
 is_other name one = not (has_name name one)
 
--- The new text is the file with the player: all other lines stand in it as they did and where they did, and it is a file of
--- the players with this one; it is told whether the file had none of this name.
+-- The new text is the file with the player: all other lines stand in it as they did and where they did, and it is a
+-- file of the players with this one; it is told whether the file had none of this name.
 pub record IsAdded (text : List ℕ) (e : Entry) (new : List ℕ) (is_new : Bool) : Type 0 where
   pub entries : List Entry
   pub before : IsFileOf text entries

@@ -73,8 +73,8 @@ pub record PutsPlayer (before : List Entry) (line : List ℕ) (after : List Entr
   pub shown : list_any (has_sum entry.sum) before ≡ false
   pub put : after ≡ before ++ (entry ∷ [])
 
--- What comes of a line behind those of these players: it is silent, and nothing changes; or its player is behind them; or it
--- has a fault.
+-- What comes of a line behind those of these players: it is silent, and nothing changes; or its player is behind them;
+-- or it has a fault.
 abbrev pub TakesLine : List Entry → List ℕ → List Entry → Option LineFault → Type 0
 TakesLine before line after None = ((is_silent line ≡ true) × (after ≡ before)) ⊎ PutsPlayer before line after
 TakesLine before line after (Some fault) = IsLineFault before line fault

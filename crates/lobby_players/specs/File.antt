@@ -35,10 +35,10 @@ is_shown_byte b = nat_le 32 b && not (b == 127)
 abbrev pub is_from_to : ℕ → ℕ → ℕ → Bool
 is_from_to first last c = nat_le first c && nat_le c last
 
--- The characters that are not seen, or that change how others are, each row from the first to the last: the controls behind
--- DEL; what breaks a line (U+2028, U+2029) or stands for a note beside it (U+FFF9 to U+FFFB); and all that Unicode has shown
--- as nothing (its property Default_Ignorable_Code_Point), as what joins or parts letters, sets the direction of writing or
--- chooses a form, the fillers of Hangul, and tags.
+-- The characters that are not seen, or that change how others are, each row from the first to the last: the controls
+-- behind DEL; what breaks a line (U+2028, U+2029) or stands for a note beside it (U+FFF9 to U+FFFB); and all that
+-- Unicode has shown as nothing (its property Default_Ignorable_Code_Point), as what joins or parts letters, sets the
+-- direction of writing or chooses a form, the fillers of Hangul, and tags.
 abbrev pub hidden : List (ℕ × ℕ)
 hidden =
     (0x80, 0x9f) ∷ (0xad, 0xad) ∷ (0x34f, 0x34f) ∷ (0x61c, 0x61c) ∷ (0x115f, 0x1160) ∷ (0x17b4, 0x17b5) ∷ (0x180b, 0x180f)
@@ -80,8 +80,8 @@ pub record TellsOf (first second digits rest : List ℕ) (e : Entry) : Type 0 wh
   pub is_full_name : is_full_name e.full_name ≡ true
   pub full_name : rest ≡ e.full_name
 
--- The line of a player: the name, the role, the token's sum as 64 hex digits, and the full name, with one space between each
--- two.
+-- The line of a player: the name, the role, the token's sum as 64 hex digits, and the full name, with one space between
+-- each two.
 pub record IsLineOf (line : List ℕ) (e : Entry) : Type 0 where
   pub name : IsName e.name
   pub digits : List ℕ

@@ -21,8 +21,8 @@ entry_linked name sum player = record {
   full_name = string_bytes player.full_name;
 }
 
--- The texts are files of these players, and the new one is the old one but for the line of this name: all other lines stand in it as
--- they did and where they did.
+-- The texts are files of these players, and the new one is the old one but for the line of this name: all other lines
+-- stand in it as they did and where they did.
 pub record IsFileRelinked (name text new : List ℕ) (before after : List Player) : Type 0 where
   pub old_file : IsFileOf text (entries_of before)
   pub new_file : IsFileOf new (entries_of after)

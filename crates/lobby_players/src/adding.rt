@@ -141,10 +141,10 @@ pub fn text_with(
     Ok(new)
 }
 
-/// The text of the file with the player's line: in the place of the line that had the name, so that a player who is there
-/// already has a new token, and this full name and role; and behind all for a new one. It fails, and nothing is added,
-/// only where one of these is so: the file is none, the name or the full name is none, another player's name differs
-/// in small and capital letters alone, another player has the token; or where memory is refused.
+/// The text of the file with the player's line: in the place of the line that had the name, so that a player who is
+/// there already has a new token, and this full name and role; and behind all for a new one. It fails, and nothing is
+/// added, only where one of these is so: the file is none, the name or the full name is none, another player's name
+/// differs in small and capital letters alone, another player has the token; or where memory is refused.
 pub fn added(
     alloc: Global,
     text: &[u8],

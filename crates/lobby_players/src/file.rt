@@ -49,8 +49,8 @@ fn remove<R: Files>(rt: &R, file: &str) -> io::Result<()> {
     }
 }
 
-// Writes a new file, that its owner alone may read until it is whole, and then those of `permissions`. What has the name
-// goes first.
+// Writes a new file, that its owner alone may read until it is whole, and then those of `permissions`. What has the
+// name goes first.
 fn write_new<R: Files>(rt: &R, file: &str, permissions: Permissions, text: &str) -> io::Result<()> {
     let mut new = new_file(rt, file, OWNERS_MODE)?;
     new.write_all(text.as_bytes())?;
@@ -73,9 +73,10 @@ fn put<R: Files>(
     Ok(())
 }
 
-/// Puts a text in the place of a file's, at once, for those who may read and write it as before; a new one is its owner's
-/// alone. Where it answers, the text is on the disk. A stop in the middle leaves the file as it was. It fails where the system
-/// refuses a call, and the file is as it was; but where that call is the last, to sync the folder, it may have the text.
+/// Puts a text in the place of a file's, at once, for those who may read and write it as before; a new one is its
+/// owner's alone. Where it answers, the text is on the disk. A stop in the middle leaves the file as it was. It fails
+/// where the system refuses a call, and the file is as it was; but where that call is the last, to sync the folder, it
+/// may have the text.
 pub fn put_file<R: Files>(rt: &R, alloc: Global, file: &str, text: &str) -> Result<()> {
     let permissions = permissions_of(rt, file)?;
     put(rt, alloc, file, permissions, text)
@@ -93,7 +94,8 @@ pub fn take_away<R: Files>(rt: &R, file: &str) -> io::Result<()> {
     File::open(rt, folder_of(file))?.sync_all()
 }
 
-/// The right to change a players' file: nobody else who asks for it has it (`flock` of the file's folder). It ends with this value.
+/// The right to change a players' file: nobody else who asks for it has it (`flock` of the file's folder). It ends with
+/// this value.
 #[derive(Drop)]
 pub struct Hold {
     folder: File,

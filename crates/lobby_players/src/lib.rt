@@ -1,5 +1,6 @@
-//! The players' file: a line a player, and the tokens that players show; who is put into it, and who has a new link. On a
-//! disk it is read whole and put whole in its own place, by one at a time; beside it stands whether entries are paused.
+//! The players' file: a line a player, and the tokens that players show; who is put into it, and who has a new link. On
+//! a disk it is read whole and put whole in its own place, by one at a time; beside it stands whether entries are
+//! paused.
 //!
 //! Modules: `line` has the line of a player, `lines` what stands in front of a line and which names are alike,
 //! `reading` the file, `adding` a player more, `relinking` a player's new link, `token` tokens and links, `faults` what

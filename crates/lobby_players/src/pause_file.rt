@@ -1,4 +1,5 @@
-//! Whether entries are paused, for a lobby that begins anew: a file stands beside the players' file as long as they are.
+//! Whether entries are paused, for a lobby that begins anew: a file stands beside the players' file as long as they
+//! are.
 ghost use Rattle.std.specs.Prelude.{◌≡◌};
 
 use crate::file::{put_own_file, take_away};

@@ -30,8 +30,8 @@ pub fn token_text(alloc: Global, token: &[u8; 16]) -> Result<String, AllocError>
     hex::encode(alloc, token.as_slice())
 }
 
-/// The personal link of who has the token: the page's address, as `http://club.example/`, and the token behind a `#`, so
-/// that no browser sends it.
+/// The personal link of who has the token: the page's address, as `http://club.example/`, and the token behind a `#`,
+/// so that no browser sends it.
 pub fn link_text(alloc: Global, page: &str, token: &[u8; 16]) -> Result<String, AllocError>
     ensures { IfOk result (λ text. string_bytes text ≡ page.now ++ codes "#" ++ encode_lower token.now) }
 {

@@ -29,8 +29,8 @@ value_of line = before_first (λ b. b == quote) (after_first (λ b. b == quote) 
 abbrev pub fen_in : List (List ℕ) → Option (List ℕ)
 fen_in lines = option_map value_of (find is_fen_tag lines)
 
--- The game starts in the position of the first tag FEN, and where there is none in the initial one (PGN Standard, section
--- 9.7).
+-- The game starts in the position of the first tag FEN, and where there is none in the initial one (PGN Standard,
+-- section 9.7).
 abbrev pub StartsAt : Option (List ℕ) → Position → Type 0
 StartsAt None p = p ≡ initial
 StartsAt (Some fen) p = IsValid p × IsFenOf fen p

@@ -21,8 +21,8 @@ abbrev pub check_sign : Bool → List ℕ
 check_sign true = codes "+"
 check_sign false = codes "-"
 
--- The line tells whether the side to move is in check, and behind that the legal moves of the position, each once and no
--- other, by their coordinate texts.
+-- The line tells whether the side to move is in check, and behind that the legal moves of the position, each once and
+-- no other, by their coordinate texts.
 pub record TellsMoves (line : List ℕ) (p : Position) : Type 0 where
   pub check : Bool
   pub is_check : IsTrue check ↔ IsInCheck p.placement p.side

@@ -12,9 +12,10 @@ use crate::rows::answer_text;
 use std::alloc::{AllocError, Global};
 use text_parts::parts;
 
-/// The answer to `line G` from the lines of the game's PGN, each with its line feed, without the server's line `ok pgn G K`
-/// in front: `ok line G K`, and K + 1 lines `N SAN MOVE FEN`, each with its line feed. `None` just where the text tells no
-/// game: its start is no valid position, or a word of it names no legal move. It fails where memory is refused.
+/// The answer to `line G` from the lines of the game's PGN, each with its line feed, without the server's line
+/// `ok pgn G K` in front: `ok line G K`, and K + 1 lines `N SAN MOVE FEN`, each with its line feed. `None` just where
+/// the text tells no game: its start is no valid position, or a word of it names no legal move. It fails where memory
+/// is refused.
 pub fn line_answer(alloc: Global, game: u32, pgn: &str) -> Result<Option<String>, AllocError>
     ensures told { (start : Position) (moves : List Move) → TellsGame pgn.now start moves →
         IfOk result (λ answer. IsSomeAnd answer (λ text. IsLineAnswer game start moves (string_bytes text))) }

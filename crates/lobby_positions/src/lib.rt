@@ -1,5 +1,5 @@
-//! What the lobby tells of positions: the legal moves of the side to move, and all positions of a game, from its PGN, as the
-//! answer to `line G`.
+//! What the lobby tells of positions: the legal moves of the side to move, and all positions of a game, from its PGN,
+//! as the answer to `line G`.
 //!
 //! Modules: `telling` has the line of legal moves; of a game `lines` finds the start and the words that name moves,
 //! `playing` plays them, `rows` writes the answer, `answer` joins the three.

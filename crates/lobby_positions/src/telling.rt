@@ -80,8 +80,8 @@ fn line_of(alloc: Global, board: &Board) -> Result<String, AllocError>
     Ok(text)
 }
 
-/// The line that tells the legal moves of the position of a FEN, without the line feed at its end; `None` just where the
-/// text is the FEN of no valid position. It fails where memory is refused.
+/// The line that tells the legal moves of the position of a FEN, without the line feed at its end; `None` just where
+/// the text is the FEN of no valid position. It fails where memory is refused.
 pub fn moves_line(alloc: Global, fen: &str) -> Result<Option<String>, AllocError>
     ensures told { IfOk result (λ line. (p : Position) → IsValid p → IsFenOf fen.now p →
         IsSomeAnd line (λ text. TellsMoves (string_bytes text) p)) }

@@ -36,8 +36,8 @@ holder_of_sum players sum = option_map identity_of (find (has_sum sum) players)
 unfoldable pub holder_of : List Player → List ℕ → Option Identity
 holder_of players token = if is_token token then holder_of_sum players (sha256 token) else None
 
--- For whom a connection acts when the players are others: for the player of its name, where that one's sum is the one that this name
--- had; else for nobody.
+-- For whom a connection acts when the players are others: for the player of its name, where that one's sum is the one
+-- that this name had; else for nobody.
 abbrev pub first_named : List Player → List ℕ → Option Player
 first_named players name = find (λ player. bytes_eq player.name name) players
 
@@ -123,8 +123,8 @@ pub record IsWithSum (sum : List ℕ) (old new : Player) : Type 0 where
   pub is_arbiter : new.is_arbiter ≡ old.is_arbiter
   pub sum_is : new.sum ≡ sum
 
--- The player of this name has this token in the place of the one that he had, and nobody had it before. All else of him, and every
--- other player, is as it was, in the same order.
+-- The player of this name has this token in the place of the one that he had, and nobody had it before. All else of
+-- him, and every other player, is as it was, in the same order.
 pub record IsRelinked (name token : List ℕ) (before after : List Player) : Type 0 where
   pub each : AllZip (λ (old new : Player). IsWithSum (sum_given name (sha256 token) old) old new) before after
   pub fresh : list_any (has_sum (sha256 token)) before ≡ false

@@ -1,4 +1,5 @@
-//! The players of a club: whom a token shows, for whom a connection acts on when the players are others, and how they are told.
+//! The players of a club: whom a token shows, for whom a connection acts on when the players are others, and how they
+//! are told.
 #![tactic(auto)]
 
 mod linked;

@@ -70,7 +70,8 @@ pub fn is_token(text: &str) -> bool
     bytes.len() == 32 && are_token_digits(bytes)
 }
 
-// The first player who has the sum, and `None` where no player has it. Each player's sum is looked at, wherever one is this.
+// The first player who has the sum, and `None` where no player has it. Each player's sum is looked at, wherever one is
+// this.
 fn holder_of_sum(players: &[Player], sum: &[u8; 32]) -> Option<Identity>
     ensures { result ≡ holder_of_sum players.now sum.now }
 {
@@ -82,8 +83,8 @@ fn holder_of_sum(players: &[Player], sum: &[u8; 32]) -> Option<Identity>
     holder
 }
 
-/// The first player who has the token, and `None` where no player has it, or it is no token. Of a token each player's sum is
-/// looked at, wherever one is the token's.
+/// The first player who has the token, and `None` where no player has it, or it is no token. Of a token each player's
+/// sum is looked at, wherever one is the token's.
 pub fn holder_of(players: &[Player], token: &str) -> Option<Identity>
     ensures { result ≡ holder_of players.now token.now }
 {

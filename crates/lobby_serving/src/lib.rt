@@ -1,4 +1,5 @@
-//! The word of the lobby's program that serves browsers: the page, the figures and the files that are looked at, the log of acts.
+//! The word of the lobby's program that serves browsers: the page, the figures and the files that are looked at, the
+//! log of acts.
 //!
 //! Modules: `serving` takes turns, `page` has the files at the start, `health` makes the figures by `lines`, `table`
 //! asks the server whether it is up and how many games it has, which `listing` counts, `live` reads the file of games

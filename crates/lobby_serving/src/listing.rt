@@ -3,8 +3,8 @@ use lobby_words::{Stage, cut_word, is_list, number_named, seat_of};
 use std::alloc::{AllocError, Global};
 use std::str;
 
-/// How many games are on the server's table, and how many of these wait for a second player: rows with a number, of which one
-/// seat alone is empty and a name stands in the other.
+/// How many games are on the server's table, and how many of these wait for a second player: rows with a number, of
+/// which one seat alone is empty and a name stands in the other.
 #[derive(Clone, Copy, PartialEq, Eq)]
 pub struct Games {
     pub all: u64,

@@ -18,8 +18,8 @@ const REST: u64 = 1_000;
 /// A file of more bytes is not served.
 const BYTES_MOST: u64 = 67_108_864;
 
-// Opens the file for writing too, though nothing is written: a pipe that was put there since it was looked at would else hold its
-// opening up until somebody writes into it. A lobby that may only read the file goes by the look.
+// Opens the file for writing too, though nothing is written: a pipe that was put there since it was looked at would
+// else hold its opening up until somebody writes into it. A lobby that may only read the file goes by the look.
 fn opened<R: Files>(rt: &R, file: &str) -> io::Result<R::File> {
     let mut options = OpenOptions::new();
     options.read(true).write(true);

@@ -103,8 +103,8 @@ fn has_page<R: Files + AllocGlobal>(rt: &R, folder: &str) -> Result<bool> {
     Ok(fs::exists(rt, page.as_str())?)
 }
 
-/// The site of a folder's files, which is listened for on an address. It fails where the folder has no page, or where one of those
-/// files is no regular one.
+/// The site of a folder's files, which is listened for on an address. It fails where the folder has no page, or where
+/// one of those files is no regular one.
 pub fn site_of<R: Files + AllocGlobal + Clone + Drop>(
     rt: &R,
     folder: &str,

@@ -1,5 +1,5 @@
-//! Whether the server answers, and how many games it has: it is asked by a connection of its own, once the lobby's is made and
-//! while somebody asks for figures.
+//! Whether the server answers, and how many games it has: it is asked by a connection of its own, once the lobby's is
+//! made and while somebody asks for figures.
 use crate::listing::{Games, Listing, Told};
 use lobby_loop::Lobby;
 use server_calls::{ServerAddress, begin};
@@ -44,7 +44,8 @@ enum Seen {
     /// Not for now.
     Nothing,
     Games(Games),
-    /// There are no games: the server says something else, or has closed the connection, as where it serves all that it may.
+    /// There are no games: the server says something else, or has closed the connection, as where it serves all that it
+    /// may.
     Lost,
     /// It took too long.
     Silent,
@@ -115,7 +116,8 @@ impl Call {
 pub struct Table {
     alloc: Global,
     server: ServerAddress,
-    // Whether the lobby had its connection at the last look, and whether the last question that is over was not too slow.
+    // Whether the lobby had its connection at the last look, and whether the last question that is over was not too
+    // slow.
     is_here: bool,
     is_answering: bool,
     call: Option<Call>,
@@ -199,8 +201,8 @@ impl Table {
         self.next_at = 0;
     }
 
-    /// Asks the server, where its connection is new, or it is time and somebody wants it, or goes on with that. It waits for
-    /// nothing.
+    /// Asks the server, where its connection is new, or it is time and somebody wants it, or goes on with that. It
+    /// waits for nothing.
     pub fn look(&mut self, net: &impl Net, lobby: &Lobby, at: u64) -> Result<(), AllocError> {
         self.note(lobby.counts().figures, at);
         let was_here = self.is_here;
@@ -217,8 +219,8 @@ impl Table {
         Ok(())
     }
 
-    /// Whether the server is up: the lobby has its connection, and the last question that is over was answered in time, or its
-    /// connection closed. A server that hangs does neither.
+    /// Whether the server is up: the lobby has its connection, and the last question that is over was answered in time,
+    /// or its connection closed. A server that hangs does neither.
     pub fn is_up(&self) -> bool {
         self.is_here && self.is_answering
     }

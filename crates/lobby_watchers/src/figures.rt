@@ -177,8 +177,8 @@ where
     Ok(String::from_utf8(coming.body)?)
 }
 
-/// The games that browsers of a lobby watch. It fails where the lobby cannot be asked, does not tell this, or began so lately
-/// that browsers may not be back.
+/// The games that browsers of a lobby watch. It fails where the lobby cannot be asked, does not tell this, or began so
+/// lately that browsers may not be back.
 pub(crate) fn watched_games<R>(rt: &R, lobby: SocketAddr) -> Result<Vec<u32>>
 where
     R: Net<Stream = TcpStream> + AllocGlobal + Clock,

@@ -23,8 +23,8 @@ fn game_in(line: &str) -> Option<u32> {
     game.parse::<u32>().ok()
 }
 
-/// The games that browsers watch, by a lobby's figures. It fails where they do not tell this, or where the lobby began so lately
-/// that browsers may not be back.
+/// The games that browsers watch, by a lobby's figures. It fails where they do not tell this, or where the lobby began
+/// so lately that browsers may not be back.
 pub fn games_in(alloc: Global, figures: &str) -> Result<Vec<u32>> {
     let mut games = Vec::new(alloc);
     let mut is_told = false;

@@ -61,8 +61,8 @@ impl Watchers {
         Ok(())
     }
 
-    /// Whether somebody watches a game, as the lobby told within the last second. It fails where the lobby cannot be asked, does
-    /// not tell this, or began so lately that browsers may not be back.
+    /// Whether somebody watches a game, as the lobby told within the last second. It fails where the lobby cannot be
+    /// asked, does not tell this, or began so lately that browsers may not be back.
     pub fn has<R>(&mut self, rt: &R, game: u32) -> Result<bool>
     where
         R: Net<Stream = TcpStream> + AllocGlobal + Clock,

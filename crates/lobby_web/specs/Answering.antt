@@ -52,9 +52,9 @@ same_fields file = guards ++ readers file.kind ++ (codes "etag", file.tag.items)
 abbrev pub is_tag_of : File → List ℕ → Bool
 is_tag_of file tag = bytes_eq tag file.tag.items || bytes_eq tag (codes "W/" ++ file.tag.items)
 
--- Who asks has the file already: If-None-Match is `*`, or one of the entity tags that it lists is the file's (RFC 9110, 13.1.2).
--- The elements of the list are what stands between its commas (5.6.1). A tag with a comma in it is several of them, and none of
--- these is a file's: that has its two quotes at its ends, and no comma (`tag_of`).
+-- Who asks has the file already: If-None-Match is `*`, or one of the entity tags that it lists is the file's (RFC 9110,
+-- 13.1.2). The elements of the list are what stands between its commas (5.6.1). A tag with a comma in it is several of
+-- them, and none of these is a file's: that has its two quotes at its ends, and no comma (`tag_of`).
 abbrev pub is_known : List ℕ → File → Bool
 is_known known file = bytes_eq known (codes "*") || list_any (is_tag_of file) (elements known)
 
@@ -98,7 +98,8 @@ IsPageAnswer site r response =
     (IsFileAnswer (field r (codes "if-none-match")) (file_at site (served_path (path_of r))) response)
     (IsOtherMethodAnswer response)
 
--- What a site answers: 403 for a host that is not taken; else the socket at `/ws`, and everywhere else the page's files.
+-- What a site answers: 403 for a host that is not taken; else the socket at `/ws`, and everywhere else the page's
+-- files.
 abbrev pub IsAnswer : Site → Request (List ℕ) → Response → Type 0
 IsAnswer site r response =
     MatchBool (is_taken site r)

@@ -7,7 +7,8 @@ use Rattle.lobby_web.specs.declared.answer.Asked.{Asked}
 use Rattle.lobby_web.specs.Answering.{IsAnswer, is_switch}
 use Rattle.lobby_web.specs.Requests.{forwarded_text}
 
--- The request has the site's answer, and it is noted whether that was an upgrade, and for whom a proxy says that it asks.
+-- The request has the site's answer, and it is noted whether that was an upgrade, and for whom a proxy says that it
+-- asks.
 abbrev pub Replies : Asked → Request (List ℕ) → Response → Asked → Type 0
 Replies old r response new =
     IsAnswer old.site.now r response × (new.site.now ≡ old.site.now) × (new.has_switched ≡ is_switch response)

@@ -36,8 +36,8 @@ abbrev pub AreAnswered : Site → List Call → Type 0
 AreAnswered site [] = ⊤
 AreAnswered site (call ∷ calls) = IsAnswer site call.0 call.1 × AreAnswered site calls
 
--- From one history to another the site answered the requests that were whole, each as `IsAnswer` has it, and what goes out
--- are these answers, as HTTP has them.
+-- From one history to another the site answered the requests that were whole, each as `IsAnswer` has it, and what goes
+-- out are these answers, as HTTP has them.
 pub record Serves (config : Config) (site : Site) (old new : History) : Type 0 where
   pub served : ∥ IsServed config new ∥₁
   pub calls : List Call

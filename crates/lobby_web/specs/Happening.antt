@@ -88,8 +88,8 @@ pub record Heeds (conn : Connection) (bytes : List ℕ) (given : List (List ℕ)
   pub texts : AreGiven frames given new.is_over
   pub stands : new.is_over ≡ false → (new.context ≡ after) × (new.input.items ≡ rest)
 
--- Whatever happens to a socket, and in whatever pieces its bytes come: what it gives are the text messages of the frames
--- in front of all bytes that came, each once, whole and in their order.
+-- Whatever happens to a socket, and in whatever pieces its bytes come: what it gives are the text messages of the
+-- frames in front of all bytes that came, each once, whole and in their order.
 abbrev pub MessagesAreHeeded : Type 0
 MessagesAreHeeded =
     (events : List SocketStep) (old new : Socket) → AllKeepOpen events → Happen events old new

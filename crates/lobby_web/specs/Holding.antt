@@ -35,8 +35,8 @@ abbrev pub sizes_said : List SocketStep → ℕ
 sizes_said [] = 0
 sizes_said (event ∷ events) = size_said event + sizes_said events
 
--- Whatever a browser sends, and however little of what waits it takes: what waits has at most 90,137 bytes, and those that
--- were said to it. That is 65,536, as many as stand unread (8,191 and 16,384), and 26 for the end.
+-- Whatever a browser sends, and however little of what waits it takes: what waits has at most 90,137 bytes, and those
+-- that were said to it. That is 65,536, as many as stand unread (8,191 and 16,384), and 26 for the end.
 abbrev pub FloodsAreHeld : Type 0
 FloodsAreHeld =
     (events : List SocketStep) (old new : Socket) → length old.output.items + length old.input.items ≤ 90111

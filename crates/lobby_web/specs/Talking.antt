@@ -95,7 +95,8 @@ ClosesBy code old new = (new ≡ old) ⊎ (new ≡ old ++ close_frame code)
 abbrev pub EndsWith : CloseCode → Socket → Socket → Type 0
 EndsWith code old new = (new.input.items ≡ old.input.items) × ClosesBy code old.output.items new.output.items
 
--- The frames that were read made up one text message, which is given, and no other; or one that is lost for want of memory.
+-- The frames that were read made up one text message, which is given, and no other; or one that is lost for want of
+-- memory.
 abbrev pub GivesTexts : Run → Option (List ℕ) → Bool → Type 0
 GivesTexts frames words over =
     (texts frames ≡ given words) ⊎ ((over ≡ true) × (words ≡ None) × ((lost : List ℕ) × (texts frames ≡ lost ∷ [])))

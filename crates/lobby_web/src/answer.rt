@@ -241,7 +241,8 @@ fn tell(response: &mut Response, status: StatusCode, words: &str) -> Result<(), 
     response.body.put_slice(words.as_bytes())
 }
 
-// Puts behind the fields that pages of other hosts may read what is of this kind, where they may: games, and nothing else.
+// Puts behind the fields that pages of other hosts may read what is of this kind, where they may: games, and nothing
+// else.
 fn add_readers(response: &mut Response, kind: Kind) -> Result<(), AllocError>
     ensures headers { OnOk result (fields_of response.new ≡ fields_of response.old ++ readers kind) }
     ensures status { response.new.status ≡ response.old.status }
@@ -510,8 +511,8 @@ fn forwarded(request: &Request<Bytes>) -> Option<IpAddr>
     }
 }
 
-/// The site, as it answers the requests of one connection, whether the last answer was an upgrade, and for whom the last request
-/// says that a proxy asks.
+/// The site, as it answers the requests of one connection, whether the last answer was an upgrade, and for whom the
+/// last request says that a proxy asks.
 #[derive(Drop)]
 pub struct Asked<'a> {
     alloc: Global,

@@ -54,9 +54,9 @@ fn web_config() -> Config
     }
 }
 
-// The connection once the site has answered what came: on as HTTP, or handed over to a socket. It is told for whom the last of the
-// requests says that a proxy asks.
-// (What is let go is let go by a call: its parts are proved once then, and not at each way out.)
+// The connection once the site has answered what came: on as HTTP, or handed over to a socket. It is told for whom the
+// last of the requests says that a proxy asks. (What is let go is let go by a call: its parts are proved once then, and
+// not at each way out.)
 fn answered(
     alloc: Global,
     site: &Site,
@@ -168,8 +168,8 @@ impl Browser {
         }
     }
 
-    /// The address for which its last request that said so says that a proxy asks: the last element of X-Forwarded-For. Whoever
-    /// connects may write anything there, so it counts only of a proxy that is trusted.
+    /// The address for which its last request that said so says that a proxy asks: the last element of X-Forwarded-For.
+    /// Whoever connects may write anything there, so it counts only of a proxy that is trusted.
     pub fn forwarded(&self) -> Option<IpAddr>
         ensures { result ≡ self.now.forwarded }
     {
@@ -211,8 +211,8 @@ impl Browser {
         }
     }
 
-    /// Bytes came, at most `MOST_AT_ONCE`; none says that the peer sends no more. Where no bytes are wanted, or there are more,
-    /// or memory is refused, the connection is over.
+    /// Bytes came, at most `MOST_AT_ONCE`; none says that the peer sends no more. Where no bytes are wanted, or there
+    /// are more, or memory is refused, the connection is over.
     pub fn take(&mut self, site: &Site, bytes: &[u8])
         ensures { Takes site.now bytes.now self.old.stage self.new.stage }
     {
@@ -226,7 +226,8 @@ impl Browser {
         }
     }
 
-    /// What came next: that the socket is open, or a text message. None where nothing more came that is whole, or it is over.
+    /// What came next: that the socket is open, or a text message. None where nothing more came that is whole, or it is
+    /// over.
     pub fn next(&mut self) -> Option<Heard>
         ensures { HearsNext self.old.stage self.new.stage result }
     {

@@ -8,14 +8,14 @@ pub fn law_of_messages()
     ensures { MessagesAreHeeded }
 {}
 
-/// Whatever happens to a socket: what was written and what waits are whole frames behind what waited before, and the texts
-/// among them are those that were said, each once and in their order.
+/// Whatever happens to a socket: what was written and what waits are whole frames behind what waited before, and the
+/// texts among them are those that were said, each once and in their order.
 pub fn law_of_sayings()
     ensures { SayingsGoOut }
 {}
 
-/// Whatever a browser sends, where bytes of it are taken only as they are wanted, and however little it takes: what waits for it
-/// is bounded, but for what was said to it.
+/// Whatever a browser sends, where bytes of it are taken only as they are wanted, and however little it takes: what
+/// waits for it is bounded, but for what was said to it.
 pub fn law_of_floods()
     ensures { FloodsAreHeld }
 {}

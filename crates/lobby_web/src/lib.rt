@@ -1,5 +1,5 @@
-//! The web's side of the lobby: one browser's connection without its socket. HTTP/1.1 for the files of the page, and after
-//! an upgrade the messages of a WebSocket.
+//! The web's side of the lobby: one browser's connection without its socket. HTTP/1.1 for the files of the page, and
+//! after an upgrade the messages of a WebSocket.
 //!
 //! Modules: `site` has the files and the hosts, `answer` what a request is answered (a `Service` of the kit's
 //! `http_server`), `listed` the elements of a field that is a list, `socket` the frames of a WebSocket over the kit's

@@ -73,8 +73,8 @@ fn tag_of(alloc: Global, bytes: &[u8]) -> Result<Vec<u8>, AllocError>
 impl File {
     ghost use Rattle.lobby_web.specs.Pages.{IsFile};
 
-    /// A file with its entity tag, the SHA-256 of its bytes as 64 hex digits in quotes, by which who has these bytes already
-    /// is not sent them again (RFC 9110, 8.8.3 and 13.1.2). It fails only where memory is refused.
+    /// A file with its entity tag, the SHA-256 of its bytes as 64 hex digits in quotes, by which who has these bytes
+    /// already is not sent them again (RFC 9110, 8.8.3 and 13.1.2). It fails only where memory is refused.
     pub fn new(alloc: Global, path: Vec<u8>, kind: Kind, bytes: Bytes) -> Result<File, AllocError>
         ensures { IfOk result (IsFile path.items kind bytes) }
     {
@@ -126,8 +126,8 @@ fn without_port<'a>(port: &[u8], host: &'a [u8]) -> &'a [u8]
     }
 }
 
-/// Whether two hosts are one by a scheme whose port this is, as `:80`: a host without a port has that one, and small and capital
-/// letters are the same.
+/// Whether two hosts are one by a scheme whose port this is, as `:80`: a host without a port has that one, and small
+/// and capital letters are the same.
 pub(crate) fn is_same_host(port: &[u8], one: &[u8], other: &[u8]) -> bool
     ensures { result ≡ is_same_host port.now one.now other.now }
 {
@@ -137,8 +137,8 @@ pub(crate) fn is_same_host(port: &[u8], one: &[u8], other: &[u8]) -> bool
 impl Site {
     ghost use Rattle.lobby_web.specs.Pages.{has_host, file_at, place_of, Changes, IsSameSite};
 
-    /// A site of these files. A host is one that a request has to name, with its port, as `127.0.0.1:8080`; one without a port has
-    /// port 80, and small and capital letters are the same. Of two files with one path the first is served.
+    /// A site of these files. A host is one that a request has to name, with its port, as `127.0.0.1:8080`; one without
+    /// a port has port 80, and small and capital letters are the same. Of two files with one path the first is served.
     pub fn new(hosts: Vec<Vec<u8>>, files: Vec<File>) -> Site
         ensures hosts { result.hosts ≡ hosts }
         ensures files { result.files ≡ files }

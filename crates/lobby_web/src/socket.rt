@@ -238,8 +238,8 @@ impl Socket {
         frame
     }
 
-    // Takes frames up to the first that is more than a part of a message, a ping or a pong: these are answered and passed
-    // over.
+    // Takes frames up to the first that is more than a part of a message, a ping or a pong: these are answered and
+    // passed over.
     fn next_frame(&mut self) -> Frame
         ensures reaches { Reaches self.old self.new result }
         ensures heard { result ≢ Frame.Quiet }

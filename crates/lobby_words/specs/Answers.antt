@@ -17,7 +17,8 @@ lines_behind line =
     else 0))
     else 0
 
--- How many lines of an answer are still to come behind a line, where so many were to come before it; 0 where none had come.
+-- How many lines of an answer are still to come behind a line, where so many were to come before it; 0 where none had
+-- come.
 abbrev pub left_after : ℕ → List ℕ → ℕ
 left_after left line = if left == 0 then lines_behind line else left - 1
 
@@ -64,7 +65,8 @@ IsFirstSeated answer name = IsName (white_in answer) → name ≡ white_in answe
 abbrev pub IsSeatless : List ℕ → List ℕ → Type 0
 IsSeatless answer game = (name : List ℕ) → IsName name → IsSeated answer game name → ⊥
 
--- The answer to `show` says that one of the two seats is empty, which is told as `-`: the game waits for its second player.
+-- The answer to `show` says that one of the two seats is empty, which is told as `-`: the game waits for its second
+-- player.
 abbrev pub has_empty_seat : List ℕ → Bool
 has_empty_seat answer = bytes_eq (white_in answer) (codes "-") || bytes_eq (black_in answer) (codes "-")
 
@@ -81,8 +83,8 @@ game_in line =
 abbrev pub act_game : List ℕ → Option ℕ
 act_game answer = game_in (first_line answer)
 
--- whether a game goes on no more, as the answer to `show` says: it is shown, and its last field is the article by which it ended, which
--- is `-` while it goes on; or there is no such game (any more). Any other refusal says nothing of it.
+-- whether a game goes on no more, as the answer to `show` says: it is shown, and its last field is the article by which
+-- it ended, which is `-` while it goes on; or there is no such game (any more). Any other refusal says nothing of it.
 abbrev pub is_ended : List ℕ → Bool
 is_ended shown = is_accepted shown && not (ends_with (λ a b. a == b) shown (codes " -\n"))
 

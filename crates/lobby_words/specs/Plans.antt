@@ -40,8 +40,8 @@ barred (Some refusal) plan = plans.Refuse refusal
 abbrev pub entered_plan : Standing → Plan → Plan
 entered_plan s plan = asked s (barred s.bar plan)
 
--- An act of a connection that acts for this player: not without a token; no game is opened while entries are paused, but by an
--- arbiter.
+-- An act of a connection that acts for this player: not without a token; no game is opened while entries are paused,
+-- but by an arbiter.
 abbrev pub act_plan : Standing → Option Identity → Plan
 act_plan s None = plans.Refuse refusals.NoToken
 act_plan s (Some who) = if s.is_paused && not who.is_arbiter then plans.Refuse refusals.EntriesPaused else entered_plan s (plans.Act who)

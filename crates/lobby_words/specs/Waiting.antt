@@ -9,8 +9,8 @@ use Rattle.lobby_words.specs.declared.listing.Stage.{Stage}
 use Rattle.lobby_words.specs.declared.listing.Stage.TheVariants as stages
 use Rattle.lobby_words.specs.Words.{word_of, rest_of, line_said, u32_in}
 
--- Whether a message opens a game, whether it joins one, and whether it is one by which a game waits no more: of a pairing that is its
--- second act.
+-- Whether a message opens a game, whether it joins one, and whether it is one by which a game waits no more: of a
+-- pairing that is its second act.
 abbrev pub opens_game : List ℕ → Bool
 opens_game text = bytes_eq (word_of (line_said text)) (codes "open")
 
@@ -47,8 +47,8 @@ abbrev pub listed : Option Seat → List Seat
 listed None = []
 listed (Some seat) = seat ∷ []
 
--- The seats in the game of a row `G WHITE BLACK PLY RESULT`: that of who waits, where the other one is empty, which is told as `-`; else
--- both, of a game that goes on, which is told as `*`, or is over.
+-- The seats in the game of a row `G WHITE BLACK PLY RESULT`: that of who waits, where the other one is empty, which is
+-- told as `-`; else both, of a game that goes on, which is told as `*`, or is over.
 abbrev pub result_in : List ℕ → List ℕ
 result_in row = word_of (rest_of (rest_of (rest_of (rest_of row))))
 
@@ -61,7 +61,8 @@ seats_row row =
     else (if bytes_eq (word_of (rest_of (rest_of row))) (codes "-") then listed (seat_of (u32_in (word_of row)) (word_of (rest_of row)) stages.Waits)
     else listed (seat_of (u32_in (word_of row)) (word_of (rest_of row)) (stage_in row)) ++ listed (seat_of (u32_in (word_of row)) (word_of (rest_of (rest_of row))) (stage_in row)))
 
--- whether an answer to an act tells that the game is over: the article by which it ended is the only word of any with a full stop
+-- whether an answer to an act tells that the game is over: the article by which it ended is the only word of any with a
+-- full stop
 abbrev pub tells_end : List ℕ → Bool
 tells_end answer = list_any (λ b. b == 46) answer
 

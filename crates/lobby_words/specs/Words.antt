@@ -42,8 +42,9 @@ as_name text = word_of (rest_of text)
 abbrev pub as_line : List ℕ → List ℕ
 as_line text = rest_of (rest_of text)
 
--- Of a message `pair WHITE BLACK TIMES`, in which WHITE stands where NAME does in `as NAME LINE`: whether its word is this; the name
--- of BLACK, and the times, which are all that stands behind it; and the line that opens its game, under WHITE.
+-- Of a message `pair WHITE BLACK TIMES`, in which WHITE stands where NAME does in `as NAME LINE`: whether its word is
+-- this; the name of BLACK, and the times, which are all that stands behind it; and the line that opens its game, under
+-- WHITE.
 abbrev pub is_pair : List ℕ → Bool
 is_pair text = bytes_eq (word_of text) (codes "pair")
 
@@ -66,8 +67,8 @@ pair_sort text =
 abbrev pub as_sort : List ℕ → Sort
 as_sort text = if is_act_word (word_of (as_line text)) then sorts.As else sorts.Nothing
 
--- The line of the server that a message is, and the name under which it acts: of `as NAME LINE` these two, else the message itself
--- and the name of its player.
+-- The line of the server that a message is, and the name under which it acts: of `as NAME LINE` these two, else the
+-- message itself and the name of its player.
 abbrev pub is_as_word : List ℕ → Bool
 is_as_word w = bytes_eq w (codes "as")
 

@@ -66,8 +66,8 @@ fn is_no_game(shown: &str) -> bool
     shown.starts_with("no 3 ")
 }
 
-/// Whether a game goes on no more, as the answer to `show` says: it has ended, or there is no such game. Another refusal says nothing
-/// of it.
+/// Whether a game goes on no more, as the answer to `show` says: it has ended, or there is no such game. Another
+/// refusal says nothing of it.
 pub fn is_over(shown: &str) -> bool
     ensures { result ≡ is_over shown.now }
 {

@@ -1,4 +1,5 @@
-//! What is said at the lobby: what a message asks for and what is done about it, and what the answers of the server say.
+//! What is said at the lobby: what a message asks for and what is done about it, and what the answers of the server
+//! say.
 //!
 //! Modules: `words` tells what the first word of a message says, `planning` what is done about the message, `refusals`
 //! what the lobby itself refuses, `naming` under which name a line goes. `coming` takes the server's answers line by

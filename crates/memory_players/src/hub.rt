@@ -1,5 +1,5 @@
-//! Sessions on a hub in memory, and runs. In TEXT `\n` is a line feed, `\r` a carriage return, `\\` a backslash, and `\xNN`
-//! the byte with these two digits; it may be left out.
+//! Sessions on a hub in memory, and runs. In TEXT `\n` is a line feed, `\r` a carriage return, `\\` a backslash, and
+//! `\xNN` the byte with these two digits; it may be left out.
 //!
 //! - `store SECTORS GAMES PLIES CALLS`: what the hubs and runs after it stand on, a new store each, on a device that
 //!   serves so many calls more once the store is open, `-` for all;

@@ -1,5 +1,5 @@
-//! What is played in memory, line by line: a table, a store, lives of a store, and a hub. The head of each module has its
-//! lines; what a line answers is written by who calls.
+//! What is played in memory, line by line: a table, a store, lives of a store, and a hub. The head of each module has
+//! its lines; what a line answers is written by who calls.
 #![tactic(auto)]
 
 mod hub;

@@ -1,7 +1,8 @@
 //! Lives of a store on devices in memory. A line `plan SECTORS GAMES PLIES` begins a plan on a new device of so many
-//! sectors. `life CALLS FATES` adds a life, CALLS a number or `-`, FATES letters of `l`, `k` and `u` (lost, kept, unreadable)
-//! or `-`; `batch` adds a batch to it, and `MOMENT NAME LINE` a command to that, NAME `-` for none. `live` lives the plan and
-//! writes what came of it. `drill` plays the drill, and writes what came of each case, and the tally.
+//! sectors. `life CALLS FATES` adds a life, CALLS a number or `-`, FATES letters of `l`, `k` and `u` (lost, kept,
+//! unreadable) or `-`; `batch` adds a batch to it, and `MOMENT NAME LINE` a command to that, NAME `-` for none. `live`
+//! lives the plan and writes what came of it. `drill` plays the drill, and writes what came of each case, and the
+//! tally.
 mod texts;
 
 use crate::memory::store_in_memory;

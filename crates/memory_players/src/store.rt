@@ -1,5 +1,5 @@
-//! Batches of commands on a store in memory, whose device is stopped, crashed and opened again: tests of whole lives by their
-//! lines.
+//! Batches of commands on a store in memory, whose device is stopped, crashed and opened again: tests of whole lives by
+//! their lines.
 //!
 //! - `# TEXT`: a note, which is written again;
 //! - `create SECTORS GAMES PLIES`: a new device, and a store on it;

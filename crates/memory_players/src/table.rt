@@ -1,8 +1,9 @@
-//! Commands on a table in memory, without a journal: tests of whole games by their lines, and measuring. `table GAMES PLIES`
-//! begins an empty table with these limits. `records` writes the records of a snapshot of the table, each in hexadecimal
-//! digits up to its last byte that is not zero; `reopen GAMES PLIES` reads the table, under these limits, from them and the
-//! records of the entries since; `changed RECORD BYTE VALUE` tells what would be read where a byte of a record were another.
-//! Each other line is `MOMENT NAME LINE`, NAME `-` for a session without a name; it writes what a server answers to LINE.
+//! Commands on a table in memory, without a journal: tests of whole games by their lines, and measuring.
+//! `table GAMES PLIES` begins an empty table with these limits. `records` writes the records of a snapshot of the
+//! table, each in hexadecimal digits up to its last byte that is not zero; `reopen GAMES PLIES` reads the table, under
+//! these limits, from them and the records of the entries since; `changed RECORD BYTE VALUE` tells what would be read
+//! where a byte of a record were another. Each other line is `MOMENT NAME LINE`, NAME `-` for a session without a name;
+//! it writes what a server answers to LINE.
 ghost use Rattle.rec_codec.specs.declared.limits.Version.TheVariants.{Two};
 ghost use Rattle.rec_codec.specs.Limits.{IsInRange};
 
@@ -102,8 +103,8 @@ impl TablePlayer {
         Ok(text)
     }
 
-    // Goes on with the table that the records mean under limits; where they mean none, the table stays. `Input`: they were
-    // not taken.
+    // Goes on with the table that the records mean under limits; where they mean none, the table stays. `Input`: they
+    // were not taken.
     fn reopen(&mut self, limits: Limits) -> Result<String, Fault> {
         let Some(stored) = &self.stored else {
             return Err(Fault::Input);
@@ -145,8 +146,8 @@ impl TablePlayer {
         Ok(text)
     }
 
-    // The answer to a line of a session. `Input`: the table has as many entries as can be counted; `NoMemory`: memory was
-    // refused. The table is then as it was.
+    // The answer to a line of a session. `Input`: the table has as many entries as can be counted; `NoMemory`: memory
+    // was refused. The table is then as it was.
     fn answer(&mut self, sent: &Sent) -> Result<Reply, Fault> {
         let Some(line) = parse(sent.line.as_bytes()) else {
             return Ok(self.alone(refusal_line(Refusal::BadLine)));

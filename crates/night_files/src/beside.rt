@@ -12,9 +12,9 @@ fn link_error() -> io::Error {
     )
 }
 
-/// Makes a file to write it, of this mode but for what the process's mask takes away. What has the name, as what a stop has left
-/// behind or a link, is taken away before: a link's file stays as it is. It fails with `AlreadyExists` where something has the
-/// name again by then, and where the system refuses a call, as it does for a folder of that name.
+/// Makes a file to write it, of this mode but for what the process's mask takes away. What has the name, as what a stop
+/// has left behind or a link, is taken away before: a link's file stays as it is. It fails with `AlreadyExists` where
+/// something has the name again by then, and where the system refuses a call, as it does for a folder of that name.
 pub fn new_file<R: Files>(files: &R, path: &str, mode: u32) -> io::Result<R::File> {
     match fs::remove_file(files, path) {
         Err(error) if error.kind() != ErrorKind::NotFound => return Err(error),
@@ -35,7 +35,8 @@ fn is_there<R: Files>(files: &R, path: &str) -> io::Result<bool> {
     }
 }
 
-/// Opens a file to read and write it, or makes one of this mode. It fails with `InvalidInput` where a link has the name.
+/// Opens a file to read and write it, or makes one of this mode. It fails with `InvalidInput` where a link has the
+/// name.
 pub(crate) fn open_beside<R: Files<File = File>>(
     files: &R,
     path: &str,

@@ -32,8 +32,8 @@ fn check_games(rt: &impl Abort, alloc: Global, archive: &mut Archive<MemoryFile>
     assert!(rt; keep_all(alloc, archive) == 3 && archive.games() == NUMBERS.as_slice());
 }
 
-// An archive that is killed after so many calls, and of which a crash leaves this, has what was answered in its next life, and
-// keeps all once, if it could be opened.
+// An archive that is killed after so many calls, and of which a crash leaves this, has what was answered in its next
+// life, and keeps all once, if it could be opened.
 fn check_killed(rt: &impl Abort, alloc: Global, calls: u32, fates: &[Fate]) {
     if let Ok(mut archive) = Archive::open(alloc, MemoryFile::new(alloc, Some(calls))) {
         let answered = keep_all(alloc, &mut archive);

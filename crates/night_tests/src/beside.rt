@@ -1,4 +1,5 @@
-//! What no clause says: of a link that has the name of a file which is made beside another, the file that it names stays as it is.
+//! What no clause says: of a link that has the name of a file which is made beside another, the file that it names
+//! stays as it is.
 use night_files::{DiskFile, OWNERS_MODE, new_file};
 use std::fs::{self, File};
 use std::io::{ErrorKind, Write};

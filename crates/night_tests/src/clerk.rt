@@ -36,8 +36,8 @@ const EVENING: [Row; 9] = [
     Row::Left(7, false),
 ];
 
-// A keeper that was killed: games 1 and 3 stand in the archive, game 4 does not, and all are on the table. Of game 1 the table
-// has another PGN.
+// A keeper that was killed: games 1 and 3 stand in the archive, game 4 does not, and all are on the table. Of game 1
+// the table has another PGN.
 const AFTER_A_KILL: [Row; 12] = [
     Row::Over(3, true, true),
     Row::Came(3, true, false),
@@ -89,7 +89,8 @@ static RUNS: [(&[u32], &[Row]); 4] = [
     (&[1], &SECOND_LIFE),
 ];
 
-// That a clerk decides so wherever it is killed, is in the laws of its crate; and here, that it is given the memory for it.
+// That a clerk decides so wherever it is killed, is in the laws of its crate; and here, that it is given the memory for
+// it.
 #[test]
 fn a_clerk_decides_so(rt: HostRuntime) {
     for (archive, rows) in &RUNS {

@@ -1,4 +1,5 @@
-//! Tests of the files and texts of a night and of a lobby, by what their crates export alone: so none of these is proved twice.
+//! Tests of the files and texts of a night and of a lobby, by what their crates export alone: so none of these is
+//! proved twice.
 #![tactic(auto)]
 
 #[cfg(test)]

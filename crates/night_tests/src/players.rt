@@ -85,7 +85,8 @@ fn takes_no_file_that_is_half_written(rt: HostRuntime) {
     }
 }
 
-// A file, the name and the full name of an arbiter who is to have the token of the bytes 0 to 15, and the file with her.
+// A file, the name and the full name of an arbiter who is to have the token of the bytes 0 to 15, and the file with
+// her.
 type Added = (
     &'static str,
     &'static str,

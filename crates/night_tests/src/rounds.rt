@@ -1,5 +1,5 @@
-//! The texts of a round: worked examples, what no clause says, and that calls succeed. (Clauses settle what is to be done about a
-//! board.)
+//! The texts of a round: worked examples, what no clause says, and that calls succeed. (Clauses settle what is to be
+//! done about a board.)
 use pairing_texts::{
     Fault, Outcome, Pairing, Row, RowFault, candidates, newest, note_of, note_text, read, results,
     times_of, times_text,

@@ -1,4 +1,5 @@
-//! The word `board` of the server as a program of its own: it stands on a third of the crates, so that it is proved first.
+//! The word `board` of the server as a program of its own: it stands on a third of the crates, so that it is proved
+//! first.
 #![tactic(auto)]
 
 use board_session::{BoardFault, Reads, board_reads};

@@ -9,8 +9,8 @@ use Rattle.pairing_texts.specs.declared.notes.Stage.TheVariants as stages
 use Rattle.pairing_texts.specs.Times.{front_of, rest_of}
 use Rattle.pairing_texts.specs.Rows.{name_in}
 
--- how far the game of a board is: about to be opened, newer than this game, where there is one; opened with this number; joined by
--- Black
+-- how far the game of a board is: about to be opened, newer than this game, where there is one; opened with this
+-- number; joined by Black
 pub data Reached : Type 0 where
   Opening : (older : Option ℕ) → Reached
   Opened : (game : ℕ) → Reached

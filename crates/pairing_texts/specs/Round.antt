@@ -57,7 +57,8 @@ abbrev pub behind : (List Pairing → Result (List Pairing) Fault) → ℕ → R
 behind more number (Ok pairings) = more pairings
 behind more number (Err fault) = Err (faults.Row number fault)
 
--- the pairings of rows behind those before, or the fault of the first row that has one; the rows are numbered from this on
+-- the pairings of rows behind those before, or the fault of the first row that has one; the rows are numbered from this
+-- on
 abbrev pub rows_in : List Pairing → ℕ → List (List (List ℕ)) → Result (List Pairing) Fault
 rows_in before number [] = Ok before
 rows_in before number (fields ∷ rows) = behind (λ pairings. rows_in pairings (suc number) rows) number (take_row before fields)

@@ -18,8 +18,8 @@ cell fields i = get_or fields i []
 abbrev pub name_in : List ℕ → Option (List ℕ)
 name_in text = if is_name text then Some text else None
 
--- the milliseconds from 1970 on of a moment with its offset, of which jiff takes more spellings than RFC 3339, as one without
--- seconds
+-- the milliseconds from 1970 on of a moment with its offset, of which jiff takes more spellings than RFC 3339, as one
+-- without seconds
 abbrev pub milliseconds : {E : Type 0} → Result ℤ E → Option ℤ
 milliseconds (Ok nanoseconds) = Some (int_div nanoseconds (pos 1000000))
 milliseconds (Err e) = None

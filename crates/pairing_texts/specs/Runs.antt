@@ -1,5 +1,5 @@
--- What becomes of a board while `start` is killed at any moments and given again, its server goes on, and others open, join,
--- end and drop games.
+-- What becomes of a board while `start` is killed at any moments and given again, its server goes on, and others open,
+-- join, end and drop games.
 use Rattle.std.specs.Prelude.{ℕ, ◌≡◌, ◌≤◌, ◌==◌, ◌&&◌, Bool, true, false, not, List, [], ◌∷◌, ◌++◌, length, filter, Option, None, Some, if◌then◌else◌}
 use Rattle.std.specs.List.{list_any}
 use Rattle.pairing_texts.specs.declared.steps.Seats.{Seats}
@@ -10,15 +10,16 @@ use Rattle.pairing_texts.specs.Newer.{is_newer, is_newest}
 use Rattle.pairing_texts.specs.Notes.{Reached, Opening, Opened, Joined, game_in}
 use Rattle.pairing_texts.specs.Steps.{sits, candidates_in, numbers_of, step_of}
 
--- A board: its players, and which games have its times and begin with the initial position. That is so of a game, or is not,
--- all the time: a game has the times that it was opened with, and the board has those that it had at first.
+-- A board: its players, and which games have its times and begin with the initial position. That is so of a game, or is
+-- not, all the time: a game has the times that it was opened with, and the board has those that it had at first.
 pub record Board : Type 0 where
   pub white : List ℕ
   pub black : List ℕ
   pub fits : ℕ → Bool
 
--- How it stands: the games on the table; the numbers of all games that were given so far; the board's last note; of
--- a `start` that runs what it saw of the table, and what it is about to do; and the games that `start` has opened for the board.
+-- How it stands: the games on the table; the numbers of all games that were given so far; the board's last note; of a
+-- `start` that runs what it saw of the table, and what it is about to do; and the games that `start` has opened for the
+-- board.
 pub record Standing : Type 0 where
   pub rows : List Row
   pub given : List ℕ
@@ -27,9 +28,10 @@ pub record Standing : Type 0 where
   pub does : Option Step
   pub opened : List ℕ
 
--- What happens. `start` looks at the table, and sees these seats of the game that was noted; what it is about to do is done: it notes
--- this game as the newest of the older ones, and a game that is paired gets this number, which is noted, or it is killed before; it
--- is killed; and the table is another, with more games given: players act, and the lobby has Black join what it opens for a pair.
+-- What happens. `start` looks at the table, and sees these seats of the game that was noted; what it is about to do is
+-- done: it notes this game as the newest of the older ones, and a game that is paired gets this number, which is noted,
+-- or it is killed before; it is killed; and the table is another, with more games given: players act, and the lobby has
+-- Black join what it opens for a pair.
 pub data RunStep : Type 0 where
   Looks : (seats : Option Seats) → RunStep
   Acts : (older : Option ℕ) → (game : ℕ) → (is_noted : Bool) → RunStep
@@ -90,7 +92,8 @@ TellNewer those these = (n : ℕ) → is_newest those n ≡ true → is_newest t
 abbrev pub IsNoNewer : List ℕ → Option ℕ → Type 0
 IsNoNewer those this = (n : ℕ) → is_newest those n ≡ true → is_newer this n ≡ true
 
--- what `start` notes is no newer than the games that it saw, and what the server opens has a new number, and the board's times
+-- what `start` notes is no newer than the games that it saw, and what the server opens has a new number, and the
+-- board's times
 abbrev pub IsDone : Board → Option ℕ → ℕ → Option Step → Standing → Type 0
 IsDone b older game (Some steps.Begin) s = IsNoNewer (numbers_of s.seen) older
 IsDone b older game (Some steps.Pair) s = (is_newest s.given game ≡ true) × (b.fits game ≡ true)

@@ -46,8 +46,8 @@ step_of_seats game white black (Some seats) =
     else (if sits black seats.black then steps.Note game
     else (if is_free_for black seats.black then steps.Join game else steps.Ask))
 
--- What is to be done, by how far the board's last note says it is: where it is about to be opened, by the games that may be its
--- and have its times; by the seats of its game where that was opened.
+-- What is to be done, by how far the board's last note says it is: where it is about to be opened, by the games that
+-- may be its and have its times; by the seats of its game where that was opened.
 abbrev pub step_of : List ℕ → List ℕ → Option Reached → List ℕ → Option Seats → Step
 step_of white black None games seats = steps.Begin
 step_of white black (Some (Opening older)) games seats = step_of_games games

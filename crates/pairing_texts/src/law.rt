@@ -16,8 +16,8 @@ pub fn law_of_notes()
     ensures { (n : NoteState) → IsNote n → note_in (note_text n) ≡ Some n }
 {}
 
-/// Whenever `start` is killed and given again, and whatever others do, `start` has one game at most opened for a board, and
-/// where a game is noted as the board's, no other. The premises, all in `specs/Runs`:
+/// Whenever `start` is killed and given again, and whatever others do, `start` has one game at most opened for a board,
+/// and where a game is noted as the board's, no other. The premises, all in `specs/Runs`:
 ///
 /// - At first nothing is noted, no `start` runs, and none has opened a game for the board (`IsBeginning`).
 /// - The board's players and times stay the same, and so do a game's times and first position (`Board`). The arbiter says nothing.

@@ -1,4 +1,5 @@
-//! The texts of a round: pairings and results as CSV, which game is which board's, and what is to be done about a board.
+//! The texts of a round: pairings and results as CSV, which game is which board's, and what is to be done about a
+//! board.
 //!
 //! Modules: `times` has times as a text, `rows` a row, `records` the rows of a CSV file by the kit's `csv`, `reading`
 //! the file, `notes` the notes of a round's file, `steps` what is to be done about a board, `outcomes` the results,

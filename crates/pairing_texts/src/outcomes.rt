@@ -5,8 +5,8 @@ ghost use Rattle.pairing_texts.specs.Results as spec;
 use itoa::Buffer;
 use std::alloc::{AllocError, Global};
 
-/// What came of a board: who plays there, the result as PGN has it (`1-0`, `0-1`, `1/2-1/2`, `*`), the article by which it
-/// ended, and the game. None of the texts has a comma, a quote or a line's end.
+/// What came of a board: who plays there, the result as PGN has it (`1-0`, `0-1`, `1/2-1/2`, `*`), the article by which
+/// it ended, and the game. None of the texts has a comma, a quote or a line's end.
 #[derive(Clone, Copy)]
 pub struct Outcome<'a> {
     pub board: u32,
@@ -61,8 +61,8 @@ fn push_rows(out: &mut Vec<u8>, outcomes: &[Outcome<'_>]) -> Result<(), AllocErr
     Ok(())
 }
 
-/// The results as CSV: the line `board,white,black,result,article,game`, and a line for each board. It fails where memory is
-/// refused.
+/// The results as CSV: the line `board,white,black,result,article,game`, and a line for each board. It fails where
+/// memory is refused.
 pub fn results(alloc: Global, outcomes: &[Outcome<'_>]) -> Result<Vec<u8>, AllocError>
     ensures { IfOk result (λ text. text.items ≡ spec.results_text outcomes.now) }
 {

@@ -26,7 +26,8 @@ pub struct Seats {
 /// What is to be done about a board.
 #[derive(Clone, Copy)]
 pub enum Step {
-    /// It is to be noted that its game is about to be opened, and which is the newest of the older ones, and then it is to be paired.
+    /// It is to be noted that its game is about to be opened, and which is the newest of the older ones, and then it is
+    /// to be paired.
     Begin,
     /// It is to be paired: the lobby opens its game under White's name and joins it under Black's.
     Pair,
@@ -103,8 +104,8 @@ fn push_where(
     Ok(())
 }
 
-/// The games of the table that may be a board's, of which it was noted that it is newer than this one. One that somebody else
-/// has joined is among them: another is not to be opened in its place.
+/// The games of the table that may be a board's, of which it was noted that it is newer than this one. One that
+/// somebody else has joined is among them: another is not to be opened in its place.
 pub fn candidates(
     alloc: Global,
     older: Option<u32>,
@@ -120,8 +121,8 @@ pub fn candidates(
     Ok(games)
 }
 
-// What is to be done about a board of which it was noted that its game is about to be opened, by the games that may be its
-// and have its times.
+// What is to be done about a board of which it was noted that its game is about to be opened, by the games that may be
+// its and have its times.
 fn step_of_games(games: &[u32]) -> Step
     ensures { result ≡ spec.step_of_games games.now }
 {
@@ -150,8 +151,8 @@ fn step_of_seats(game: u32, white: &Name, black: &Name, seats: Option<Seats>) ->
     }
 }
 
-/// What is to be done about a board, by its last note. `games` are those that may be its and have its times, where it was noted
-/// that it is about to be opened; `seats` those of its game, where that was opened and is on the table.
+/// What is to be done about a board, by its last note. `games` are those that may be its and have its times, where it
+/// was noted that it is about to be opened; `seats` those of its game, where that was opened and is on the table.
 pub fn step_of(
     white: &Name,
     black: &Name,

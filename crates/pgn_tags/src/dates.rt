@@ -1,14 +1,16 @@
 //! The dates of the tag Date.
 use jiff::civil::Date;
 
-// What stands in for a part that is not known: a leap year, and a month of 31 days, so that no day of the others is refused.
+// What stands in for a part that is not known: a leap year, and a month of 31 days, so that no day of the others is
+// refused.
 const ANY_YEAR: i16 = 2000;
 
 const ANY_MONTH: i16 = 1;
 
 const ANY_DAY: i16 = 1;
 
-// The number of a part of so many digits, or this one where question marks stand in their place; `None` for any other text.
+// The number of a part of so many digits, or this one where question marks stand in their place; `None` for any other
+// text.
 fn part_of(text: &str, digits: usize, unknown: i16) -> Option<i16> {
     let bytes = text.as_bytes();
     if bytes.len() != digits {
@@ -31,8 +33,9 @@ fn day_of(text: &str) -> Option<Date> {
     Date::new(part_of(year, 4, ANY_YEAR)?, month, day).ok()
 }
 
-/// Whether a text is a date as the tag Date has it (PGN Standard, section 8.1.1.3): year, month and day as `YYYY.MM.DD`, with
-/// question marks in the place of all digits of what is not known, where there is such a day in the calendar.
+/// Whether a text is a date as the tag Date has it (PGN Standard, section 8.1.1.3): year, month and day as
+/// `YYYY.MM.DD`, with question marks in the place of all digits of what is not known, where there is such a day in the
+/// calendar.
 pub fn is_date(text: &str) -> bool {
     day_of(text).is_some()
 }

@@ -3,7 +3,8 @@ use crate::lines::is_tag;
 use std::alloc::{AllocError, Global};
 use text_parts::{before, parts};
 
-/// The value of a tag without its escapes: a backslash stands before each quote and each backslash (PGN Standard, section 7).
+/// The value of a tag without its escapes: a backslash stands before each quote and each backslash (PGN Standard,
+/// section 7).
 pub fn without_escapes(alloc: Global, value: &str) -> Result<String, AllocError> {
     let mut text = String::new(alloc);
     let mut is_escaped = false;
@@ -37,15 +38,15 @@ const FIRST: [&str; 7] = [
     "[Event", "[Site", "[Date", "[Round", "[White", "[Black", "[Result",
 ];
 
-// Whether a line of a PGN stands behind a tag with this front: it is no tag, or one of a later name, but none of those that come
-// first.
+// Whether a line of a PGN stands behind a tag with this front: it is no tag, or one of a later name, but none of those
+// that come first.
 fn is_behind(line: &str, front: &str) -> bool {
     let head = before(line, ' ');
     !is_tag(line) || (!FIRST.contains(&head) && head > front)
 }
 
-/// A PGN with one tag more, whose value is a number: behind the seven that come first, where its name has its place in the order
-/// of ASCII (PGN Standard, section 8.1.1).
+/// A PGN with one tag more, whose value is a number: behind the seven that come first, where its name has its place in
+/// the order of ASCII (PGN Standard, section 8.1.1).
 pub fn with_tag(alloc: Global, pgn: &str, tag: &str, value: u32) -> Result<String, AllocError> {
     let front = format!(in alloc; "[{tag}")?;
     let mut text = String::new(alloc);

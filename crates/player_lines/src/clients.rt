@@ -59,8 +59,8 @@ impl Clients {
     }
 
     /// Has each of these letters' clients do what a text says; at its first it connects. It sends the text with a line
-    /// feed; where the text ends with `\`, what is before that, without. At `-` it sends no more, and at `!` it drops the
-    /// connection.
+    /// feed; where the text ends with `\`, what is before that, without. At `-` it sends no more, and at `!` it drops
+    /// the connection.
     pub fn act<R: Net<Stream = TcpStream>>(
         &mut self,
         net: &R,
@@ -81,7 +81,8 @@ impl Clients {
         Ok(())
     }
 
-    /// Takes in what came to each client, and tells whether each of these letters' clients has a line or its end to tell.
+    /// Takes in what came to each client, and tells whether each of these letters' clients has a line or its end to
+    /// tell.
     pub fn have_heard(&mut self, letters: &str) -> io::Result<bool> {
         let mut have_all = true;
         for client in self.all.iter_mut() {

@@ -117,8 +117,8 @@ fn prepare<D: Device>(
     Ok(())
 }
 
-// One commit: the end of a compaction whose snapshot is written, else an append. A half without room for that is left by
-// a switch with a snapshot of one record.
+// One commit: the end of a compaction whose snapshot is written, else an append. A half without room for that is left
+// by a switch with a snapshot of one record.
 fn commit<D: Device>(journal: &mut Journal<D>, records: &[Record]) -> Result<(), CommitFault>
     requires some { 1 ≤ length records.now }
     requires few { length records.now ≤ 64 }

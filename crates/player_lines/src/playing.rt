@@ -34,8 +34,8 @@ fn play_all<R: Input + Print, P: LinePlayer>(
     Ok(())
 }
 
-/// Plays each line of standard input, and prints what it answers. One that is not played is the last; standard error tells
-/// why.
+/// Plays each line of standard input, and prints what it answers. One that is not played is the last; standard error
+/// tells why.
 pub fn play_lines<R: Input + Print + Eprint, P: LinePlayer>(
     rt: &R,
     alloc: Global,

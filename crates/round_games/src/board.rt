@@ -114,7 +114,8 @@ impl Board {
         Ok(())
     }
 
-    // The games that may be its and have its times, since it was noted that it is about to be opened, and is newer than this one.
+    // The games that may be its and have its times, since it was noted that it is about to be opened, and is newer than
+    // this one.
     fn games<T: Table>(&self, lobby: &mut T, older: Option<u32>, rows: &[Row]) -> Result<Vec<u32>> {
         let times = times_text(self.alloc, self.game.times)?;
         let found = candidates(self.alloc, older, &self.pairing.white, rows)?;

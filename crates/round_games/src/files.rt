@@ -19,7 +19,8 @@ const FRONT: &[u8] = b"{\"board\":";
 // More than the line of the longest note has.
 const MOST_BEHIND: usize = 8192;
 
-// Whether what stands behind the lines may be left of the one that was being put: its bytes, or zeros, and a line feed at its end.
+// Whether what stands behind the lines may be left of the one that was being put: its bytes, or zeros, and a line feed
+// at its end.
 fn is_torn_line(behind: &[u8]) -> bool {
     let begins_so = behind
         .iter()
@@ -82,8 +83,8 @@ fn notes_in(alloc: Global, file: &str, text: &str) -> Result<Vec<Note>> {
     Ok(notes)
 }
 
-/// The notes of a round's file, in their order. It fails where a line is no note's, and where more stands behind the lines than a
-/// torn one.
+/// The notes of a round's file, in their order. It fails where a line is no note's, and where more stands behind the
+/// lines than a torn one.
 pub fn notes_of<R: Files + AllocGlobal>(rt: &R, file: &str) -> Result<Vec<Note>> {
     let text = lines_of(rt, file)?;
     notes_in(rt.alloc(), file, text.as_str())

@@ -1,4 +1,5 @@
-//! The games of a round's boards: the round's files, what the server tells of its table, and the way of each board to its game.
+//! The games of a round's boards: the round's files, what the server tells of its table, and the way of each board to
+//! its game.
 //!
 //! Modules: `files` reads pairings and notes, `checks` has what is asked of pairings first, `round_file` puts notes,
 //! `said` those of what the arbiter said, `token` reads an arbiter's token, `lobby` is the connection to the lobby,

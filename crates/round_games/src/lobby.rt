@@ -97,14 +97,14 @@ where
         }
     }
 
-    /// Connects to the lobby. It fails where the lobby does not answer within ten seconds, as each call below does; the error of
-    /// this one names the lobby.
+    /// Connects to the lobby. It fails where the lobby does not answer within ten seconds, as each call below does; the
+    /// error of this one names the lobby.
     pub fn open(rt: &'a R, address: SocketAddr) -> Result<LobbyLink<'a, R>> {
         LobbyLink::connect(rt, address).context(format_args!("the lobby at {address}"))
     }
 
-    // What a message says: the answer to what was said, or nothing. That the lobby's server is gone is a fault: what was sent to it
-    // may be taken later, behind what is said once it is back.
+    // What a message says: the answer to what was said, or nothing. That the lobby's server is gone is a fault: what
+    // was sent to it may be taken later, behind what is said once it is back.
     fn take(&self, message: &Message) -> Result<Option<Answer>> {
         let Message::Text(text) = message else {
             return Ok(None);

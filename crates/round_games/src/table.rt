@@ -60,8 +60,8 @@ fn list<T: Table>(alloc: Global, table: &mut T) -> Result<Vec<Row>> {
     rows_in(alloc, answer.behind.as_str())
 }
 
-/// The games of the table. Where the look `settles`, what an earlier connection sent is among them: who is asked has taken that
-/// before its second answer on this one.
+/// The games of the table. Where the look `settles`, what an earlier connection sent is among them: who is asked has
+/// taken that before its second answer on this one.
 pub fn look<T: Table>(alloc: Global, table: &mut T, settles: bool) -> Result<Vec<Row>> {
     if settles {
         list(alloc, table)?;
@@ -182,8 +182,8 @@ fn has_times_in(
     }
 }
 
-/// Whether a game has these times, as the tag TimeControl tells them, and begins with the initial position. One that has left
-/// the table has not.
+/// Whether a game has these times, as the tag TimeControl tells them, and begins with the initial position. One that
+/// has left the table has not.
 pub fn has_times<T: Table>(alloc: Global, table: &mut T, game: u32, times: &str) -> Result<bool> {
     let line = format!(in alloc; "pgn {game}")?;
     let front = format!(in alloc; "ok pgn {game} ")?;

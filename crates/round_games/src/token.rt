@@ -40,8 +40,8 @@ fn own_text<R: Files + AllocGlobal>(rt: &R, path: &str) -> Result<String> {
     Ok(text)
 }
 
-/// The token in a file: its first line, or a link there. It fails where the file is none that its owner alone may read, or has
-/// no token.
+/// The token in a file: its first line, or a link there. It fails where the file is none that its owner alone may read,
+/// or has no token.
 pub fn token_of<R: Files + AllocGlobal>(rt: &R, path: &str) -> Result<String> {
     let text = own_text(rt, path).context(format_args!("reading {path}"))?;
     match token_in(text.as_str()) {

@@ -1,4 +1,5 @@
-//! What came of the games of rounds: in the archive and on the table, as the results of a round and as the report of a tournament.
+//! What came of the games of rounds: in the archive and on the table, as the results of a round and as the report of a
+//! tournament.
 //!
 //! Modules: `outcomes` finds what came of a game by the tags of its PGN or by the table, `results_word` and
 //! `report_word` write it.

@@ -15,8 +15,8 @@ use std::net::{Net, TcpStream};
 use std::rt::Files;
 use text_parts::parts;
 
-/// What came of a game: the result as PGN has it, the article by which it ended, and whether both sides made a move in it, or it
-/// was played on from a position.
+/// What came of a game: the result as PGN has it, the article by which it ended, and whether both sides made a move in
+/// it, or it was played on from a position.
 #[derive(Drop)]
 pub struct Ended {
     pub result: String,
@@ -93,8 +93,8 @@ fn moves_in(alloc: Global, line: &str) -> Result<u32, AllocError> {
     Ok(moves_among(words.as_slice()))
 }
 
-// What the tags of a PGN tell, who played, from which position, what came of it and which game it continues, and how many moves it
-// has.
+// What the tags of a PGN tell, who played, from which position, what came of it and which game it continues, and how
+// many moves it has.
 #[derive(Clone, Copy)]
 struct PgnTags<'a> {
     white: &'a str,
@@ -520,8 +520,8 @@ impl<'a> Outcomes<'a> {
         }
     }
 
-    /// What came of the game of a board, in the round of this file with these notes; none where that is not known. Of a game that
-    /// goes on, is not known or was played on as another there is a word to be told.
+    /// What came of the game of a board, in the round of this file with these notes; none where that is not known. Of a
+    /// game that goes on, is not known or was played on as another there is a word to be told.
     pub fn of(&mut self, file: &str, notes: &[Note], pairing: &Pairing) -> Result<Option<Ended>> {
         let game = noted_game(notes, pairing.board);
         let found = self.found_at(pairing, game)?;

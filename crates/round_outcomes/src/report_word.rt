@@ -41,8 +41,8 @@ fn score_of(ended: &Option<Ended>) -> Score {
     }
 }
 
-// How a game ended. One in which not both sides made a move, and none before it, is not rated; by the clock it is lost by who did
-// not come.
+// How a game ended. One in which not both sides made a move, and none before it, is not rated; by the clock it is lost
+// by who did not come.
 fn play_of(ended: &Option<Ended>) -> Play {
     match ended {
         Some(ended) if !ended.is_played => {
@@ -148,8 +148,8 @@ struct Met {
     has_halves: bool,
 }
 
-// What was met in the rounds, by what came of their games; it is told what is to be told of boards. It fails where a board's
-// game is of others than its players.
+// What was met in the rounds, by what came of their games; it is told what is to be told of boards. It fails where a
+// board's game is of others than its players.
 fn met_by<R>(
     rt: &R,
     reporting: &Reporting<'_>,
@@ -188,7 +188,8 @@ fn text_of(
     Ok(report(alloc, tournament, names.as_slice(), rounds)?)
 }
 
-// Writes the report of what was met. It fails behind that where a board has the result of a game that was played on as another.
+// Writes the report of what was met. It fails behind that where a board has the result of a game that was played on as
+// another.
 fn write_met<R>(rt: &R, tournament: &Tournament<'_>, players: &[&Player], met: &Met) -> Result<()>
 where
     R: AllocGlobal + Print,
@@ -208,8 +209,8 @@ where
     write_met(rt, &reporting.tournament, players.as_slice(), &met)
 }
 
-/// Writes the report of a tournament; none where a board's game is of others than its players, since it would lack points. It
-/// fails behind that where a board has the result of a game that was played on as another.
+/// Writes the report of a tournament; none where a board's game is of others than its players, since it would lack
+/// points. It fails behind that where a board has the result of a game that was played on as another.
 pub fn write_report<R>(rt: &R, reporting: &Reporting<'_>) -> Result<()>
 where
     R: Files + Net<Stream = TcpStream> + AllocGlobal + Print + Eprint,

@@ -131,8 +131,8 @@ where
     write_round(rt, asking, players, &paired)
 }
 
-/// Writes the results of a round as CSV. It fails behind that where a board's game is of others than its players, or was played on
-/// as another.
+/// Writes the results of a round as CSV. It fails behind that where a board's game is of others than its players, or
+/// was played on as another.
 pub fn write_results<R>(rt: &R, asking: &Asking<'_>) -> Result<()>
 where
     R: Files + Net<Stream = TcpStream> + AllocGlobal + Print + Eprint,

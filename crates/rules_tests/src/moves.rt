@@ -1,5 +1,5 @@
-//! Legal moves that no text names, and whether there are any. How many moves known positions have is in the stored run of
-//! `perft`, and which moves are refused in that of `line_player`.
+//! Legal moves that no text names, and whether there are any. How many moves known positions have is in the stored run
+//! of `perft`, and which moves are refused in that of `line_player`.
 use chess_bits::{Kind, Square};
 use chess_board::Move;
 use chess_fen::fen_read;

@@ -1,5 +1,5 @@
-//! Positions that are the same, and games in which they come again. Which are the same, and their keys, clauses of `key` and
-//! `is_same` settle, and claims show it in the stored run of `line_player`: here it is asked for.
+//! Positions that are the same, and games in which they come again. Which are the same, and their keys, clauses of
+//! `key` and `is_same` settle, and claims show it in the stored run of `line_player`: here it is asked for.
 use chess_board::Board;
 use chess_fen::fen_read;
 use chess_moves::after_legal;

@@ -40,9 +40,9 @@ pub enum Fate {
     Unreadable,
 }
 
-/// Sectors of 512 bytes. Its clauses speak of the disk model: `docs/design/DISK.md` in words, `specs/Device.antt` for what a
-/// caller can know, `specs/Calls.antt` for what each call does, `specs/Image.antt` for what a crash may leave. A sector
-/// is named by its number, which callers keep below `sectors()`.
+/// Sectors of 512 bytes. Its clauses speak of the disk model: `docs/design/DISK.md` in words, `specs/Device.antt` for
+/// what a caller can know, `specs/Calls.antt` for what each call does, `specs/Image.antt` for what a crash may leave. A
+/// sector is named by its number, which callers keep below `sectors()`.
 pub trait Device {
     /// What reads give and what a crash may leave, where the device keeps the model. Without it only the number of
     /// sectors and the two counts are promised.
@@ -61,8 +61,8 @@ pub trait Device {
     fn sectors(&self) -> u32
         ensures { result ≡ sector_count self.now };
 
-    /// `Whole` with the sector's 512 bytes in `into`, or `Unreadable` with zeros in it; after `DeviceFault`, which comes
-    /// with a failure counted, it may hold anything. Nothing changes.
+    /// `Whole` with the sector's 512 bytes in `into`, or `Unreadable` with zeros in it; after `DeviceFault`, which
+    /// comes with a failure counted, it may hold anything. Nothing changes.
     fn read(&mut self, at: u32, into: &mut [u8; 512]) -> Result<Got, DeviceFault>
         requires { at < sector_count self.old }
         ensures { IsReadCall state sector_count failures calls_left self.old self.new at into.new result };
@@ -78,8 +78,8 @@ pub trait Device {
     fn sync(&mut self) -> Result<(), DeviceFault>
         ensures { IsSyncCall state sector_count failures calls_left self.old self.new result };
 
-    /// As `sync`, for use within what a later `sync` ends, before anybody is told that it lasts. A device that also looks
-    /// whether it is still in its place may leave that to the later one.
+    /// As `sync`, for use within what a later `sync` ends, before anybody is told that it lasts. A device that also
+    /// looks whether it is still in its place may leave that to the later one.
     fn barrier(&mut self) -> Result<(), DeviceFault>
         ensures { IsSyncCall state sector_count failures calls_left self.old self.new result }
     {
@@ -103,8 +103,8 @@ pub trait CrashDevice: Device {
     fn failure_count(&self) -> u64
         ensures { result ≡ Self.failures self.now };
 
-    /// The next `calls` calls of `read`, `write`, `sync` and `barrier` are served, unless they fail for another reason, and
-    /// every later one fails, until a crash or until the device is armed again. Nothing else changes.
+    /// The next `calls` calls of `read`, `write`, `sync` and `barrier` are served, unless they fail for another reason,
+    /// and every later one fails, until a crash or until the device is armed again. Nothing else changes.
     fn arm(&mut self, calls: u64)
         ensures sectors { Self.sector_count self.new ≡ Self.sector_count self.old }
         ensures model { (Self.state self.new).keeps_model ↔ (Self.state self.old).keeps_model }

@@ -32,8 +32,8 @@ impl<D: Device> OnceDevice<D> {
         }
     }
 
-    /// Lets that one of the coming calls of `read`, `write`, `sync` and `barrier` fail, counted from 1 (none for 0), and no
-    /// other. A write that fails so is pending where `pending` says so; a sync leaves the pending writes.
+    /// Lets that one of the coming calls of `read`, `write`, `sync` and `barrier` fail, counted from 1 (none for 0),
+    /// and no other. A write that fails so is pending where `pending` says so; a sync leaves the pending writes.
     pub fn fail_at(&mut self, call: u64, pending: bool)
         ensures device { self.new.device ≡ self.old.device }
         ensures fails_in { self.new.fails_in ≡ call }

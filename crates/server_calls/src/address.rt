@@ -15,8 +15,8 @@ pub enum ServerAddress {
 }
 
 impl ServerAddress {
-    /// The address that a text names: with a `/` in it a socket's path, and else an IP address and a port, as 127.0.0.1:5001.
-    /// `None` where it names neither, or the path has more than 107 bytes.
+    /// The address that a text names: with a `/` in it a socket's path, and else an IP address and a port, as
+    /// 127.0.0.1:5001. `None` where it names neither, or the path has more than 107 bytes.
     pub fn named(text: &str) -> Option<ServerAddress> {
         if text.contains('/') {
             Some(ServerAddress::Socket(ArrayString::from(text).ok()?))

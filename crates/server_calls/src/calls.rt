@@ -22,7 +22,8 @@ pub fn watch_call(registry: &Registry, call: &mut Call, token: Token) -> io::Res
     }
 }
 
-/// A connection to a server that begins. The system's error where it does not begin it, or set it up. Nothing is waited for.
+/// A connection to a server that begins. The system's error where it does not begin it, or set it up. Nothing is waited
+/// for.
 pub fn begin(net: &impl Net, address: &ServerAddress) -> io::Result<Call> {
     match address {
         ServerAddress::Port(address) => {
@@ -34,8 +35,8 @@ pub fn begin(net: &impl Net, address: &ServerAddress) -> io::Result<Call> {
     }
 }
 
-/// A connection to a server that begins, and is watched under this name. `None` where the system does not begin, watch or set it
-/// up. Nothing is waited for.
+/// A connection to a server that begins, and is watched under this name. `None` where the system does not begin, watch
+/// or set it up. Nothing is waited for.
 pub fn call(
     net: &impl Net,
     registry: &Registry,

@@ -1,5 +1,6 @@
-//! What programs that wait for several sockets at once ask of the system: a port or a Unix socket with the connections that
-//! are accepted there, or why none was, a connection to a server, the wait until a socket is ready, and the time by the clock that is never set.
+//! What programs that wait for several sockets at once ask of the system: a port or a Unix socket with the connections
+//! that are accepted there, or why none was, a connection to a server, the wait until a socket is ready, and the time
+//! by the clock that is never set.
 //!
 //! Modules: `listener` accepts connections, `owned` makes a Unix socket that is its owner's, `accepting` has what it
 //! says that none was accepted, `address` where a server is reached, `calls` a connection to it, `watch` the wait,

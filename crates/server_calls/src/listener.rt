@@ -89,8 +89,8 @@ pub trait Listens {
 /// The most tries to accept a connection that a turn makes.
 pub const ACCEPT_TRIES: usize = 64;
 
-/// Accepts the next connection, if one waits. Those that were lost are passed over, up to 64 tries; where the system has
-/// nothing for it, it is tried no further for now.
+/// Accepts the next connection, if one waits. Those that were lost are passed over, up to 64 tries; where the system
+/// has nothing for it, it is tried no further for now.
 pub fn next_connection<L: Listens>(listener: &mut L) -> Option<L::Stream>
     ensures found { IsSome result ↔ (L.last_outcome listener.new ≡ AcceptOutcome.Connection) }
     // It is the only one that the listener has given.
@@ -131,9 +131,9 @@ impl LocalListener {
         Ok(LocalListener::of(Left(listener)))
     }
 
-    /// Listens by a Unix socket at this path, to which nobody but the owner connects, at no moment. A socket by which nobody
-    /// listens is replaced. It fails where somebody does, where anything else stands there, which is left as it is, and where
-    /// the system refuses it. A connection may wait.
+    /// Listens by a Unix socket at this path, to which nobody but the owner connects, at no moment. A socket by which
+    /// nobody listens is replaced. It fails where somebody does, where anything else stands there, which is left as it
+    /// is, and where the system refuses it. A connection may wait.
     pub fn bind_path<R: Files + Net>(rt: &R, path: &str) -> io::Result<LocalListener> {
         let listener = listen_owned(rt, path)?;
         listener.set_nonblocking(true)?;
@@ -180,8 +180,8 @@ impl LocalListener {
         }
     }
 
-    // What it comes to that a connection was accepted: it is given; or its socket takes no option, and it counts as lost,
-    // so that the next is tried.
+    // What it comes to that a connection was accepted: it is given; or its socket takes no option, and it counts as
+    // lost, so that the next is tried.
     fn settle(&mut self, prepared: io::Result<Connection>) -> Option<Connection>
         requires { self.old.given < 2 ^ 64 - 1 }
         ensures given { IfOk prepared (λ stream. (result ≡ Some stream) × (self.new.outcome ≡ AcceptOutcome.Connection)

@@ -8,7 +8,8 @@ use std::os::unix::net::{SocketAddr, UnixListener};
 use std::rt::Files;
 use std::{fs, io};
 
-/// Reading and writing for the owner, and nothing for anybody else: who may not write to a socket may not connect to it.
+/// Reading and writing for the owner, and nothing for anybody else: who may not write to a socket may not connect to
+/// it.
 const OWNERS_MODE: u32 = 0o600;
 
 /// As many connections may wait for an `accept` as the system allows.
@@ -27,8 +28,8 @@ fn is_living<R: Net>(rt: &R, path: &str) -> io::Result<bool> {
     }
 }
 
-// Makes way at a path: a socket by which nobody listens is taken away. It fails where somebody listens there, and where anything
-// else stands there, also a symbolic link, which is not followed; that is left as it is.
+// Makes way at a path: a socket by which nobody listens is taken away. It fails where somebody listens there, and where
+// anything else stands there, also a symbolic link, which is not followed; that is left as it is.
 fn make_way<R: Files + Net>(rt: &R, path: &str) -> io::Result<()> {
     let stands = match fs::symlink_metadata(rt, path) {
         Ok(stands) => stands,
@@ -60,9 +61,9 @@ fn bind_owned<R: Files + Net>(rt: &R, path: &str) -> io::Result<OwnedFd> {
     Ok(socket)
 }
 
-/// Listens by a Unix socket at a path, to which nobody but the owner connects, at no moment. A socket by which nobody listens is
-/// replaced. It fails where somebody does, where anything else stands there, which is left as it is, and where the system
-/// refuses it.
+/// Listens by a Unix socket at a path, to which nobody but the owner connects, at no moment. A socket by which nobody
+/// listens is replaced. It fails where somebody does, where anything else stands there, which is left as it is, and
+/// where the system refuses it.
 pub fn listen_owned<R: Files + Net>(rt: &R, path: &str) -> io::Result<UnixListener> {
     make_way(rt, path)?;
     let socket = bind_owned(rt, path)?;

@@ -44,7 +44,8 @@ impl Watch {
         })
     }
 
-    /// Watches a socket too, until it is closed. An `Err` is the system's, which refuses that: no wait is calm from then on.
+    /// Watches a socket too, until it is closed. An `Err` is the system's, which refuses that: no wait is calm from
+    /// then on.
     pub fn add(&mut self, socket: RawFd) -> io::Result<()>
         ensures refused { OnErr result (self.new.is_blind ≡ true) }
         ensures watched { OnOk result (self.new.is_blind ≡ self.old.is_blind) }
@@ -63,8 +64,8 @@ impl Watch {
     }
 
     /// Waits until one of the sockets is ready or 10 ms have passed, and tells whether the wait was calm: no socket was
-    /// ready, so none that was read to its end has more. A wait that failed is not calm, nor is each hundredth on end: an
-    /// event that got lost costs a second.
+    /// ready, so none that was read to its end has more. A wait that failed is not calm, nor is each hundredth on end:
+    /// an event that got lost costs a second.
     pub fn rest(&mut self) -> bool
         ensures often { result ≡ true → self.new.calm_waits ≡ self.old.calm_waits + 1 }
         ensures blind { self.old.is_blind ≡ true → result ≡ false }

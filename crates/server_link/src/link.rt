@@ -73,8 +73,8 @@ fn connected<R: Net<Stream = TcpStream>>(rt: &R, server: &ServerAddress) -> io::
 }
 
 impl Link {
-    /// Connects to the server. It fails where the server does not answer within ten seconds, as each call below does; the
-    /// error of this one names the server.
+    /// Connects to the server. It fails where the server does not answer within ten seconds, as each call below does;
+    /// the error of this one names the server.
     pub fn open<R: Net<Stream = TcpStream> + AllocGlobal>(
         rt: &R,
         server: ServerAddress,
@@ -113,8 +113,8 @@ impl Link {
             .map_err(told)
     }
 
-    /// The answer to the first line that was said and is not answered yet. Where it begins with `front`, a number behind that
-    /// says how many lines follow.
+    /// The answer to the first line that was said and is not answered yet. Where it begins with `front`, a number
+    /// behind that says how many lines follow.
     pub fn hear(&mut self, front: &str) -> Result<Answer> {
         let mut first = String::new(self.alloc);
         self.read_line(&mut first)?;

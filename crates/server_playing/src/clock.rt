@@ -23,8 +23,8 @@ pub(crate) fn milliseconds_since(clock: &impl Clock, begun: Option<Instant>) -> 
     }
 }
 
-/// The system's clock as it was once, in milliseconds since 1970 and 0 before, and what has passed since by the monotonic
-/// clock: a jump of the system's clock changes nothing. The moments never fall.
+/// The system's clock as it was once, in milliseconds since 1970 and 0 before, and what has passed since by the
+/// monotonic clock: a jump of the system's clock changes nothing. The moments never fall.
 #[derive(Drop)]
 pub struct SteadyClock<'a, R> {
     clock: &'a R,
@@ -34,8 +34,8 @@ pub struct SteadyClock<'a, R> {
 }
 
 impl<'a, R: Clock> SteadyClock<'a, R> {
-    /// A clock that begins at the system's moment of now, in milliseconds since 1970 (0 where the system has none), and goes on
-    /// by the clock that is never set; without one it stands still.
+    /// A clock that begins at the system's moment of now, in milliseconds since 1970 (0 where the system has none), and
+    /// goes on by the clock that is never set; without one it stands still.
     pub fn new(clock: &'a R) -> Self
         ensures { result.last ≡ result.start }
     {

@@ -25,8 +25,8 @@ fn print_drill<R: Print + Eprint>(
     printed(teller, println!(rt; "drill {cases} none {none} all {all}"))
 }
 
-/// Plays the drill, and prints what came of it as `drill C none N all A`: the cases, those in which no move of the batch
-/// shows, and those in which all do.
+/// Plays the drill, and prints what came of it as `drill C none N all A`: the cases, those in which no move of the
+/// batch shows, and those in which all do.
 pub fn tell_drill<R: Print + Eprint>(rt: &R, alloc: Global) -> Result<(), Fault>
     ensures { IfErr result IsDrillFault }
 {

@@ -67,8 +67,8 @@ fn at_fault<'a>(journal: &'a str, played: Result<(), Fault>) -> &'a str {
     }
 }
 
-/// Answers the lines of a reader on a writer, over the games of a journal's file, at the moments of the system's clock as
-/// it was at the start, which goes on evenly.
+/// Answers the lines of a reader on a writer, over the games of a journal's file, at the moments of the system's clock
+/// as it was at the start, which goes on evenly.
 pub fn run_journal<R, I: Read, O: Write>(
     rt: &R,
     alloc: Global,

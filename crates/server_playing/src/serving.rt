@@ -114,9 +114,10 @@ fn begun<R: Eprint + Net, D: Device + Drop>(
     }
 }
 
-/// Serves players at a door, over the games of a store whose opening took so many milliseconds: prints `port P`, P being the
-/// port that it listens on, or `socket PATH`, tells what was found, and takes its turns, with the waits of `serve`, until a
-/// fault ends them or they are used up. A socket or an output that fails is told; any other fault is answered alone.
+/// Serves players at a door, over the games of a store whose opening took so many milliseconds: prints `port P`, P
+/// being the port that it listens on, or `socket PATH`, tells what was found, and takes its turns, with the waits of
+/// `serve`, until a fault ends them or they are used up. A socket or an output that fails is told; any other fault is
+/// answered alone.
 pub fn serve_store<R: Clock + Print + Eprint + Net, D: Device + Drop>(
     rt: &R,
     alloc: Global,
@@ -191,9 +192,10 @@ where
     serve_on(rt, alloc, teller, serving, device, begun)
 }
 
-/// Serves players on a port or by a Unix socket, over the games of a journal's file, and first prints `port P`, P being the
-/// port that it listens on, or `socket PATH`. A socket's file is taken away at the end. Where a turn found nothing to do it waits until a socket is ready or 10 ms have passed. Its moments are
-/// those of the system's clock as it was at the start, which goes on evenly.
+/// Serves players on a port or by a Unix socket, over the games of a journal's file, and first prints `port P`, P being
+/// the port that it listens on, or `socket PATH`. A socket's file is taken away at the end. Where a turn found nothing
+/// to do it waits until a socket is ready or 10 ms have passed. Its moments are those of the system's clock as it was
+/// at the start, which goes on evenly.
 pub fn serve<R>(rt: &R, alloc: Global, serving: &Serving<'_>) -> Result<(), Fault>
 where
     R: Files<File = File>

@@ -11,8 +11,8 @@ pub const INPUT: &str = "standard input";
 /// The name under which standard output is told of.
 pub const OUTPUT: &str = "standard output";
 
-/// A reader, of whose failures an operator is told as of standard input. One that is only interrupted is read again, and
-/// nothing is told.
+/// A reader, of whose failures an operator is told as of standard input. One that is only interrupted is read again,
+/// and nothing is told.
 #[derive(Drop)]
 pub struct TellingReader<'a, R, I> {
     reader: I,
@@ -37,8 +37,8 @@ impl<R: Eprint, I: Read> Read for TellingReader<'_, R, I> {
     }
 }
 
-/// A writer, of whose failures an operator is told as of standard output. One that is only interrupted is written again,
-/// and nothing is told.
+/// A writer, of whose failures an operator is told as of standard output. One that is only interrupted is written
+/// again, and nothing is told.
 #[derive(Drop)]
 pub struct TellingWriter<'a, R, O> {
     writer: O,

@@ -1,5 +1,5 @@
-//! What an operator is told on standard error, a line for each: as the system's journal and a human read it, and without
-//! a time, which the journal puts before it.
+//! What an operator is told on standard error, a line for each: as the system's journal and a human read it, and
+//! without a time, which the journal puts before it.
 ghost use Rattle.std.specs.Prelude.{ℕ, ◌≡◌, ◌<◌, ◌≤◌, ◌+◌, ◌-◌, None, Some, IsSome, IfSome, IfNone};
 
 use std::fmt::Display;
@@ -40,8 +40,8 @@ impl TurnedAway {
         TurnedAway { told: 0, at: None }
     }
 
-    /// How many more there are than were told of, where there are some and a minute has passed since the last were: these
-    /// are told of now.
+    /// How many more there are than were told of, where there are some and a minute has passed since the last were:
+    /// these are told of now.
     pub fn news(&mut self, count: u64, at: u64) -> Option<u64>
         ensures news { IfSome result (λ more. (0 < more) × (more + self.old.told ≡ count) × (self.new.told ≡ count)
             × (self.new.at ≡ Some at)) }

@@ -40,8 +40,8 @@ fn hub_reason(fault: HubFault) -> Option<&'static str>
     }
 }
 
-/// Why a fault came, to be told of the file or the stream that a word works on; `None` exactly where a call of the system
-/// failed, whose own error says it.
+/// Why a fault came, to be told of the file or the stream that a word works on; `None` exactly where a call of the
+/// system failed, whose own error says it.
 pub(crate) fn reason(fault: Fault) -> Option<&'static str>
     ensures none { IsNone result ↔ IsOfSystem fault }
     ensures said { IfSome result (λ said. said.now ≡ reason_of fault) }

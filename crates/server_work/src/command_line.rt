@@ -323,8 +323,8 @@ const SHOW: WordText = WordText {
     options: &[JOURNAL],
 };
 
-// The words, in the order in which help lists them. (They have a function of their own, since each step of a function that has
-// texts tells of all their bytes.)
+// The words, in the order in which help lists them. (They have a function of their own, since each step of a function
+// that has texts tells of all their bytes.)
 fn words() -> [WordText; 8] {
     [BOARD, FORMAT, RUN, SERVE, DRILL, WIDEN, COPY, SHOW]
 }

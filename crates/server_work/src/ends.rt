@@ -130,8 +130,8 @@ pub fn end_of_work(ended: Result<(), Fault>) -> End
     }
 }
 
-/// The end of a run that only prints a text of the command line: help or the version that was asked for is no fault, want
-/// of memory is one, and anything else is usage.
+/// The end of a run that only prints a text of the command line: help or the version that was asked for is no fault,
+/// want of memory is one, and anything else is usage.
 pub fn end_of_words(error: &clap::Error) -> End
     ensures help { kind_of error.now ≡ ErrorKind.DisplayHelp → result ≡ End.Done }
     ensures version { kind_of error.now ≡ ErrorKind.DisplayVersion → result ≡ End.Done }

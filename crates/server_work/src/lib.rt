@@ -1,5 +1,5 @@
-//! What the words of the program's command line ask for, how a run of it ends, what an operator is told, how a journal's file is
-//! opened, and the word that needs none.
+//! What the words of the program's command line ask for, how a run of it ends, what an operator is told, how a
+//! journal's file is opened, and the word that needs none.
 //!
 //! Modules: `command_line` is the table of the words with their help, `words` what they ask for, `ends` has the exit
 //! status and the name of each end, `opening` opens a journal's file and the store in it, `memory` has `board`;

@@ -1,4 +1,5 @@
--- How what a session has heard is held: whole lines, of which the first bytes were taken, and what has come of the next.
+-- How what a session has heard is held: whole lines, of which the first bytes were taken, and what has come of the
+-- next.
 use Rattle.std.specs.Prelude.{ℕ, ◌≡◌, ◌≤◌, ◌+◌, Bool, true, List, [], ◌++◌, drop, length}
 use Rattle.session_lines.specs.Lines.{IsUnfinished}
 use Rattle.session_lines.specs.Heard.{Heard, heard, IsWhole}

@@ -31,8 +31,8 @@ impl From<AllocError> for FeedFault {
     }
 }
 
-/// The bytes that a session has sent, and that were not taken: whole lines, and what has come of the next one. Of a line
-/// that is too long, and after it, no byte is kept; of the bytes that were taken at most as many are held as wait.
+/// The bytes that a session has sent, and that were not taken: whole lines, and what has come of the next one. Of a
+/// line that is too long, and after it, no byte is kept; of the bytes that were taken at most as many are held as wait.
 #[derive(Drop)]
 pub struct Lines {
     // Whole lines with their line feeds, the first bytes of which were taken, at most half of them.
@@ -147,9 +147,9 @@ impl Lines {
         }
     }
 
-    /// Takes bytes that come after those before. `LineTooLong` exactly where a line was too long before; `NoMemory` where
-    /// memory is refused. After both nothing has changed. A line of more than 255 bytes before its line feed is too long:
-    /// of it, and of what comes after it, no byte is kept, and this call answers `Ok`.
+    /// Takes bytes that come after those before. `LineTooLong` exactly where a line was too long before; `NoMemory`
+    /// where memory is refused. After both nothing has changed. A line of more than 255 bytes before its line feed is
+    /// too long: of it, and of what comes after it, no byte is kept, and this call answers `Ok`.
     pub fn feed(&mut self, piece: &[u8]) -> Result<(), FeedFault>
         requires { length piece.now ≤ 4096 }
         ensures fed { OnOk result (self.new ≡ heard_more self.old piece.now) }

@@ -1,5 +1,5 @@
--- The text in a string of JSON, for texts in UTF-8 without control characters but line feeds. Of a text that was not so made
--- nothing is known: another escape is read as its letter, and a string that no quote ends is read whole.
+-- The text in a string of JSON, for texts in UTF-8 without control characters but line feeds. Of a text that was not so
+-- made nothing is known: another escape is read as its letter, and a string that no quote ends is read whole.
 use Rattle.std.specs.Prelude.{ℕ, Bool, true, false, ◌||◌, ◌==◌, List, [], ◌∷◌, flat_map, if◌then◌else◌}
 use Rattle.text_parts.specs.Signs.{line_feed, quote}
 

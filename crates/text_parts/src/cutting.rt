@@ -5,7 +5,8 @@ ghost use Rattle.text_parts.specs.Parts.{parts_of};
 
 use std::alloc::{AllocError, Global};
 
-/// What stands before the first such sign, an ASCII character, and what stands behind it: all, and nothing, where there is none.
+/// What stands before the first such sign, an ASCII character, and what stands behind it: all, and nothing, where there
+/// is none.
 pub fn cut(text: &str, sign: char) -> (&str, &str)
     requires { sign < 128 }
     ensures front { result.0.now ≡ before_first (λ b. b == sign) text.entry.now }
@@ -35,7 +36,8 @@ pub fn behind(text: &str, sign: char) -> &str
     rest
 }
 
-/// What stands between the first quote and the next, or all behind the first where none follows; nothing where there is none.
+/// What stands between the first quote and the next, or all behind the first where none follows; nothing where there is
+/// none.
 pub fn between_quotes(text: &str) -> &str
     ensures { result.now ≡ before_first (λ b. b == 34) (after_first (λ b. b == 34) text.entry.now) }
 {
@@ -52,8 +54,8 @@ pub fn skip(text: &[u8], count: usize) -> &[u8]
     }
 }
 
-/// The parts of a text, each of which ends at a sign, an ASCII character: its lines, where that is a line feed. It fails where
-/// memory is refused.
+/// The parts of a text, each of which ends at a sign, an ASCII character: its lines, where that is a line feed. It
+/// fails where memory is refused.
 pub fn parts<'a>(alloc: Global, text: &'a str, sign: char) -> Result<Vec<&'a str>, AllocError>
     requires { sign < 128 }
     ensures { IfOk result (λ parts. map (λ part. part.now) parts.items ≡ parts_of sign text.entry.now) }

@@ -19,8 +19,8 @@ fn push_byte(out: &mut Vec<u8>, byte: u8) -> Result<(), AllocError>
     Ok(())
 }
 
-/// Puts a text behind others as it stands in a string: a line feed, a quote and a backslash are escaped, and no other control
-/// character, which has no place there.
+/// Puts a text behind others as it stands in a string: a line feed, a quote and a backslash are escaped, and no other
+/// control character, which has no place there.
 pub fn push_escaped(out: &mut Vec<u8>, text: &[u8]) -> Result<(), AllocError>
     ensures { OnOk result (out.new.items ≡ out.old.items ++ spec.escaped text.now) }
 {

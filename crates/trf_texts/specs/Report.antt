@@ -60,8 +60,8 @@ abbrev pub better_than : ℕ → List ℕ → ℕ
 better_than halves [] = 0
 better_than halves (other ∷ others) = (if nat_lt halves other then 1 else 0) + better_than halves others
 
--- Columns 1 to 80 of a player's line: 5 to 8 have the number, 15 to 47 the name; sex, title, rating, federation, FIDE's number
--- and the date of birth, 10 to 13 and 49 to 79, are not known.
+-- Columns 1 to 80 of a player's line: 5 to 8 have the number, 15 to 47 the name; sex, title, rating, federation, FIDE's
+-- number and the date of birth, 10 to 13 and 49 to 79, are not known.
 unfoldable pub front_text : ℕ → List ℕ → List ℕ
 front_text n name =
     codes "001 " ++ (at_right 4 (decimal n) ++ (replicate 6 space ++ (at_left 33 (map plain_byte name) ++ replicate 33 space)))

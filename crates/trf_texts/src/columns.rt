@@ -340,8 +340,8 @@ fn push_tournament(
     push_rounds(out, tournament.rounds)
 }
 
-/// The report of a tournament (FIDE's TRF-16) of players in the order of their starting numbers, by their names, and of the
-/// meetings of each round. It fails where the columns have no room for players or rounds.
+/// The report of a tournament (FIDE's TRF-16) of players in the order of their starting numbers, by their names, and of
+/// the meetings of each round. It fails where the columns have no room for players or rounds.
 #[tactic(auto, unfolding(crate::specs::Report::report_text))]
 pub fn report(
     alloc: Global,

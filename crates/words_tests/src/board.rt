@@ -69,8 +69,8 @@ impl Write for Sink {
 /// A text so many times, and another behind it.
 type Text = (usize, &'static [u8], &'static [u8]);
 
-/// An input and what comes of it; how many bytes are read at a call and how many are written; which read fails, and which write;
-/// how it ends; and in how many writes, where that is wanted.
+/// An input and what comes of it; how many bytes are read at a call and how many are written; which read fails, and
+/// which write; how it ends; and in how many writes, where that is wanted.
 type Case = (
     Text,
     Text,

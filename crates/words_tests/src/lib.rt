@@ -1,5 +1,5 @@
-//! Tests of the program's words, and of what sockets are watched, by what their crates export alone: so none of these is proved
-//! twice.
+//! Tests of the program's words, and of what sockets are watched, by what their crates export alone: so none of these
+//! is proved twice.
 #![tactic(auto)]
 
 #[cfg(test)]

@@ -97,8 +97,8 @@ const LIMITS: Limits = Limits {
     plies: 60,
 };
 
-// Serves a store in memory for some turns, in which a client may be silent for so many milliseconds. Whether its connection
-// was closed while the server served, and whether the turns took 200 ms: a rest takes 10.
+// Serves a store in memory for some turns, in which a client may be silent for so many milliseconds. Whether its
+// connection was closed while the server served, and whether the turns took 200 ms: a rest takes 10.
 fn served(stop: &impl Abort, rt: &HostRuntime, silence: Option<u64>) -> (bool, bool) {
     let alloc: Global = rt.alloc();
     let device = MemoryDevice::new(alloc, 212).expect(stop, "memory");
