@@ -1,4 +1,4 @@
-"""The PGNs of an archive, by docs/use/NIGHT.md, "The texts": `Archive.play` gives what lobby_player is to write of a line
+"""The PGNs of an archive, by docs/use/NIGHT.md, "The texts": `Archive.play` gives what test_desk is to write of a line
 of an archive."""
 
 import sys

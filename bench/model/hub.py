@@ -1,7 +1,7 @@
 #!/usr/bin/env python3
 """hub.py FILE
 
-Plays the lines of the part `hub` of `line_player` (see there) by the rules in words alone, on the plain model of the table:
+Plays the lines of the part `hub` of `test_player` (see there) by the rules in words alone, on the plain model of the table:
 what each session of a hub is told, and what `run` writes. Prints what it is to print. Devices and memory are no part of the
 model; of a device that serves so many calls more it knows only that a commit takes five calls, or four where all records fit into
 one sector (here: up to four entries). The last of the lines, and what is to be printed of all, long_run.py writes.

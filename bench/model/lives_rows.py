@@ -1,5 +1,5 @@
 #!/usr/bin/env python3
-"""The part `lives` of `line_player`'s stored run: `lives_rows.py stdin` prints its plans, `lives_rows.py stdout` what
+"""The part `lives` of `test_player`'s stored run: `lives_rows.py stdin` prints its plans, `lives_rows.py stdout` what
 came of them.
 
 What came is worked out here by the calls of docs/design/DISK.md, and never taken from the program. An opening syncs and reads

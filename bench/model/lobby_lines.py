@@ -1,5 +1,5 @@
 #!/usr/bin/env python3
-"""lobby_lines.py FILE plays the lines of FILE as lobby_player does, those of a desk by desk.py and those of an archive by
+"""lobby_lines.py FILE plays the lines of FILE as test_desk does, those of a desk by desk.py and those of an archive by
 archive.py, and prints what it is to write."""
 
 import sys

@@ -1,7 +1,7 @@
 #!/usr/bin/env python3
 """tables.py FILE
 
-Plays the lines of the part `table` of `line_player` (see there) by the rules in words alone, on the plain model of the table,
+Plays the lines of the part `table` of `test_player` (see there) by the rules in words alone, on the plain model of the table,
 and prints what it is to print. The records of a snapshot are made here, and read by reader.py, both from docs/design/DISK.md.
 """
 

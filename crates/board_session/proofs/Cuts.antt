@@ -4,12 +4,12 @@ use Rattle.std.specs.Prelude.{nat_lt}
 use Rattle.std.proofs.lemmas.Bool.{false≢true, cases_Bool}
 use Rattle.std.proofs.lemmas.Bool.Decides.{Decides-eqb, Decides-ltb}
 use Rattle.std.proofs.lemmas.List.Elements.{All-append, All-cons, All-nil}
-use Rattle.session_lines.specs.Lines.{is_feed, HasNoFeed, IsUnfinished, lines_of, has_long_line}
-use Rattle.session_lines.specs.Heard.{IsWhole}
-use Rattle.session_lines.proofs.LineLemmas.{lines-rest, long-rest}
-use Rattle.session_lines.proofs.Wholes.{whole-none, whole-line, whole-append, unfinished-none}
-use Rattle.line_loop.specs.Turns.{IsTooLong}
-use Rattle.line_loop.proofs.Runs.{unfinished-more, too-long, too-long-more}
+use Rattle.text_lines.specs.Lines.{is_feed, HasNoFeed, IsUnfinished, lines_of, has_long_line}
+use Rattle.text_lines.specs.Heard.{IsWhole}
+use Rattle.text_lines.proofs.LineLemmas.{lines-rest, long-rest}
+use Rattle.text_lines.proofs.Wholes.{whole-none, whole-line, whole-append, unfinished-none}
+use Rattle.text_lines.specs.Turns.{IsTooLong}
+use Rattle.text_lines.proofs.Runs.{unfinished-more, too-long, too-long-more}
 
 -- what comes after the whole lines: the front of a line, or a line that is too long
 data After (rest : List ℕ) : Type 0 where

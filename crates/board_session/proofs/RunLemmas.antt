@@ -1,11 +1,11 @@
 -- Texts that inputs call for, and how the loop over lines ends.
 use Rattle.std.proofs.Common.{◌≡◌, ℕ, Bool, true, false, List, [], ◌∷◌, ◌++◌, sym, refl, ap, ◌∙◌, subst, append_assoc, append-nil, arith, length-append, Option, None, Some, IfSome, Result, Err}
 use Rattle.std.specs.Io.KnownBytes.{Appends, Consumes}
-use Rattle.session_lines.specs.Lines.{lines_of, has_long_line}
+use Rattle.text_lines.specs.Lines.{lines_of, has_long_line}
 use Rattle.chess_board.specs.Position.{Position, IsValid}
 use Rattle.chess_board.specs.Initial.{initial}
-use Rattle.line_loop.specs.Texts as loop
-use Rattle.line_loop.specs.declared.answerer.LoopFault.{LoopFault}
+use Rattle.text_lines.specs.Texts as loop
+use Rattle.text_lines.specs.declared.answerer.LoopFault.{LoopFault}
 use Rattle.board_session.specs.Answer.{IsAnswer}
 use Rattle.board_session.specs.Run.{IsBoardText, AppendsText, AppendsFront, AnswersTaken, AnswersInPart}
 use Rattle.board_session.proofs.AnswerLemmas.{answers, valid_after, one_answer}

@@ -3,7 +3,7 @@ use Rattle.std.specs.Prelude.{ℕ, ◌≡◌, ◌<◌, Bool, true, List, ◌++�
 use Rattle.std.specs.Io.KnownBytes.{Appends, Consumes}
 use Rattle.chess_board.specs.Position.{Position}
 use Rattle.chess_board.specs.Initial.{initial}
-use Rattle.line_loop.specs.Texts.{IsText}
+use Rattle.text_lines.specs.Texts.{IsText}
 use Rattle.board_session.specs.Answer.{IsAnswer}
 use Rattle.board_session.specs.declared.board_loop.BoardFault.{BoardFault}
 use Rattle.board_session.specs.declared.board_loop.BoardFault.TheVariants.{Read, Write}

@@ -7,11 +7,10 @@ ghost use Rattle.board_session.specs.Run.{IsBoardText, AppendsText, AppendsFront
 use crate::answer::answer;
 use chess_board::Board;
 use chess_fen::ShownBoard;
-use line_loop::{Answer, Answerer, LoopFault, Reads, answer_lines};
-use session_lines::without_return;
 use std::convert::Infallible;
 use std::io::{Read, Write};
 use std::marker::Model;
+use text_lines::{Answer, Answerer, LoopFault, Reads, answer_lines, without_return};
 use thiserror::Error;
 
 /// Why the loop broke off.

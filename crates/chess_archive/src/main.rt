@@ -1,10 +1,10 @@
 //! The archive of a chess club's games: its words.
 //!
-//! What was read of its words goes to `archive_words`.
+//! What was read of its words goes to `night_keeping`.
 #![tactic(auto)]
 
-use archive_words::{Word, command, export, keep, live, read_words};
-use command_words::{NotDone, end_of, words_given};
+use command_lines::{NotDone, end_of, words_given};
+use night_keeping::{Word, command, export, keep, live, read_words};
 use std::process::ExitCode;
 
 fn main(rt: HostRuntime) -> ExitCode {

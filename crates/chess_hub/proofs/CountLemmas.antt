@@ -6,7 +6,7 @@ use Rattle.std.proofs.lemmas.Bool.{cases_lt, ne_eqb}
 use Rattle.std.proofs.lemmas.List.Sums.{sum_by-cons, sum_by-append, sum_by-take-le}
 use Rattle.std.proofs.lemmas.Option.{slice_get_past}
 use Rattle.slab.specs.Slab.{Slab, get, entries_from}
-use Rattle.session_lines.specs.Lines.{lines_of}
+use Rattle.text_lines.specs.Lines.{lines_of}
 use Rattle.chess_hub.specs.declared.sessions.Session.{Session}
 use Rattle.chess_hub.specs.declared.turn.TurnLine.{TurnLine}
 use Rattle.chess_hub.specs.Turn.{SessionLine, session_line, lines_at, rounds, turn_lines, waiting, waiting_in, AreTurnLines}

@@ -8,10 +8,10 @@ use Rattle.std.proofs.lemmas.Bool.Decides.{nat_tests}
 use Rattle.std.proofs.lemmas.List.Elements.{All-nil, All-cons, All-head, All-tail}
 use Rattle.std.proofs.lemmas.List.Splits.{slice_split-cons_yes, slice_split-cons_no}
 use Rattle.std.proofs.Math.Seq.{drop-append_seam}
-use Rattle.session_lines.specs.Lines.{is_feed, HasNoFeed, parts_of, is_too_long, ended_parts, lines_of, has_long_line, IsUnfinished}
-use Rattle.session_lines.specs.Heard.{Heard, heard, heard_more, ended_bytes, kept_of, IsWhole, IsFirstLine}
-use Rattle.session_lines.proofs.LineLemmas.{lines-feed}
-use Rattle.session_lines.proofs.Wholes.{whole-none, whole-line, whole-append}
+use Rattle.text_lines.specs.Lines.{is_feed, HasNoFeed, parts_of, is_too_long, ended_parts, lines_of, has_long_line, IsUnfinished}
+use Rattle.text_lines.specs.Heard.{Heard, heard, heard_more, ended_bytes, kept_of, IsWhole, IsFirstLine}
+use Rattle.text_lines.proofs.LineLemmas.{lines-feed}
+use Rattle.text_lines.proofs.Wholes.{whole-none, whole-line, whole-append}
 use Rattle.chess_hub.specs.Delivery.{DropsLine, DropsLines}
 
 -- ---- what is kept of an input has its lines

@@ -7,8 +7,8 @@ use Rattle.std.proofs.lemmas.Bool.{cases_Bool, cases_eq, eqb-true}
 use Rattle.std.proofs.lemmas.List.Elements.{All-nil, All-append, All-map, All-weaker, All-head, All-tail, All-cons}
 use Rattle.std.proofs.lemmas.List.Sums.{sum_by-cons}
 use Rattle.slab.specs.Slab.{get, entries}
-use Rattle.session_lines.specs.Lines.{lines_of, has_long_line}
-use Rattle.session_lines.specs.Heard.{heard_more}
+use Rattle.text_lines.specs.Lines.{lines_of, has_long_line}
+use Rattle.text_lines.specs.Heard.{heard_more}
 use Rattle.chess_entry.specs.State.{TableState}
 use Rattle.chess_hub.specs.declared.sessions.Session.{Session}
 use Rattle.chess_hub.specs.declared.sessions.Sessions.{Sessions}

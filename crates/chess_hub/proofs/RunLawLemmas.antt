@@ -7,14 +7,14 @@ use Rattle.std.proofs.lemmas.List.{drop-drop}
 use Rattle.std.proofs.lemmas.List.Sums.{sum_by-cons, sum_by-append}
 use Rattle.std.specs.Prelude.{cond, map, ◌==◌, ◌&&◌, if◌then◌else◌, slice_index, slice_index_or}
 use Rattle.std.specs.List.{AllZip, concat}
-use Rattle.session_lines.specs.Lines.{lines_of, has_long_line}
+use Rattle.text_lines.specs.Lines.{lines_of, has_long_line}
 use Rattle.sector_dev.specs.Device.{State}
 use Rattle.chess_entry.specs.State.{TableState}
 use Rattle.chess_hub.specs.Session.{Said, farewell, is_none_waiting}
 use Rattle.chess_hub.specs.Turn.{SessionLine, session_line, turn_lines, IsReading}
 use Rattle.chess_hub.specs.Answers.{given_name, renamed}
-use Rattle.line_loop.specs.Texts.{IsRun, IsText}
-use Rattle.line_loop.specs.Texts as loop
+use Rattle.text_lines.specs.Texts.{IsRun, IsText}
+use Rattle.text_lines.specs.Texts as loop
 use Rattle.chess_hub.specs.Calls.{Call, Connected, Fed, Turned, which, input_of}
 use Rattle.chess_hub.specs.Sessions.{Merged, taken_count, lines_left, AreOpenIn, IsMergedAs, AreMerged, name_from, IsLineAnswered, AreAnsweredAfter, answers_to}
 use Rattle.chess_hub.specs.Running.{Kept, Standing, stands, written, AnswersLine}

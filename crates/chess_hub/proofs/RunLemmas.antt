@@ -7,9 +7,9 @@ use Rattle.sector_dev.specs.Device.{State}
 use Rattle.chess_hub.specs.declared.sessions.Session.{Session}
 use Rattle.chess_hub.specs.declared.sessions.Sessions.{Sessions}
 use Rattle.chess_hub.specs.Session.{shown, session_at, session_count}
-use Rattle.line_loop.specs.declared.answerer.LoopFault.{LoopFault}
-use Rattle.line_loop.specs.declared.answerer.LoopFault.TheVariants as loop
-use Rattle.line_loop.specs.Texts.{IsRun, IsText, AnswersAll, FindsNone, IsOfSource, Ended}
+use Rattle.text_lines.specs.declared.answerer.LoopFault.{LoopFault}
+use Rattle.text_lines.specs.declared.answerer.LoopFault.TheVariants as loop
+use Rattle.text_lines.specs.Texts.{IsRun, IsText, AnswersAll, FindsNone, IsOfSource, Ended}
 use Rattle.chess_hub.specs.declared.fault.HubFault.{HubFault}
 use Rattle.chess_hub.specs.declared.fault.HubFault.TheVariants.{Busy, NoMemory, LineTooLong, Store as OfStore}
 use Rattle.chess_hub.specs.declared.running.RunFault.{RunFault}

@@ -3,8 +3,8 @@ use Rattle.std.proofs.Common.{◌≡◌, ℕ, suc, ◌+◌, ◌≤◌, true, fal
 use Rattle.std.specs.Prelude.{Bool, ◌&&◌, ◌||◌, not, cond}
 use Rattle.std.proofs.lemmas.Bool.{and_parts}
 use Rattle.std.proofs.lemmas.List.{nil_from_length}
-use Rattle.session_lines.specs.Lines.{lines_of, has_long_line}
-use Rattle.session_lines.specs.Heard.{Heard, heard_more}
+use Rattle.text_lines.specs.Lines.{lines_of, has_long_line}
+use Rattle.text_lines.specs.Heard.{Heard, heard_more}
 use Rattle.chess_hub.specs.Session.{Said, SessionState, fresh, farewell, is_none_waiting, is_done, farewell_due, due, after_one, given_one, first_due}
 use Rattle.chess_hub.specs.Delivery.{Answered, HasAnswered, DropsLines, name_over}
 use Rattle.chess_hub.specs.Sessions.{Merged, taken_count, name_from, answers_to}

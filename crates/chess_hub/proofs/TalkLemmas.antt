@@ -6,10 +6,10 @@ use Rattle.std.proofs.lemmas.List.Elements.{All-head, All-tail}
 use Rattle.std.specs.Option.{MatchOption}
 use Rattle.std.specs.Io.BufRead.{strip_last}
 use Rattle.slab.specs.Slab.{get, entries_from, entries}
-use Rattle.session_lines.specs.Lines.{is_feed, HasNoFeed, IsUnfinished, lines_of, has_long_line}
-use Rattle.session_lines.specs.Heard.{Heard, heard, heard_more}
-use Rattle.session_lines.proofs.LineLemmas.{lines-feed, lines-rest, long-feed, long-rest}
-use Rattle.session_lines.proofs.Wholes.{kept-feed, kept-rest, unfinished-none}
+use Rattle.text_lines.specs.Lines.{is_feed, HasNoFeed, IsUnfinished, lines_of, has_long_line}
+use Rattle.text_lines.specs.Heard.{Heard, heard, heard_more}
+use Rattle.text_lines.proofs.LineLemmas.{lines-feed, lines-rest, long-feed, long-rest}
+use Rattle.text_lines.proofs.Wholes.{kept-feed, kept-rest, unfinished-none}
 use Rattle.rec_codec.specs.declared.record.Entry.{Entry}
 use Rattle.chess_entry.specs.State.{TableState}
 use Rattle.chess_entry.specs.declared.commands.Command.{Command}

@@ -4,8 +4,8 @@ use Rattle.std.specs.List.{All}
 use Rattle.std.specs.Option.{MatchOption}
 use Rattle.std.specs.VecDeque.{deque_len, deque_capacity}
 use Rattle.slab.specs.Slab.{Slab, get}
-use Rattle.session_lines.specs.Lines.{lines_of}
-use Rattle.session_lines.specs.Heard.{Heard, IsFirstLine}
+use Rattle.text_lines.specs.Lines.{lines_of}
+use Rattle.text_lines.specs.Heard.{Heard, IsFirstLine}
 use Rattle.chess_answer.specs.declared.reads.Reply.{Reply}
 use Rattle.chess_hub.specs.declared.sessions.Session.{Session}
 use Rattle.chess_hub.specs.declared.sessions.Sessions.{Sessions}

@@ -1,7 +1,7 @@
 -- Why a hub refuses a call.
 use Rattle.std.specs.Prelude.{ℕ, ◌≡◌, ◌+◌, ◌-◌, ◌^◌, min, Bool, true, false, if◌then◌else◌, Result, Ok, Err}
-use Rattle.session_lines.specs.declared.heard.FeedFault.{FeedFault}
-use Rattle.session_lines.specs.declared.heard.FeedFault.TheVariants as feed
+use Rattle.text_lines.specs.declared.heard.FeedFault.{FeedFault}
+use Rattle.text_lines.specs.declared.heard.FeedFault.TheVariants as feed
 use Rattle.chess_hub.specs.declared.sessions.ConnectFault.{ConnectFault}
 use Rattle.chess_hub.specs.declared.sessions.ConnectFault.TheVariants as connect
 use Rattle.chess_store.specs.Faults as store

@@ -1,6 +1,6 @@
 -- Any list of calls, each as the hub's contracts say, gives each session its text.
 use Rattle.std.specs.Prelude.{ℕ, ◌≡◌, ◌++◌, true, false, List, [], ◌∷◌, Option, Some, None}
-use Rattle.session_lines.specs.Heard.{heard_more}
+use Rattle.text_lines.specs.Heard.{heard_more}
 use Rattle.chess_entry.specs.State.{TableState}
 use Rattle.chess_hub.specs.declared.sessions.Sessions.{Sessions}
 use Rattle.chess_hub.specs.Session.{Said, SessionState, fresh, session_at, Changes, IsUnchanged, due, first_due, given_one}

@@ -1,12 +1,12 @@
 -- A run is what one session of a hub is told.
 use Rattle.std.specs.Prelude.{ℕ, ◌≡◌, List, [], ◌∷◌, ◌++◌, None, map}
 use Rattle.std.specs.List.{AllZip, concat}
-use Rattle.session_lines.specs.Lines.{lines_of}
+use Rattle.text_lines.specs.Lines.{lines_of}
 use Rattle.sector_dev.specs.Device.{State}
 use Rattle.chess_entry.specs.State.{TableState}
 use Rattle.chess_hub.specs.Session.{Said}
 use Rattle.chess_hub.specs.Turn.{IsReading}
-use Rattle.line_loop.specs.Texts.{IsRun, IsText}
+use Rattle.text_lines.specs.Texts.{IsRun, IsText}
 use Rattle.chess_hub.specs.Calls.{Call, Connected, Fed, Turned}
 use Rattle.chess_hub.specs.Sessions.{Merged, AreMerged, AreAnsweredAfter, answers_to, session_text}
 use Rattle.chess_hub.specs.Running.{Kept, Standing, stands, written, AnswersLine}

@@ -1,8 +1,8 @@
 -- What a run is told: one session, each line in a turn of its own.
 use Rattle.std.specs.Prelude.{ℕ, ◌≡◌, ◌≢◌, ◌⊎◌, true, false, Bool, List, [], ◌∷◌, ◌++◌, Option, Some, None, Result, Ok, Err}
 use Rattle.std.specs.Io.KnownBytes.{Appends}
-use Rattle.session_lines.specs.Lines.{IsUnfinished}
-use Rattle.session_lines.specs.Heard.{heard}
+use Rattle.text_lines.specs.Lines.{IsUnfinished}
+use Rattle.text_lines.specs.Heard.{heard}
 use Rattle.chess_entry.specs.declared.commands.Command.{Command}
 use Rattle.sector_dev.specs.declared.device.Device.{Ghosts}
 use Rattle.sector_dev.specs.Device.{State}
@@ -17,9 +17,9 @@ use Rattle.sector_journal.specs.declared.compactions.Compaction.{Compaction}
 use Rattle.chess_store.specs.declared.fault.StoreFault.{StoreFault}
 use Rattle.chess_store.specs.declared.store.Store.{Store}
 use Rattle.chess_store.specs.Means.{IsKept}
-use Rattle.line_loop.specs.declared.answerer.LoopFault.{LoopFault}
-use Rattle.line_loop.specs.declared.answerer.LoopFault.TheVariants as loop
-use Rattle.line_loop.specs.Texts.{IsText, Ended}
+use Rattle.text_lines.specs.declared.answerer.LoopFault.{LoopFault}
+use Rattle.text_lines.specs.declared.answerer.LoopFault.TheVariants as loop
+use Rattle.text_lines.specs.Texts.{IsText, Ended}
 use Rattle.chess_hub.specs.declared.hub.Hub.{Hub}
 use Rattle.chess_hub.specs.declared.fault.HubFault.{HubFault}
 use Rattle.chess_hub.specs.declared.fault.HubFault.TheVariants.{NoMemory, Store as OfStore}

@@ -1,7 +1,7 @@
 -- What a session has sent and is given.
 use Rattle.std.specs.Prelude.{ℕ, ◌≡◌, ◌≢◌, Bool, true, false, ◌&&◌, ◌||◌, not, if◌then◌else◌, List, [], ◌∷◌, ◌++◌, Option, Some, None, map, option_map, string_bytes, codes}
-use Rattle.session_lines.specs.Lines.{lines_of}
-use Rattle.session_lines.specs.Heard.{Heard, heard}
+use Rattle.text_lines.specs.Lines.{lines_of}
+use Rattle.text_lines.specs.Heard.{Heard, heard}
 use Rattle.slab.specs.Slab.{get, slab_len}
 use Rattle.chess_answer.specs.declared.reads.Reply.{Reply}
 use Rattle.chess_hub.specs.declared.sessions.Session.{Session}

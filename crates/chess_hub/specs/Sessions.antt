@@ -2,7 +2,7 @@
 use Rattle.std.specs.Prelude.{ℕ, ◌≡◌, ◌==◌, ◌&&◌, Bool, true, if◌then◌else◌, List, [], ◌∷◌, ◌++◌, Option, Some, None, map, filter, drop, count_by, ◌↔◌, Contains}
 use Rattle.std.specs.List.{AllZip, zip}
 use Rattle.std.specs.List.Sorted.{IsStrictlyIncreasing}
-use Rattle.session_lines.specs.Lines.{lines_of, has_long_line}
+use Rattle.text_lines.specs.Lines.{lines_of, has_long_line}
 use Rattle.rec_codec.specs.declared.record.Entry.{Entry}
 use Rattle.chess_entry.specs.State.{TableState}
 use Rattle.chess_line.specs.declared.lines.Line.{Line}

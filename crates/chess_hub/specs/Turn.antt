@@ -2,7 +2,7 @@
 use Rattle.std.specs.Prelude.{ℕ, ◌≡◌, zero, suc, List, [], ◌++◌, Option, map, option_map, slice_get, take}
 use Rattle.std.specs.Option.{MatchOption}
 use Rattle.std.specs.List.{filter_map, cons_option, AllZip}
-use Rattle.session_lines.specs.Lines.{lines_of}
+use Rattle.text_lines.specs.Lines.{lines_of}
 use Rattle.slab.specs.Slab.{Slab, entries}
 use Rattle.chess_line.specs.declared.lines.Line.{Line}
 use Rattle.chess_line.specs.Line.{IsLineOf}

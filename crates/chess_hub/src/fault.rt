@@ -2,8 +2,8 @@
 
 use crate::sessions::ConnectFault;
 use chess_store::StoreFault;
-use session_lines::FeedFault;
 use std::alloc::AllocError;
+use text_lines::FeedFault;
 use thiserror::Error;
 
 /// Why a hub refuses a call.

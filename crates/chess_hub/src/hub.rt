@@ -1,6 +1,6 @@
 //! A hub.
 ghost use Rattle.std.specs.Prelude.{ℕ, ◌≡◌, ◌≤◌, ◌↔◌, true, false, [], Some, None, Err, length, option_map, IsTrue, IsSome, IfSome, IfOk, IfErr, OnOk, OnErr, IsErrOf};
-ghost use Rattle.session_lines.specs.Heard.{heard_more};
+ghost use Rattle.text_lines.specs.Heard.{heard_more};
 ghost use Rattle.chess_hub.specs.Answers.{name_at, commands_of};
 ghost use Rattle.chess_hub.specs.Delivery.{HaveRoom, asking_count};
 ghost use Rattle.chess_hub.specs.Turn.{AreTurnLines, turn_lines, waiting_of};

@@ -7,10 +7,10 @@ use crate::fault::HubFault;
 use crate::moments::Moments;
 use crate::talk::begin;
 use chess_store::Store;
-use line_loop::{LoopFault, Reads, answer_lines};
 use sector_dev::Device;
 use std::alloc::Global;
 use std::io::{Read, Write};
+use text_lines::{LoopFault, Reads, answer_lines};
 use thiserror::Error;
 
 /// Why a run ends before its input does.

@@ -1,14 +1,14 @@
 //! Sessions, each under its number.
 ghost use Rattle.std.specs.Prelude.{ℕ, ◌≡◌, ◌≢◌, ◌<◌, ◌≤◌, ◌↔◌, true, false, [], Some, None, length, codes, option_map, IsTrue, IsSome, IfSome, IfNone, IfOk, OnOk, OnErr, IsErrOf};
-ghost use Rattle.session_lines.specs.Heard.{heard_more};
+ghost use Rattle.text_lines.specs.Heard.{heard_more};
 ghost use Rattle.chess_hub.specs.Session.{said, fresh, shown, session_at, session_count, Changes, IsUnchanged, due, first_due, given_one, is_done};
 
 use chess_answer::{AnswerLine, Reply};
 use player_name::Name;
-use session_lines::{FeedFault, Lines};
 use slab::Slab;
 use std::alloc::Global;
 use std::collections::VecDeque;
+use text_lines::{FeedFault, Lines};
 
 /// The number of a session. It may be given again once the session is closed.
 pub type Sid = usize;

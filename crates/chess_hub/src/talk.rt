@@ -1,7 +1,7 @@
 //! One session of a hub, whose lines are answered one a turn.
 ghost use Rattle.std.specs.Prelude.{ℕ, ◌≡◌, true, [], List, Option, None, Ok, Err, IfOk, IfErr, OnOk};
 ghost use Rattle.std.specs.Io.BufRead.{strip_last};
-ghost use Rattle.session_lines.specs.Lines.{IsUnfinished};
+ghost use Rattle.text_lines.specs.Lines.{IsUnfinished};
 ghost use Rattle.chess_hub.specs.Session.{said};
 ghost use Rattle.chess_hub.specs.Answers.{name_at};
 ghost use Rattle.chess_hub.specs.Storing.{StoreMayBeAsked, StoreRefuses};
@@ -14,9 +14,9 @@ use crate::moments::Moments;
 use crate::sessions::Sid;
 use chess_answer::Reply;
 use chess_store::Store;
-use line_loop::{Answer, Answerer};
 use sector_dev::Device;
 use std::alloc::Global;
+use text_lines::{Answer, Answerer};
 
 /// A hub with one session, and the moments of its turns.
 #[derive(Drop)]

@@ -1,16 +1,16 @@
 //! Which lines of the sessions stand next in turn.
 ghost use Rattle.std.specs.Prelude.{ℕ, ◌≡◌, ◌≤◌, Some, None, length, slice_get, IfOk, OnOk};
 ghost use Rattle.std.specs.Option.{MatchOption};
-ghost use Rattle.session_lines.specs.Lines.{lines_of};
+ghost use Rattle.text_lines.specs.Lines.{lines_of};
 ghost use Rattle.std.specs.Vec.{vec_len};
 ghost use Rattle.chess_hub.specs.Delivery.{AreOpen};
 ghost use Rattle.chess_hub.specs.Turn.{AreTurnLines, MoreTurnLines, line_of, lines_at, turn_lines, waiting_of, waiting_in};
 
 use crate::sessions::{Session, Sessions, Sid};
 use chess_line::{Line, parse};
-use session_lines::Lines;
 use slab::Slab;
 use std::alloc::AllocError;
+use text_lines::Lines;
 
 /// A line that stands next in turn: its session, and the line, read; `None` where it has no form of the protocol.
 #[derive(Clone, Copy)]

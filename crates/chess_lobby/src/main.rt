@@ -3,7 +3,7 @@
 //! What was read of its words goes to `lobby_commands` and `lobby_serving`.
 #![tactic(auto)]
 
-use command_words::{NotDone, end_of, words_given};
+use command_lines::{NotDone, end_of, words_given};
 use lobby_commands::{Word, add_player, command, print_evidence, read_words};
 use lobby_serving::serve;
 use std::process::ExitCode;

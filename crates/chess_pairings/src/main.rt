@@ -5,9 +5,9 @@
 
 mod start_word;
 
-use command_words::{NotDone, end_of, words_given};
+use command_lines::{NotDone, end_of, words_given};
+use night_outcomes::{write_report, write_results};
 use pairing_commands::{Word, command, read_words};
-use round_outcomes::{write_report, write_results};
 use start_word::start;
 use std::process::ExitCode;
 

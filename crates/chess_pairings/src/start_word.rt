@@ -2,12 +2,12 @@
 use anyhow::{Context, Error, Result};
 use jiff::Timestamp;
 use lobby_players::players_of;
-use pairing_commands::Starting;
-use pairing_texts::Pairing;
-use round_games::{
+use night_boards::{
     Became, Board, LobbyLink, RoundFile, boards_of, check_notes, check_players, check_times,
     pairings_of, take_words, token_of,
 };
+use night_rounds::Pairing;
+use pairing_commands::Starting;
 use std::alloc::Global;
 use std::fs::File;
 use std::net::{Net, SocketAddr, TcpStream};

@@ -1,15 +1,13 @@
 //! A chess game server: its words.
 //!
-//! What was read of its words goes to `journal_words`, `server_playing` and `server_work`; then it tells how it ended.
+//! What was read of its words goes to `server_words`, `server_words` and `server_words`; then it tells how it ended.
 #![tactic(auto)]
 
 use clap::Error;
-use command_words::words_given;
-use journal_words::{copy_journal, format, show_games, widen};
-use server_playing::{run_journal, serve, tell_drill};
-use server_work::{
-    End, Fault, Word, command, end_of_words, end_of_work, fault_name, play_board, read_words,
-    status,
+use command_lines::words_given;
+use server_words::{
+    End, Fault, Word, command, copy_journal, end_of_words, end_of_work, fault_name, format,
+    play_board, read_words, run_journal, serve, show_games, status, tell_drill, widen,
 };
 use std::process::ExitCode;
 

@@ -1,3 +1,12 @@
 pub mod StoreLemmas
 pub mod ServingLemmas
 pub mod ShortLemmas
+pub mod PortionLemmas
+pub mod ProtocolLemmas
+pub mod SendLemmas
+pub mod ClientLemmas
+pub mod TakingLemmas
+pub mod RoundLemmas
+pub mod WaitLemmas
+pub mod HeardLemmas
+pub mod ClosingLemmas

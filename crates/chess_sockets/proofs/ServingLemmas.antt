@@ -10,10 +10,10 @@ use Rattle.chess_hub.specs.declared.sessions.Sessions.{Sessions}
 use Rattle.chess_hub.specs.Session.{Said, Changes, IsUnchanged}
 use Rattle.chess_hub.specs.Calls.{Call, Closed, Fed, Given}
 use Rattle.chess_hub.specs.Law.{HubState, Steps, Stays}
-use Rattle.client_streams.specs.declared.client.Client.{Client}
-use Rattle.server_calls.specs.declared.listener.LocalListener.{LocalListener}
-use Rattle.client_streams.specs.Rounds as rounds
-use Rattle.client_streams.specs.Rounds.{AreEach, IsSent, AreGivenTo, IsGivenOut, IsRead, IsWritten, intake, Holds}
+use Rattle.chess_sockets.specs.declared.client.Client.{Client}
+use Rattle.sockets.specs.declared.listener.LocalListener.{LocalListener}
+use Rattle.chess_sockets.specs.Rounds as rounds
+use Rattle.chess_sockets.specs.Rounds.{AreEach, IsSent, AreGivenTo, IsGivenOut, IsRead, IsWritten, intake, Holds}
 use Rattle.chess_sockets.specs.Serving.{state_of, LeadsOn, IsLedBy, IsOfReading, IsOfWriting, AreRead, AreWritten, Welcomes, AreCounted, IsWelcomed, IsAskedFor}
 use Rattle.chess_sockets.specs.declared.server.Rested.{Rested}
 

@@ -16,7 +16,7 @@ use Rattle.chess_answer.specs.declared.reads.Reply.{Reply}
 use Rattle.chess_answer.specs.Reads.{IsReadReply, IsFenLine, show_text}
 use Rattle.chess_store.specs.Batch.{Becomes}
 use Rattle.chess_hub.specs.Session.{Said}
-use Rattle.client_streams.specs.Portions.{is_dear}
+use Rattle.chess_sockets.specs.Portions.{is_dear}
 use Rattle.chess_sockets.specs.Laws.{LawOfShortAnswers}
 
 front_of : (cut : Bool) (n : ℕ) (line front : List ℕ) → (if cut then take n line else line) ≡ front

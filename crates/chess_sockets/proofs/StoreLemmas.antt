@@ -17,7 +17,7 @@ use Rattle.chess_hub.specs.declared.fault.HubFault.TheVariants as hub
 use Rattle.chess_hub.specs.Faults.{UnlessDevice, refusals_after}
 use Rattle.chess_hub.specs.Turning.{AsksFor, IsBatchFault, AreRefused, IsTurnFault, TurnLasts}
 use Rattle.chess_hub.specs.Law.{HubState}
-use Rattle.client_streams.specs.declared.client.Client.{Client}
+use Rattle.chess_sockets.specs.declared.client.Client.{Client}
 use Rattle.chess_sockets.specs.Serving.{state_of, AreRead}
 use Rattle.chess_sockets.specs.Turns.{EndsServing, IsRefusal}
 

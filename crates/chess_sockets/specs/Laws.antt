@@ -6,7 +6,7 @@ use Rattle.chess_line.specs.declared.lines.Line.{Line}
 use Rattle.chess_hub.specs.Session.{Said}
 use Rattle.chess_hub.specs.Turn.{IsReading}
 use Rattle.chess_hub.specs.Sessions.{IsLineAnswered}
-use Rattle.client_streams.specs.Portions.{is_dear}
+use Rattle.chess_sockets.specs.Portions.{is_dear}
 
 -- The answer to a line that asks for little, as that stands before its line feed, is one line: it has no body, whoever
 -- asks, at whatever moment, of whatever table.

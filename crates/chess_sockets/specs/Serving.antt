@@ -11,14 +11,14 @@ use Rattle.chess_hub.specs.Law.{HubState, Steps, Stays}
 use Rattle.chess_hub.specs.Turning.{AsksFor}
 use Rattle.chess_sockets.specs.declared.server.Rested.{Rested}
 use Rattle.chess_sockets.specs.declared.server.Rested.TheVariants.{Calm}
-use Rattle.client_streams.specs.declared.client.Client.{Client}
-use Rattle.server_calls.specs.declared.listener.LocalListener.{LocalListener}
-use Rattle.server_calls.specs.declared.listener.AcceptOutcome.TheVariants.{Nobody}
-use Rattle.server_calls.specs.Listeners.{IsAsked}
-use Rattle.client_streams.specs.Closings.{IsSound}
-use Rattle.client_streams.specs.Incoming.{held}
-use Rattle.client_streams.specs.Rounds as rounds
-use Rattle.client_streams.specs.Sending.{waiting}
+use Rattle.chess_sockets.specs.declared.client.Client.{Client}
+use Rattle.sockets.specs.declared.listener.LocalListener.{LocalListener}
+use Rattle.sockets.specs.declared.listener.AcceptOutcome.TheVariants.{Nobody}
+use Rattle.sockets.specs.Listeners.{IsAsked}
+use Rattle.chess_sockets.specs.Closings.{IsSound}
+use Rattle.chess_sockets.specs.Incoming.{held}
+use Rattle.chess_sockets.specs.Rounds as rounds
+use Rattle.chess_sockets.specs.Sending.{waiting}
 
 abbrev pub state_of : Sessions → TableState → HubState
 state_of sessions table = record { sessions = sessions; table = table }

@@ -7,7 +7,7 @@ use Rattle.chess_hub.specs.declared.fault.HubFault.{HubFault}
 use Rattle.chess_hub.specs.declared.fault.HubFault.TheVariants.{Busy, NoMemory, LineTooLong, Store}
 use Rattle.chess_hub.specs.Law.{HubState}
 use Rattle.chess_hub.specs.Turning.{AsksFor, AreRefused}
-use Rattle.client_streams.specs.declared.client.Client.{Client}
+use Rattle.chess_sockets.specs.declared.client.Client.{Client}
 use Rattle.chess_sockets.specs.Serving.{AreRead, IsWelcomed, open_in}
 
 -- Memory was refused to the hub, or the store refused a batch. What is one client's trouble, want of memory too, ends

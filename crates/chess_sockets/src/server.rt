@@ -8,10 +8,10 @@ ghost use Rattle.chess_sockets.specs.Serving.{state_of, Welcomes, IsWelcomed, Is
 ghost use Rattle.chess_sockets.specs.Turns.{EndsServing, IsRefusal, IsTurnRefusal};
 
 use crate::fault::ServerFault;
+use crate::{Client, Reading, hand_out_all, take_in_all};
 use chess_hub::{Hub, HubFault};
-use client_streams::{Client, Reading, hand_out_all, take_in_all};
 use sector_dev::Device;
-use server_calls::{
+use sockets::{
     AcceptOutcome, Connection, Listens, LocalListener, Watch, descriptor, may_wait, next_connection,
 };
 use std::alloc::Global;

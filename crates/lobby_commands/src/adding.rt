@@ -3,7 +3,7 @@ use crate::command_line::Adding;
 use anyhow::{Context, Result};
 use caseless::compatibility_caseless_match_str;
 use lobby_players::{Addition, Hold, WithPlayer, added, forget, link_text, new_token};
-use lobby_roster::Player;
+use lobby_words::Player;
 use rand::rngs::SysRng;
 use std::alloc::{AllocError, Global};
 use std::fs::File;

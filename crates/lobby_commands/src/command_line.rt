@@ -1,10 +1,10 @@
 //! The words of the command line, with the texts of their help.
 use clap::{ArgMatches, Command, Error};
-use command_words::{
+use command_lines::{
     ADDRESS, OptionText, OptionValue, PLAYERS, SERVER, WordText, command_line, own_address,
     read_by, read_or_fault, server_address,
 };
-use server_calls::ServerAddress;
+use sockets::ServerAddress;
 use std::alloc::{AllocError, Global};
 use std::net::{IpAddr, Ipv6Addr, SocketAddr};
 

@@ -12,7 +12,7 @@ use Rattle.lobby_words.specs.declared.planning.Plan.{Plan}
 use Rattle.lobby_words.specs.declared.planning.Plan.TheVariants as plans
 use Rattle.lobby_words.specs.declared.planning.Standing.{Standing}
 use Rattle.lobby_words.specs.declared.planning.Identity.{Identity}
-use Rattle.lobby_roster.specs.declared.players.Player.{Player}
+use Rattle.lobby_words.specs.declared.players.Player.{Player}
 use Rattle.lobby_desk.specs.declared.watching.Watch.{Watch}
 use Rattle.lobby_words.specs.Words.{as_line, black_name, pair_line, is_link_sort, is_close_sort, is_leave_sort, is_leave_lobby_sort, or_0}
 use Rattle.lobby_words.specs.Plans.{asked, barred, entered_plan, act_plan, named_plan, as_plan, black_plan, white_plan, pair_plan, drop_plan, arbiter_plan, players_plan, order_plan, login_plan, order_of, numbered_plan, plan_of}
@@ -22,9 +22,9 @@ use Rattle.lobby_desk.specs.Events.{MessageValue, ForItself, ForPositions, ForTa
 use Rattle.lobby_desk.specs.Watching.{risen}
 use Rattle.lobby_desk.specs.Tellings.{left_game, IsToldOrSent}
 use Rattle.lobby_desk.specs.Who.{name_of, plan_watches, plan_table, IsAnswered}
-use Rattle.lobby_roster.specs.Players.{known_name}
+use Rattle.lobby_words.specs.Players.{known_name}
 use Rattle.lobby_desk.specs.History.{IsArbiter}
-use Rattle.lobby_roster.proofs.ByName.{named_is}
+use Rattle.lobby_words.proofs.ByName.{named_is}
 
 -- whose the answer to a plan's last line is
 abbrev pub LastIs : Plan → Option (List ℕ) → List ℕ → ℕ → Owed → Type 0

@@ -1,9 +1,9 @@
 -- Connections when the players are others.
 use Rattle.std.proofs.Common.{List, ◌≡◌, Option, None, Some, refl}
 use Rattle.std.specs.Prelude.{option_and_then, option_map, is_some}
-use Rattle.lobby_roster.specs.declared.players.Player.{Player}
+use Rattle.lobby_words.specs.declared.players.Player.{Player}
 use Rattle.lobby_desk.specs.declared.visitors.Visitor.{Visitor}
-use Rattle.lobby_roster.specs.Players.{renewed}
+use Rattle.lobby_words.specs.Players.{renewed}
 use Rattle.lobby_desk.specs.Who.{visitor_renewed, until_at}
 
 pub renewed_who : (old later : List Player) (o : Option Visitor) →

@@ -14,7 +14,7 @@ use Rattle.lobby_words.specs.declared.planning.Plan.{Plan}
 use Rattle.lobby_words.specs.declared.planning.Plan.TheVariants as plans
 use Rattle.lobby_words.specs.declared.planning.Standing.{Standing}
 use Rattle.lobby_words.specs.declared.planning.Identity.{Identity}
-use Rattle.lobby_roster.specs.declared.players.Player.{Player}
+use Rattle.lobby_words.specs.declared.players.Player.{Player}
 use Rattle.lobby_words.specs.declared.listing.Seat.{Seat}
 use Rattle.lobby_desk.specs.declared.refusals.RefusedActs.{RefusedActs}
 use Rattle.lobby_desk.specs.declared.pairings.Pairing.{Pairing}
@@ -28,10 +28,10 @@ use Rattle.lobby_desk.specs.Watching.{watch_if, sit_if}
 use Rattle.lobby_desk.specs.Events.{DeskInput, Opened, Closed, Said, Hurried, Heard, ServerTurned, Renewed, Linked, MessageValue, ForItself, ForPositions, ForTable, ForGame, ForAct, Owed, Nobody, Naming, Asker, Dropper, Pairer, Followers, Behind, owed_last, owed_acted, owed_some, owed_lines, sort_asker, asker, followers_of, follower, Following, is_asked_behind, game_if, asked_after}
 use Rattle.lobby_desk.specs.Tellings.{Known, is_counted, open_now, watch_heard, watch_next, watches_now, table_heard, table_next, table_now, owed_answered, owed_now, known_now, presence, lost, AreToldAll, IsTold}
 use Rattle.lobby_desk.specs.Who.{View, BeginsView, IsSaid, IsHeard, IsDropped, IsPaired, IsSentFor, IsSentNext, IsSentHeard, IsDone, IsRenewed, IsLinked, IsKnown, who_noted, name_of, speaker}
-use Rattle.lobby_roster.specs.Players.{known_name, renewed, holder_of}
+use Rattle.lobby_words.specs.Players.{known_name, renewed, holder_of}
 use Rattle.lobby_desk.specs.History.{Step, comes, has_come, shown_by, player_said, player_after, players_in, player_in, is_drop, is_pairing, name_as, name_for, name_behind, name_through, name_before, name_in, ActsUnder, ActsRight, NoActs, NoDrops, sort_asks, IsOf, open_in, known_in, IsArbiter, AsksNow, HasAsked, HasPaired, IsDropOf, IsJoinOf, IsNoticeOf, IsRight, AreWhole, AllRight, AllTold, IsRun}
 use Rattle.lobby_words.proofs.Numbers.{number_small}
-use Rattle.lobby_roster.proofs.ByName.{named_is}
+use Rattle.lobby_words.proofs.ByName.{named_is}
 use Rattle.lobby_desk.proofs.Sent.{is_said_same}
 use Rattle.lobby_desk.proofs.Carry.{act_does, as_does, pair_does, arbiter_does, players_does, link_does, OfOrder, Orders, planned_orders}
 use Rattle.lobby_desk.proofs.As.{as_whole, as_acts, pair_whole, pair_acts}

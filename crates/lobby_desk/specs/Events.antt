@@ -4,7 +4,7 @@ use Rattle.std.specs.String.{string_bytes}
 use Rattle.lobby_desk.specs.declared.telling.Kind.{Kind}
 use Rattle.lobby_desk.specs.declared.telling.Kind.TheVariants as kinds
 use Rattle.lobby_desk.specs.declared.telling.Message.{Message}
-use Rattle.lobby_roster.specs.declared.players.Player.{Player}
+use Rattle.lobby_words.specs.declared.players.Player.{Player}
 use Rattle.lobby_desk.specs.declared.server_line.Due.{Due}
 use Rattle.lobby_desk.specs.declared.server_line.Due.TheVariants as dues
 use Rattle.lobby_words.specs.declared.planning.Plan.{Plan}

@@ -5,9 +5,9 @@ use Rattle.player_name.specs.Name.{IsName}
 use Rattle.lobby_words.specs.declared.words.Sort.{Sort}
 use Rattle.lobby_words.specs.declared.words.Sort.TheVariants as sorts
 use Rattle.lobby_words.specs.declared.planning.Identity.{Identity}
-use Rattle.lobby_roster.specs.declared.players.Player.{Player}
+use Rattle.lobby_words.specs.declared.players.Player.{Player}
 use Rattle.lobby_words.specs.Words.{rest_of, as_name, as_line, line_said, actor, black_name, pair_line, is_message, sort_of, is_act_sort, is_as_sort, is_pair_sort, is_drop_sort, is_name_sort, is_login_sort, is_link_sort, number_or_0}
-use Rattle.lobby_roster.specs.Players.{holder_of, known_name, renewed, IsRelinked}
+use Rattle.lobby_words.specs.Players.{holder_of, known_name, renewed, IsRelinked}
 use Rattle.lobby_words.specs.Answers.{IsSeated, IsFirstSeated, has_empty_seat, act_game, answer}
 use Rattle.lobby_desk.specs.Lines.{name_line, game_line, join_line, notice_lines}
 use Rattle.lobby_desk.specs.Events.{DeskInput, Opened, Closed, Said, Heard, ServerTurned, Renewed, Linked, MessageValue, ForAct, Owed, Asker, Dropper, Pairer, Followers, Following, asked_after, told_as}

@@ -8,7 +8,7 @@ use Rattle.lobby_desk.specs.Refusals.{game_named}
 use Rattle.lobby_desk.specs.declared.server_line.ServerLine.{ServerLine}
 pub use Rattle.lobby_words.specs.Answers.{ended}
 pub use Rattle.lobby_words.specs.Naming.{is_said}
-pub use Rattle.lobby_roster.specs.Lines.{bytes_of}
+pub use Rattle.lobby_words.specs.Lines.{bytes_of}
 
 -- the line that says a name
 abbrev pub name_line : List ℕ → List ℕ

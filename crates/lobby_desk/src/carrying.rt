@@ -11,8 +11,10 @@ use crate::server_line::{Due, ServerLine, waiting_act};
 use crate::telling::{Kind, Message, tell};
 use crate::visitors::Visitor;
 use crate::watching::{Watch, rise, unwatch};
-use lobby_roster::{Player, headed, login_line, player_rows, seated_rows};
-use lobby_words::{Identity, Order, Plan, Refusal, Seat, as_line};
+use lobby_words::{
+    Identity, Order, Plan, Player, Refusal, Seat, as_line, headed, login_line, player_rows,
+    seated_rows,
+};
 use std::alloc::{AllocError, Global};
 use std::collections::BTreeMap;
 

@@ -1,14 +1,14 @@
 //! Which players are there.
 ghost use Rattle.std.specs.Prelude.{◌≡◌, IfOk};
 ghost use Rattle.std.specs.String.{string_bytes};
-ghost use Rattle.lobby_roster.specs.Players.{is_named, is_present, present_names};
+ghost use Rattle.lobby_words.specs.Players.{is_named, is_present, present_names};
 ghost use Rattle.lobby_desk.specs.Who.{who_in, open_in_map, IsPresence};
 
 use crate::adding::add_if;
 use crate::carrying::who_acts;
 use crate::desk::open_ones;
 use crate::visitors::Visitor;
-use lobby_roster::{Player, is_named, who_text};
+use lobby_words::{Player, is_named, who_text};
 use player_name::Name;
 use std::alloc::{AllocError, Global};
 use std::collections::BTreeMap;

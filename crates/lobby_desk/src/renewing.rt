@@ -1,10 +1,10 @@
 //! For whom connections act when the players are others.
 ghost use Rattle.std.specs.Prelude.{ℕ, ◌≡◌, true};
-ghost use Rattle.lobby_roster.specs.Players.{renewed};
+ghost use Rattle.lobby_words.specs.Players.{renewed};
 ghost use Rattle.lobby_desk.specs.Who.{who_in, open_in_map, until_in, visitor_renewed};
 
 use crate::visitors::Visitor;
-use lobby_roster::{Player, renewed};
+use lobby_words::{Player, renewed};
 use std::collections::BTreeMap;
 
 // For whom a connection acts then, written where it stands. It tells that the connection stays.

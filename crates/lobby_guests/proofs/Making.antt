@@ -5,7 +5,7 @@ use Rattle.std.specs.List.{before_first, position_or_len, prefix_len}
 use Rattle.std.proofs.Math.Seq.{take-length}
 use Rattle.std.proofs.lemmas.Bool.{cases_Bool, false≢true}
 use Rattle.std.proofs.lemmas.List.{drop_all}
-use Rattle.session_lines.specs.Lines.{is_feed}
+use Rattle.text_lines.specs.Lines.{is_feed}
 use Rattle.lobby_guests.specs.Making.{last_line, lines_behind}
 
 abbrev is_none : List ℕ → Bool

@@ -2,7 +2,7 @@
 use Rattle.std.proofs.Common.{◌≡◌, ◌<◌, ◌+◌, ℕ, false, List, [], ◌∷◌, ◌++◌, length, get_or, take, drop, take-append-drop, sym, ap, ◌∙◌, append_assoc, add-one}
 use Rattle.std.specs.Prelude.{IsUtf8}
 use Rattle.std.proofs.Math.Seq.{drop-cons}
-use Rattle.session_lines.specs.Lines.{HasNoFeed}
+use Rattle.text_lines.specs.Lines.{HasNoFeed}
 use Rattle.lobby_desk.specs.Events.{Heard}
 use Rattle.lobby_guests.specs.declared.talk.Talk.{Talk}
 use Rattle.lobby_guests.specs.Talking.{Moves}

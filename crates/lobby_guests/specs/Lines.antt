@@ -1,6 +1,6 @@
 -- Lines of the server.
 use Rattle.std.specs.Prelude.{ℕ, ◌≡◌, Bool, true, false, List, [], ◌∷◌, ◌++◌, IsUtf8}
-use Rattle.session_lines.specs.Lines.{HasNoFeed}
+use Rattle.text_lines.specs.Lines.{HasNoFeed}
 use Rattle.lobby_desk.specs.Events.{Heard}
 use Rattle.lobby_desk.specs.Lines.{ended}
 use Rattle.lobby_guests.specs.declared.talk.Talk.{Talk}

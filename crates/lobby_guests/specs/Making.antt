@@ -5,7 +5,7 @@ use Rattle.std.specs.String.{string_bytes}
 use Rattle.chess_board.specs.declared.moves.Move.{Move}
 use Rattle.chess_board.specs.Position.{Position, IsValid}
 use Rattle.chess_notation.specs.Fen.{IsFenOf}
-use Rattle.session_lines.specs.Lines.{is_feed}
+use Rattle.text_lines.specs.Lines.{is_feed}
 use Rattle.lobby_words.specs.Words.{word_of, rest_of}
 use Rattle.lobby_positions.specs.Telling.{TellsMoves}
 use Rattle.lobby_positions.specs.Pgn.{TellsGame}

@@ -1,6 +1,6 @@
 -- What the desk is told, and what goes from it.
 use Rattle.std.specs.Prelude.{ℕ, ◌≡◌, ◌≤◌, ◌+◌, Bool, true, false, List, [], IsUtf8, is_some}
-use Rattle.lobby_roster.specs.declared.players.Player.{Player}
+use Rattle.lobby_words.specs.declared.players.Player.{Player}
 use Rattle.lobby_desk.specs.Events.{DeskInput, Opened, Said, Hurried, Linked, message_values}
 use Rattle.lobby_desk.specs.Pace.{is_too_fast}
 use Rattle.lobby_desk.specs.Who.{Begins as BeginsDesk, Steps, order_asked, said_event, until_of}

@@ -13,10 +13,10 @@ use crate::{Counts, KeepsLinks, Talk};
 use lobby_desk::Message;
 use lobby_web::{Browser, Heard, Site, Unsaid};
 use player_name::Name;
-use session_lines::{Came, read_piece};
 use std::alloc::{AllocError, Global};
 use std::hash::RandomState;
 use std::io::{Read, Write};
+use text_lines::{Came, read_piece};
 
 /// After so many milliseconds without a byte of it a browser is asked whether it is there.
 const ASKED_AFTER: u64 = 30_000;

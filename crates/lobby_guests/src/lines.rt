@@ -6,9 +6,9 @@ ghost use Rattle.lobby_guests.specs.Talking.{Moves};
 ghost use Rattle.lobby_guests.specs.Lines.{AreTaken, IsLeft};
 
 use crate::talk::Talk;
-use session_lines::first_feed;
 use std::alloc::AllocError;
 use std::str;
+use text_lines::first_feed;
 
 // Tells the desk a line. False where it is no text, and then nothing was told.
 fn hear_line(talk: &mut Talk, line: &[u8]) -> Result<bool, AllocError>

@@ -6,9 +6,9 @@ ghost use Rattle.lobby_guests.specs.Held.{IsKept, TakesIn, HandsOn};
 use crate::lines::hear_lines;
 use crate::pieces::{Gone, PIECE_ROOM, write_piece};
 use crate::talk::Talk;
-use session_lines::{Came, SERVER_LINE_ROOM, give_up, read_piece};
 use std::alloc::{AllocError, Global};
 use std::io::{Read, Write};
+use text_lines::{Came, SERVER_LINE_ROOM, give_up, read_piece};
 
 /// The connection to the server.
 #[derive(Drop)]

@@ -1,10 +1,10 @@
 //! Who changes players' links, and keeps whether entries are paused.
 ghost use Rattle.std.specs.Prelude.{IfSome};
 ghost use Rattle.std.specs.String.{string_bytes};
-ghost use Rattle.lobby_roster.specs.Players.{IsRelinked};
+ghost use Rattle.lobby_words.specs.Players.{IsRelinked};
 
 use lobby_desk::Order;
-use lobby_roster::{Linked, Player};
+use lobby_words::{Linked, Player};
 
 /// Keeps the players' file, by which links hold, and beside it whether entries are paused.
 pub trait KeepsLinks {

@@ -6,9 +6,9 @@ use Rattle.std.proofs.lemmas.Bool.Decides.{eqb_tells}
 use Rattle.std.proofs.lemmas.Option.{none-some}
 use Rattle.std.specs.Prelude.{◌==◌, ◌||◌}
 use Rattle.lobby_desk.specs.declared.desk.Desk.{Desk}
-use Rattle.lobby_roster.specs.declared.players.Player.{Player}
+use Rattle.lobby_words.specs.declared.players.Player.{Player}
 use Rattle.std.proofs.lemmas.List.Elements.{All-nil}
-use Rattle.session_lines.specs.Lines.{HasNoFeed, is_feed}
+use Rattle.text_lines.specs.Lines.{HasNoFeed, is_feed}
 use Rattle.lobby_desk.specs.declared.telling.Message.{Message}
 use Rattle.lobby_desk.specs.Events.{DeskInput, Opened, Closed, Heard, Gone, Here, Renewed, MessageValue, message_values}
 use Rattle.lobby_desk.specs.Lines.{ended, bytes_of}

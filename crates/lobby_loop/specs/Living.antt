@@ -1,8 +1,8 @@
 -- Whatever happens to a hall, from its beginning on.
 use Rattle.std.specs.Prelude.{ℕ, ◌≡◌, ◌≢◌, ◌<◌, ◌⊎◌, Bool, true, false, List, [], ◌∷◌, ◌++◌, map, Option, None, Some}
 use Rattle.std.specs.List.{AllZip, AllByRecursion}
-use Rattle.session_lines.specs.Lines.{HasNoFeed}
-use Rattle.lobby_roster.specs.declared.players.Player.{Player}
+use Rattle.text_lines.specs.Lines.{HasNoFeed}
+use Rattle.lobby_words.specs.declared.players.Player.{Player}
 use Rattle.lobby_desk.specs.Events.{DeskInput, Heard, ServerTurned, Renewed, MessageValue, message_values}
 use Rattle.lobby_desk.specs.Lines.{bytes_of}
 use Rattle.lobby_desk.specs.Logging.{log_texts}

@@ -1,7 +1,7 @@
 -- One turn of all that are connected.
 use Rattle.std.specs.Prelude.{ℕ, ◌≡◌, ◌⊎◌, ◌||◌, Bool, true, false, List, [], ◌∷◌, ◌++◌, Option, None, Some, is_some, if◌then◌else◌}
 use Rattle.std.specs.List.{AllZip}
-use Rattle.lobby_roster.specs.declared.players.Player.{Player}
+use Rattle.lobby_words.specs.declared.players.Player.{Player}
 use Rattle.lobby_desk.specs.Events.{Gone, Here, message_values}
 use Rattle.lobby_desk.specs.Logging.{log_texts}
 use Rattle.lobby_web.specs.declared.site.Site.{Site}

@@ -1,6 +1,6 @@
 //! What is promised of whatever happens.
 ghost use Rattle.std.specs.Prelude.{ℕ, Bool, List, Option};
-ghost use Rattle.lobby_roster.specs.declared.players.Player.{Player};
+ghost use Rattle.lobby_words.specs.declared.players.Player.{Player};
 ghost use Rattle.lobby_desk.specs.Events.{MessageValue};
 ghost use Rattle.lobby_desk.specs.History.{Step};
 ghost use Rattle.lobby_web.specs.declared.site.Site.{Site};

@@ -6,7 +6,7 @@ use crate::hall::Hall;
 use either::Left;
 use mio::net::TcpListener;
 use mio::{Registry, Token};
-use server_calls::{ACCEPT_TRIES, AcceptFault, Call, accept_fault, watch_call};
+use sockets::{ACCEPT_TRIES, AcceptFault, Call, accept_fault, watch_call};
 use std::io;
 use std::net::{IpAddr, Net, SocketAddr};
 

@@ -6,7 +6,7 @@ use Rattle.std.proofs.lemmas.List.Elements.{All-from_get_or, All-push, filter-ap
 use Rattle.std.proofs.lemmas.List.Kept.{AllPairs-cons}
 use Rattle.std.proofs.lemmas.Slice.Eq.{bytes_eq-Decides}
 use Rattle.std.proofs.lemmas.Bool.{false≢true, or_parts}
-use Rattle.lobby_roster.specs.declared.players.Player.{Player}
+use Rattle.lobby_words.specs.declared.players.Player.{Player}
 use Rattle.lobby_players.specs.File.{Entry, IsLineOf, AreTwo, AreLinesOf, spoken, is_silent, is_alike, has_sum, entry_of, entries_of}
 use Rattle.lobby_players.specs.Faults.{TakesLine}
 

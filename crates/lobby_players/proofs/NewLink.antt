@@ -11,8 +11,8 @@ use Rattle.std.proofs.lemmas.Slice.Eq.{bytes_eq-Decides}
 use Rattle.hex.specs.Hex.{decode_sized, encode_lower}
 use Rattle.sha2.specs.Sha256.{sha256}
 use Rattle.player_name.specs.Name.{IsName}
-use Rattle.lobby_roster.specs.declared.players.Player.{Player}
-use Rattle.lobby_roster.specs.Players.{has_sum as has_sum_now, identity_of, is_named, is_token, holder_of, holder_of_sum, is_token_of, sum_given, IsWithSum, IsRelinked}
+use Rattle.lobby_words.specs.declared.players.Player.{Player}
+use Rattle.lobby_words.specs.Players.{has_sum as has_sum_now, identity_of, is_named, is_token, holder_of, holder_of_sum, is_token_of, sum_given, IsWithSum, IsRelinked}
 use Rattle.lobby_players.specs.File.{Entry, IsLineOf, AreTwo, IsFileOf, lines_of, spoken, is_full_name, has_name, is_alike, has_sum, entry_of, entries_of}
 use Rattle.lobby_players.specs.Adding.{added_text, in_place, is_other, line_of}
 use Rattle.lobby_players.specs.Relinking.{IsFileRelinked, entry_linked}

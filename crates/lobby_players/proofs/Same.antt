@@ -9,7 +9,7 @@ use Rattle.std.proofs.lemmas.Bool.Decides.{Decides-eqb}
 use Rattle.std.proofs.lemmas.List.{length-map, length-take-le, take_more}
 use Rattle.std.proofs.lemmas.List.Folds.{list_all-append}
 use Rattle.std.proofs.lemmas.Slice.Eq.{bytes_eq-Decides}
-use Rattle.lobby_roster.specs.declared.players.Player.{Player}
+use Rattle.lobby_words.specs.declared.players.Player.{Player}
 use Rattle.lobby_players.specs.File.{Entry, entry_of, entries_of}
 use Rattle.lobby_players.specs.Relinking.{is_same_role, is_same_player, are_same_players}
 

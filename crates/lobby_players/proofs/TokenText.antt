@@ -7,7 +7,7 @@ use Rattle.std.proofs.lemmas.Bool.Decides.{Decides-eqb}
 use Rattle.std.proofs.lemmas.List.Folds.{list_all_at}
 use Rattle.hex.specs.Hex.{IsBytes, encode_lower, encode_with, lower_digits}
 use Rattle.hex.proofs.HexLemmas.{length-encode_with}
-use Rattle.lobby_roster.specs.Players.{is_token, is_token_digit}
+use Rattle.lobby_words.specs.Players.{is_token, is_token_digit}
 
 digit_by : (t : List ℕ) (n : ℕ) (b : Bool) → is_token_digit (slice_index t n) ≡ b → list_all is_token_digit t ≡ true → n < length t →
     b ≡ true

@@ -16,8 +16,8 @@ use Rattle.hex.proofs.HexLemmas.{IsOk-decode_sized}
 use Rattle.player_name.specs.Name.{IsName, is_name_byte}
 use Rattle.lobby_words.specs.Words.{word_of}
 use Rattle.lobby_words.specs.Answers.{ended}
-use Rattle.lobby_roster.specs.Lines.{bytes_of}
-use Rattle.lobby_roster.specs.declared.players.Player.{Player}
+use Rattle.lobby_words.specs.Lines.{bytes_of}
+use Rattle.lobby_words.specs.declared.players.Player.{Player}
 use Rattle.lobby_players.specs.File.{Entry, IsWord, IsLineOf, AreTwo, AreLinesOf, IsFileOf, lines_of, spoken, is_silent, is_full_name, is_shown_byte, is_seen, role_text, has_name, is_alike, has_sum, entry_of, entries_of}
 use Rattle.lobby_players.specs.Adding.{IsAdded, added_text, added_entries, in_place, is_of, is_other, line_of}
 use Rattle.lobby_players.proofs.Told.{name_word}

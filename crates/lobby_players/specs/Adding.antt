@@ -6,7 +6,7 @@ use Rattle.hex.specs.Hex.{encode_lower}
 use Rattle.sha2.specs.Sha256.{sha256}
 use Rattle.player_name.specs.Name.{IsName}
 use Rattle.lobby_words.specs.Words.{word_of}
-use Rattle.lobby_roster.specs.Lines.{bytes_of}
+use Rattle.lobby_words.specs.Lines.{bytes_of}
 use Rattle.lobby_players.specs.declared.adding.Addition.{Addition}
 use Rattle.lobby_players.specs.declared.faults.AddFault.{AddFault}
 use Rattle.lobby_players.specs.declared.faults.AddFault.TheVariants as faults

@@ -4,8 +4,8 @@ use Rattle.std.specs.Str.{bytes_eq}
 use Rattle.std.specs.List.{list_any, list_all, zip}
 use Rattle.std.specs.String.{string_bytes}
 use Rattle.sha2.specs.Sha256.{sha256}
-use Rattle.lobby_roster.specs.declared.players.Player.{Player}
-use Rattle.lobby_roster.specs.Lines.{bytes_of}
+use Rattle.lobby_words.specs.declared.players.Player.{Player}
+use Rattle.lobby_words.specs.Lines.{bytes_of}
 use Rattle.lobby_players.specs.declared.faults.LinkFault.{LinkFault}
 use Rattle.lobby_players.specs.declared.faults.LinkFault.TheVariants as faults
 use Rattle.lobby_players.specs.File.{Entry, IsFileOf, lines_of, entries_of, has_name, has_sum}

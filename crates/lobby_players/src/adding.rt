@@ -4,7 +4,7 @@ ghost use Rattle.std.specs.List.{list_any};
 ghost use Rattle.std.specs.String.{string_bytes};
 ghost use Rattle.hex.specs.Hex.{decode_sized, encode_lower};
 ghost use Rattle.lobby_words.specs.Answers.{ended};
-ghost use Rattle.lobby_roster.specs.Lines.{bytes_of};
+ghost use Rattle.lobby_words.specs.Lines.{bytes_of};
 ghost use Rattle.lobby_players.specs.Adding.{IsAdded, IsAddFault, added_text, entry_added, entry_with, in_place, is_of, is_other, line_of};
 ghost use Rattle.lobby_players.specs.File.{has_sum, is_alike as is_alike_to, entry_of, lines_of, role_text};
 
@@ -13,7 +13,7 @@ use crate::line::is_full_name;
 use crate::lines::{is_alike, word};
 use crate::reading::{has_name, read_text, text_of};
 use crate::token::{forget, token_text};
-use lobby_roster::Player;
+use lobby_words::Player;
 use player_name::Name;
 use sha2::{Digest, Sha256};
 use std::alloc::{AllocError, Global};

@@ -7,7 +7,7 @@ ghost use Rattle.lobby_players.specs.File as file;
 ghost use Rattle.lobby_players.specs.File.{Entry, HasFields, TellsOf, IsLineOf, entry_of};
 
 use hex::FromHex;
-use lobby_roster::Player;
+use lobby_words::Player;
 use player_name::Name;
 use std::alloc::{AllocError, Global};
 

@@ -1,7 +1,7 @@
 //! The players of a file.
 use crate::file::read_regular;
 use anyhow::{Context, Result};
-use lobby_roster::Player;
+use lobby_words::Player;
 use std::rt::Files;
 
 /// The players of a file. It fails where there is no file, or what it has is no players' file.

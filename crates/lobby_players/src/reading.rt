@@ -8,7 +8,7 @@ ghost use Rattle.std.specs.List.{list_any, count_by};
 use crate::faults::{LineFault, PlayersFault, RereadFault};
 use crate::line::player_of;
 use crate::lines::{is_alike, is_silent};
-use lobby_roster::Player;
+use lobby_words::Player;
 use player_name::Name;
 use std::alloc::{AllocError, Global};
 use text_parts::parts;

@@ -3,7 +3,7 @@ ghost use Rattle.std.specs.Prelude.{◌≡◌, Ok, IfOk, IfErr};
 ghost use Rattle.std.specs.List.{AllZip};
 ghost use Rattle.std.specs.String.{string_bytes};
 ghost use Rattle.hex.specs.Hex.{decode_sized, encode_lower};
-ghost use Rattle.lobby_roster.specs.Players.{IsRelinked, IsWithSum, sum_given};
+ghost use Rattle.lobby_words.specs.Players.{IsRelinked, IsWithSum, sum_given};
 ghost use Rattle.lobby_players.specs.Adding.{added_text};
 ghost use Rattle.lobby_players.specs.Relinking.{IsFileRelinked, IsLinkFault, entry_linked, is_same_player, are_same_players};
 
@@ -11,7 +11,7 @@ use crate::adding::{Addition, text_with};
 use crate::faults::LinkFault;
 use crate::reading::{has_sum, read_text, text_of};
 use crate::token::{forget, token_text};
-use lobby_roster::{Linked, Player, player_by_name};
+use lobby_words::{Linked, Player, player_by_name};
 use player_name::Name;
 use sha2::{Digest, Sha256};
 use std::alloc::{AllocError, Global};

@@ -5,7 +5,7 @@ use Rattle.std.specs.Str.{bytes_eq}
 use Rattle.std.specs.Option.{option_map}
 use Rattle.text_parts.specs.Parts.{parts_of}
 use Rattle.text_parts.specs.Signs.{line_feed, quote}
-use Rattle.pgn_tags.specs.Pgn.{tokens_of, moves_in}
+use Rattle.text_pgn.specs.Pgn.{tokens_of, moves_in}
 use Rattle.chess_board.specs.declared.moves.Move.{Move}
 use Rattle.chess_board.specs.Position.{Position, IsValid}
 use Rattle.chess_board.specs.Initial.{initial}

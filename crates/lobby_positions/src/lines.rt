@@ -2,14 +2,14 @@
 ghost use Rattle.std.specs.Prelude.{◌≡◌, map, Some, IfOk, IfSome};
 ghost use Rattle.std.specs.Option.{option_map};
 ghost use Rattle.chess_board.specs.Position.{Position};
-ghost use Rattle.pgn_tags.specs.Pgn.{tokens_of, moves_in};
+ghost use Rattle.text_pgn.specs.Pgn.{tokens_of, moves_in};
 ghost use Rattle.lobby_positions.specs.Pgn.{is_fen_tag, fen_in, StartsAt};
 
 use chess_board::Board;
 use chess_fen::fen_read;
-use pgn_tags::{is_move, tokens_of};
 use std::alloc::{AllocError, Global};
 use text_parts::{before, between_quotes};
+use text_pgn::{is_move, tokens_of};
 
 // Whether a line is that of a tag FEN.
 fn is_fen_tag(line: &str) -> bool

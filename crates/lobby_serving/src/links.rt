@@ -2,13 +2,13 @@
 ghost use Rattle.std.specs.Prelude.{ℕ, List, ◌≡◌, IfOk, IfSome};
 ghost use Rattle.std.specs.String.{string_bytes};
 ghost use Rattle.hex.specs.Hex.{encode_lower};
-ghost use Rattle.lobby_roster.specs.Players.{IsRelinked};
+ghost use Rattle.lobby_words.specs.Players.{IsRelinked};
 
 use anyhow::Result;
 use lobby_desk::Order;
 use lobby_loop::KeepsLinks;
 use lobby_players::{ChangedFile, Hold, PauseFile, new_token, relinked};
-use lobby_roster::{Linked, Player};
+use lobby_words::{Linked, Player};
 use rand::rngs::SysRng;
 use rand_core::TryRng;
 use std::fs::File;

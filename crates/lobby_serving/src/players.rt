@@ -3,7 +3,7 @@ use crate::mark::{Mark, mark_of};
 use anyhow::{Result, bail};
 use lobby_loop::Lobby;
 use lobby_players::{later_players_of, players_of};
-use lobby_roster::Player;
+use lobby_words::Player;
 use std::fs;
 use std::rt::{Clock, Files};
 use std::time::{Duration, SystemTime};

@@ -2,7 +2,7 @@
 //! made and while somebody asks for figures.
 use crate::listing::{Games, Listing, Told};
 use lobby_loop::Lobby;
-use server_calls::{ServerAddress, begin};
+use sockets::{ServerAddress, begin};
 use std::alloc::{AllocError, Global};
 use std::io::{ErrorKind, Read, Write};
 use std::net::Net;
@@ -32,7 +32,7 @@ const READS: u32 = 16;
 /// A question on its way.
 #[derive(Drop)]
 struct Call {
-    stream: server_calls::Call,
+    stream: sockets::Call,
     is_said: bool,
     listing: Listing,
     until: u64,

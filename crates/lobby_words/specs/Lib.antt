@@ -3,3 +3,5 @@ pub mod Answers
 pub mod Plans
 pub mod Waiting
 pub mod Naming
+pub mod Players
+pub mod Lines

@@ -1,21 +1,28 @@
-//! What is said at the lobby: what a message asks for and what is done about it, and what the answers of the server
-//! say.
+//! What is said at the lobby: what a message asks for and what is done about it, what the answers of the server say,
+//! and the players: whom a token shows, for whom a connection acts on when the players are others, and how they are
+//! told.
 //!
 //! Modules: `words` tells what the first word of a message says, `planning` what is done about the message, `refusals`
 //! what the lobby itself refuses, `naming` under which name a line goes. `coming` takes the server's answers line by
-//! line, `answers` tells what they say, and `listing` which games wait by them.
+//! line, `answers` tells what they say, and `listing` which games wait by them. `players` has a player and who holds a
+//! token, `linked` who has a new one, `renewing` who goes on when the players are others, `rows` how players are told.
 #![tactic(auto)]
 
 mod answers;
 mod coming;
+mod linked;
 mod listing;
 mod naming;
 mod planning;
+mod players;
 mod refusals;
+mod renewing;
+mod rows;
 mod words;
 
 pub use answers::{game_told, has_empty_seat, is_accepted, is_over, is_table_act, seated};
 pub use coming::Coming;
+pub use linked::Linked;
 pub use listing::{
     Seat, Stage, ends_wait, is_list, is_stage, joins_game, opens_game, seat_of, seats_in, tells_end,
 };
@@ -23,7 +30,12 @@ pub use naming::{is_said, takes_name};
 pub use planning::{
     Identity, Order, Plan, Standing, asks_for_link, order_of, plan_of, shows_token,
 };
+pub use players::{Player, holder_of, is_named, is_token};
 pub use refusals::Refusal;
+pub use renewing::renewed;
+pub use rows::{
+    headed, known_name, login_line, player_by_name, player_rows, seated_rows, who_text,
+};
 pub use words::{
     Sort, actor, are_message_bytes, as_line, as_name, black_name, cut_word, is_pair, is_play_word,
     line_said, number_named, number_or_0, pair_times,

@@ -1,13 +1,13 @@
 //! The words of the command line, with the texts of their help.
 use crate::days::is_day;
 use clap::{ArgMatches, Command, Error};
-use command_words::{
+use command_lines::{
     OptionText, OptionValue, PLAYERS, SERVER, WordText, command_line, read_by, read_or_told,
 };
-use server_calls::ServerAddress;
+use night_report::Tournament;
+use sockets::ServerAddress;
 use std::alloc::{AllocError, Global};
 use std::net::SocketAddr;
-use trf_texts::Tournament;
 
 const HELP_OF_START: &str = "\
 It has the lobby at --lobby pair each board of --pairings, at the board's start, as the arbiter

@@ -1,6 +1,6 @@
 //! The days of a tournament.
-use pgn_tags::is_date;
 use std::alloc::{AllocError, Global};
+use text_pgn::is_date;
 
 // Whether a byte may stand in a day: what the tag Date has besides is no part of it.
 fn is_day_byte(byte: u8) -> bool {

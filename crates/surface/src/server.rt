@@ -7,7 +7,7 @@ use chess_sockets::Server;
 use sector_dev::MemoryDevice;
 
 #[test]
-fn one_board(rt: HostRuntime) {
+fn server_board(rt: HostRuntime) {
     let mut reader = b"move e2e4\nmove e2e4\nhello\n".as_slice();
     let mut written = Vec::new(rt.alloc());
     let ended: Result<(), BoardFault> = board(&mut reader, &mut written);

@@ -1,5 +1,5 @@
 use Rattle.std.proofs.Common.{ap, ◌∙◌, Err}
-use Rattle.line_loop.specs.declared.answerer.LoopFault.TheVariants as loop
+use Rattle.text_lines.specs.declared.answerer.LoopFault.TheVariants as loop
 use Rattle.board_session.proofs.RunLemmas.{text-from, at-fault, front-all, taken-long, front-part, taken-part}
 use Rattle.board_session.proofs.board_loop.board_reads.Goals as goal
 

@@ -4,7 +4,7 @@ use Rattle.std.specs.Io.BufRead.{strip_last}
 use Rattle.chess_hub.specs.Storing.{StoreMayBeAsked, StoreRefuses}
 use Rattle.chess_hub.specs.Turning.{IsTurnFault}
 use Rattle.chess_hub.specs.Running.{asks, kept, Serves, IsAlone, IsTold, LineAsksFor}
-use Rattle.session_lines.specs.Lines.{IsUnfinished}
+use Rattle.text_lines.specs.Lines.{IsUnfinished}
 use Rattle.chess_hub.specs.Session.{said}
 use Rattle.chess_hub.proofs.TalkLemmas.{alone-open, turned-told, asks-line, told-is, told-some, fault-map, serves-as, serves-err}
 use Rattle.chess_hub.proofs.talk.take_turn.Goals as goal

@@ -1,5 +1,5 @@
 use Rattle.std.proofs.Common.{◌≡◌, ◌∙◌, sym, ap, arith, drop}
-use Rattle.session_lines.specs.Lines.{lines_of}
+use Rattle.text_lines.specs.Lines.{lines_of}
 use Rattle.chess_hub.proofs.TurnLineLemmas.{drop-step, past-none, found}
 use Rattle.chess_hub.proofs.turn.line_at.Goals as goal
 

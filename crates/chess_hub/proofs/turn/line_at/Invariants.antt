@@ -1,5 +1,5 @@
 use Rattle.std.proofs.Common.{◌≡◌, drop}
-use Rattle.session_lines.specs.Lines.{lines_of}
+use Rattle.text_lines.specs.Lines.{lines_of}
 use Rattle.chess_hub.proofs.turn.line_at.Given as goal
 
 abbrev pub invariant-loop : goal.invariant-loop

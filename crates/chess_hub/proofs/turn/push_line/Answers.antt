@@ -1,5 +1,5 @@
 use Rattle.std.proofs.Common.{refl, arith}
-use Rattle.session_lines.specs.Lines.{lines_of}
+use Rattle.text_lines.specs.Lines.{lines_of}
 use Rattle.chess_hub.specs.Turn.{line_of}
 use Rattle.chess_hub.proofs.TurnLineLemmas.{more-full, push-result, line-none, reading}
 use Rattle.chess_hub.proofs.turn.push_line.Goals as goal

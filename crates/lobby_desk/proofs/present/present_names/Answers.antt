@@ -1,8 +1,8 @@
 use Rattle.std.proofs.Common.{ℕ, Bool, List, [], ◌∷◌, ◌++◌, sym, ap, ◌∙◌}
 use Rattle.std.specs.Prelude.{if◌then◌else◌}
 use Rattle.std.proofs.lemmas.List.{take_all}
-use Rattle.lobby_roster.specs.declared.players.Player.{Player}
-use Rattle.lobby_roster.specs.Players.{is_present}
+use Rattle.lobby_words.specs.declared.players.Player.{Player}
+use Rattle.lobby_words.specs.Players.{is_present}
 use Rattle.lobby_desk.specs.Who.{who_in}
 use Rattle.lobby_desk.proofs.PresentNames.{names_of, names_more}
 use Rattle.lobby_desk.proofs.present.present_names.Goals as goal

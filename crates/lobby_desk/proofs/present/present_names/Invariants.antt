@@ -1,5 +1,5 @@
 use Rattle.std.proofs.Common.{◌≡◌, take}
-use Rattle.lobby_roster.specs.Players.{is_present}
+use Rattle.lobby_words.specs.Players.{is_present}
 use Rattle.lobby_desk.specs.Who.{who_in}
 use Rattle.lobby_desk.proofs.PresentNames.{names_of}
 use Rattle.lobby_desk.proofs.present.present_names.Given as goal

@@ -1,5 +1,5 @@
 use Rattle.std.proofs.Common.{ℕ, List, ap, ◌∙◌}
-use Rattle.lobby_roster.specs.Players.{present_names, who_text}
+use Rattle.lobby_words.specs.Players.{present_names, who_text}
 use Rattle.lobby_desk.specs.Who.{who_in}
 use Rattle.lobby_desk.proofs.present.present_rows.Goals as goal
 

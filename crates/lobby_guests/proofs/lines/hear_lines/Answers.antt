@@ -2,7 +2,7 @@ use Rattle.std.proofs.Common.{◌≡◌, ◌<◌, ◌+◌, ◌-◌, ◌∷◌, �
 use Rattle.std.specs.Prelude.{IsUtf8}
 use Rattle.std.specs.Bool.{OnTrue, OnFalse}
 use Rattle.std.proofs.lemmas.List.{take_rest, drop-drop, length-drop}
-use Rattle.session_lines.specs.Lines.{HasNoFeed}
+use Rattle.text_lines.specs.Lines.{HasNoFeed}
 use Rattle.lobby_desk.specs.Events.{Heard}
 use Rattle.lobby_guests.specs.Talking.{Moves}
 use Rattle.lobby_guests.proofs.Taking.{cut_at, taken_more, left_at}

@@ -1,5 +1,5 @@
 use Rattle.std.proofs.Common.{ℕ, List, ◌++◌, ap, ◌∙◌}
-use Rattle.lobby_roster.specs.Lines.{bytes_of}
+use Rattle.lobby_words.specs.Lines.{bytes_of}
 use Rattle.lobby_players.specs.File.{lines_of}
 use Rattle.lobby_players.specs.Adding.{entry_with, in_place, is_of, line_of}
 use Rattle.lobby_players.proofs.adding.text_with.Goals as goal

@@ -1,7 +1,7 @@
 use Rattle.std.proofs.Common.{ℕ, ◌<◌, ◌+◌, List, [], length, get_or, map, drop, ap, ◌∙◌, arith}
 use Rattle.std.specs.Borrow.{Bor}
 use Rattle.std.specs.String.{string_bytes}
-use Rattle.lobby_roster.specs.Lines.{bytes_of}
+use Rattle.lobby_words.specs.Lines.{bytes_of}
 use Rattle.lobby_players.specs.Adding.{in_place, is_of}
 use Rattle.text_parts.proofs.Items.{items_from}
 use Rattle.lobby_players.proofs.Written.{first_true, first_false, put_step, keep_step}

@@ -1,6 +1,6 @@
 use Rattle.std.proofs.Common.{◌≡◌, ◌++◌, map, drop}
 use Rattle.std.specs.String.{string_bytes}
-use Rattle.lobby_roster.specs.Lines.{bytes_of}
+use Rattle.lobby_words.specs.Lines.{bytes_of}
 use Rattle.lobby_players.specs.Adding.{in_place, is_of}
 use Rattle.lobby_players.proofs.Written.{left}
 use Rattle.lobby_players.proofs.adding.with_line.Given as goal

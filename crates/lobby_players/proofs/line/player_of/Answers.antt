@@ -1,4 +1,4 @@
-use Rattle.lobby_roster.specs.declared.players.Player.{Player}
+use Rattle.lobby_words.specs.declared.players.Player.{Player}
 use Rattle.lobby_players.specs.File.{Entry, TellsOf, IsLineOf, entry_of, role_text}
 use Rattle.lobby_players.proofs.Told.{fields_told, line_told, line_tells, some_weaker, none_weaker}
 use Rattle.lobby_players.proofs.line.player_of.Goals as goal

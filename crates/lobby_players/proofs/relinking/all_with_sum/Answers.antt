@@ -1,7 +1,7 @@
 use Rattle.std.proofs.Common.{◌≡◌, ◌+◌, List, [], ◌∷◌, ◌++◌, take, sym, ap, ◌∙◌, subst}
 use Rattle.std.proofs.lemmas.List.{take_more}
-use Rattle.lobby_roster.specs.declared.players.Player.{Player}
-use Rattle.lobby_roster.specs.Players.{IsWithSum, sum_given}
+use Rattle.lobby_words.specs.declared.players.Player.{Player}
+use Rattle.lobby_words.specs.Players.{IsWithSum, sum_given}
 use Rattle.lobby_players.proofs.EachLine.{zip_push}
 use Rattle.lobby_players.proofs.NewLink.{AreWithSum}
 use Rattle.lobby_players.proofs.relinking.all_with_sum.Goals as goal

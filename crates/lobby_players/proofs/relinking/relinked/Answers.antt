@@ -4,10 +4,10 @@ use Rattle.std.specs.List.{list_any}
 use Rattle.std.specs.Option.{option_copied}
 use Rattle.std.specs.String.{string_bytes}
 use Rattle.sha2.specs.Sha256.{sha256}
-use Rattle.lobby_roster.specs.declared.players.Player.{Player}
+use Rattle.lobby_words.specs.declared.players.Player.{Player}
 use Rattle.lobby_players.specs.File.{IsFileOf, has_sum, entries_of}
 use Rattle.lobby_players.specs.Adding.{added_text}
-use Rattle.lobby_roster.specs.Players.{is_token}
+use Rattle.lobby_words.specs.Players.{is_token}
 use Rattle.lobby_players.specs.File.{Entry}
 use Rattle.lobby_players.specs.Relinking.{entry_linked, are_same_players}
 use Rattle.lobby_players.proofs.Same.{same_entries, other_entries}

@@ -1,7 +1,7 @@
 use Rattle.std.proofs.Common.{ℕ, List, map, sym, ap, ◌∙◌, rules}
 use Rattle.std.specs.Borrow.{Bor}
 use Rattle.std.proofs.lemmas.Fn.{filter_same}
-use Rattle.pgn_tags.specs.Pgn.{is_move, moves_in}
+use Rattle.text_pgn.specs.Pgn.{is_move, moves_in}
 use Rattle.chess_bits.proofs.MemberLemmas.{filter-map}
 use Rattle.lobby_positions.proofs.lines.words_of.Goals as goal
 

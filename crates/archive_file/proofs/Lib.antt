@@ -1,3 +1,0 @@
-pub mod Cuts
-pub mod Keeping
-pub mod Torn

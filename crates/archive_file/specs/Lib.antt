@@ -1,3 +1,0 @@
-pub mod Line
-pub mod Archive
-pub mod Behind

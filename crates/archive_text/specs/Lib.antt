@@ -1,3 +1,0 @@
-pub mod Tags
-pub mod Moves
-pub mod Archived

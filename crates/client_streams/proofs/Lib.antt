@@ -1,9 +1,0 @@
-pub mod PortionLemmas
-pub mod ProtocolLemmas
-pub mod SendLemmas
-pub mod ClientLemmas
-pub mod TakingLemmas
-pub mod RoundLemmas
-pub mod WaitLemmas
-pub mod HeardLemmas
-pub mod ClosingLemmas

@@ -1,3 +1,0 @@
-pub mod Blank
-pub mod Faults
-pub mod Games

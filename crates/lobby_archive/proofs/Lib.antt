@@ -1,4 +1,0 @@
-pub mod Lists
-pub mod Stages
-pub mod Runs
-pub mod Nights

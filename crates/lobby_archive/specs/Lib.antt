@@ -1,5 +1,0 @@
-pub mod Steps
-pub mod Files
-pub mod Clerk
-pub mod Laws
-pub mod Night

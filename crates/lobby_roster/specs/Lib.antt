@@ -1,2 +1,0 @@
-pub mod Players
-pub mod Lines

@@ -1,0 +1,180 @@
+//! How players are told.
+ghost use Rattle.std.specs.Prelude.{◌≡◌, ◌++◌, ◌∷◌, [], codes, decimal, length, filter, IfOk, OnOk, find, if◌then◌else◌};
+ghost use Rattle.std.specs.List.{flat_map};
+ghost use Rattle.std.specs.Option.{option_copied};
+ghost use Rattle.std.specs.Str.{bytes_eq};
+ghost use Rattle.std.specs.String.{string_bytes};
+ghost use Rattle.lobby_words.specs.Answers.{ended};
+ghost use Rattle.lobby_words.specs.Players.{role_text, player_row, row_of, known_name, full_name_of, login_text, players_text, is_seated, seated_text, who_front, who_text};
+
+use crate::players::Player;
+use crate::{Identity, Seat};
+use itoa::Buffer;
+use player_name::Name;
+use std::alloc::{AllocError, Global};
+
+fn role_text(is_arbiter: bool) -> &'static str
+    ensures { result.now ≡ role_text is_arbiter }
+{
+    if is_arbiter { " arbiter " } else { " player " }
+}
+
+// A player's name, role and full name, and a line feed.
+fn push_row(
+    text: &mut String,
+    name: &str,
+    is_arbiter: bool,
+    full_name: &str,
+) -> Result<(), AllocError>
+    ensures { OnOk result (string_bytes text.new ≡ string_bytes text.old ++ player_row name.now is_arbiter full_name.now) }
+{
+    text.push_str(name)?;
+    text.push_str(role_text(is_arbiter))?;
+    text.push_str(full_name)?;
+    text.push('\n')?;
+    Ok(())
+}
+
+// The row of a player.
+fn push_player(text: &mut String, player: &Player) -> Result<(), AllocError>
+    ensures { OnOk result (string_bytes text.new ≡ string_bytes text.old ++ row_of player.now) }
+{
+    push_row(
+        text,
+        player.name.as_str(),
+        player.is_arbiter,
+        player.full_name.as_str(),
+    )
+}
+
+/// The first player of a name; `None` where nobody has it.
+pub fn player_by_name<'a>(players: &'a [Player], name: &str) -> Option<&'a Player>
+    ensures { option_copied result ≡ find (λ player. bytes_eq player.name name.now) players.now }
+{
+    players.iter().find(|player| player.name.as_str() == name)
+}
+
+/// A name, where a player has it.
+pub fn known_name(players: &[Player], name: &str) -> Option<Name>
+    ensures { result ≡ known_name players.now name.now }
+{
+    match player_by_name(players, name) {
+        None => None,
+        Some(player) => Some(player.name),
+    }
+}
+
+// The full name of the first player of a name.
+fn full_name_of<'a>(players: &'a [Player], name: &str) -> &'a str
+    ensures { result.now ≡ full_name_of players.now name.now }
+{
+    match player_by_name(players, name) {
+        None => "",
+        Some(player) => player.full_name.as_str(),
+    }
+}
+
+/// The answer to a `login` that is accepted.
+pub fn login_line(alloc: Global, who: &Identity, players: &[Player]) -> Result<String, AllocError>
+    ensures { IfOk result (λ text. string_bytes text ≡ login_text players.now who.now) }
+{
+    let mut text = String::from_str(alloc, "ok login ")?;
+    let name = who.name.as_str();
+    push_row(&mut text, name, who.is_arbiter, full_name_of(players, name))?;
+    Ok(text)
+}
+
+/// A word that ends with a space, a number, and a line feed.
+pub fn headed(alloc: Global, word: &str, number: u64) -> Result<String, AllocError>
+    ensures { IfOk result (λ text. string_bytes text ≡ word.now ++ decimal number ++ codes "\n") }
+{
+    let mut buffer = Buffer::new();
+    let mut text = String::from_str(alloc, word)?;
+    text.push_str(buffer.format(number))?;
+    text.push('\n')?;
+    Ok(text)
+}
+
+/// The answer to `players`.
+pub fn player_rows(alloc: Global, players: &[Player]) -> Result<String, AllocError>
+    ensures { IfOk result (λ text. string_bytes text ≡ players_text players.now) }
+{
+    let mut text = headed(alloc, "ok players ", players.len() as u64)?;
+    for player in players {
+        push_player(&mut text, player)?;
+    }
+    Ok(text)
+}
+
+// Whether a player has one of these seats.
+fn is_seated(player: &Player, seats: &[Seat]) -> bool
+    ensures { result ≡ is_seated seats.now player.now }
+{
+    seats
+        .iter()
+        .any(|seat| seat.by.as_str() == player.name.as_str())
+}
+
+// How many players have one of these seats.
+fn count_seated(players: &[Player], seats: &[Seat]) -> usize
+    ensures { result ≡ length (filter (is_seated seats.now) players.now) }
+{
+    players
+        .iter()
+        .filter(|player| is_seated(player, seats))
+        .count()
+}
+
+// The row of a player, if it is to be there.
+fn push_if(text: &mut String, is_so: bool, player: &Player) -> Result<(), AllocError>
+    ensures { OnOk result (string_bytes text.new ≡ string_bytes text.old ++ flat_map row_of (if is_so then player.now ∷ [] else [])) }
+{
+    if is_so {
+        push_player(text, player)?;
+        Ok(())
+    } else {
+        Ok(())
+    }
+}
+
+/// The answer to `players` that tells those alone who have one of these seats.
+pub fn seated_rows(alloc: Global, players: &[Player], seats: &[Seat]) -> Result<String, AllocError>
+    ensures { IfOk result (λ text. string_bytes text ≡ seated_text seats.now players.now) }
+{
+    let mut text = headed(alloc, "ok players ", count_seated(players, seats) as u64)?;
+    for player in players {
+        push_if(&mut text, is_seated(player, seats), player)?;
+    }
+    Ok(text)
+}
+
+// A name, and a line feed.
+fn push_name(text: &mut String, name: &Name) -> Result<(), AllocError>
+    ensures { OnOk result (string_bytes text.new ≡ string_bytes text.old ++ ended name.now) }
+{
+    text.push_str(name.as_str())?;
+    text.push('\n')?;
+    Ok(())
+}
+
+// How the answer to `who` begins.
+fn who_front(is_paused: bool) -> &'static str
+    ensures { result.now ≡ who_front is_paused }
+{
+    if is_paused {
+        "ok who paused "
+    } else {
+        "ok who open "
+    }
+}
+
+/// The answer to `who` that tells whether entries are paused, and names.
+pub fn who_text(alloc: Global, is_paused: bool, names: &[Name]) -> Result<String, AllocError>
+    ensures { IfOk result (λ text. string_bytes text ≡ who_text is_paused names.now) }
+{
+    let mut text = headed(alloc, who_front(is_paused), names.len() as u64)?;
+    for name in names {
+        push_name(&mut text, name)?;
+    }
+    Ok(text)
+}

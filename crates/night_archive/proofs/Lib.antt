@@ -1,0 +1,7 @@
+pub mod Cuts
+pub mod Keeping
+pub mod Torn
+pub mod Lists
+pub mod Stages
+pub mod Runs
+pub mod Nights

@@ -1,0 +1,25 @@
+-- What an archive keeps.
+use Rattle.std.specs.Prelude.{ℕ, ◌≡◌, List, [], ◌∷◌, Some}
+use Rattle.night_files.specs.Lines.{IsRecord, AreRecords, text_of}
+use Rattle.night_archive.specs.Laws.{IsOnce}
+use Rattle.night_archive.specs.Line.{game_in}
+
+-- a line that stands alone and names the game
+pub record IsLine (game : ℕ) (line : List ℕ) : Type 0 where
+  pub is : IsRecord line
+  pub names : game_in line ≡ Some game
+
+-- these games, a line each, in this order
+abbrev pub AreLinesOf : List ℕ → List (List ℕ) → Type 0
+AreLinesOf [] [] = Unit {0}
+AreLinesOf [] (line ∷ lines) = ⊥
+AreLinesOf (game ∷ games) [] = ⊥
+AreLinesOf (game ∷ games) (line ∷ lines) = (game_in line ≡ Some game) × AreLinesOf games lines
+
+-- A file keeps just these lines, all of them safe; they are those of these games, and no game has two.
+pub record Keeps (safe pending : List ℕ) (games : List ℕ) (lines : List (List ℕ)) : Type 0 where
+  pub are : AreRecords lines
+  pub text : safe ≡ text_of lines
+  pub settled : pending ≡ []
+  pub of : AreLinesOf games lines
+  pub once : IsOnce games

@@ -1,0 +1,8 @@
+pub mod Line
+pub mod Archive
+pub mod Behind
+pub mod Steps
+pub mod Files
+pub mod Clerk
+pub mod Laws
+pub mod Night

@@ -1,0 +1,100 @@
+//! A game's PGN as the archive has it, asked of the server.
+use anyhow::{Context, Error, Result, anyhow};
+use lobby_players::full_name;
+use lobby_words::Player;
+use night_links::{Answer, Link, Row};
+use night_log::{LogEntry, Shown, clocks, shown_of};
+use std::alloc::Global;
+use text_pgn::{Heading, archived};
+
+/// What a PGN is made with: the players, what the tags are to say, and what the log has.
+#[derive(Clone, Copy)]
+pub struct Knowledge<'a> {
+    pub players: &'a [Player],
+    /// Of White and Black it says nothing yet.
+    pub heading: Heading<'a>,
+    pub entries: &'a [LogEntry],
+    /// Whether there is a log: without one no game has clocks.
+    pub is_logged: bool,
+}
+
+// The server's answer to `pgn`.
+fn answer_of(alloc: Global, link: &mut Link, game: u32) -> Result<Answer> {
+    let line = format!(in alloc; "pgn {game}")?;
+    let front = format!(in alloc; "ok pgn {game} ")?;
+    link.ask(line.as_str(), front.as_str())
+}
+
+// What is wrong where the server does not do this with a game, but gives that answer.
+fn not_done(verb: &str, game: u32, first: &str) -> Error {
+    anyhow!("the server does not {verb} game {game}: {first}")
+}
+
+// The PGN of a game as the server tells it; none where the game has left the table since.
+fn told(alloc: Global, link: &mut Link, game: u32) -> Result<Option<String>> {
+    let answer = answer_of(alloc, link, game)?;
+    if !answer.behind.is_empty() {
+        Ok(Some(answer.behind))
+    } else if answer.first.starts_with("no 3 ") {
+        Ok(None)
+    } else {
+        Err(not_done("tell", game, answer.first.as_str()))
+    }
+}
+
+// How a game stands, as this answer tells.
+fn shown_by(game: u32, first: &str) -> Result<Option<Shown>> {
+    if first.starts_with("ok show ") || first.starts_with("no 3 ") {
+        Ok(shown_of(first))
+    } else {
+        Err(not_done("show", game, first))
+    }
+}
+
+// How a game stands now; none where the game has left the table since.
+fn shown(alloc: Global, link: &mut Link, game: u32) -> Result<Option<Shown>> {
+    let line = format!(in alloc; "show {game}")?;
+    let answer = link.ask(line.as_str(), "ok show ")?;
+    shown_by(game, answer.first.as_str())
+}
+
+// The clocks that the log knows. Where it has none behind the last move, whose answer was lost or is still to come, the
+// server is asked.
+fn clocks_of(
+    alloc: Global,
+    link: &mut Link,
+    known: &Knowledge<'_>,
+    row: Row<'_>,
+) -> Result<Vec<Option<u64>>> {
+    let Row { game, ply, .. } = row;
+    let logged = clocks(alloc, known.entries, None, game, ply)?;
+    if !known.is_logged || !matches!(logged.last(), Some(None)) {
+        return Ok(logged);
+    }
+    let asked = shown(alloc, link, game)?;
+    Ok(clocks(alloc, known.entries, asked, game, ply)?)
+}
+
+/// Asks for the PGN of a game, and makes it as the archive has it, with the clocks that the log knows, and where it is
+/// given that of the last move by the server; none where the game has left the table since.
+pub fn pgn_of(
+    alloc: Global,
+    link: &mut Link,
+    known: &Knowledge<'_>,
+    row: Row<'_>,
+) -> Result<Option<Vec<u8>>> {
+    let game = row.game;
+    let Some(told) = told(alloc, link, game)? else {
+        return Ok(None);
+    };
+    let heading = Heading {
+        white: full_name(known.players, row.white),
+        black: full_name(known.players, row.black),
+        ..known.heading
+    };
+    let clocks = clocks_of(alloc, link, known, row)?;
+    let pgn = archived(alloc, &heading, told.as_str(), clocks.as_slice()).context(format_args!(
+        "game {game}"
+    ))?;
+    Ok(Some(pgn))
+}

@@ -1,0 +1,195 @@
+//! The word that keeps games that are over.
+ghost use Rattle.std.specs.Prelude.{IfOk};
+ghost use Rattle.night_archive.specs.Files.{contains};
+ghost use Rattle.night_archive.specs.Night.{AreAll};
+ghost use Rattle.night_keeping.specs.Games.{games_over_in};
+
+use crate::command_line::Keeping;
+use crate::keeper::{Counts, Done, Keeper, NOTHING, Onlookers};
+use crate::rows::{games_over, rows_of};
+use crate::sources::{Sources, link_to};
+use crate::telling::{Work, go_on};
+use anyhow::Result;
+use night_archive::{Archive, Hold, Opened, look, open_archive};
+use night_files::DiskFile;
+use night_links::{Link, Row, Watchers};
+use night_log::in_order;
+use std::alloc::Global;
+use std::fs::File;
+use std::net::{Net, TcpStream};
+use std::rt::{Clock, Files};
+
+// Those who look at games by a lobby, where one is asked.
+#[derive(Drop)]
+struct Browsers<'a, R> {
+    rt: &'a R,
+    watchers: Option<Watchers>,
+}
+
+impl<R> Onlookers for Browsers<'_, R>
+where
+    R: Net<Stream = TcpStream> + AllocGlobal + Clock,
+{
+    fn are_gone(&mut self, game: u32) -> Result<bool> {
+        match &mut self.watchers {
+            Some(watchers) => Ok(!watchers.has(self.rt, game)?),
+            None => Ok(true),
+        }
+    }
+}
+
+// What `keep` has of one look to the next.
+#[derive(Drop)]
+struct Looking<'a, R> {
+    rt: &'a R,
+    keeping: &'a Keeping<'a>,
+    sources: Sources<'a, R>,
+    // Whether the archive was opened: then it is left alone while no game is over.
+    has_looked: bool,
+}
+
+impl<'a, R: Files + AllocGlobal + Eprint> Looking<'a, R> {
+    // Nothing was looked at yet.
+    fn new(rt: &'a R, keeping: &'a Keeping<'a>) -> Result<Self> {
+        Ok(Looking {
+            rt,
+            keeping,
+            sources: Sources::open(rt, &keeping.source)?,
+            has_looked: false,
+        })
+    }
+}
+
+impl<R: Files + AllocGlobal> Looking<'_, R> {
+    // Those games of a list that are over, a first half before its second one, which is linked with it. Where one of
+    // them was not kept the log is read on before: behind the list, so that it has what is told of the games that are
+    // over in it.
+    fn games_in_order(&mut self, archive: &Archive<DiskFile>, rows: &[Row<'_>]) -> Result<Vec<u32>>
+        ensures { IfOk result (λ games. AreAll (λ game. contains game (games_over_in rows.now)) games.items) }
+    {
+        if is_asked(rows, archive) {
+            self.sources.log.read_on(self.rt, rows)?;
+        }
+        let over = games_over(self.rt.alloc(), rows)?;
+        Ok(in_order(self.rt.alloc(), self.sources.log.entries(), over.as_slice())?)
+    }
+}
+
+impl<R> Looking<'_, R>
+where
+    R: Net<Stream = TcpStream> + AllocGlobal + Clock,
+{
+    // Keeps the games of a list that are over, and drops them where that is asked.
+    fn keep_games(
+        &self,
+        link: Link,
+        opened: Opened,
+        rows: &[Row<'_>],
+        over: &[u32],
+    ) -> Result<(Counts, Result<()>)>
+        requires { AreAll (λ game. contains game (games_over_in rows.now)) over.now }
+    {
+        let alloc = self.rt.alloc();
+        let mut keeper = Keeper {
+            alloc,
+            link,
+            archive: opened.archive,
+            lines: opened.lines,
+            kept: Vec::new(alloc),
+            known: self.sources.known(),
+            rows,
+            drops: self.keeping.drops,
+            onlookers: Browsers {
+                rt: self.rt,
+                watchers: self.keeping.lobby.map(Watchers::new),
+            },
+            done: Done::nothing(alloc),
+            counts: NOTHING,
+            fault: None,
+        };
+        let done = look(&mut keeper, alloc, over);
+        let counted = keeper.end(done);
+        drop(keeper);
+        counted
+    }
+}
+
+impl<R> Looking<'_, R>
+where
+    R: Files<File = File> + AllocGlobal + Eprint,
+{
+    // Opens the archive, with the players as they are now; none where no game is over, and it was opened before.
+    fn open(&mut self, rows: &[Row<'_>]) -> Result<Option<Opened>> {
+        if self.has_looked && !rows.iter().any(|row| row.is_over) {
+            return Ok(None);
+        }
+        // (behind the list, so that they are all there who played its games)
+        self.sources.players.renew()?;
+        let opened = open_archive(self.rt, self.keeping.archive)?;
+        self.has_looked = true;
+        Ok(Some(opened))
+    }
+}
+
+// Whether the log is asked about games: one is over, and was not kept.
+fn is_asked(rows: &[Row<'_>], archive: &Archive<DiskFile>) -> bool {
+    rows.iter().any(|row| row.is_over && !archive.has(row.game))
+}
+
+impl<R> Looking<'_, R>
+where
+    R: Files<File = File> + Net<Stream = TcpStream> + AllocGlobal + Eprint + Clock,
+{
+    // Keeps the games of a list that are over, and drops them where that is asked. What went wrong though the work went
+    // on comes beside the counts.
+    fn look_at(&mut self, link: Link, rows: &[Row<'_>]) -> Result<(Counts, Result<()>)> {
+        let Some(opened) = self.open(rows)? else {
+            return Ok((NOTHING, Ok(())));
+        };
+        let over = self.games_in_order(&opened.archive, rows)?;
+        self.keep_games(link, opened, rows, over.as_slice())
+    }
+
+    // The same of the list as it is now.
+    fn look(&mut self) -> Result<(Counts, Result<()>)> {
+        let mut link = link_to(self.rt, &self.keeping.source)?;
+        let list = link.list()?;
+        let rows = rows_of(self.rt.alloc(), list.as_str())?;
+        self.look_at(link, rows.as_slice())
+    }
+}
+
+impl<R> Work for Looking<'_, R>
+where
+    R: Files<File = File> + Net<Stream = TcpStream> + AllocGlobal + Print + Eprint + Clock,
+{
+    // (it is told of where games were kept or dropped, or where that is all)
+    fn work(&mut self, is_once: bool) -> Result<()> {
+        let (counts, done) = self.look()?;
+        if is_once || counts.kept > 0 || counts.dropped > 0 {
+            tell_counts(self.rt, counts)?;
+        }
+        done
+    }
+}
+
+// Tells how many games were kept.
+fn tell_counts<R: Print + AllocGlobal>(rt: &R, counts: Counts) -> Result<()> {
+    let Counts { kept, dropped, all } = counts;
+    println!(rt; "kept {kept}, dropped {dropped}, in the archive {all}")?;
+    Ok(())
+}
+
+/// Keeps the games of a server that are over, and drops them where that is asked: once, or again and again until it is
+/// killed. It fails where another does so in this archive, where the players' file is none, and, where it is done once,
+/// at whatever goes wrong.
+pub fn keep<R>(rt: &R, keeping: &Keeping<'_>) -> Result<()>
+where
+    R: Files<File = File> + Net<Stream = TcpStream> + AllocGlobal + Print + Eprint + Clock,
+{
+    let _hold = Hold::of(rt, keeping.archive)?;
+    let mut looking = Looking::new(rt, keeping)?;
+    let done = go_on(rt, &mut looking, keeping.source.every, "all is well again");
+    drop(looking);
+    done
+}

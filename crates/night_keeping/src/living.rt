@@ -1,0 +1,267 @@
+//! The word that writes the games of a night where others fetch them.
+use crate::asking::pgn_of;
+use crate::command_line::Living;
+use crate::reading::found;
+use crate::rows::rows_of;
+use crate::sources::{Sources, link_to};
+use crate::telling::{Work, go_on};
+use anyhow::{Context, Result};
+use night_archive::{game_of, lines_of, pgn_of as pgn_in};
+use night_files::{EVERYBODYS_MODE, new_file};
+use night_links::{Link, Row};
+use std::alloc::{AllocError, Global};
+use std::fs;
+use std::io::{self, Write};
+use std::net::{Net, TcpStream};
+use std::rt::{Clock, Files};
+use text_parts::parts;
+
+// A game, as it stands in the file.
+#[derive(Drop)]
+struct Board {
+    game: u32,
+    pgn: Vec<u8>,
+}
+
+// Who writes the file.
+#[derive(Drop)]
+struct Writer<'a, R> {
+    rt: &'a R,
+    living: &'a Living<'a>,
+    sources: Sources<'a, R>,
+    link: Option<Link>,
+    // The games of the table as they were seen last.
+    seen: Vec<Board>,
+    // The games of the archive that are written, and how long it was when they were read.
+    archived: Vec<Board>,
+    archive_length: u64,
+    // What the file has, where that is known.
+    written: Option<Vec<u8>>,
+}
+
+// Whether both seats of a game are taken.
+fn is_played(row: Row<'_>) -> bool {
+    row.white != "-" && row.black != "-"
+}
+
+// Whether a game that is on the table still is written as the archive has it: it is over, and was kept.
+fn is_kept(row: Row<'_>, archived: &[Board]) -> bool {
+    row.is_over && has_game(archived, row.game)
+}
+
+// Whether a PGN has a tag Date with this value.
+fn is_of_date(alloc: Global, pgn: &[u8], date: &str) -> Result<bool> {
+    let tag = format!(in alloc; "[Date \"{date}\"]")?;
+    match str::from_utf8(pgn) {
+        Ok(text) => Ok(parts(alloc, text, '\n')?.contains(&tag.as_str())),
+        Err(_) => Ok(false),
+    }
+}
+
+// Whether a game is among boards.
+fn has_game(boards: &[Board], game: u32) -> bool {
+    boards.iter().any(|board| board.game == game)
+}
+
+// The table's boards, and those of the archive that are not there any more, by their numbers.
+fn in_order<'a>(
+    alloc: Global,
+    table: &'a [Board],
+    archived: &'a [Board],
+) -> Result<Vec<&'a Board>, AllocError> {
+    let left = archived.iter().filter(|board| !has_game(table, board.game));
+    let mut boards: Vec<&Board> = table.iter().chain(left).collect(alloc)?;
+    boards.sort_by_key(|board| board.game)?;
+    Ok(boards)
+}
+
+// Their PGNs, one behind the other.
+fn text_of(alloc: Global, boards: &[&Board]) -> Result<Vec<u8>, AllocError> {
+    let mut text = Vec::new(alloc);
+    for board in boards {
+        text.extend_from_slice(board.pgn.as_slice())?;
+    }
+    Ok(text)
+}
+
+// The length of a file; 0 where it is not there.
+fn length_of<R: Files>(rt: &R, path: &str) -> Result<u64> {
+    if !fs::exists(rt, path)? {
+        return Ok(0);
+    }
+    Ok(found(rt, path)?.len())
+}
+
+// Puts the game of a line of the archive behind others, where it is written: each one, or those of this night alone
+// where its date is given.
+fn push_line(boards: &mut Vec<Board>, alloc: Global, line: &str, date: Option<&str>) -> Result<()> {
+    let Some(game) = game_of(alloc, line)? else {
+        return Ok(());
+    };
+    let pgn = pgn_in(alloc, line)?;
+    let is_here = match date {
+        Some(date) => is_of_date(alloc, pgn.as_slice(), date)?,
+        None => true,
+    };
+    if is_here {
+        boards.push(Board { game, pgn })?;
+    }
+    Ok(())
+}
+
+// The games of an archive's text that are written.
+fn boards_of(alloc: Global, text: &str, date: Option<&str>) -> Result<Vec<Board>> {
+    let lines = parts(alloc, text, '\n')?;
+    let mut boards = Vec::new(alloc);
+    for line in lines.as_slice() {
+        push_line(&mut boards, alloc, line, date)?;
+    }
+    Ok(boards)
+}
+
+// Makes a file of a text.
+fn write_new<R: Files>(rt: &R, path: &str, text: &[u8]) -> io::Result<()> {
+    let mut file = new_file(rt, path, EVERYBODYS_MODE)?;
+    file.write_all(text)
+}
+
+// Puts a text in a file's place, at once.
+fn put<R: Files + AllocGlobal>(rt: &R, path: &str, text: &[u8]) -> Result<()> {
+    let new = format!(in rt.alloc(); "{path}.new")?;
+    write_new(rt, new.as_str(), text).context(format_args!("writing {new}"))?;
+    fs::rename(rt, new.as_str(), path).context(format_args!("writing {path}"))?;
+    Ok(())
+}
+
+impl<R> Writer<'_, R> {
+    // What the file is to have.
+    fn text(&self, alloc: Global) -> Result<Vec<u8>, AllocError> {
+        let boards = in_order(alloc, self.seen.as_slice(), self.archived.as_slice())?;
+        text_of(alloc, boards.as_slice())
+    }
+
+    // Those games of the server's list that are played or over, but those that were kept.
+    fn push_rows(
+        &self,
+        boards: &mut Vec<Board>,
+        alloc: Global,
+        link: &mut Link,
+        rows: &[Row<'_>],
+    ) -> Result<()> {
+        let known = self.sources.known();
+        for row in rows {
+            if is_played(*row)
+                && !is_kept(*row, self.archived.as_slice())
+                && let Some(pgn) = pgn_of(alloc, link, &known, *row)?
+            {
+                let game = row.game;
+                boards.push(Board { game, pgn })?;
+            }
+        }
+        Ok(())
+    }
+}
+
+impl<'a, R: Files + AllocGlobal + Eprint> Writer<'a, R> {
+    // No game was seen yet.
+    fn new(rt: &'a R, living: &'a Living<'a>) -> Result<Self> {
+        let alloc = rt.alloc();
+        let sources = Sources::open(rt, &living.source)?;
+        Ok(Writer {
+            rt,
+            living,
+            sources,
+            link: None,
+            seen: Vec::new(alloc),
+            archived: Vec::new(alloc),
+            archive_length: 0,
+            written: fs::read(rt, living.file).ok(),
+        })
+    }
+
+    // Those games of the list as it is now that are played or over, but those that were kept, with the players and the
+    // log as they are behind it.
+    fn push_table(&mut self, boards: &mut Vec<Board>, link: &mut Link) -> Result<()> {
+        let alloc = self.rt.alloc();
+        let list = link.list()?;
+        let rows = rows_of(alloc, list.as_str())?;
+        // (behind the list, so that they are all there who play its games)
+        self.sources.renew(self.rt, rows.as_slice())?;
+        self.push_rows(boards, alloc, link, rows.as_slice())
+    }
+
+    // Reads the archive anew where it is another.
+    fn read_archive(&mut self) -> Result<()> {
+        let Some(path) = self.living.archive else {
+            return Ok(());
+        };
+        let length = length_of(self.rt, path)?;
+        if length != self.archive_length {
+            let text = lines_of(self.rt, path)?;
+            self.archived = boards_of(self.rt.alloc(), text.as_str(), self.living.date)?;
+            self.archive_length = length;
+        }
+        Ok(())
+    }
+}
+
+impl<R> Writer<'_, R>
+where
+    R: Files + Net<Stream = TcpStream> + AllocGlobal + Eprint,
+{
+    // The table's games, asked by the connection that there was, or by a new one.
+    fn push_told(&mut self, boards: &mut Vec<Board>) -> Result<()> {
+        let mut link = match self.link.take() {
+            Some(link) => link,
+            None => link_to(self.rt, &self.living.source)?,
+        };
+        self.push_table(boards, &mut link)?;
+        self.link = Some(link);
+        Ok(())
+    }
+
+    // Looks at the table and at the archive.
+    fn look(&mut self) -> Result<()> {
+        self.read_archive()?;
+        let mut boards = Vec::new(self.rt.alloc());
+        self.push_told(&mut boards)?;
+        // (once more, as a game may have been kept and dropped meanwhile)
+        self.read_archive()?;
+        self.seen = boards;
+        Ok(())
+    }
+}
+
+impl<R> Work for Writer<'_, R>
+where
+    R: Files + Net<Stream = TcpStream> + AllocGlobal + Eprint,
+{
+    // (the file is written where it has changed)
+    fn work(&mut self, _is_once: bool) -> Result<()> {
+        self.look()?;
+        let text = self.text(self.rt.alloc())?;
+        if self.written.as_ref() != Some(&text) {
+            put(self.rt, self.living.file, text.as_slice())?;
+            self.written = Some(text);
+        }
+        Ok(())
+    }
+}
+
+/// Writes all games that are played on the server's table, those that are over, and those of the archive to a file:
+/// once, or again and again until it is killed. It fails where the players' file is none, and, where it is done once,
+/// at whatever goes wrong.
+pub fn live<R>(rt: &R, living: &Living<'_>) -> Result<()>
+where
+    R: Files + Net<Stream = TcpStream> + AllocGlobal + Eprint + Clock,
+{
+    let mut writer = Writer::new(rt, living)?;
+    let done = go_on(
+        rt,
+        &mut writer,
+        living.source.every,
+        "the file is written again",
+    );
+    drop(writer);
+    done
+}

@@ -1,0 +1,35 @@
+//! The games of the server's list.
+ghost use Rattle.std.specs.Prelude.{◌≡◌, IfOk};
+ghost use Rattle.night_keeping.specs.Games.{games_over_in};
+
+use anyhow::{Result, bail};
+use night_links::{Row, row_of};
+use std::alloc::{AllocError, Global};
+use text_parts::parts;
+
+/// The games of the server's list.
+pub fn rows_of(alloc: Global, list: &str) -> Result<Vec<Row<'_>>> {
+    let mut rows = Vec::new(alloc);
+    for line in parts(alloc, list, '\n')?.as_slice() {
+        match row_of(line) {
+            Some(row) => rows.push(row)?,
+            None => bail!("the server's list has a row of another form: {line:?}"),
+        }
+    }
+    Ok(rows)
+}
+
+/// The least number on the table: later games have greater ones. `None` where the table has no game.
+pub fn first_on_table(rows: &[Row<'_>]) -> Option<u32> {
+    rows.iter().map(|row| row.game).min()
+}
+
+/// The games that are over, in the order of the list.
+pub fn games_over(alloc: Global, rows: &[Row<'_>]) -> Result<Vec<u32>, AllocError>
+    ensures { IfOk result (λ games. games.items ≡ games_over_in rows.now) }
+{
+    rows.iter()
+        .filter(|row| row.is_over)
+        .map(|row| row.game)
+        .collect(alloc)
+}

@@ -1,0 +1,67 @@
+-- What a player's round is in a report.
+use Rattle.std.specs.Prelude.{ℕ, ◌==◌, Bool, false, List, [], ◌∷◌, Option, None, Some, if◌then◌else◌}
+use Rattle.night_report.specs.declared.cells.Cell.{Cell}
+use Rattle.night_report.specs.declared.cells.Meeting.{Meeting}
+use Rattle.night_report.specs.declared.cells.Score.{Score}
+use Rattle.night_report.specs.declared.cells.Score.TheVariants as scores
+use Rattle.night_report.specs.declared.cells.Play.{Play}
+use Rattle.night_report.specs.declared.cells.Play.TheVariants as plays
+
+-- the sign of a win, of a draw and of a loss, by how it came: over the board, by less than a move each, by a forfeit
+abbrev pub win_sign : Play → ℕ
+win_sign plays.Board = 49
+win_sign plays.Short = 87
+win_sign plays.Forfeit = 43
+
+abbrev pub draw_sign : Play → ℕ
+draw_sign plays.Board = 61
+draw_sign plays.Short = 68
+draw_sign plays.Forfeit = 61
+
+abbrev pub loss_sign : Play → ℕ
+loss_sign plays.Board = 48
+loss_sign plays.Short = 76
+loss_sign plays.Forfeit = 45
+
+-- White's sign and half points; a game that goes on has a space
+abbrev pub white_sign : Score → Play → ℕ
+white_sign scores.White play = win_sign play
+white_sign scores.Black play = loss_sign play
+white_sign scores.Draw play = draw_sign play
+white_sign scores.Open play = 32
+
+abbrev pub white_halves : Score → ℕ
+white_halves scores.White = 2
+white_halves scores.Black = 0
+white_halves scores.Draw = 1
+white_halves scores.Open = 0
+
+-- with the colours changed; so Black's are White's of this
+abbrev pub turned : Score → Score
+turned scores.White = scores.Black
+turned scores.Black = scores.White
+turned scores.Draw = scores.Draw
+turned scores.Open = scores.Open
+
+-- `w`, and White's opponent; without one a bye, `U`, which is a win
+abbrev pub white_cell : Meeting → Option ℕ → Cell
+white_cell m None = record { opponent = 0; colour = 45; sign = 85; halves = 2 }
+white_cell m (Some black) = record { opponent = black; colour = 119; sign = white_sign m.score m.play; halves = white_halves m.score }
+
+abbrev pub black_cell : Meeting → Cell
+black_cell m =
+    record { opponent = m.white; colour = 98; sign = white_sign (turned m.score) m.play; halves = white_halves (turned m.score) }
+
+-- who is not paired: `Z`, no point
+abbrev pub absent : Cell
+absent = record { opponent = 0; colour = 45; sign = 90; halves = 0 }
+
+abbrev pub is_number : ℕ → Option ℕ → Bool
+is_number n None = false
+is_number n (Some m) = m == n
+
+-- the round of the player of this number, by the first meeting in which the player has a seat
+abbrev pub cell_in : ℕ → List Meeting → Cell
+cell_in n [] = absent
+cell_in n (m ∷ ms) =
+    if m.white == n then white_cell m m.black else (if is_number n m.black then black_cell m else cell_in n ms)

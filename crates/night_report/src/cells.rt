@@ -1,0 +1,166 @@
+//! What a player's round is.
+ghost use Rattle.std.specs.Prelude.{◌≡◌, ◌≤◌};
+ghost use Rattle.night_report.specs.Cells as spec;
+
+/// What came of a game.
+#[derive(Clone, Copy)]
+pub enum Score {
+    White,
+    Black,
+    Draw,
+    /// The game goes on, or has not begun.
+    Open,
+}
+
+/// How a game ended: over the board; before both sides had made a move; or so by a player who did not come.
+#[derive(Clone, Copy)]
+pub enum Play {
+    Board,
+    Short,
+    Forfeit,
+}
+
+/// Two players of a round by their starting numbers, or one who has a bye.
+#[derive(Clone, Copy)]
+pub struct Meeting {
+    pub white: u32,
+    pub black: Option<u32>,
+    pub score: Score,
+    pub play: Play,
+}
+
+/// A player's round: the opponent's starting number or 0, the sign of the colour, that of the result, and half points.
+#[derive(Clone, Copy)]
+pub struct Cell {
+    pub opponent: u32,
+    pub colour: u8,
+    pub sign: u8,
+    pub halves: u8,
+}
+
+fn win_sign(play: Play) -> u8
+    ensures { result ≡ spec.win_sign play }
+{
+    match play {
+        Play::Board => b'1',
+        Play::Short => b'W',
+        Play::Forfeit => b'+',
+    }
+}
+
+fn draw_sign(play: Play) -> u8
+    ensures { result ≡ spec.draw_sign play }
+{
+    match play {
+        Play::Board | Play::Forfeit => b'=',
+        Play::Short => b'D',
+    }
+}
+
+fn loss_sign(play: Play) -> u8
+    ensures { result ≡ spec.loss_sign play }
+{
+    match play {
+        Play::Board => b'0',
+        Play::Short => b'L',
+        Play::Forfeit => b'-',
+    }
+}
+
+// White's sign.
+fn white_sign(score: Score, play: Play) -> u8
+    ensures { result ≡ spec.white_sign score play }
+{
+    match score {
+        Score::White => win_sign(play),
+        Score::Black => loss_sign(play),
+        Score::Draw => draw_sign(play),
+        Score::Open => b' ',
+    }
+}
+
+// White's half points.
+fn white_halves(score: Score) -> u8
+    ensures halves { result ≡ spec.white_halves score }
+    ensures few { result ≤ 2 }
+{
+    match score {
+        Score::White => 2,
+        Score::Draw => 1,
+        Score::Black | Score::Open => 0,
+    }
+}
+
+// The score with the colours changed.
+fn turned(score: Score) -> Score
+    ensures { result ≡ spec.turned score }
+{
+    match score {
+        Score::White => Score::Black,
+        Score::Black => Score::White,
+        Score::Draw | Score::Open => score,
+    }
+}
+
+fn white_cell(meeting: Meeting) -> Cell
+    ensures cell { result ≡ spec.white_cell meeting meeting.black }
+    ensures few { result.halves ≤ 2 }
+{
+    match meeting.black {
+        None => Cell {
+            opponent: 0,
+            colour: b'-',
+            sign: b'U',
+            halves: 2,
+        },
+        Some(black) => Cell {
+            opponent: black,
+            colour: b'w',
+            sign: white_sign(meeting.score, meeting.play),
+            halves: white_halves(meeting.score),
+        },
+    }
+}
+
+fn black_cell(meeting: Meeting) -> Cell
+    ensures cell { result ≡ spec.black_cell meeting }
+    ensures few { result.halves ≤ 2 }
+{
+    let score = turned(meeting.score);
+    Cell {
+        opponent: meeting.white,
+        colour: b'b',
+        sign: white_sign(score, meeting.play),
+        halves: white_halves(score),
+    }
+}
+
+fn is_number(number: u32, black: Option<u32>) -> bool
+    ensures { result ≡ spec.is_number number black }
+{
+    match black {
+        None => false,
+        Some(black) => black == number,
+    }
+}
+
+/// The round of a player, by the first meeting in which the player has a seat; who has none gets no point.
+pub fn cell_of(number: u32, round: &[Meeting]) -> Cell
+    ensures cell { result ≡ spec.cell_in number round.now }
+    ensures few { result.halves ≤ 2 }
+{
+    for meeting in round {
+        if meeting.white == number {
+            return white_cell(*meeting);
+        }
+        if is_number(number, meeting.black) {
+            return black_cell(*meeting);
+        }
+    }
+    Cell {
+        opponent: 0,
+        colour: b'-',
+        sign: b'Z',
+        halves: 0,
+    }
+}

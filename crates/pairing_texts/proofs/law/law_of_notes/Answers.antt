@@ -1,5 +1,0 @@
-use Rattle.pairing_texts.proofs.NotesBack.{note_back}
-use Rattle.pairing_texts.proofs.law.law_of_notes.Goals as goal
-
-pub returns : goal.returns
-returns c = λ n is. note_back n is

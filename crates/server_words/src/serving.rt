@@ -1,0 +1,211 @@
+//! The word that serves players.
+ghost use Rattle.std.specs.Prelude.{◌≡◌, IfOk, IfErr};
+ghost use Rattle.server_words.specs.PlayFaults.{IsServeFault};
+
+use crate::clock::{SteadyClock, milliseconds_since};
+use crate::{Fault, Place, Serving, found_in, open_file, open_on, printed, told};
+use chess_hub::{Hub, Moments};
+use chess_sockets::{Server, ServerFault, Turned};
+use chess_store::Store;
+use sector_dev::Device;
+use server_telling::{Teller, TellingDevice, TurnedAway};
+use sockets::LocalListener;
+use std::alloc::Global;
+use std::fs::File;
+use std::net::{Net, TcpListener, TcpStream};
+use std::rt::{Clock, Files};
+use std::time::Instant;
+use std::{fs, io};
+
+// Takes the turns of a server: so many, or as many as 64 bits count.
+fn take_turns<R: Clock + Eprint, D: Device>(
+    clock: &mut SteadyClock<'_, R>,
+    teller: &Teller<'_, R>,
+    server: &mut Server<D>,
+    turns: Option<u32>,
+) -> Result<(), Fault>
+    ensures { IfErr result IsServeFault }
+{
+    let mut away = TurnedAway::new();
+    for _ in 0..turns.map_or(u64::MAX, u64::from) {
+        let at = clock.next();
+        match server.turn(at) {
+            Ok(Turned::Worked) => {}
+            Ok(Turned::Idle) => server.rest(),
+            Err(fault) => return Err(Fault::Hub(fault)),
+        }
+        if let Some(more) = away.news(server.turned_away(), at) {
+            teller.turned_away(more);
+        }
+    }
+    Ok(())
+}
+
+/// A listener, and where it listens.
+#[derive(Drop)]
+pub struct Door<'a> {
+    pub listener: LocalListener,
+    pub place: Place<'a>,
+}
+
+impl<'a> Door<'a> {
+    /// Listens on a port of 127.0.0.1.
+    pub fn on_port<R>(rt: &R, port: u16) -> io::Result<Door<'a>>
+    where
+        R: Net<Listener = TcpListener, Stream = TcpStream>,
+    {
+        let listener = LocalListener::bind(rt, port)?;
+        let place = Place::Port(listener.port()?);
+        Ok(Door { listener, place })
+    }
+
+    // Listens where it is asked for.
+    fn open<R>(rt: &R, place: Place<'a>) -> io::Result<Door<'a>>
+    where
+        R: Files + Net<Listener = TcpListener, Stream = TcpStream>,
+    {
+        match place {
+            Place::Port(port) => Door::on_port(rt, port),
+            Place::Socket(path) => Ok(Door {
+                listener: LocalListener::bind_path(rt, path)?,
+                place,
+            }),
+        }
+    }
+}
+
+// What was listened on, or why it was not, which is told.
+fn opened_door<'a, R: Eprint>(
+    teller: &Teller<'_, R>,
+    place: Place<'a>,
+    door: io::Result<Door<'a>>,
+) -> Result<Door<'a>, Fault>
+    ensures { IfErr result IsServeFault }
+{
+    match door {
+        Ok(door) => Ok(door),
+        Err(error) => {
+            teller.place_failed(&place, &error);
+            Err(Fault::Socket)
+        }
+    }
+}
+
+// The server of a hub, where a client may be silent for as long as is asked for.
+fn begun<R: Eprint + Net, D: Device + Drop>(
+    rt: &R,
+    alloc: Global,
+    teller: &Teller<'_, R>,
+    door: Door<'_>,
+    silence: Option<u64>,
+    hub: Hub<D>,
+) -> Result<Server<D>, Fault>
+    ensures hub { IfOk result (λ server. server.hub ≡ hub) }
+    ensures silence { IfOk result (λ server. server.silence ≡ silence) }
+    ensures fault { IfErr result IsServeFault }
+{
+    let Door { listener, place } = door;
+    match Server::new(rt, alloc, listener, silence, hub) {
+        Ok(server) => Ok(server),
+        Err(ServerFault::Socket(error)) => {
+            teller.place_failed(&place, &error);
+            Err(Fault::Socket)
+        }
+    }
+}
+
+/// Serves players at a door, over the games of a store whose opening took so many milliseconds: prints `port P`, P
+/// being the port that it listens on, or `socket PATH`, tells what was found, and takes its turns, with the waits of
+/// `serve`, until a fault ends them or they are used up. A socket or an output that fails is told; any other fault is
+/// answered alone.
+pub fn serve_store<R: Clock + Print + Eprint + Net, D: Device + Drop>(
+    rt: &R,
+    alloc: Global,
+    teller: &Teller<'_, R>,
+    door: Door<'_>,
+    serving: &Serving<'_>,
+    store: Store<D>,
+    took: u64,
+) -> Result<(), Fault>
+    ensures { IfErr result IsServeFault }
+{
+    let found = found_in(&store, took);
+    let hub = Hub::new(alloc, store);
+    let place = door.place;
+    let mut server = begun(rt, alloc, teller, door, serving.silence, hub)?;
+    // At once, since who started it waits for it.
+    printed(teller, println!(rt; "{place}"))?;
+    let mut clock = SteadyClock::new(rt);
+    if let Some(found) = found {
+        teller.serves(&place, found, clock.next());
+    }
+    take_turns(&mut clock, teller, &mut server, serving.turns)
+}
+
+// Takes a socket's file away, behind its server.
+fn take_away<R: Files>(rt: &R, place: Place<'_>) {
+    if let Place::Socket(path) = place {
+        // One that stays is replaced by the next server.
+        let _ = fs::remove_file(rt, path);
+    }
+}
+
+// Serves players over the games of the journal on a device, whose opening began then.
+fn serve_on<R, D: Device + Drop>(
+    rt: &R,
+    alloc: Global,
+    teller: &Teller<'_, R>,
+    serving: &Serving<'_>,
+    device: D,
+    begun: Option<Instant>,
+) -> Result<(), Fault>
+where
+    R: Files + Clock + Print + Eprint + Net<Listener = TcpListener, Stream = TcpStream>,
+    ensures { IfErr result IsServeFault }
+{
+    let store = open_on(alloc, device)?;
+    let took = milliseconds_since(rt, begun);
+    let door = opened_door(teller, serving.place, Door::open(rt, serving.place))?;
+    let served = serve_store(rt, alloc, teller, door, serving, store, took);
+    take_away(rt, serving.place);
+    served
+}
+
+// The same of the journal in a file.
+fn serve_journal<R>(
+    rt: &R,
+    alloc: Global,
+    teller: &Teller<'_, R>,
+    serving: &Serving<'_>,
+) -> Result<(), Fault>
+where
+    R: Files<File = File>
+        + Clock
+        + Print
+        + Eprint
+        + Net<Listener = TcpListener, Stream = TcpStream>,
+    ensures { IfErr result IsServeFault }
+{
+    let begun = Instant::now(rt).ok();
+    let file = open_file(rt, teller, serving.journal)?;
+    let device = TellingDevice::new(file, teller, serving.journal);
+    serve_on(rt, alloc, teller, serving, device, begun)
+}
+
+/// Serves players on a port or by a Unix socket, over the games of a journal's file, and first prints `port P`, P being
+/// the port that it listens on, or `socket PATH`. A socket's file is taken away at the end. Where a turn found nothing
+/// to do it waits until a socket is ready or 10 ms have passed. Its moments are those of the system's clock as it was
+/// at the start, which goes on evenly.
+pub fn serve<R>(rt: &R, alloc: Global, serving: &Serving<'_>) -> Result<(), Fault>
+where
+    R: Files<File = File>
+        + Clock
+        + Print
+        + Eprint
+        + Net<Listener = TcpListener, Stream = TcpStream>,
+    ensures { IfErr result IsServeFault }
+{
+    let teller = Teller::new(rt, serving.is_quiet);
+    let served = serve_journal(rt, alloc, &teller, serving);
+    told(&teller, serving.journal, served)
+}

@@ -1,4 +1,0 @@
-pub mod Lines
-pub mod Heard
-pub mod Holding
-pub mod Pieces

@@ -1,0 +1,734 @@
+//! Browsers and a server over streams that give and take little, or fail.
+use crate::browser::{file_of, site_of};
+use crate::frames::UPGRADE;
+use lobby_desk::{Limits, Order};
+use lobby_loop::{Acceptor, ActLog, Fault, Hall, KeepsLinks, NoActLog, NoLinks, Welcomed, welcome};
+use lobby_players::relinked;
+use lobby_web::Kind;
+use lobby_words::{Linked, Player};
+use player_name::Name;
+use sockets::AcceptFault;
+use std::alloc::Global;
+use std::hash::RandomState;
+use std::io::{Error, ErrorKind, Read, Write};
+use std::net::{IpAddr, Ipv4Addr};
+use std::process::Abort;
+use std::{io, mem};
+
+/// A stream that gives at each read what stands up to the next `~`, nothing where nothing stands there, and takes so
+/// many bytes at a write.
+#[derive(Drop)]
+struct Peer {
+    gives: &'static [u8],
+    reads: usize,
+    takes: usize,
+    is_full: bool,
+    written: Vec<u8>,
+}
+
+impl Peer {
+    fn new(alloc: Global, gives: &'static [u8], takes: usize) -> Peer {
+        Peer {
+            gives,
+            reads: 0,
+            takes,
+            is_full: false,
+            written: Vec::new(alloc),
+        }
+    }
+
+    // What this read gives.
+    fn given(&self) -> &'static [u8] {
+        let mut pieces = self.gives.split(|byte| *byte == b'~');
+        pieces.nth(self.reads).unwrap_or(b"")
+    }
+}
+
+// A peer on this machine.
+const NEAR: IpAddr = IpAddr::V4(Ipv4Addr::LOCALHOST);
+
+// A piece that stands for the upgrade, for the end, and for a connection that is reset.
+const UP: &[u8] = b"UP";
+
+const END: &[u8] = b"END";
+
+const RESET: &[u8] = b"RESET";
+
+impl Read for Peer {
+    fn read(&mut self, buf: &mut [u8]) -> io::Result<usize> {
+        let given = self.given();
+        self.reads = self.reads.saturating_add(1);
+        if given.is_empty() {
+            return Err(Error::from(ErrorKind::WouldBlock));
+        }
+        if given == RESET {
+            return Err(Error::from(ErrorKind::ConnectionReset));
+        }
+        let bytes = if given == UP { UPGRADE } else { given };
+        if given == END || bytes.len() > buf.len() {
+            return Ok(0);
+        }
+        buf[..bytes.len()].copy_from_slice(bytes);
+        Ok(bytes.len())
+    }
+}
+
+impl Write for Peer {
+    fn write(&mut self, buf: &[u8]) -> io::Result<usize> {
+        self.is_full = !self.is_full;
+        if !self.is_full {
+            return Err(Error::from(ErrorKind::WouldBlock));
+        }
+        let count = buf.len().min(self.takes);
+        self.written.extend_from_slice(&buf[..count])?;
+        Ok(count)
+    }
+
+    fn flush(&mut self) -> io::Result<()> {
+        Ok(())
+    }
+}
+
+// The SHA-256 of ann's token, which is `aaaaaaaaaaaaaaaaaaaaaaaaaaaaaaaa`.
+const SUM: [u8; 32] = [
+    59, 163, 245, 244, 59, 146, 96, 38, 131, 193, 154, 238, 98, 162, 3, 66, 176, 132, 221, 89, 113,
+    221, 211, 56, 8, 216, 26, 50, 136, 121, 165, 71,
+];
+
+// The SHA-256 of eve's token, which is `eeeeeeeeeeeeeeeeeeeeeeeeeeeeeeee`.
+const ARBITERS_SUM: [u8; 32] = [
+    223, 180, 23, 69, 77, 116, 50, 113, 94, 207, 170, 51, 216, 154, 189, 171, 164, 69, 124, 59, 44,
+    189, 133, 164, 162, 6, 32, 208, 205, 128, 109, 166,
+];
+
+// A player ann, whose token has this sum, and an arbiter eve.
+fn players(rt: &impl Abort, alloc: Global, sum: [u8; 32]) -> Vec<Player> {
+    let mut players = Vec::new(alloc);
+    for (name, sum, is_arbiter) in [("ann", sum, false), ("eve", ARBITERS_SUM, true)] {
+        let player = Player {
+            name: Name::try_new(name).expect(rt, "a name"),
+            full_name: String::from_str(alloc, name).expect(rt, "memory"),
+            sum,
+            is_arbiter,
+        };
+        players.push(player).expect(rt, "memory");
+    }
+    players
+}
+
+/// A log that keeps what it is given, one text behind the other, or fails.
+#[derive(Drop)]
+struct Kept {
+    fails: bool,
+    text: String,
+}
+
+impl ActLog for Kept {
+    fn put(&mut self, texts: &[String]) -> io::Result<()> {
+        if self.fails {
+            return Err(Error::from(ErrorKind::StorageFull));
+        }
+        for text in texts {
+            self.text.push_str(text.as_str())?;
+        }
+        Ok(())
+    }
+}
+
+/// A players' file that changes a link once, and what it was told of entries.
+#[derive(Drop)]
+struct Once {
+    alloc: Global,
+    is_done: bool,
+    is_paused: bool,
+}
+
+// The file of ann and eve.
+const FILE: &[u8] =
+    b"ann player 3ba3f5f43b92602683c19aee62a20342b084dd5971ddd33808d81a328879a547 ann\neve arbiter dfb417454d7432715ecfaa33d89abdaba4457c3b2cbd85a4a20620d0cd806da6 eve\n";
+
+impl KeepsLinks for Once {
+    fn change(&mut self, order: &Order, players: &[Player]) -> Option<Linked> {
+        if self.is_done || order.closes {
+            return None;
+        }
+        let new = relinked(self.alloc, players, FILE, &order.name, &[7; 16]).ok()?;
+        self.is_done = true;
+        Some(new.linked)
+    }
+
+    fn entries(&mut self, is_paused: bool) {
+        self.is_paused = is_paused;
+    }
+}
+
+/// A hall with a log and a players' file.
+#[derive(Drop)]
+struct Lab {
+    alloc: Global,
+    keys: RandomState,
+    hall: Hall<Peer>,
+    log: Kept,
+    links: Once,
+}
+
+// A hall under the host `a:1`.
+fn hall_of(rt: &impl Abort, alloc: Global, keys: RandomState, is_paused: bool) -> Hall<Peer> {
+    let site = site_of(rt, alloc);
+    let limits = Limits {
+        waiting: 4,
+        playing: 8,
+        over: 32,
+        places: None,
+    };
+    let players = players(rt, alloc, SUM);
+    Hall::new(alloc, keys, site, players, is_paused, limits, None)
+}
+
+/// How a script is played.
+#[derive(Clone, Copy)]
+enum How {
+    Plainly,
+    /// The browser's socket takes seven bytes at a write, and the server's five.
+    Slowly,
+    /// Entries are paused at first.
+    Paused,
+    /// The log fails.
+    Unlogged,
+}
+
+/// What one browser and the server give, and how it is played.
+type Script = (&'static [u8], &'static [u8], How);
+
+impl Lab {
+    // Begins a script.
+    fn begin(&mut self, rt: &impl Abort, script: &Script) {
+        let (browser, server, how) = script;
+        // (a call drops the one before: in its place all its fields would be proved to be dropped)
+        let hall = hall_of(rt, self.alloc, self.keys, matches!(how, How::Paused));
+        drop(mem::replace(&mut self.hall, hall));
+        let is_slow = matches!(how, How::Slowly);
+        let server = Peer::new(self.alloc, server, if is_slow { 5 } else { 1_000 });
+        self.hall.server_came(server).expect(rt, "memory");
+        let takes = if is_slow { 7 } else { 1_000 };
+        self.hall
+            .admit(Peer::new(self.alloc, browser, takes), 2, NEAR, 0);
+        self.log.fails = matches!(how, How::Unlogged);
+        self.log.text.clear();
+        self.links.is_done = false;
+        self.links.is_paused = false;
+    }
+
+    // So many turns with all sockets awake, so many milliseconds apart, or until the log fails; that entries are paused
+    // is kept before it is told. It tells whether it was kept before the turn in which the log failed, if it did.
+    fn turn(&mut self, rt: &impl Abort, turns: u64, apart: u64) -> Option<bool> {
+        for turn in 0..turns {
+            let was_paused = self.links.is_paused;
+            let at = turn.saturating_mul(apart);
+            if let Err(fault) = self.hall.turn(at, &mut self.log, &mut self.links) {
+                assert!(rt; matches!(&fault, Fault::NoLog(_)));
+                return Some(was_paused);
+            }
+            assert!(rt; self.links.is_paused || !self.is_told(PAUSED));
+            self.hall.wake(2);
+            self.hall.wake_server();
+        }
+        None
+    }
+
+    // A turn more, without a log and without a players' file.
+    fn turn_alone(&mut self, rt: &impl Abort, at: u64) {
+        let turned = self.hall.turn(at, &mut NoActLog, &mut NoLinks);
+        assert!(rt; turned.is_ok());
+    }
+
+    // Plays a script.
+    fn play(&mut self, rt: &impl Abort, script: &Script, turns: u64, apart: u64) -> Option<bool> {
+        self.begin(rt, script);
+        self.turn(rt, turns, apart)
+    }
+
+    // Whether the browser is there, and what was written to it ends so.
+    fn is_told(&self, end: &[u8]) -> bool {
+        match self.hall.guest_stream() {
+            Some(peer) => peer.written.as_slice().ends_with(end),
+            None => false,
+        }
+    }
+
+    // Whether the server is there, and this was written to it.
+    fn is_asked(&self, all: &[u8]) -> bool {
+        match self.hall.server_stream() {
+            Some(peer) => peer.written.as_slice() == all,
+            None => false,
+        }
+    }
+
+    // Whether the server was sent this, and what the browser was sent ends so; each where it is there, and not where it
+    // is gone.
+    fn is_so(&self, asked: &[u8], told: &[u8]) -> bool {
+        let is_asked = self.is_asked(asked) || asked == GONE && !self.hall.has_server();
+        let is_told = self.is_told(told) || told == GONE && self.hall.len() == 0;
+        is_asked && is_told
+    }
+}
+
+const GONE: &[u8] = b"GONE";
+
+/// A script, in how many turns and how many milliseconds apart it is played, what the server is sent, and how what the
+/// browser is sent ends.
+type Case = (Script, (u64, u64), &'static [u8], &'static [u8]);
+
+const PAUSED: &[u8] = b"\x81\x11ok pause entries\n";
+
+// A message with a line feed in it, one of 256 bytes, one that is no ASCII, and one without a byte.
+const NONE: &[u8] =
+    b"UP~\x81\x86\0\0\0\0show\n7\x81\xfe\x01\0\0\0\0\0show 000000000000000000000000000000000000000000000000000000000\
+0000000000000000000000000000000000000000000000000000000000000000000000000000000000000000000000000000\
+0000000000000000000000000000000000000000000000000000000000000000000000000000000000000000000001\
+\x81\x87\0\0\0\0show \xc3\xa4\x81\x80\0\0\0\0";
+
+// 22 times `leave lobby`
+const FLOOD: &[u8] =
+    b"UP~\x81\x8b\0\0\0\0leave lobby\x81\x8b\0\0\0\0leave lobby\x81\x8b\0\0\0\0leave lobby\x81\x8b\0\0\0\0leave lobby\
+\x81\x8b\0\0\0\0leave lobby\x81\x8b\0\0\0\0leave lobby\x81\x8b\0\0\0\0leave lobby\x81\x8b\0\0\0\0leave lobby\
+\x81\x8b\0\0\0\0leave lobby\x81\x8b\0\0\0\0leave lobby\x81\x8b\0\0\0\0leave lobby\x81\x8b\0\0\0\0leave lobby\
+\x81\x8b\0\0\0\0leave lobby\x81\x8b\0\0\0\0leave lobby\x81\x8b\0\0\0\0leave lobby\x81\x8b\0\0\0\0leave lobby\
+\x81\x8b\0\0\0\0leave lobby\x81\x8b\0\0\0\0leave lobby\x81\x8b\0\0\0\0leave lobby\x81\x8b\0\0\0\0leave lobby\
+\x81\x8b\0\0\0\0leave lobby\x81\x8b\0\0\0\0leave lobby";
+
+// A browser that shows ann's token, and some turns later opens a game.
+const LATE: &[u8] =
+    b"UP~\x81\xa6\0\0\0\0login aaaaaaaaaaaaaaaaaaaaaaaaaaaaaaaa~~~~~~~~~\x81\x90\0\0\0\0open white 300 2";
+
+// Ann shows her token, and is silent then.
+const SILENT: &[u8] = b"UP~\x81\xa6\0\0\0\0login aaaaaaaaaaaaaaaaaaaaaaaaaaaaaaaa";
+
+static CASES: [Case; 16] = [
+    // three messages, of which the first is not answered
+    (
+        (
+            b"UP~\x81\x85\0\0\0\0fen 1\x81\x85\0\0\0\0fen 2\x81\x85\0\0\0\0fen 3",
+            b"",
+            How::Plainly,
+        ),
+        (90, 1),
+        b"fen 1\n",
+        b"\x81\x0cserver here\n",
+    ),
+    (
+        (NONE, b"", How::Plainly),
+        (90, 1),
+        b"",
+        b"\x81\x0cserver here\n\x81\x0dno 1 BadLine\n\x81\x0dno 1 BadLine\n\x81\x0dno 1 BadLine\n\x81\x0dno 1 BadLine\n",
+    ),
+    (
+        (FLOOD, b"", How::Plainly),
+        (90, 1),
+        b"",
+        b"\x81\x0fok leave lobby\n\x81\x0eno 34 TooFast\n\x81\x0eno 34 TooFast\n",
+    ),
+    // who is silent is asked, and then let go
+    (
+        (SILENT, b"", How::Plainly),
+        (40, 1_000),
+        b"",
+        b"ann player ann\n\x89\0",
+    ),
+    (
+        (SILENT, b"", How::Plainly),
+        (74, 1_000),
+        b"",
+        b"ann player ann\n\x89\0",
+    ),
+    ((SILENT, b"", How::Plainly), (82, 1_000), b"", GONE),
+    // half a head, and then nothing
+    (
+        (b"GET /ws HTTP/1.1\r\nHost: a:1\r\n", b"", How::Plainly),
+        (20, 1_000),
+        b"",
+        b"",
+    ),
+    (
+        (b"GET /ws HTTP/1.1\r\nHost: a:1\r\n", b"", How::Plainly),
+        (22, 1_000),
+        b"",
+        GONE,
+    ),
+    // who shows no token and watches nothing, and who watches
+    (
+        (b"UP", b"", How::Plainly),
+        (20, 1_000),
+        b"",
+        b"\x81\x0cserver here\n",
+    ),
+    ((b"UP", b"", How::Plainly), (22, 1_000), b"", GONE),
+    (
+        (
+            b"UP~\x81\x85\0\0\0\0lobby",
+            b"~~~~~ok list 0\n",
+            How::Plainly,
+        ),
+        (40, 1_000),
+        b"list\n",
+        b"ok list 0\n\x89\0",
+    ),
+    // who ends, before the upgrade and behind it, who closes, and who is reset
+    ((b"END", b"", How::Plainly), (90, 1), b"", GONE),
+    ((b"UP~END", b"", How::Plainly), (90, 1), b"", GONE),
+    (
+        (b"UP~\x88\x82\0\0\0\0\x03\xe8", b"", How::Plainly),
+        (90, 1),
+        b"",
+        GONE,
+    ),
+    ((b"UP~~RESET", b"", How::Plainly), (90, 1), b"", GONE),
+    // an answer that breaks off
+    (
+        (
+            b"UP~\x81\x84\0\0\0\0list",
+            b"~~~~~ok list 2\n1 ann bob 0 *\n~END",
+            How::Plainly,
+        ),
+        (90, 1),
+        GONE,
+        b"\x81\x05lost\n\x81\x0cserver gone\n",
+    ),
+];
+
+static ACTS: [Case; 7] = [
+    // half a frame, and an answer in two pieces
+    (
+        (
+            b"UP~~\x81\x86\0\0\0\0sho~~w 7",
+            b"~~~~~~~~no 3 ~NoGame\n",
+            How::Slowly,
+        ),
+        (90, 1),
+        b"show 7\n",
+        b"\x81\x0cserver here\n\x81\x0cno 3 NoGame\n",
+    ),
+    // a hall that begins with entries paused
+    (
+        (LATE, b"", How::Paused),
+        (30, 1),
+        b"",
+        b"\x81\x14no 39 EntriesPaused\n",
+    ),
+    // an arbiter asks for a link of nobody's and twice for one of ann's: it is told once it is made
+    (
+        (
+            b"UP~\x81\xa6\0\0\0\0login eeeeeeeeeeeeeeeeeeeeeeeeeeeeeeee\x81\x88\0\0\0\0link bob\x81\x88\0\0\0\0link ann~\x81\x88\0\0\0\0link ann\x81\x83\0\0\0\0who",
+            b"",
+            How::Plainly,
+        ),
+        (40, 1),
+        b"",
+        b"ok login eve arbiter eve\n\x81\x0fno 38 NoPlayer\n\x81\x2dok link ann 07070707070707070707070707070707\n\x81\x11no 40 NotWritten\n\x81\x12ok who open 1\neve\n",
+    ),
+    // an arbiter pauses entries
+    (
+        (
+            b"UP~\x81\xa6\0\0\0\0login eeeeeeeeeeeeeeeeeeeeeeeeeeeeeeee\x81\x8d\0\0\0\0pause entries",
+            b"",
+            How::Plainly,
+        ),
+        (40, 1),
+        b"",
+        PAUSED,
+    ),
+    // an arbiter pairs two players: the game is opened for one, and once that is answered joined for the other
+    (
+        (
+            b"UP~\x81\xa6\0\0\0\0login eeeeeeeeeeeeeeeeeeeeeeeeeeeeeeee\x81\x92\0\0\0\0pair ann eve 300 2",
+            b"~~~~~~~~ok name ann\nok open 1\n~~ok name eve\nok join 1 black\n~~ok show 1 ann eve 0 w 1 1 - * -\nok fen 1 FEN\n",
+            How::Plainly,
+        ),
+        (60, 1),
+        b"name ann\nopen white 300 2\nname eve\njoin 1\nshow 1\nfen 1\n",
+        b"\x81\x0aok pair 1\n",
+    ),
+    // where the log fails, nobody is told of the act
+    (
+        (
+            b"UP~\x81\xa6\0\0\0\0login aaaaaaaaaaaaaaaaaaaaaaaaaaaaaaaa\x81\x90\0\0\0\0open white 300 2",
+            b"~~~~~~~~ok name ann\nok open 1\n~~ok show 1 ann - 0 w 300000 300000 - * -\nok fen 1 FEN\n",
+            How::Unlogged,
+        ),
+        (40, 1),
+        b"name ann\nopen white 300 2\n",
+        b"\x81\x18ok login ann player ann\n",
+    ),
+    // an act is logged and told
+    (
+        (
+            b"UP~\x81\xa6\0\0\0\0login aaaaaaaaaaaaaaaaaaaaaaaaaaaaaaaa\x81\x90\0\0\0\0open white 300 2",
+            b"~~~~~~~~ok name ann\nok open 1\n~~ok show 1 ann - 0 w 300000 300000 - * -\nok fen 1 FEN\n",
+            How::Plainly,
+        ),
+        (40, 1),
+        b"name ann\nopen white 300 2\nshow 1\nfen 1\n",
+        b"\x81\x0aok open 1\n",
+    ),
+];
+
+// What becomes of scripts; and it is kept that entries are paused where they were at first, or where that was told.
+fn check_cases(rt: &impl Abort, lab: &mut Lab, cases: &[Case]) {
+    for (script, (turns, apart), asked, told) in cases {
+        let stopped = lab.play(rt, script, *turns, *apart);
+        assert!(rt; stopped.is_some() == matches!(script.2, How::Unlogged));
+        assert!(rt; lab.is_so(asked, told));
+        let is_paused = matches!(script.2, How::Paused) || *told == PAUSED;
+        assert!(rt; lab.links.is_paused == is_paused);
+    }
+}
+
+fn browsers_and_servers_are_told(rt: &impl Abort, lab: &mut Lab) {
+    check_cases(rt, lab, &CASES);
+}
+
+// What the last of these acts has told the log.
+const LOGGED: &str =
+    "by ann open white 300 2\nok open 1\nok show 1 ann - 0 w 300000 300000 - * -\n";
+
+fn acts_are_logged_and_told(rt: &impl Abort, lab: &mut Lab) {
+    check_cases(rt, lab, &ACTS);
+    assert!(rt; lab.log.text.as_str() == LOGGED);
+}
+
+// A browser that shows ann's token and opens a game.
+const OPENS: &[u8] =
+    b"UP~\x81\xa6\0\0\0\0login aaaaaaaaaaaaaaaaaaaaaaaaaaaaaaaa\x81\x90\0\0\0\0open white 300 2";
+
+// A server that does not take ann's name, one that takes another, and one that leaves the answer to it out.
+const MISNAMES: [&[u8]; 3] = [
+    b"~~~~~~~~no 23 BadMoment\nok open 1\nok show 1 eve - 0 w 300000 300000 - * -\nok fen 1 FEN\n",
+    b"~~~~~~~~ok name eve\n~ok open 1\nok show 1 eve - 0 w 300000 300000 - * -\nok fen 1 FEN\n",
+    b"~~~~~~~~ok open 1\nok show 1 eve - 0 w 300000 300000 - * -\nok fen 1 FEN\n",
+];
+
+fn an_act_counts_only_under_its_name(rt: &impl Abort, lab: &mut Lab) {
+    for answers in MISNAMES {
+        assert!(rt;
+            lab.play(rt, &(OPENS, answers, How::Plainly), 40, 1)
+                .is_none()
+        );
+        assert!(rt; lab.is_so(GONE, b"ann player ann\n\x81\x05lost\n\x81\x0cserver gone\n"));
+        assert!(rt; lab.log.text.is_empty());
+    }
+}
+
+const ASKS: &[u8] =
+    b"GET /live.pgn HTTP/1.1\r\nHost: a:1\r\n\r\n~~GET /live.pgn HTTP/1.1\r\nHost: a:1\r\n\r\n~~GET /live.pgn HTTP/1.1\r\nHost: a:1\r\n\r\n";
+
+fn a_file_changes_between_turns(rt: &impl Abort, lab: &mut Lab) {
+    lab.begin(rt, &(ASKS, b"", How::Plainly));
+    for bytes in [b"one".as_slice(), b"another"] {
+        let file = file_of(rt, lab.alloc, b"/live.pgn", Kind::Pgn, bytes);
+        lab.hall.put_file(file).expect(rt, "memory");
+        assert!(rt; lab.turn(rt, 2, 1).is_none());
+        assert!(rt; lab.is_told(bytes));
+    }
+    lab.hall.take_off_file(b"/live.pgn");
+    assert!(rt; lab.turn(rt, 1, 1).is_none());
+    lab.turn_alone(rt, 1);
+    assert!(rt; lab.is_told(b"There is no such page here."));
+}
+
+const COUNTED: Script = (
+    b"UP~\x81\x85\0\0\0\0fen 1\x81\x8b\0\0\0\0leave lobby\x81\x84\0\0\0\0list",
+    b"~~~~~~no 3 NoGame\n~~~~~~END",
+    How::Plainly,
+);
+
+fn what_was_said_is_counted(rt: &impl Abort, lab: &mut Lab) {
+    assert!(rt; lab.play(rt, &COUNTED, 90, 1).is_none());
+    let counts = lab.hall.counts();
+    assert!(rt; [counts.messages, counts.no, counts.ok, counts.lost] == [3, 1, 1, 1]);
+    assert!(rt; [counts.timed, counts.within[11]] == [3, 3] && counts.time > 0);
+}
+
+// Ann, who leaves, and eve, who asks then who is there.
+const LEAVES: Script = (
+    b"UP~\x81\xa6\0\0\0\0login aaaaaaaaaaaaaaaaaaaaaaaaaaaaaaaa~~END",
+    b"",
+    How::Plainly,
+);
+
+const ASKS_WHO: &[u8] =
+    b"UP~\x81\xa6\0\0\0\0login eeeeeeeeeeeeeeeeeeeeeeeeeeeeeeee~~~~~~~\x81\x83\0\0\0\0who";
+
+fn who_left_is_there_no_more(rt: &impl Abort, lab: &mut Lab) {
+    lab.begin(rt, &LEAVES);
+    lab.hall
+        .admit(Peer::new(lab.alloc, ASKS_WHO, 1_000), 3, NEAR, 0);
+    for at in 0..30 {
+        lab.turn_alone(rt, at);
+        lab.hall.wake(2);
+        lab.hall.wake(3);
+    }
+    assert!(rt; lab.hall.len() == 1 && lab.is_told(b"\x81\x12ok who open 1\neve\n"));
+}
+
+// So many come, all by one address or each by its own.
+fn crowd(lab: &mut Lab, count: u16, is_one: bool) {
+    for i in 0..count {
+        let [high, low] = i.to_be_bytes();
+        let peer = if is_one {
+            Ipv4Addr::new(10, 0, 0, 1)
+        } else {
+            Ipv4Addr::new(10, 1, high, low)
+        };
+        let key = usize::from(i) + 3;
+        lab.hall
+            .admit(Peer::new(lab.alloc, b"", 1_000), key, IpAddr::V4(peer), 0);
+    }
+}
+
+// So many come to one of this machine, and so many are there behind the next turn.
+fn check_crowd(rt: &impl Abort, lab: &mut Lab, count: u16, is_one: bool, stay: usize) {
+    lab.begin(rt, &(b"UP", b"", How::Plainly));
+    crowd(lab, count, is_one);
+    lab.turn_alone(rt, 1);
+    assert!(rt; lab.hall.len() == stay);
+}
+
+fn who_has_no_token_makes_room(rt: &impl Abort, lab: &mut Lab) {
+    check_crowd(rt, lab, 32, true, 33);
+    check_crowd(rt, lab, 41, true, 33);
+    check_crowd(rt, lab, 599, false, 600);
+    check_crowd(rt, lab, 700, false, 600);
+    assert!(rt; lab.hall.turned_away() == 101);
+}
+
+/// An acceptor at which one is lost, then one is refused, and then there is nobody.
+#[derive(Clone, Copy)]
+struct FaultyAcceptor {
+    tries: usize,
+}
+
+impl Acceptor for FaultyAcceptor {
+    type Stream = Peer;
+
+    fn accept_one(&mut self) -> Result<(Peer, IpAddr), AcceptFault> {
+        self.tries = self.tries.saturating_add(1);
+        match self.tries {
+            1 => Err(AcceptFault::Lost),
+            2 => Err(AcceptFault::Refused),
+            _ => Err(AcceptFault::Nobody),
+        }
+    }
+
+    fn watch(&mut self, _stream: &mut Peer, _key: usize) -> bool {
+        false
+    }
+}
+
+fn a_failed_accept_ends_the_turn_of_accepting(rt: &impl Abort, lab: &mut Lab) {
+    let mut acceptor = FaultyAcceptor { tries: 0 };
+    assert!(rt;
+        welcome(&mut acceptor, &mut lab.hall, 0) == Welcomed::Refused && acceptor.tries == 2
+    );
+    assert!(rt; welcome(&mut acceptor, &mut lab.hall, 0) == Welcomed::All);
+}
+
+// Ann, who has come by her link, acts after her token was given this sum: the server is sent this, and she is told so.
+fn check_renewed(rt: &impl Abort, lab: &mut Lab, sum: [u8; 32], asked: &[u8], told: &[u8]) {
+    assert!(rt; lab.play(rt, &(LATE, b"", How::Plainly), 6, 1).is_none());
+    lab.hall.renew(players(rt, lab.alloc, sum));
+    assert!(rt; lab.turn(rt, 30, 1).is_none());
+    assert!(rt; lab.is_so(asked, told));
+}
+
+fn who_has_another_link_acts_no_more(rt: &impl Abort, lab: &mut Lab) {
+    let acts = b"name ann\nopen white 300 2\n";
+    check_renewed(rt, lab, SUM, acts, b"\x81\x18ok login ann player ann\n");
+    check_renewed(rt, lab, [0; 32], b"", b"\x81\x0eno 31 NoToken\n");
+}
+
+// An arbiter who acts, and pauses entries some turns later.
+const PAUSE_LATER: &[u8] =
+    b"UP~\x81\xa6\0\0\0\0login eeeeeeeeeeeeeeeeeeeeeeeeeeeeeeee\x81\x90\0\0\0\0open white 300 2~~~~~~~~~\x81\x8d\0\0\0\0pause entries";
+
+// A server that accepts the act, the sooner the more of this is cut off.
+const ACCEPTS: &[u8] = b"~~~~~~~~~~~~~~~~ok name eve\nok open 1\n";
+
+// (in one of these the order and the answer to the act come in one turn)
+fn that_entries_are_paused_is_kept_before_the_log_is_told(rt: &impl Abort, lab: &mut Lab) {
+    let mut is_kept = false;
+    for skipped in 0..17 {
+        let server = ACCEPTS.get(skipped..).unwrap_or(b"");
+        let was_paused = lab.play(rt, &(PAUSE_LATER, server, How::Unlogged), 40, 1);
+        is_kept |= was_paused == Some(false) && lab.links.is_paused;
+    }
+    assert!(rt; is_kept);
+}
+
+// Two who show no token and ask, and one who shows ann's and opens a game when the first of them asks.
+const ASKER: &[u8] = b"UP~~~~\x81\x85\0\0\0\0fen 1\x81\x85\0\0\0\0fen 2";
+
+const OTHER_ASKER: &[u8] = b"UP~~~~\x81\x85\0\0\0\0fen 3";
+
+const OPENER: &[u8] =
+    b"UP~\x81\xa6\0\0\0\0login aaaaaaaaaaaaaaaaaaaaaaaaaaaaaaaa~~~\x81\x90\0\0\0\0open white 300 2";
+
+// A server that answers some turns later: first the act, then the first question, and then that of the other one.
+const ANSWERS: &[u8] =
+    b"~~~~~~~~~~~~ok name ann\nok open 1\n~~ok fen 1 -\n~~~~ok show 1\nok fen 1 -\nok fen 3 -\n";
+
+// All that came, in so many turns with all sockets awake.
+fn turn_three(rt: &impl Abort, lab: &mut Lab, server: &'static [u8], turns: u64) {
+    lab.begin(rt, &(ASKER, server, How::Plainly));
+    for (browser, key) in [(OTHER_ASKER, 3), (OPENER, 4)] {
+        lab.hall
+            .admit(Peer::new(lab.alloc, browser, 1_000), key, NEAR, 0);
+    }
+    for at in 0..turns {
+        lab.turn_alone(rt, at);
+        for key in 2..5 {
+            lab.hall.wake(key);
+        }
+        lab.hall.wake_server();
+    }
+}
+
+// The act goes first, though who opens a game came last; and of all who ask without a token one waits for the server at
+// a time.
+fn players_come_before_strangers(rt: &impl Abort, lab: &mut Lab) {
+    turn_three(rt, lab, b"", 90);
+    assert!(rt; lab.is_asked(b"name ann\nopen white 300 2\nfen 1\n"));
+    turn_three(rt, lab, ANSWERS, 90);
+    assert!(rt; lab.is_asked(b"name ann\nopen white 300 2\nfen 1\nshow 1\nfen 1\nfen 3\nfen 2\n"));
+}
+
+#[test]
+fn halls(rt: HostRuntime) {
+    let alloc = rt.alloc();
+    let keys = RandomState::new(&rt).expect(&rt, "keys");
+    let mut lab = Lab {
+        alloc,
+        keys,
+        hall: hall_of(&rt, alloc, keys, false),
+        log: Kept {
+            fails: false,
+            text: String::new(alloc),
+        },
+        links: Once {
+            alloc,
+            is_done: false,
+            is_paused: false,
+        },
+    };
+    browsers_and_servers_are_told(&rt, &mut lab);
+    acts_are_logged_and_told(&rt, &mut lab);
+    an_act_counts_only_under_its_name(&rt, &mut lab);
+    a_file_changes_between_turns(&rt, &mut lab);
+    what_was_said_is_counted(&rt, &mut lab);
+    who_left_is_there_no_more(&rt, &mut lab);
+    who_has_no_token_makes_room(&rt, &mut lab);
+    a_failed_accept_ends_the_turn_of_accepting(&rt, &mut lab);
+    who_has_another_link_acts_no_more(&rt, &mut lab);
+    that_entries_are_paused_is_kept_before_the_log_is_told(&rt, &mut lab);
+    players_come_before_strangers(&rt, &mut lab);
+    drop(lab);
+}

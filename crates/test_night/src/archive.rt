@@ -1,0 +1,151 @@
+//! The archive's file: nights in memory, with every kill.
+use crate::cuts::CUTS;
+use night_archive::{Archive, Fault, game_of, pgn_of};
+use night_files::{AppendedFile, Fate, MemoryFile};
+use std::alloc::Global;
+use std::process::Abort;
+
+// The games of a night, by number.
+const GAMES: [(u32, &str); 3] = [
+    (7, "[White \"a \\\"b\\\"\"]\n\n1. e4 *\n\n"),
+    (1, ""),
+    (4_294_967_295, "{\\n}\n"),
+];
+
+const NUMBERS: [u32; 3] = [7, 1, 4_294_967_295];
+
+// Keeps all games until a call fails. It tells how many calls were answered.
+fn keep_all(alloc: Global, archive: &mut Archive<MemoryFile>) -> usize {
+    let mut answered: usize = 0;
+    for (game, pgn) in &GAMES {
+        if archive.keep(alloc, *game, pgn.as_bytes()).is_err() {
+            return answered;
+        }
+        answered = answered.saturating_add(1);
+    }
+    answered
+}
+
+// It has the night's first games, at least so many, and then keeps all once.
+fn check_games(rt: &impl Abort, alloc: Global, archive: &mut Archive<MemoryFile>, least: usize) {
+    assert!(rt; archive.games().len() >= least && NUMBERS.starts_with(archive.games()));
+    assert!(rt; keep_all(alloc, archive) == 3 && archive.games() == NUMBERS.as_slice());
+}
+
+// An archive that is killed after so many calls, and of which a crash leaves this, has what was answered in its next
+// life, and keeps all once, if it could be opened.
+fn check_killed(rt: &impl Abort, alloc: Global, calls: u32, fates: &[Fate]) {
+    if let Ok(mut archive) = Archive::open(alloc, MemoryFile::new(alloc, Some(calls))) {
+        let answered = keep_all(alloc, &mut archive);
+        let file = archive.into_file().crash(fates, None).expect(rt, "memory");
+        let mut again = Archive::open(alloc, file).expect(rt, "an archive");
+        check_games(rt, alloc, &mut again, answered);
+    }
+}
+
+#[test]
+fn keeps_each_game_once(rt: HostRuntime) {
+    for calls in 0..10 {
+        for fates in &CUTS {
+            check_killed(&rt, rt.alloc(), calls, fates);
+        }
+    }
+}
+
+// What comes of keeping a text as that of game 7.
+fn kept(alloc: Global, archive: &mut Archive<MemoryFile>, pgn: &[u8]) -> &'static str {
+    match archive.keep(alloc, 7, pgn) {
+        Ok(true) => "new",
+        Ok(false) => "there",
+        Err(Fault::Control) => "control",
+        Err(Fault::NotText) => "no text",
+        Err(_) => "other",
+    }
+}
+
+const KEPT: [(&[u8], &str); 8] = [
+    (b"a\tb\n", "control"),
+    (b"*\r\n", "control"),
+    (b"\0", "control"),
+    (b"\x1b", "control"),
+    (b"\x7f", "control"),
+    (b"\xff", "no text"),
+    (b"*\n", "new"),
+    (b"1. e4 *\n", "there"),
+];
+
+// A text is kept once, and an archive tells what it has.
+fn check_kept(rt: &impl Abort, alloc: Global, archive: &mut Archive<MemoryFile>) {
+    assert!(rt; !archive.has(7));
+    for (pgn, wanted) in &KEPT {
+        assert!(rt; kept(alloc, archive, pgn) == *wanted);
+    }
+    assert!(rt; archive.has(7) && !archive.has(8));
+}
+
+#[test]
+fn keeps_a_text_once_and_tells_what_it_has(rt: HostRuntime) {
+    let file = MemoryFile::new(rt.alloc(), None);
+    let mut archive = Archive::open(rt.alloc(), file).expect(&rt, "an archive");
+    check_kept(&rt, rt.alloc(), &mut archive);
+}
+
+// What is no line of an archive, though a game's number stands in some.
+const OTHERS: [&str; 17] = [
+    "",
+    "{\"act\":1,\"pgn\":\"*\"}",
+    "{\"game\":7",
+    "{\"game\":7,",
+    "{\"game\":7,\"pgn\":\"1. e4",
+    "{\"game\":7,\"pgn\":\"*\"",
+    "{\"game\":7,\"pgn\":\"*\"} ",
+    "{\"game\":7,\"pgn\":\"*\",\"game\":8}",
+    "{\"game\":7,\"moves\":3,\"pgn\":\"*\"}",
+    "{\"game\":7,\"pgn\":\"\\u00fc\"}",
+    "{\"game\":7,\"pgn\":\"\\t\"}",
+    "{\"game\":7,\"pgn\":\"\\/\"}",
+    "{\"game\":7,\"pgn\":\"\t\"}",
+    "{\"game\":07,\"pgn\":\"*\"}",
+    "{\"game\": 7,\"pgn\":\"*\"}",
+    "{\"game\":4294967296,\"pgn\":\"*\"}",
+    "{\"pgn\":\"*\",\"game\":7}",
+];
+
+// A file of a game's line and this one is refused for the second.
+fn check_refused(rt: &impl Abort, alloc: Global, line: &str) {
+    let mut file = MemoryFile::new(alloc, None);
+    for text in ["{\"game\":1,\"pgn\":\"\"}\n", line, "\n"] {
+        file.append(text.as_bytes()).expect(rt, "memory");
+    }
+    assert!(rt; matches!(Archive::open(alloc, file), Err(Fault::NotAGame(2))));
+}
+
+#[test]
+fn refuses_other_lines(rt: HostRuntime) {
+    for line in &OTHERS {
+        check_refused(&rt, rt.alloc(), line);
+    }
+}
+
+// Lines, and the game and the PGN of each.
+static LINES: [(&str, u32, &[u8]); 2] = [
+    (
+        "{\"game\":12,\"pgn\":\"[A \\\"b\\\\\\\\\\\"]\\n*\\n\"}",
+        12,
+        b"[A \"b\\\\\"]\n*\n",
+    ),
+    ("{\"game\":7,\"pgn\":\"\u{fc}\"}", 7, b"\xc3\xbc"),
+];
+
+fn check_line(rt: &impl Abort, alloc: Global, line: &str, game: u32, wanted: &[u8]) {
+    assert!(rt; game_of(alloc, line).expect(rt, "memory") == Some(game));
+    let pgn = pgn_of(alloc, line).expect(rt, "memory");
+    assert!(rt; pgn.as_slice() == wanted);
+}
+
+#[test]
+fn reads_lines(rt: HostRuntime) {
+    for (line, game, pgn) in &LINES {
+        check_line(&rt, rt.alloc(), line, *game, pgn);
+    }
+}

@@ -1,0 +1,4 @@
+pub mod Tags
+pub mod Moves
+pub mod Archived
+pub mod Pgn

@@ -1,8 +1,0 @@
-use Rattle.std.proofs.Common.{◌≡◌, ◌++◌, ◌+◌, map, drop}
-use Rattle.trf_texts.specs.Report.{players_text}
-use Rattle.trf_texts.proofs.columns.push_players.Given as goal
-
-abbrev pub invariant-loop-at : goal.invariant-loop-at
-invariant-loop-at l =
-    l.out.items ++ players_text (map (λ round. round.items) l.rounds) l.all (l.at + 1) (map (λ name. name.now) (drop l.at l.names))
-    ≡ l.fn.out.items ++ players_text (map (λ round. round.items) l.rounds) l.all 1 (map (λ name. name.now) l.names)
