@@ -1,4 +1,4 @@
-//! Memory that is refused to clients over connections: `bench/refused-memory` refuses each allocation in turn. And a
+//! Memory that is refused to clients over connections: `bench/crash/refused-memory` refuses each allocation in turn. And a
 //! device that fails under them.
 use crate::peers::{Gives, Takes};
 use crate::serving::{Crowd, SECTORS, comes, nobody, nobody_over, take_turn};

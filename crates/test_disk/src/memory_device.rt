@@ -85,7 +85,7 @@ static KEPT: [([bool; 8], bool); 3] = [
     ([false, true, false, true, false, true, false, true], false),
 ];
 
-// Passes whichever allocation is refused. `bench/refused-memory` refuses them in turn; else none is.
+// Passes whichever allocation is refused. `bench/crash/refused-memory` refuses them in turn; else none is.
 #[test]
 fn refused_memory(rt: HostRuntime) {
     for (keep, at_once) in &KEPT {

@@ -1,4 +1,4 @@
-//! Journals and stores on files, for `bench/journal` and `bench/store`. FILE, without spaces, is made where it isn't
+//! Journals and stores on files, for `bench/speed/journal` and `bench/speed/store`. FILE, without spaces, is made where it isn't
 //! there, and a journal or a store on it where it holds none.
 //!
 //! - `commits FILE RECORDS COMMITS SNAPSHOT` makes so many commits of so many records, 1 to 64, in a journal, and writes how

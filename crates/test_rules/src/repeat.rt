@@ -93,7 +93,7 @@ fn begun(rt: &impl Abort, alloc: Global, start: &Board) -> History {
 }
 
 // The knights go out and back four times, so that the start stands five times; then each pawn goes one square, and no
-// position comes again. It passes whichever allocation is refused: `bench/refused-memory` refuses each in turn.
+// position comes again. It passes whichever allocation is refused: `bench/crash/refused-memory` refuses each in turn.
 #[test]
 fn refused_memory(rt: HostRuntime) {
     let start = Board::initial();

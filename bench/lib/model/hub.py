@@ -1,0 +1,240 @@
+#!/usr/bin/env python3
+"""hub.py FILE
+
+Plays the lines of the part `hub` of `test_player` (see there) by the rules in words alone, on the plain model of the table:
+what each session of a hub is told, and what `run` writes. Prints what it is to print. Devices and memory are no part of the
+model; of a device that serves so many calls more it knows only that a commit takes five calls, or four where all records fit into
+one sector (here: up to four entries). The last of the lines, and what is to be printed of all, long_run.py writes.
+"""
+
+import sys
+from lib.model.rules import Table, parse
+
+LAST_MOMENT = 4611686018427387903
+
+
+def cut(data):
+    """The whole lines before any that is too long, what comes after them, and whether a line is too long."""
+    lines = []
+    while True:
+        end = data.find('\n')
+        part = data if end < 0 else data[:end]
+        if len(part) > 255:
+            return lines, '', True
+        if end < 0:
+            return lines, data, False
+        lines.append(part[:-1] if part.endswith('\r') else part)
+        data = data[end + 1:]
+
+
+class Device(Exception):
+    pass
+
+
+class Store:
+    """A table whose commits count the calls of a device."""
+
+    def __init__(self, games, plies, calls):
+        self.table = Table(games, plies)
+        self.calls = calls
+        self.failed = False
+
+    def submit(self, commands):
+        """The answers to `(at, who, line)`, or Device."""
+        if self.failed:
+            raise Device('Store(Failed)')
+        before = self.table.entries
+        answers = [self.table.command(*c) for c in commands]
+        entries = self.table.entries - before
+        if entries and self.calls is not None:
+            needs = 3 + (entries + 3) // 4
+            if self.calls < needs:
+                self.failed = True
+                raise Device('Store(Device { pending: %d })' % entries)
+            self.calls -= needs
+        return answers
+
+
+class Session:
+    def __init__(self):
+        self.name = None
+        self.heard = []         # lines that wait
+        self.rest = ''          # what has come of the next
+        self.long = False
+        self.left = False       # was told the farewell
+        self.answers = []       # lists of lines
+
+    def feed(self, data):
+        if self.long:
+            return 'LineTooLong'
+        lines, self.rest, self.long = cut(self.rest + data)
+        self.heard += [line for line in lines]
+        return None
+
+    def due(self):
+        out = self.answers
+        self.answers = []
+        if self.long and not self.heard and not self.left:
+            self.left = True
+            out = out + [['bye LineTooLong']]
+        return out
+
+
+def answer_lines(store, at, taken):
+    """The answers to lines `(session, line)` as one batch; names hold for the lines after. Device leaves all as it was."""
+    names, places, commands, answers = {}, [], [], []
+    for session, line in taken:
+        name = names.get(id(session), session.name)
+        parsed = parse(line)
+        if parsed is None:
+            answers.append(['no 1 BadLine'])
+        elif parsed[0] == 'name':
+            if at > LAST_MOMENT:
+                answers.append(['no 23 BadMoment'])
+            else:
+                names[id(session)] = parsed[1]['name']
+                answers.append(['ok name ' + parsed[1]['name']])
+        else:
+            answers.append(None)
+            commands.append((at, name, line))
+    replies = iter(store.submit(commands) if commands else [])
+    for session, line in taken:
+        session.name = names.get(id(session), session.name)
+    return [next(replies) if a is None else a for a in answers]
+
+
+class Hub:
+    def __init__(self, store):
+        self.store = store
+        self.sessions = {}
+        self.free = []          # numbers that are free again, the last freed first
+        self.next = 0
+
+    def connect(self):
+        if len(self.sessions) >= 64:
+            return None
+        if self.free:
+            sid = self.free.pop()
+        else:
+            sid, self.next = self.next, self.next + 1
+        self.sessions[sid] = Session()
+        return sid
+
+    def close(self, sid):
+        del self.sessions[sid]
+        self.free.append(sid)
+
+    def turn(self, at, most):
+        taken, place = [], 0
+        while len(taken) < most:
+            round_ = [(s, self.sessions[s].heard[place]) for s in sorted(self.sessions)
+                      if place < len(self.sessions[s].heard)]
+            if not round_:
+                break
+            taken += round_[:most - len(taken)]
+            place += 1
+        lines = [(self.sessions[s], line) for s, line in taken]
+        for (session, _), answer in zip(lines, answer_lines(self.store, at, lines)):
+            session.heard.pop(0)
+            session.answers.append(answer)
+
+
+def written(answers):
+    return ''.join(line + '\n' for answer in answers for line in answer)
+
+
+def unescape(text):
+    out, i = '', 0
+    while i < len(text):
+        if text[i:i + 2] == '\\x':
+            out += chr(int(text[i + 2:i + 4], 16))
+            i += 4
+        elif text[i] == '\\':
+            out += {'n': '\n', 'r': '\r', '\\': '\\'}[text[i + 1]]
+            i += 2
+        else:
+            out += text[i]
+            i += 1
+    return out
+
+
+def limit(manner):
+    parts = manner.lstrip('~').split('!')
+    return int(parts[0]), int(parts[1]) if len(parts) > 1 else None
+
+
+def run(store, reader, writer, moments, data):
+    """What a run writes, and how it ends."""
+    given = [] if moments == '-' else [int(m) for m in moments.split(',')]
+    last = 0
+    _, reads = limit(reader)
+    end = 'Ok(())'
+    if reads is not None and reads <= len(data):
+        data, end = data[:reads], 'Err(Read)'
+    session, out = Session(), ''
+    lines, _, long = cut(data)
+    if long:
+        end = 'Err(LineTooLong)'
+    for line in lines:
+        if given:
+            last = given.pop(0)
+        try:
+            out += written(answer_lines(store, last, [(session, line)]))
+        except Device as fault:
+            end, long = 'Err(Hub(%s))' % fault, False
+            break
+    if long:
+        out += 'bye LineTooLong\n'
+    _, writes = limit(writer)
+    if writes is not None and writes < len(out):
+        return out[:writes], 'Err(Write)'
+    return out, end
+
+
+def play(path):
+    ground, hub = (4, 60, None), None
+    for text in open(path, encoding='latin-1').read().split('\n')[:-1]:
+        word, _, rest = text.partition(' ')
+        fields = rest.split(' ')
+        if word == 'store':
+            ground = (int(fields[1]), int(fields[2]), None if fields[3] == '-' else int(fields[3]))
+        elif word == 'hub':
+            hub = Hub(Store(*ground))
+        elif word == 'connect':
+            sid = hub.connect()
+            print('fault Busy' if sid is None else 'session %d' % sid)
+        elif word == 'open':
+            print('open ' + ('true' if int(rest) in hub.sessions else 'false'))
+        elif word == 'feed':
+            sid, _, data = rest.partition(' ')
+            fault = hub.sessions[int(sid)].feed(unescape(data))
+            if fault:
+                print('fault ' + fault)
+        elif word == 'turn':
+            try:
+                hub.turn(int(fields[0]), int(fields[1]))
+            except Device as fault:
+                print('fault %s' % fault)
+        elif word == 'output':
+            print('to %s:\n%s' % (rest, written(hub.sessions[int(rest)].due())), end='')
+        elif word == 'waiting':
+            s = hub.sessions[int(rest)]
+            print('waiting %d' % waiting(s))
+        elif word == 'ended':
+            print('ended ' + ('true' if hub.sessions[int(rest)].left else 'false'))
+        elif word == 'close':
+            hub.close(int(rest))
+        elif word == 'run':
+            reader, writer, moments = fields[:3]
+            data = unescape(' '.join(fields[3:]))
+            out, end = run(Store(*ground), reader, writer, moments, data)
+            print('%s|\n%s' % (out, end))
+
+
+def waiting(session):
+    """Bytes fed and not taken, line feeds too; of a line that is too long none. (No carriage returns where it is asked.)"""
+    return sum(len(line) + 1 for line in session.heard) + len(session.rest)
+
+
+if __name__ == '__main__':
+    play(sys.argv[1])

@@ -1,0 +1,1059 @@
+#!/usr/bin/env python3
+"""A plain and slow model of the chess game server's table of games.
+
+Written from the rules in words alone, by somebody who had not seen the code or its
+definitions; `bench/correct/differential` compares the two.
+Positions are maps from squares (file, rank) to (colour, kind); a game is the
+list of its entries, and every field of it is read off that whole list.
+
+    t = Table(games_limit, plies_limit)
+    t.command(at, who, line) -> list of answer lines
+
+`at` is an int, `who` a name or None, `line` a str of the bytes before the line
+feed (latin-1: one character a byte).
+
+As a program: model.py GAMES PLIES [FILE]  reads lines `MOMENT WHO LINE`
+(WHO `-` for no name) and prints the answers.
+"""
+
+import re
+import sys
+
+# --------------------------------------------------------------------- squares
+
+WHITE, BLACK = 'w', 'b'
+FILES = 'abcdefgh'
+SQUARES = [(f, r) for r in range(1, 9) for f in range(1, 9)]
+
+
+def other(colour):
+    return BLACK if colour == WHITE else WHITE
+
+
+def square_name(sq):
+    return FILES[sq[0] - 1] + str(sq[1])
+
+
+def square_of(text):
+    """The square that a text names, or None."""
+    if len(text) == 2 and text[0] in FILES and text[1] in '12345678':
+        return (FILES.index(text[0]) + 1, int(text[1]))
+    return None
+
+
+def on_board(sq):
+    return 1 <= sq[0] <= 8 and 1 <= sq[1] <= 8
+
+
+def up(colour):
+    """The direction in which the pawns of a colour go."""
+    return 1 if colour == WHITE else -1
+
+
+# --------------------------------------------------------------------- attacks
+
+def sign(n):
+    return (n > 0) - (n < 0)
+
+
+def way(man, a, b):
+    """The squares that must be empty for a man on a to attack b, or None
+    where it never does."""
+    colour, kind = man
+    df, dr = b[0] - a[0], b[1] - a[1]
+    if kind == 'P':
+        return () if abs(df) == 1 and dr == up(colour) else None
+    if kind == 'N':
+        return () if (abs(df), abs(dr)) in ((1, 2), (2, 1)) else None
+    if kind == 'K':
+        return () if max(abs(df), abs(dr)) == 1 else None
+    straight = (df == 0) != (dr == 0)
+    diagonal = df != 0 and abs(df) == abs(dr)
+    if not (straight and kind in 'RQ' or diagonal and kind in 'BQ'):
+        return None
+    sf, sr = sign(df), sign(dr)
+    return tuple((a[0] + i * sf, a[1] + i * sr)
+                 for i in range(1, max(abs(df), abs(dr))))
+
+
+# kept for speed: man -> a -> b -> way(man, a, b), where that isn't None
+WAYS = {(colour, kind): {a: {b: way((colour, kind), a, b) for b in SQUARES
+                             if way((colour, kind), a, b) is not None}
+                         for a in SQUARES}
+        for colour in (WHITE, BLACK) for kind in 'KQRBNP'}
+
+
+def attacks(men, a, b):
+    """Whether the man on a attacks b."""
+    between = WAYS[men[a]][a].get(b)
+    if between is None:
+        return False
+    for sq in between:
+        if sq in men:
+            return False
+    return True
+
+
+def attacked(men, sq, by):
+    """Whether some man of colour `by` attacks sq."""
+    for a, man in men.items():
+        if man[0] == by and sq in WAYS[man][a] and attacks(men, a, sq):
+            return True
+    return False
+
+
+def king_of(men, colour):
+    for sq, man in men.items():
+        if man == (colour, 'K'):
+            return sq
+    return None
+
+
+# ------------------------------------------------------------------- positions
+
+# right -> (king's home, rook's home, colour)
+RIGHTS = {
+    'K': ((5, 1), (8, 1), WHITE),
+    'Q': ((5, 1), (1, 1), WHITE),
+    'k': ((5, 8), (8, 8), BLACK),
+    'q': ((5, 8), (1, 8), BLACK),
+}
+
+
+class Position:
+    """A placement, the side to move, rights, a target or None, two counters."""
+
+    def __init__(self, men, side, rights, target, half, full):
+        self.men = men          # map: square -> (colour, kind)
+        self.side = side
+        self.rights = rights    # frozenset of letters of KQkq
+        self.target = target
+        self.half = half
+        self.full = full
+        self._worked = None     # kept for speed alone
+
+    def whole(self):
+        """All six fields, to compare positions field by field."""
+        return (frozenset(self.men.items()), self.side, self.rights,
+                self.target, self.half, self.full)
+
+
+class Worked:
+    """What was worked out of a position, whatever its counters; kept for
+    speed alone."""
+
+    def __init__(self):
+        self.legal = self.same = self.texts = None
+
+
+WORKED = {}                     # placement, side, rights and target -> Worked
+MOST_WORKED = 6000
+
+
+def worked(p):
+    if p._worked is None:
+        key = p.whole()[:4]
+        if key not in WORKED and len(WORKED) >= MOST_WORKED:
+            WORKED.clear()
+        p._worked = WORKED.setdefault(key, Worked())
+    return p._worked
+
+
+def valid(p):
+    men = p.men
+    for colour in (WHITE, BLACK):
+        mine = [man for man in men.values() if man[0] == colour]
+        if mine.count((colour, 'K')) != 1:
+            return False
+        if len(mine) > 16:
+            return False
+    for sq, (_, kind) in men.items():
+        if kind == 'P' and sq[1] in (1, 8):
+            return False
+    if attacked(men, king_of(men, other(p.side)), p.side):
+        return False
+    for right in p.rights:
+        king, rook, colour = RIGHTS[right]
+        if men.get(king) != (colour, 'K') or men.get(rook) != (colour, 'R'):
+            return False
+    if p.target is not None:
+        f, r = p.target
+        d = up(p.side)
+        if r != (6 if p.side == WHITE else 3):
+            return False
+        if p.target in men:
+            return False
+        if men.get((f, r - d)) != (other(p.side), 'P'):
+            return False
+        if (f, r + d) in men:
+            return False
+    return 0 <= p.half <= 65535 and 1 <= p.full <= 65535
+
+
+# ------------------------------------------------------------------ candidates
+# A move is (from, to, promotion), promotion being None or one of Q R B N.
+
+def candidates(p):
+    men, side = p.men, p.side
+    found = []
+    for a in SQUARES:
+        man = men.get(a)
+        if man is None or man[0] != side:
+            continue
+        kind = man[1]
+        if kind == 'P':
+            d = up(side)
+            reached = []
+            one, two = (a[0], a[1] + d), (a[0], a[1] + 2 * d)
+            if one not in men:
+                reached.append(one)
+                if a[1] == (2 if side == WHITE else 7) and two not in men:
+                    reached.append(two)
+            for b in ((a[0] - 1, a[1] + d), (a[0] + 1, a[1] + d)):
+                if not on_board(b):
+                    continue
+                if b in men and men[b][0] != side:
+                    reached.append(b)
+                elif b == p.target:
+                    reached.append(b)
+            for b in reached:
+                if b[1] == (8 if side == WHITE else 1):
+                    for became in 'QRBN':
+                        found.append((a, b, became))
+                else:
+                    found.append((a, b, None))
+            continue
+        for b in WAYS[man][a]:
+            if attacks(men, a, b) and (b not in men or men[b][0] != side):
+                found.append((a, b, None))
+    for right in 'KQkq':
+        if right not in p.rights:
+            continue
+        king, rook, colour = RIGHTS[right]
+        if colour != side:
+            continue
+        d = sign(rook[0] - king[0])
+        between = [(f, king[1]) for f in
+                   range(min(king[0], rook[0]) + 1, max(king[0], rook[0]))]
+        if any(sq in men for sq in between):
+            continue
+        path = [(king[0] + i * d, king[1]) for i in (0, 1, 2)]
+        if any(attacked(men, sq, other(side)) for sq in path):
+            continue
+        found.append((king, path[2], None))
+    return found
+
+
+def is_castling(p, m):
+    return p.men[m[0]][1] == 'K' and abs(m[1][0] - m[0][0]) == 2
+
+
+def is_en_passant(p, m):
+    return (p.men[m[0]][1] == 'P' and m[0][0] != m[1][0]
+            and m[1] not in p.men)
+
+
+# ------------------------------------------------------------------------ next
+
+def following(p, m):
+    a, b, became = m
+    men = dict(p.men)
+    colour, kind = men[a]
+    captured = b in men
+    if is_en_passant(p, m):
+        captured = True
+        del men[(b[0], a[1])]
+    castling = is_castling(p, m)
+    del men[a]
+    men[b] = (colour, became or kind)
+    if castling:
+        d = sign(b[0] - a[0])
+        del men[(8 if d > 0 else 1, a[1])]
+        men[(a[0] + d, a[1])] = (colour, 'R')
+    rights = frozenset(right for right in p.rights
+                       if a not in RIGHTS[right][:2]
+                       and b not in RIGHTS[right][:2])
+    target = None
+    if kind == 'P' and abs(b[1] - a[1]) == 2:
+        target = (a[0], (a[1] + b[1]) // 2)
+    half = 0 if kind == 'P' or captured else p.half + 1
+    full = p.full + 1 if p.side == BLACK else p.full
+    return Position(men, other(p.side), rights, target, half, full)
+
+
+# ----------------------------------------------------------------------- legal
+
+def legal_moves(p):
+    known = worked(p)
+    if known.legal is None:
+        found = []
+        for m in candidates(p):
+            men = following(p, m).men
+            if not attacked(men, king_of(men, p.side), other(p.side)):
+                found.append(m)
+        known.legal = found
+    return known.legal
+
+
+def in_check(p):
+    return attacked(p.men, king_of(p.men, p.side), other(p.side))
+
+
+def perft(p, depth):
+    if depth == 0:
+        return 1
+    return sum(perft(following(p, m), depth - 1) for m in legal_moves(p))
+
+
+# -------------------------------------------------------------------- sameness
+
+def same_key(p):
+    """Equal exactly for same positions (9.2)."""
+    known = worked(p)
+    if known.same is None:
+        passing = frozenset()
+        if p.target is not None:
+            passing = frozenset(m for m in legal_moves(p)
+                                if is_en_passant(p, m))
+        known.same = (p.side, p.rights, frozenset(p.men.items()), passing)
+    return known.same
+
+
+def times(p, line):
+    key = same_key(p)
+    return sum(1 for q in line if same_key(q) == key)
+
+
+def quiet(line):
+    return line[-1].half
+
+
+# --------------------------------------------------------------------- endings
+
+WIN = {WHITE: '1-0', BLACK: '0-1'}
+DRAW = '1/2-1/2'
+
+
+def listed_dead(p):
+    rest = [(sq, kind) for sq, (_, kind) in p.men.items() if kind != 'K']
+    if not rest:
+        return True
+    if len(rest) == 1 and rest[0][1] == 'N':
+        return True
+    if all(kind == 'B' for _, kind in rest):
+        return len({(sq[0] + sq[1]) % 2 for sq, _ in rest}) == 1
+    return False
+
+
+def ending_of_line(line):
+    """For the list of positions after a move: (result, article) or None."""
+    p = line[-1]
+    if not legal_moves(p):
+        if in_check(p):
+            return (WIN[other(p.side)], '5.1.1')
+        return (DRAW, '5.2.1')
+    if listed_dead(p):
+        return (DRAW, '5.2.2')
+    if times(p, line) >= 5:
+        return (DRAW, '9.6.1')
+    if quiet(line) >= 150:
+        return (DRAW, '9.6.2')
+    return None
+
+
+def ending_of_flag(p):
+    """The flag of the side to move has fallen."""
+    winner = other(p.side)
+    if [man for man in p.men.values() if man[0] == winner] == [(winner, 'K')]:
+        return (DRAW, '6.9')
+    return (WIN[winner], '6.9')
+
+
+# ------------------------------------------------------------------------- SAN
+
+def coordinate(m):
+    return square_name(m[0]) + square_name(m[1]) + (m[2] or '').lower()
+
+
+def bare_san(p, m):
+    """The SAN without its suffix."""
+    a, b, became = m
+    kind = p.men[a][1]
+    if is_castling(p, m):
+        return 'O-O' if b[0] > a[0] else 'O-O-O'
+    if kind == 'P':
+        text = square_name(b)
+        if a[0] != b[0]:
+            text = FILES[a[0] - 1] + 'x' + text
+        if became:
+            text += '=' + became
+        return text
+    rivals = [n[0] for n in legal_moves(p)
+              if n[1] == b and n[0] != a and p.men[n[0]][1] == kind]
+    apart = ''
+    if rivals:
+        if all(sq[0] != a[0] for sq in rivals):
+            apart = FILES[a[0] - 1]
+        elif all(sq[1] != a[1] for sq in rivals):
+            apart = str(a[1])
+        else:
+            apart = square_name(a)
+    return kind + apart + ('x' if b in p.men else '') + square_name(b)
+
+
+def suffix(p, m):
+    q = following(p, m)
+    if not in_check(q):
+        return ''
+    return '+' if legal_moves(q) else '#'
+
+
+def san(p, m):
+    return bare_san(p, m) + suffix(p, m)
+
+
+def texts(p):
+    """Map: every text that names a legal move -> that move."""
+    known = worked(p)
+    if known.texts is None:
+        found = {}
+        for m in legal_moves(p):
+            for text in dict.fromkeys((san(p, m), bare_san(p, m), coordinate(m))):
+                assert text not in found, (fen_write(p), text)
+                found[text] = m
+        known.texts = found
+    return known.texts
+
+
+def reads(p, text):
+    return texts(p).get(text)
+
+
+# ------------------------------------------------------------------------- FEN
+
+LETTER = {(WHITE, k): k for k in 'KQRBNP'}
+LETTER.update({(BLACK, k): k.lower() for k in 'KQRBNP'})
+MAN = {letter: man for man, letter in LETTER.items()}
+
+
+def fen_write(p):
+    ranks = []
+    for r in range(8, 0, -1):
+        text, run = '', 0
+        for f in range(1, 9):
+            man = p.men.get((f, r))
+            if man is None:
+                run += 1
+                continue
+            text += (str(run) if run else '') + LETTER[man]
+            run = 0
+        ranks.append(text + (str(run) if run else ''))
+    return ' '.join([
+        '/'.join(ranks), p.side,
+        ''.join(c for c in 'KQkq' if c in p.rights) or '-',
+        square_name(p.target) if p.target else '-',
+        str(p.half), str(p.full)])
+
+
+def fen_read(text):
+    """The valid position whose text this is, or None."""
+    fields = text.split(' ')
+    if len(fields) != 6 or '' in fields:
+        return None
+    placement, side, castling, target, half, full = fields
+    ranks = placement.split('/')
+    if len(ranks) != 8:
+        return None
+    men = {}
+    for r, rank in zip(range(8, 0, -1), ranks):
+        f, digit_before = 1, False
+        for c in rank:
+            if c in '12345678':
+                if digit_before:
+                    return None
+                f += int(c)
+                digit_before = True
+            elif c in MAN:
+                men[(f, r)] = MAN[c]
+                f += 1
+                digit_before = False
+            else:
+                return None
+            if f > 9:
+                return None
+        if f != 9:
+            return None
+    if side not in (WHITE, BLACK):
+        return None
+    if castling == '-':
+        rights = frozenset()
+    else:
+        rights = frozenset(castling)
+        if castling != ''.join(c for c in 'KQkq' if c in rights):
+            return None
+    if target == '-':
+        target_square = None
+    else:
+        target_square = square_of(target)
+        if target_square is None:
+            return None
+    counters = []
+    for counter in (half, full):
+        if not re.fullmatch('0|[1-9][0-9]*', counter):
+            return None
+        counters.append(int(counter))
+    p = Position(men, side, rights, target_square, counters[0], counters[1])
+    return p if valid(p) else None
+
+
+INITIAL_FEN = 'rnbqkbnr/pppppppp/8/8/8/8/PPPPPPPP/RNBQKBNR w KQkq - 0 1'
+INITIAL = fen_read(INITIAL_FEN)
+
+
+# --------------------------------------------------------------------- entries
+
+class Entry:
+    """kind: open join move offer accept decline resign claim fallen drop."""
+
+    def __init__(self, kind, game, at, **more):
+        self.kind = kind
+        self.game = game
+        self.at = at            # the effective moment
+        # open: who, colour, initial, increment, period, start;  join: who
+        # move: move;  offer, accept, decline, resign: side
+        # claim: side, fifty, move (or None)
+        self.__dict__.update(more)
+
+
+def claim_is_right(line, fifty, move):
+    """Judged in the line, with the stated move added if there is one."""
+    if move is not None:
+        line = line + [following(line[-1], move)]
+    if fifty:
+        return quiet(line) >= 100
+    return times(line[-1], line) >= 3
+
+
+class Game:
+    """The list of one game's entries, and its fields read off that list."""
+
+    def __init__(self, opened):
+        self.entries = [opened]
+        self.known = {}         # kept for speed: (count of moves, move) -> position,
+        self.judged = {}        # index of a claim -> right or wrong,
+        self.seen = None        # the fields for the entries so far
+
+    def add(self, entry):
+        self.entries.append(entry)
+        self.seen = None
+
+    def fields(self):
+        if self.seen is None:
+            self.seen = Fields(self)
+        return self.seen
+
+
+class Fields:
+    """The fields of one game, from the whole list of its entries."""
+
+    def __init__(self, game):
+        entries = game.entries
+        opened = entries[0]
+        self.opened = opened
+        self.start = opened.start
+        joins = [e for e in entries if e.kind == 'join']
+        self.joined = joins[0].at if joins else None
+        self.seats = {opened.colour: opened.who,
+                      other(opened.colour): joins[0].who if joins else None}
+
+        # the line, its moves, and which claims were right
+        self.line = [self.start]
+        self.moves = []         # (index of the entry, its moment, mover, move)
+        self.right = {}         # index of a claim -> right or wrong
+        for i, e in enumerate(entries):
+            if e.kind == 'claim':
+                if i not in game.judged:
+                    game.judged[i] = claim_is_right(self.line, e.fifty, e.move)
+                self.right[i] = game.judged[i]
+            if e.kind == 'move' or (e.kind == 'claim' and e.move is not None
+                                    and not self.right[i]):
+                p = self.line[-1]
+                n = (len(self.moves), e.move)
+                if n not in game.known:
+                    game.known[n] = following(p, e.move)
+                self.moves.append((i, e.at, p.side, e.move))
+                self.line.append(game.known[n])
+        self.ply = len(self.moves)
+        self.present = self.line[-1]
+        self.side = self.present.side
+
+        # the ending: no entry follows the one that ends a game (number 6),
+        # so only the last can be it
+        i, last = len(entries) - 1, entries[-1]
+        self.ending = None
+        if last.kind == 'accept':
+            self.ending = (DRAW, '5.2.3')
+        elif last.kind == 'resign':
+            self.ending = (WIN[other(last.side)], '5.1.2')
+        elif last.kind == 'fallen':
+            self.ending = ending_of_flag(self.present)
+        elif last.kind == 'claim' and self.right[i]:
+            self.ending = (DRAW, '9.3' if last.fifty else '9.2')
+        elif self.moves and self.moves[-1][0] == i:
+            self.ending = ending_of_line(self.line)
+        self.ended_at = last.at if self.ending else None
+
+        # offers and claims
+        runs = self.joined is not None and self.ending is None
+        self.offers = {s: runs and self.offer_stands(entries, s)
+                       for s in (WHITE, BLACK)}
+        claims = [i for i, e in enumerate(entries) if e.kind == 'claim']
+        last_move = self.moves[-1][0] if self.moves else -1
+        self.claimed = runs and any(i > last_move for i in claims)
+
+        # times, by sums
+        self.since = self.joined
+        if self.moves:
+            self.since = self.moves[-1][1]
+        self.held = {s: self.time_held(entries, s) for s in (WHITE, BLACK)}
+
+    def offer_stands(self, entries, side):
+        made = [i for i, e in enumerate(entries)
+                if e.kind == 'offer' and e.side == side
+                or e.kind == 'claim' and e.side == side and not self.right[i]]
+        if not made:
+            return False
+        since = made[-1]
+        for i, e in enumerate(entries):
+            if i > since and e.kind == 'decline' and e.side != side:
+                return False
+        for i, _, mover, _ in self.moves:
+            if i > since and mover != side:
+                return False
+        return True
+
+    def time_held(self, entries, side):
+        o = self.opened
+        own = [k for k, (_, _, mover, _) in enumerate(self.moves)
+               if mover == side]
+        held = 1000 * o.initial
+        held += 1000 * o.increment * len(own)
+        held += 120000 * len([i for i, e in enumerate(entries)
+                              if e.kind == 'claim' and e.side != side
+                              and not self.right[i]])
+        if o.period is not None and len(own) >= o.period[0]:
+            held += 1000 * o.period[1]
+        for k in own:
+            began = self.moves[k - 1][1] if k > 0 else self.joined
+            held -= self.moves[k][1] - began
+        return held
+
+    def turn(self, at):
+        """The length of the running turn at a moment."""
+        return at - self.since
+
+    def fallen(self, at):
+        return self.turn(at) >= self.held[self.side]
+
+    def left(self, side, at):
+        if self.joined is None:
+            return 1000 * self.opened.initial
+        if self.ending is not None:
+            at = self.ended_at
+        if side != self.side:
+            return max(0, self.held[side])
+        return max(0, self.held[side] - self.turn(at))
+
+    def seat_of(self, who):
+        for colour in (WHITE, BLACK):
+            if self.seats[colour] == who:
+                return colour
+        return None
+
+    def result(self):
+        return self.ending[0] if self.ending else '*'
+
+
+# ------------------------------------------------------------------------- PGN
+
+def pgn(f):
+    def tag(name, value):
+        return '[%s "%s"]' % (name, value)
+    o = f.opened
+    lines = [tag('Event', '?'), tag('Site', '?'), tag('Date', '????.??.??'),
+             tag('Round', '?'), tag('White', f.seats[WHITE] or '?'),
+             tag('Black', f.seats[BLACK] or '?'), tag('Result', f.result())]
+    if f.ending:
+        lines.append(tag('Article', f.ending[1]))
+    if f.start.whole() != INITIAL.whole():
+        lines.append(tag('FEN', fen_write(f.start)))
+        lines.append(tag('SetUp', '1'))
+    if f.ending is None:
+        termination = 'unterminated'
+    elif f.ending[1] == '6.9':
+        termination = 'time forfeit'
+    else:
+        termination = 'normal'
+    lines.append(tag('Termination', termination))
+    plus = '+%d' % o.increment if o.increment else ''
+    if o.period is None:
+        control = '%d%s' % (o.initial, plus)
+    else:
+        control = '%d/%d%s:%d%s' % (o.period[0], o.initial, plus,
+                                    o.period[1], plus)
+    lines.append(tag('TimeControl', control))
+    lines.append('')
+
+    tokens = []
+    for k, (_, _, mover, m) in enumerate(f.moves):
+        p = f.line[k]
+        if mover == WHITE:
+            tokens.append('%d.' % p.full)
+        elif k == 0:
+            tokens.append('%d...' % p.full)
+        tokens.append(san(p, m))
+    tokens.append(f.result())
+    return lines + in_lines(tokens) + ['']
+
+
+def in_lines(tokens):
+    """Movetext: the tokens in lines of at most 79 characters, of which each takes as many as fit."""
+    lines, text = [], ''
+    for token in tokens:
+        if text and len(text) + 1 + len(token) > 79:
+            lines.append(text)
+            text = ''
+        text = text + ' ' + token if text else token
+    return lines + [text]
+
+
+# ------------------------------------------------------------------- the lines
+
+NUMBER_FORM = '(0|[1-9][0-9]{0,9})'
+TEXT_FORM = '([\x21-\x7e]+)'
+TOP = 4294967295
+LAST_MOMENT = 4611686018427387903
+NAME_FORM = '[A-Za-z0-9_]{1,16}'
+READS = ('show', 'fen', 'pgn', 'list')
+
+FORMS = [
+    ('name', 'name (%s)' % NAME_FORM),
+    ('open', 'open (white|black) %s %s(?: ([\x20-\x7e]+))?'
+     % (NUMBER_FORM, NUMBER_FORM)),
+    ('open2', 'open (white|black) %s/%s:%s %s(?: ([\x20-\x7e]+))?'
+     % (NUMBER_FORM, NUMBER_FORM, NUMBER_FORM, NUMBER_FORM)),
+    ('move', 'move %s %s %s' % (NUMBER_FORM, NUMBER_FORM, TEXT_FORM)),
+    ('claim', 'claim %s %s (three|fifty)(?: %s)?'
+     % (NUMBER_FORM, NUMBER_FORM, TEXT_FORM)),
+    ('list', 'list'),
+] + [(word, '%s %s' % (word, NUMBER_FORM))
+     for word in ('join', 'offer', 'accept', 'decline', 'resign', 'flag',
+                  'drop', 'show', 'fen', 'pgn')]
+FORMS = [(word, re.compile(form)) for word, form in FORMS]
+
+
+def parse(line):
+    """(word, map of its fields), or None where the line has none of the forms."""
+    for word, form in FORMS:
+        found = form.fullmatch(line)
+        if found is None:
+            continue
+        g = found.groups()
+
+        def number(k):
+            return int(g[k])
+        if word == 'name':
+            return word, {'name': g[0]}
+        if word == 'list':
+            return word, {}
+        if word == 'open':
+            f = {'colour': g[0], 'initial': number(1), 'increment': number(2),
+                 'period': None, 'fen': g[3]}
+            numbers = [f['initial'], f['increment']]
+        elif word == 'open2':
+            word = 'open'
+            f = {'colour': g[0], 'initial': number(2), 'increment': number(4),
+                 'period': (number(1), number(3)), 'fen': g[5]}
+            numbers = [f['initial'], f['increment'], *f['period']]
+        elif word == 'move':
+            f = {'game': number(0), 'ply': number(1), 'text': g[2]}
+            numbers = [f['game'], f['ply']]
+        elif word == 'claim':
+            f = {'game': number(0), 'ply': number(1), 'fifty': g[2] == 'fifty',
+                 'text': g[3]}
+            numbers = [f['game'], f['ply']]
+        else:
+            f = {'game': number(0)}
+            numbers = [f['game']]
+        if any(n > TOP for n in numbers):
+            return None
+        return word, f
+    return None
+
+
+NAMES = ['', 'BadLine', 'NoName', 'NoGame', 'NotSeated', 'NotStarted', 'Over',
+         'WrongPly', 'NotYourMove', 'BadMove', 'OfferStands', 'NoOffer',
+         'TooEarly', 'AlreadyClaimed', 'FlagUp', 'Taken', 'SamePlayer',
+         'BadFen', 'BadTime', 'TooManyGames', 'TooLong', 'NotOver', 'NoMemory',
+         'BadMoment', 'Finished']
+
+
+class Refused(Exception):
+    def __init__(self, number, ply=None):
+        self.number = number
+        self.line = 'no %d %s' % (number, NAMES[number])
+        if ply is not None:
+            self.line += ' %d' % ply
+
+
+class Table:
+    def __init__(self, games_limit, plies_limit):
+        self.games_limit = games_limit
+        self.plies_limit = plies_limit
+        self.games = {}         # number -> Game, of those opened and not dropped
+        self.greatest = 0       # the greatest moment of all entries
+        self.last = 0           # the last number given
+        self.entries = 0        # the count of all entries
+
+    # ---- one command
+
+    def command(self, at, who, line):
+        assert len(line) <= 255 and '\n' not in line
+        if line.endswith('\r'):
+            line = line[:-1]
+        try:
+            parsed = parse(line)
+            if parsed is None:
+                raise Refused(1)
+            if at > LAST_MOMENT:
+                raise Refused(23)
+            word, f = parsed
+            if word == 'name':
+                return ['ok name ' + f['name']]
+            if who is None and word not in READS:
+                raise Refused(2)
+            at = max(at, self.greatest)
+            return getattr(self, word)(at, who, f)
+        except Refused as refused:
+            return [refused.line]
+
+    # ---- what the acts share
+
+    def enter(self, entry):
+        self.greatest = max(self.greatest, entry.at)
+        self.entries += 1
+        if entry.kind == 'open':
+            self.last = entry.game
+            self.games[entry.game] = Game(entry)
+        elif entry.kind == 'drop':
+            del self.games[entry.game]
+        else:
+            self.games[entry.game].add(entry)
+
+    def fields(self, f):
+        """Check 3."""
+        if f['game'] not in self.games:
+            raise Refused(3)
+        return self.games[f['game']].fields()
+
+    def end(self, number):
+        """END, after the entry."""
+        ending = self.games[number].fields().ending
+        return ' %s %s' % ending if ending else ''
+
+    def running(self, at, who, f):
+        """Checks 3, 4, 5, 6, fallen: (fields, the player's side, None), or
+        the Fallen answer in place of None."""
+        g = self.fields(f)
+        side = g.seat_of(who)
+        if side is None:
+            raise Refused(4)
+        if g.joined is None:
+            raise Refused(5)
+        if g.ending is not None:
+            raise Refused(6)
+        if g.fallen(at):
+            number = f['game']
+            self.enter(Entry('fallen', number, at))
+            return g, side, ['fallen %d%s' % (number, self.end(number))]
+        return g, side, None
+
+    # ---- the acts
+
+    def open(self, at, who, f):
+        period = f['period']
+        if not (1 <= f['initial'] <= 86400 and 0 <= f['increment'] <= 60):
+            raise Refused(18)
+        if period is not None and not (1 <= period[0] <= 255
+                                       and 1 <= period[1] <= 86400):
+            raise Refused(18)
+        start = INITIAL
+        if f['fen'] is not None:
+            start = fen_read(f['fen'])
+            if start is None or start.full > 9999:
+                raise Refused(17)
+        if not legal_moves(start) or listed_dead(start) or start.half >= 150:
+            raise Refused(24)
+        if len(self.games) >= self.games_limit or self.last == TOP:
+            raise Refused(19)
+        number = self.last + 1
+        self.enter(Entry('open', number, at, who=who,
+                         colour=WHITE if f['colour'] == 'white' else BLACK,
+                         initial=f['initial'], increment=f['increment'],
+                         period=period, start=start))
+        return ['ok open %d' % number]
+
+    def join(self, at, who, f):
+        g = self.fields(f)
+        if g.joined is not None:
+            raise Refused(15)
+        if g.seat_of(who) is not None:
+            raise Refused(16)
+        self.enter(Entry('join', f['game'], at, who=who))
+        colour = 'black' if g.opened.colour == WHITE else 'white'
+        return ['ok join %d %s' % (f['game'], colour)]
+
+    def move(self, at, who, f):
+        g, side, fallen = self.running(at, who, f)
+        if fallen:
+            return fallen
+        if f['ply'] != g.ply:
+            raise Refused(7, g.ply)
+        if side != g.side:
+            raise Refused(8)
+        if f['ply'] == self.plies_limit:
+            raise Refused(20)
+        m = reads(g.present, f['text'])
+        if m is None:
+            raise Refused(9)
+        self.enter(Entry('move', f['game'], at, move=m))
+        return ['ok move %d %d %s%s' % (f['game'], g.ply + 1,
+                                        san(g.present, m), self.end(f['game']))]
+
+    def offer(self, at, who, f):
+        g, side, fallen = self.running(at, who, f)
+        if fallen:
+            return fallen
+        if g.offers[WHITE] or g.offers[BLACK]:
+            raise Refused(10)
+        self.enter(Entry('offer', f['game'], at, side=side))
+        return ['ok offer %d' % f['game']]
+
+    def accept(self, at, who, f):
+        g, side, fallen = self.running(at, who, f)
+        if fallen:
+            return fallen
+        if not g.offers[other(side)]:
+            raise Refused(11)
+        if g.ply < 2:
+            raise Refused(12)
+        self.enter(Entry('accept', f['game'], at, side=side))
+        return ['ok accept %d%s' % (f['game'], self.end(f['game']))]
+
+    def decline(self, at, who, f):
+        g, side, fallen = self.running(at, who, f)
+        if fallen:
+            return fallen
+        if not g.offers[other(side)]:
+            raise Refused(11)
+        self.enter(Entry('decline', f['game'], at, side=side))
+        return ['ok decline %d' % f['game']]
+
+    def resign(self, at, who, f):
+        g, side, fallen = self.running(at, who, f)
+        if fallen:
+            return fallen
+        self.enter(Entry('resign', f['game'], at, side=side))
+        return ['ok resign %d%s' % (f['game'], self.end(f['game']))]
+
+    def claim(self, at, who, f):
+        g, side, fallen = self.running(at, who, f)
+        if fallen:
+            return fallen
+        if f['ply'] != g.ply:
+            raise Refused(7, g.ply)
+        if side != g.side:
+            raise Refused(8)
+        if g.claimed:
+            raise Refused(13)
+        m = None
+        if f['text'] is not None:
+            if f['ply'] == self.plies_limit:
+                raise Refused(20)
+            m = reads(g.present, f['text'])
+            if m is None:
+                raise Refused(9)
+        number = f['game']
+        self.enter(Entry('claim', number, at, side=side, fifty=f['fifty'],
+                         move=m))
+        after = self.games[number].fields()
+        index = len(self.games[number].entries) - 1
+        if after.right[index]:
+            return ['ok claim %d%s' % (number, self.end(number))]
+        if m is None:
+            return ['ok claim %d wrong' % number]
+        return ['ok claim %d wrong %d %s%s' % (number, g.ply + 1,
+                                               san(g.present, m),
+                                               self.end(number))]
+
+    def flag(self, at, who, f):
+        g, side, fallen = self.running(at, who, f)
+        if fallen:
+            return fallen
+        raise Refused(14)
+
+    def drop(self, at, who, f):
+        g = self.fields(f)
+        if g.seat_of(who) is None:
+            raise Refused(4)
+        if g.joined is not None and g.ending is None:
+            raise Refused(21)
+        self.enter(Entry('drop', f['game'], at))
+        return ['ok drop %d' % f['game']]
+
+    # ---- the reads
+
+    def show(self, at, who, f):
+        g = self.fields(f)
+        offers = ''.join(s for s in (WHITE, BLACK) if g.offers[s]) or '-'
+        return ['ok show %d %s %s %d %s %d %d %s %s %s' % (
+            f['game'], g.seats[WHITE] or '-', g.seats[BLACK] or '-', g.ply,
+            g.side, g.left(WHITE, at), g.left(BLACK, at), offers, g.result(),
+            g.ending[1] if g.ending else '-')]
+
+    def fen(self, at, who, f):
+        g = self.fields(f)
+        return ['ok fen %d %s' % (f['game'], fen_write(g.present))]
+
+    def pgn(self, at, who, f):
+        lines = pgn(self.fields(f))
+        return ['ok pgn %d %d' % (f['game'], len(lines))] + lines
+
+    def list(self, at, who, f):
+        lines = ['ok list %d' % len(self.games)]
+        for number in sorted(self.games):
+            g = self.games[number].fields()
+            lines.append('%d %s %s %d %s' % (
+                number, g.seats[WHITE] or '-', g.seats[BLACK] or '-', g.ply,
+                g.result()))
+        return lines
+
+
+# ------------------------------------------------------------------- a program
+
+def split_input(text):
+    """`MOMENT WHO LINE` -> (moment, who or None, line)."""
+    moment, who, line = text.split(' ', 2)
+    return int(moment), None if who == '-' else who, line
+
+
+def main(args):
+    table = Table(int(args[0]), int(args[1]))
+    source = open(args[2], 'rb') if len(args) > 2 else sys.stdin.buffer
+    for raw in source.read().split(b'\n')[:-1]:
+        for answer in table.command(*split_input(raw.decode('latin-1'))):
+            sys.stdout.write(answer + '\n')
+
+
+if __name__ == '__main__':
+    main(sys.argv[1:])

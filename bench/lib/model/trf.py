@@ -1,0 +1,95 @@
+#!/usr/bin/env python3
+"""What chess_pairings writes, by docs/use/NIGHT.md, "A round": trf.py trf --players FILE --archive FILE --rounds CSV,GAMES .. prints
+the report of a tournament. Of its other words there is no model."""
+
+import argparse
+import csv
+import sys
+from lib.model.export import games_of
+from lib.night import games_in, place_of, points_of, read_notes, rounds_of, unescaped
+from lib.program import Wrong
+
+# the lines of the tournament, and which option says what stands there
+OPTIONS = {'012': 'name', '022': 'city', '032': 'federation', '042': 'begins', '052': 'ends', '092': 'kind', '102': 'arbiter',
+           '112': 'deputy', '122': 'times'}
+
+
+def players_in(path):
+    """The full names of a players' file by the names (docs/use/CLUB.md, "Players"), of those who are no arbiters, in its order."""
+    with open(path, encoding='utf-8', newline='\n') as file:
+        lines = [line for line in file.read().split('\n') if line and not line.startswith('#')]
+    rows = [line.split(' ', 3) for line in lines]
+    return {name: full for name, role, _, full in rows if role == 'player'}
+
+
+def pairings_in(path):
+    """The rows of a round's pairings, without the header and empty lines."""
+    with open(path, encoding='utf-8', newline='') as file:
+        rows = [row for row in csv.reader(file) if row]
+    return [(int(row[0]), *row[1:]) for row in rows[1:]]
+
+
+def outcome(pgn, seats, full):
+    """What came of a board's game, by its PGN, as points_of has it; `seats` are the names of White and Black."""
+    tags, moves, result = games_in(pgn)[0]
+    for colour, name in zip(('White', 'Black'), seats):
+        if unescaped(tags[colour]) not in (name, full[name]):
+            raise Wrong(f'the game of {seats} has {tags[colour]} as {colour}')
+    is_played = len(moves) >= 2 or 'FEN' in tags
+    return result, 'board' if is_played else 'forfeit' if tags['Article'] == '6.9' else 'short'
+
+
+def round_of(files, games, full):
+    """The rows of a round, and by board what was played there."""
+    pairings, notes = files.split(',')
+    rows, noted, played = pairings_in(pairings), read_notes(notes), {}
+    for board, white, black, *_ in rows:
+        stage, game = noted.get(board, ('opening', None))
+        is_known = stage != 'opening' and game in games
+        played[board] = outcome(games[game], (white, black), full) if is_known else ('*', None)
+    return rows, played
+
+
+def player_line(number, name, points, place, rounds):
+    """The line of a player, in its columns."""
+    cells = ''.join(f'  {opponent} {colour} {result}' for opponent, colour, result in rounds)
+    return f'001 {number:>4}{"":6}{name[:33]:<33}{"":33}{points:>4.1f} {place:>4}{cells}'
+
+
+def report(told, full, rounds, count):
+    """The lines of a report. `told` is what stands in the lines of the tournament, `count` how many rounds there are to be, if
+    that is told; the others are as of rounds_of."""
+    lines = [f'{number} {text}' for number, text in sorted(told.items())]
+    lines += [f'XXR {count}'] if count else []
+    points, met = points_of(rounds), rounds_of(full, rounds)
+    for number, name in enumerate(full, 1):
+        lines.append(player_line(number, full[name], points[name], place_of(name, points), met[name]))
+    return lines
+
+
+def words_of():
+    words = argparse.ArgumentParser()
+    words.add_argument('word', choices=['trf'])
+    words.add_argument('--players', required=True)
+    words.add_argument('--archive', required=True)
+    words.add_argument('--rounds', action='append', required=True)
+    words.add_argument('--all-rounds')
+    for option in OPTIONS.values():
+        words.add_argument('--' + option, default='')
+    return words.parse_args()
+
+
+def main():
+    given = words_of()
+    full, games = players_in(given.players), dict(games_of(given.archive))
+    rounds = [round_of(files, games, full) for files in given.rounds]
+    # (of nobody a rating is known, and there are no teams)
+    told = {number: getattr(given, option) for number, option in OPTIONS.items()}
+    told.update({'062': len(full), '072': 0, '082': 0})
+    sys.stdout.reconfigure(encoding='utf-8')
+    for line in report(told, full, rounds, given.all_rounds):
+        print(line)
+
+
+if __name__ == '__main__':
+    main()
