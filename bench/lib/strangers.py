@@ -7,7 +7,7 @@ import subprocess
 import sys
 import time
 
-sys.path.insert(0, os.path.dirname(os.path.realpath(__file__)))
+sys.path.insert(0, os.path.dirname(os.path.dirname(os.path.realpath(__file__))))
 from lib.web import TEXT, Line, frame, handshake, taken_frame, token_of
 
 # (messages that a connection may say in a second, and at once)

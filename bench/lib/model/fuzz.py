@@ -765,11 +765,7 @@ def main(args):
     with_bytes = '--bytes' in args
     args = [a for a in args if a != '--bytes']
     seed, n, games, plies = (int(a) for a in args[:4])
-    if len(args) > 4:
-        path = args[4]
-    else:
-        path = os.path.join(os.path.dirname(os.path.abspath(__file__)),
-                            'fuzz-%d-%d-%d-%d.in' % (seed, n, games, plies))
+    path = args[4] if len(args) > 4 else 'fuzz-%d-%d-%d-%d.in' % (seed, n, games, plies)
     fuzz = Fuzz(seed, n, games, plies, with_bytes)
     fuzz.run()
     with open(path, 'wb') as out:
