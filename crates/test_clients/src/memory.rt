@@ -1,5 +1,5 @@
-//! Memory that is refused to clients over connections: `bench/crash/refused-memory` refuses each allocation in turn. And a
-//! device that fails under them.
+//! Memory that is refused to clients over connections: `bench/crash/refused-memory` refuses each allocation in turn.
+//! And a device that fails under them.
 use crate::peers::{Gives, Takes};
 use crate::serving::{Crowd, SECTORS, comes, nobody, nobody_over, take_turn};
 use chess_hub::HubFault;

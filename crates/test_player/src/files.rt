@@ -1,11 +1,11 @@
-//! Journals and stores on files, for `bench/speed/journal` and `bench/speed/store`. FILE, without spaces, is made where it isn't
-//! there, and a journal or a store on it where it holds none.
+//! Journals and stores on files, for `bench/speed/journal` and `bench/speed/store`. FILE, without spaces, is made where
+//! it isn't there, and a journal or a store on it where it holds none.
 //!
-//! - `commits FILE RECORDS COMMITS SNAPSHOT` makes so many commits of so many records, 1 to 64, in a journal, and writes how
-//!   many; a compaction to a snapshot of so many records is always under way beside them, `-` for none;
+//! - `commits FILE RECORDS COMMITS SNAPSHOT` makes so many commits of so many records, 1 to 64, in a journal, and
+//!   writes how many; a compaction to a snapshot of so many records is always under way beside them, `-` for none;
 //! - `MOMENT NAME LINE`: one command more, NAME `-` for a session without a name;
-//! - `batches FILE BATCH BATCHES GAMES PLIES`: of the commands since the last such line the first so many batches of so many,
-//!   1 to 64, are submitted to a store of these limits, and it is written how many entries its table has then.
+//! - `batches FILE BATCH BATCHES GAMES PLIES`: of the commands since the last such line the first so many batches of so
+//!   many, 1 to 64, are submitted to a store of these limits, and it is written how many entries its table has then.
 ghost use Rattle.std.specs.Prelude.{◌≤◌, IfOk};
 ghost use Rattle.rec_codec.specs.declared.limits.Version.TheVariants.{Two};
 ghost use Rattle.rec_codec.specs.Limits.{IsInRange};
