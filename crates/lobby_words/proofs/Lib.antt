@@ -1,6 +1,6 @@
 pub mod Numbers
 pub mod Names
-mod Rows
+mod SeatRows
 pub mod Texts
 pub mod Found
 pub mod ByName

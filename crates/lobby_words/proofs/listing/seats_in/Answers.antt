@@ -2,7 +2,7 @@ use Rattle.std.proofs.Common.{ℕ, ◌<◌, ◌++◌, List, [], length, get_or, 
 use Rattle.std.specs.Borrow.{Bor}
 use Rattle.lobby_words.specs.declared.listing.Seat.{Seat}
 use Rattle.lobby_words.specs.Waiting.{seats_row}
-use Rattle.lobby_words.proofs.Rows.{rows_more}
+use Rattle.lobby_words.proofs.SeatRows.{rows_more}
 use Rattle.lobby_words.proofs.listing.seats_in.Goals as goal
 
 pub loop-row-preserved : goal.loop-row-preserved
