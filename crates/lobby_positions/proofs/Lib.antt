@@ -1,4 +1,5 @@
 pub mod Played
 pub mod Spelled
 pub mod Found
+pub mod Replaying
 pub mod Naming

@@ -29,6 +29,12 @@ pub record AreRows (start : Position) (moves : List Move) (text : List ℕ) : Ty
   pub are : AreSans start moves sans
   pub spelled : text ≡ rows 1 start moves sans
 
+-- `ok line G K` and the row of the start, which stand in front
+abbrev pub head : ℕ → ℕ → Position → List ℕ
+head game count start =
+    codes "ok line " ++ (decimal game ++ (codes " " ++ (decimal count ++ (codes "\n" ++
+    row 0 (codes "-") (codes "-") start))))
+
 -- `ok line G K`, the row of the start, and the K rows of the moves
 pub record IsLineAnswer (game : ℕ) (start : Position) (moves : List Move) (text : List ℕ) : Type 0 where
   pub behind : List ℕ

@@ -1,3 +1,4 @@
 pub mod Pgn
 pub mod Answer
+pub mod Replaying
 pub mod Telling

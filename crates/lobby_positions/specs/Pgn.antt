@@ -1,5 +1,5 @@
 -- What is read of a game's PGN: the start, and the words that name its moves.
-use Rattle.std.specs.Prelude.{ℕ, ◌≡◌, ◌<◌, Bool, true, false, ◌==◌, List, [], ◌∷◌, ◌++◌, codes, Option, Some, None, find}
+use Rattle.std.specs.Prelude.{ℕ, ◌≡◌, ◌<◌, Bool, ◌==◌, List, [], ◌∷◌, codes, Option, Some, None, find}
 use Rattle.std.specs.List.{before_first, after_first}
 use Rattle.std.specs.Str.{bytes_eq}
 use Rattle.std.specs.Option.{option_map}
@@ -10,7 +10,6 @@ use Rattle.chess_board.specs.declared.moves.Move.{Move}
 use Rattle.chess_board.specs.Position.{Position, IsValid}
 use Rattle.chess_board.specs.Initial.{initial}
 use Rattle.chess_board.specs.Next.{next}
-use Rattle.chess_board.specs.Legal.{IsLegal}
 use Rattle.chess_notation.specs.Letters.{space}
 use Rattle.chess_notation.specs.Naming.{Names}
 use Rattle.chess_notation.specs.Fen.{IsFenOf}
@@ -48,24 +47,15 @@ ArePlayed p [] (m ∷ ms) = ⊥
 ArePlayed p (word ∷ words) [] = ⊥
 ArePlayed p (word ∷ words) (m ∷ ms) = Plays p word m × ArePlayed (next p m) words ms
 
--- each of these moves is legal in its position, with room in both counters
-abbrev pub IsPlayable : Position → List Move → Type 0
-IsPlayable p [] = Unit {0}
-IsPlayable p (m ∷ ms) = IsLegal p m × (p.halfmove < 65535) × (p.fullmove < 65535) × IsPlayable (next p m) ms
-
--- one word is played, as the only move that it names
-pub record PlaysWord (before : Position) (word : List ℕ) (done : List Move) (after : Position) (more : List Move) : Type 0 where
-  pub move : Move
-  pub plays : Plays before word move
-  pub one : (other : Move) → Plays before word other → other ≡ move
-  pub board : after ≡ next before move
-  pub put : more ≡ done ++ (move ∷ [])
-
-abbrev pub StepsBy : Bool → Position → List ℕ → List Move → Position → List Move → Type 0
-StepsBy true before word done after more = PlaysWord before word done after more
-StepsBy false before word done after more = (m : Move) → ¬ Plays before word m
+-- the words of the text that may name moves
+abbrev pub words_in : List ℕ → List (List ℕ)
+words_in text = moves_in (tokens_of (lines_of text))
 
 -- the text tells this game
 pub record TellsGame (text : List ℕ) (start : Position) (moves : List Move) : Type 0 where
   pub begun : StartsAt (fen_in (lines_of text)) start
-  pub played : ArePlayed start (moves_in (tokens_of (lines_of text))) moves
+  pub played : ArePlayed start (words_in text) moves
+
+-- it tells no game
+abbrev pub TellsNone : List ℕ → Type 0
+TellsNone text = (start : Position) → (moves : List Move) → ¬ TellsGame text start moves

@@ -1,4 +1,4 @@
-//! The answer to `line G`.
+//! The answer to `line G`, at once.
 ghost use Rattle.std.specs.Prelude.{List, IfOk, IfSome, IsSomeAnd};
 ghost use Rattle.std.specs.String.{string_bytes};
 ghost use Rattle.chess_board.specs.declared.moves.Move.{Move};
@@ -6,11 +6,8 @@ ghost use Rattle.chess_board.specs.Position.{Position};
 ghost use Rattle.lobby_positions.specs.Pgn.{TellsGame};
 ghost use Rattle.lobby_positions.specs.Answer.{IsLineAnswer};
 
-use crate::lines::{start_of, words_of};
-use crate::playing::played;
-use crate::rows::answer_text;
+use crate::replay::{Part, Replay};
 use std::alloc::{AllocError, Global};
-use text_parts::parts;
 
 /// The answer to `line G` from the lines of the game's PGN, each with its line feed, without the server's line
 /// `ok pgn G K` in front: `ok line G K`, and K + 1 lines `N SAN MOVE FEN`, each with its line feed. `None` just where
@@ -19,16 +16,15 @@ use text_parts::parts;
 pub fn line_answer(alloc: Global, game: u32, pgn: &str) -> Result<Option<String>, AllocError>
     ensures told { (start : Position) (moves : List Move) → TellsGame pgn.now start moves →
         IfOk result (λ answer. IsSomeAnd answer (λ text. IsLineAnswer game start moves (string_bytes text))) }
-    ensures game { IfOk result (λ answer. IfSome answer (λ _. (start : Position) × (moves : List Move) × TellsGame pgn.now start moves)) }
+    ensures game { IfOk result (λ answer. IfSome answer (λ _.
+        (start : Position) × (moves : List Move) × TellsGame pgn.now start moves)) }
 {
-    let lines = parts(alloc, pgn, '\n')?;
-    let Some(start) = start_of(lines.as_slice()) else {
+    let Some(replay) = Replay::begin(alloc, game, pgn)? else {
         return Ok(None);
     };
-    let words = words_of(alloc, lines.as_slice())?;
-    let Some(moves) = played(alloc, &start, words.as_slice())? else {
-        return Ok(None);
-    };
-    let text = answer_text(alloc, game, &start, moves.as_slice())?;
-    Ok(Some(text))
+    let all = replay.left();
+    match replay.play(all)? {
+        Part::Whole(text) => Ok(Some(text)),
+        Part::More(_) | Part::NoGame => Ok(None),
+    }
 }

@@ -3,8 +3,7 @@ ghost use Rattle.std.specs.Prelude.{◌≡◌, ◌++◌, codes, IfOk, OnOk};
 ghost use Rattle.std.specs.String.{string_bytes};
 ghost use Rattle.chess_board.specs.Legal.{IsLegal};
 ghost use Rattle.chess_notation.specs.Fen.{fen_of};
-ghost use Rattle.lobby_positions.specs.Pgn.{IsPlayable};
-ghost use Rattle.lobby_positions.specs.Answer.{row, PutsRow, PutsRows, IsLineAnswer};
+ghost use Rattle.lobby_positions.specs.Answer.{row, head, PutsRow};
 
 use crate::telling::push_move;
 use chess_board::{Board, Move};
@@ -32,8 +31,8 @@ fn push_start(text: &mut String, start: &Board) -> Result<(), AllocError>
     Ok(())
 }
 
-// Appends the row of a move, which has this number.
-fn push_row(
+/// Appends the row of a move, which has this number.
+pub fn push_row(
     text: &mut String,
     number: usize,
     before: &Board,
@@ -51,38 +50,20 @@ fn push_row(
     Ok(())
 }
 
-// Appends the rows of moves from a start on.
-fn push_rows(text: &mut String, start: &Board, moves: &[Move]) -> Result<(), AllocError>
-    requires { IsPlayable start.now moves.now }
-    ensures { OnOk result (PutsRows start.now moves.now (string_bytes text.old) (string_bytes text.new)) }
-{
-    let mut board = *start;
-    let mut number = 0;
-    for mv in moves {
-        let after = board.apply(*mv);
-        number += 1;
-        push_row(text, number, &board, mv, &after)?;
-        board = after;
-    }
-    Ok(())
-}
-
-/// The answer to `line G` of a game of these moves.
-pub fn answer_text(
+/// The answer to `line G` of a game of so many moves, up to the row of the start.
+pub fn head_text(
     alloc: Global,
     game: u32,
+    count: usize,
     start: &Board,
-    moves: &[Move],
 ) -> Result<String, AllocError>
-    requires { IsPlayable start.now moves.now }
-    ensures { IfOk result (λ text. IsLineAnswer game start.now moves.now (string_bytes text)) }
+    ensures { IfOk result (λ text. string_bytes text ≡ head game count start.now) }
 {
     let mut text = String::from_str(alloc, "ok line ")?;
     push_number(&mut text, u64::from(game))?;
     text.push(' ')?;
-    push_number(&mut text, moves.len() as u64)?;
+    push_number(&mut text, count as u64)?;
     text.push('\n')?;
     push_start(&mut text, start)?;
-    push_rows(&mut text, start, moves)?;
     Ok(text)
 }
