@@ -1,0 +1,4 @@
+pub mod Times
+pub mod Joined
+pub mod Games
+pub mod Refused

@@ -1,0 +1,5 @@
+pub mod Names
+pub mod Joined
+pub mod Spelled
+pub mod Standing
+pub mod Refused

@@ -1,0 +1,23 @@
+-- A line in fields, which stand with one space between.
+use Rattle.std.specs.Prelude.{ℕ, zero, suc, ◌+◌, ◌==◌, Bool, List, [], ◌∷◌}
+use Rattle.std.specs.List.{before_first, after_first, count_by, join_with_byte}
+
+-- the first field of a line, which ends at a space, and what stands behind that
+abbrev pub field_of : List ℕ → List ℕ
+field_of line = before_first (λ b. b == 32) line
+
+abbrev pub rest_of : List ℕ → List ℕ
+rest_of line = after_first (λ b. b == 32) line
+
+-- the first fields of a line, so many
+abbrev pub first_fields : ℕ → List ℕ → List (List ℕ)
+first_fields zero line = []
+first_fields (suc n) line = field_of line ∷ first_fields n (rest_of line)
+
+-- whether a line has so many fields: one more than spaces
+abbrev pub has_fields : ℕ → List ℕ → Bool
+has_fields n line = count_by (λ b. b == 32) line + 1 == n
+
+-- the line of these fields
+abbrev pub line_of : List (List ℕ) → List ℕ
+line_of fields = join_with_byte 32 fields

@@ -1,0 +1,4 @@
+pub mod Fields
+pub mod Values
+pub mod Games
+pub mod Refusals
