@@ -1,5 +1,5 @@
 -- The device from life to life.
-use Rattle.std.specs.Prelude.{ℕ, ◌≡◌, List, [], ◌∷◌, ◌++◌, Option}
+use Rattle.std.specs.Prelude.{ℕ, List, [], ◌∷◌, ◌++◌, Option}
 use Rattle.std.proofs.Common.{refl, subst, ◌∙◌, arith}
 use Rattle.sector_dev.specs.Image.{Sectors, Write}
 use Rattle.sector_dev.specs.Device.{State}

@@ -1,5 +1,5 @@
 -- What tables say of the lists that they are of, and lives one after the other.
-use Rattle.std.specs.Prelude.{ℕ, zero, suc, ◌≡◌, ◌⊎◌, ◌+◌, ◌<◌, List, [], ◌∷◌, ◌++◌, length, take, get_or, Option, Some, None, IsSome, Result, Ok, Err, IfOk}
+use Rattle.std.specs.Prelude.{ℕ, zero, suc, ◌≡◌, ◌⊎◌, ◌<◌, List, [], ◌∷◌, ◌++◌, length, take, get_or, Option, Some, None, IsSome, Result, Ok, Err, IfOk}
 use Rattle.std.proofs.Common.{arith, ap, sym, subst, ◌∙◌, refl, inl, inr, append_assoc}
 use Rattle.std.proofs.lemmas.List.{append-nil}
 use Rattle.chess_board.specs.Legal.{EachOf}
@@ -217,6 +217,15 @@ failed_unopened calls fault failures after is some counts =
     elim (returned-none calls fault is) [
       | inl none ↦ absurd (cc)
       | inr stop ↦ (subst (λ (f : Option StoreFault). CountsEnd f failures after) stop.is counts).0
+    ]
+
+-- and its calls were limited
+pub armed_unopened : (calls : Option ℕ) (fault : Option StoreFault) → returned calls fault ≡ None → IsSome fault
+    → IsSome calls
+armed_unopened calls fault is some =
+    elim (returned-none calls fault is) [
+      | inl none ↦ absurd (cc)
+      | inr stop ↦ stop.armed
     ]
 
 fails_at : (life : Life) (failures after pending : ℕ) (failed : Option Batch) (left : List (List Command))

@@ -1,8 +1,9 @@
 -- The device from life to life, and how often it had failed at the end of each.
-use Rattle.std.specs.Prelude.{ℕ, ◌≡◌, ◌≤◌, List, [], ◌∷◌, Option, None}
+use Rattle.std.specs.Prelude.{ℕ, ◌≡◌, ◌≤◌, List, [], ◌∷◌, Option, None, IsSome}
 use Rattle.sector_dev.specs.Image.{Sectors, Write}
 use Rattle.sector_dev.specs.Device.{State, HasRisen, HasStopped}
 use Rattle.sector_dev.specs.Crash.{left_by}
+use Rattle.sector_journal.specs.Calls.{TakesAnOpening}
 use Rattle.chess_store.specs.declared.plan.Life.{Life}
 use Rattle.chess_store.specs.declared.plan.LifeReport.{LifeReport}
 
@@ -24,19 +25,22 @@ module _ {D : Type 0} (state : D → State) (failures : D → ℕ) (calls_left :
     pub unlimited : calls_left ended ≡ None
     pub unfailed : failures ended ≡ failures left
 
-  -- The device failed, and nothing was written: no image is possible that was not.
-  pub record HasFailedUnwritten (old new : D) : Type 0 where
+  -- The device failed in the opening of a life, whose calls are limited: nothing was written, so that no image is
+  -- possible that was not, and of the life's calls at most those are gone that an opening takes which goes well.
+  pub record HasFailedToOpen (life : Life) (old new : D) : Type 0 where
     pub failed : HasRisen (failures old) (failures new)
     pub unwritten : (image : Sectors) → (state new).image image → (state old).image image
+    pub armed : IsSome life.calls
+    pub taken : TakesAnOpening (state old).reads life.calls (calls_left new)
 
   -- A life from one device to another: one crash comes, its stop, at which the device has failed as often as is
   -- reported; and its opening is told as failed only where the device has failed between the stop before it and its
-  -- own, and nothing was written.
+  -- own, with nothing written, and within the calls of an opening.
   pub record IsLivedOn (life : Life) (report : LifeReport) (begun ended : D) : Type 0 where
     pub left : D
     pub on : HasGoneOn (state begun) (state left)
     pub counted : report.failures ≡ failures left
-    pub unopened : report.opened ≡ None → HasFailedUnwritten begun left
+    pub unopened : report.opened ≡ None → HasFailedToOpen life begun left
     pub stopped : IsStopOf life left ended
 
   -- Each life begins with the device that the stop of the one before it left.

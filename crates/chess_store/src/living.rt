@@ -1,5 +1,5 @@
 //! Lives, one after the other.
-ghost use Rattle.std.specs.Prelude.{◌≡◌, ◌≤◌, ◌↔◌, List, [], ◌∷◌, map, length, Some, IfOk, IfErr};
+ghost use Rattle.std.specs.Prelude.{◌≡◌, ◌≤◌, ◌↔◌, List, [], ◌∷◌, map, length, Some, IsSome, IfOk, IfErr};
 ghost use Rattle.chess_board.specs.Legal.{EachOf};
 ghost use Rattle.rec_codec.specs.declared.limits.Limits.{Limits};
 ghost use Rattle.rec_codec.specs.declared.record.Entry.{Entry};
@@ -36,6 +36,8 @@ fn limit<D: CrashDevice>(device: &mut D, calls: Option<u64>)
     ensures images { (D.state device.old).keeps_model → (c : Sectors)
         → (D.state device.new).image c → (D.state device.old).image c }
     ensures on { (D.state device.old).keeps_model → HasGoneOn (D.state device.old) (D.state device.new) }
+    ensures reads { (D.state device.old).keeps_model → (D.state device.new).reads ≡ (D.state device.old).reads }
+    ensures calls { IsSome calls → D.calls_left device.new ≡ calls }
     ensures failures { D.failures device.new ≡ D.failures device.old }
     ensures model { (D.state device.new).keeps_model ↔ (D.state device.old).keeps_model }
     ensures sectors { D.sector_count device.new ≡ D.sector_count device.old }
@@ -154,7 +156,9 @@ fn show<D: Device>(alloc: Global, device: D, reports: Vec<LifeReport>) -> Lived<
 ///
 /// What is reported of a life is of that life (`told`): the device goes from life to life, each of which has one stop,
 /// its last, and at the stop the device has failed as often as is reported. Where an opening is told as failed, the
-/// device has failed since the stop before it, and nothing was written.
+/// life names calls, and since the stop before it the device has failed, with nothing written, and with no more of those
+/// calls gone than an opening takes that goes well: a sync, a read of each header slot, and one of each sector that
+/// the header names (of a journal of version 1, one for each record).
 pub fn lives<D: CrashDevice>(alloc: Global, device: D, plan: &Plan) -> Lived<D>
     requires { AreSubmittable plan.now.lives.items }
     ensures reported { (limits : Limits) (k : List Entry) → IsBegun limits k (D.state device)

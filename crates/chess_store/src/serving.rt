@@ -2,6 +2,7 @@
 ghost use Rattle.std.specs.Prelude.{◌≡◌, ◌≤◌, ◌+◌, ◌-◌, ◌↔◌, false, map, count_by, None, IfSome, IsSome};
 ghost use Rattle.chess_board.specs.Legal.{EachOf};
 ghost use Rattle.sector_dev.specs.Image.{Sectors};
+ghost use Rattle.sector_journal.specs.Calls.{TakesAnOpening};
 ghost use Rattle.chess_entry.specs.State.{TableState};
 ghost use Rattle.chess_store.specs.Means.{AllMean};
 ghost use Rattle.chess_store.specs.Kept.{IsStoreKept};
@@ -137,6 +138,8 @@ pub(crate) fn serve<D: CrashDevice>(alloc: Global, device: D, batches: &[Vec<Com
     ensures unopened { result.report.opened ≡ None → IsSome result.fault }
     ensures unwritten { (D.state device).keeps_model → result.report.opened ≡ None → (image : Sectors)
         → (D.state result.device).image image → (D.state device).image image }
+    ensures taken { (D.state device).keeps_model → result.report.opened ≡ None
+        → TakesAnOpening (D.state device).reads (D.calls_left device) (D.calls_left result.device) }
     ensures fault { IfSome result.fault IsLivesFault }
     ensures counts { CountsEnd result.fault (D.failures device) (D.failures result.device) }
     ensures model { (D.state result.device).keeps_model ↔ (D.state device).keeps_model }

@@ -1,4 +1,5 @@
-use Rattle.std.proofs.Common.{ℕ, ◌≤◌, ◌∙◌, ap, sym, subst, arith, List, Option, IfSome, map, Vec, Global}
+use Rattle.std.proofs.Common.{ℕ, ◌≡◌, ◌≤◌, ◌∙◌, ap, sym, subst, arith, List, Option, None, IfSome, map, Vec, Global}
+use Rattle.std.specs.Prelude.{IsSome}
 use Rattle.rec_codec.specs.declared.limits.Limits.{Limits}
 use Rattle.rec_codec.specs.declared.limits.Version.TheVariants.{Two}
 use Rattle.rec_codec.specs.declared.record.Entry.{Entry}
@@ -6,6 +7,7 @@ use Rattle.rec_codec.specs.Limits.{IsInRange}
 use Rattle.sector_dev.specs.Image.{Sectors}
 use Rattle.sector_dev.specs.Device.{HasRisen}
 use Rattle.sector_dev.specs.Crash.{left_by}
+use Rattle.sector_journal.specs.Calls.{TakesAnOpening}
 use Rattle.chess_entry.specs.Games.{table_of}
 use Rattle.chess_entry.specs.declared.commands.Command.{Command}
 use Rattle.chess_store.specs.declared.fault.StoreFault.{StoreFault}
@@ -16,7 +18,7 @@ use Rattle.chess_store.specs.Serving.{IsServed, CountsEnd}
 use Rattle.chess_store.specs.Stops.{IsLivesFault}
 use Rattle.chess_store.proofs.ServingLemmas.{counted-end}
 use Rattle.chess_store.proofs.DeviceLemmas.{gone_on-more}
-use Rattle.chess_store.proofs.LivesLemmas.{Means-in_range, lived_to, life_stopped, passed_on, failed_unopened}
+use Rattle.chess_store.proofs.LivesLemmas.{Means-in_range, lived_to, life_stopped, passed_on, failed_unopened, armed_unopened}
 use Rattle.chess_store.proofs.living.live.Given.{Over}
 use Rattle.chess_store.proofs.living.live.Goals.{After-returned}
 use Rattle.chess_store.proofs.living.live.Goals as goal
@@ -121,6 +123,10 @@ returns-in-None-clause-told g c = λ model.
     let armed = c.limit.ensures.model.1 model in
     let kept = c.serve-left.ensures.model.1 armed in
     let crash = c.crash_as.ensures in
+    let calls_left = g.D.Device.calls_left in
+    let limited : left.report.opened ≡ None → IsSome c.args.life.now.calls = λ none.
+    armed_unopened c.args.life.now.calls left.fault (sym c.returned.ensures ∙ c.in-None.is)
+    (c.serve-left.ensures.unopened none) in
     record {
       left = left.device;
       on = gone_on-more _ _ _ (c.limit.ensures.on model) (c.serve-left.ensures.on armed);
@@ -130,6 +136,11 @@ returns-in-None-clause-told g c = λ model.
             (failed_unopened c.args.life.now.calls left.fault (failures c.limit.new.device) (failures left.device)
             (sym c.returned.ensures ∙ c.in-None.is) (c.serve-left.ensures.unopened none) c.serve-left.ensures.counts);
         unwritten = λ image is. c.limit.ensures.images model image (c.serve-left.ensures.unwritten armed none image is);
+        armed = limited none;
+        taken = subst (λ (image : Sectors). TakesAnOpening image c.args.life.now.calls (calls_left left.device))
+            (c.limit.ensures.reads model)
+            (subst (λ (n : Option ℕ). TakesAnOpening (g.D.Device.state c.limit.new.device).reads n (calls_left left.device))
+            (c.limit.ensures.calls (limited none)) (c.serve-left.ensures.taken armed none));
       };
       stopped = record {
         stopped = crash.stops kept;

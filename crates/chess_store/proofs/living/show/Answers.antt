@@ -1,4 +1,4 @@
-use Rattle.std.proofs.Common.{◌≡◌, ◌≤◌, ◌∙◌, arith, ap, sym, subst}
+use Rattle.std.proofs.Common.{◌≡◌, ◌∙◌, arith, ap, sym, subst}
 use Rattle.chess_entry.specs.State.{TableState}
 use Rattle.chess_entry.specs.Table.{IsTable}
 use Rattle.chess_store.specs.Devices.{HasGoneOn}

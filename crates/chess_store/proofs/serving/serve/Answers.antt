@@ -1,4 +1,4 @@
-use Rattle.std.proofs.Common.{◌∙◌, ◌↔◌, ◌≤◌, ap, ◌≡◌, ℕ, sym, subst, arith, map}
+use Rattle.std.proofs.Common.{◌∙◌, ◌↔◌, ap, ◌≡◌, ℕ, sym, subst, arith, map}
 use Rattle.chess_entry.specs.State.{TableState}
 use Rattle.chess_store.proofs.MeansLemmas.{one_table}
 use Rattle.chess_store.specs.Devices.{HasGoneOn}
@@ -108,3 +108,11 @@ pub returns-in-Ok-clause-unopened : goal.returns-in-Ok-clause-unopened
 returns-in-Ok-clause-unopened g c = λ none.
     let opened = c.report_of.ensures.opened in
     absurd (cc)
+
+pub returns-in-Ok-clause-taken : goal.returns-in-Ok-clause-taken
+returns-in-Ok-clause-taken g c = λ model none.
+    let opened = c.report_of.ensures.opened in
+    absurd (cc)
+
+pub returns-in-Err-clause-taken : goal.returns-in-Err-clause-taken
+returns-in-Err-clause-taken g c = λ model none. c.in-Err.ensures.calls_refused model

@@ -1,4 +1,4 @@
-use Rattle.std.proofs.Common.{◌≡◌, ◌≤◌, ◌↔◌, false, map, take}
+use Rattle.std.proofs.Common.{◌≡◌, ◌↔◌, false, map, take}
 use Rattle.chess_store.specs.Devices.{HasGoneOn}
 use Rattle.chess_store.specs.Kept.{IsStoreKept}
 use Rattle.chess_store.proofs.ServingLemmas.{SoFar}
