@@ -185,6 +185,18 @@ module _ {S : Type 0} (m : IndexMap ℕ GameState S) (number : ℕ) (game : Game
             (EachOf-push (λ (e : ℕ × GameState). e.0 ≡ e.1.number) m.entries (number, game) are same);
       }
 
+-- ---- a game in memory of its own
+
+-- it is put under its number as the game that it is
+pub boxed_entries : (es : List (ℕ × GameState)) (number : ℕ) {new : List (ℕ × GameState)} {boxed game : GameState}
+    → new ≡ insert_entry nat_eq es number boxed → boxed ≡ game → new ≡ insert_entry nat_eq es number game
+boxed_entries es number is same =
+    is ∙ ap (λ (g : GameState). insert_entry nat_eq es number g) same
+
+-- and read as it
+pub is_boxed : {o : Option GameState} {boxed game : GameState} → o ≡ Some boxed → game ≡ boxed → o ≡ Some game
+is_boxed is same = is ∙ ap (λ (g : GameState). Some g) (sym same)
+
 -- ---- games of a list, one after the other
 
 -- So many of the games are still to be put under their numbers.

@@ -85,7 +85,7 @@ impl Table {
     {
         let mut body = String::new(self.allocator());
         for place in 0..self.games.len() {
-            write_row(&mut body, &self.games[place])?;
+            write_row(&mut body, self.games[place].game())?;
         }
         Ok(Reply {
             line: list_line(self.games()),

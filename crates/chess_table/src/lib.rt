@@ -1,12 +1,13 @@
 //! A table of games: what a command meets on it, the table with one entry more, and the table as records, both ways.
 //! `chess_entry` has the rules as definitions, which the contracts cite.
 //!
-//! Modules: `table` has the games, `coming` and `judging` say what a command meets, `entering` adds an entry, `answers`
-//! has the line that answers it; `records` and `restoring` turn entries and whole tables into records and back,
-//! `standing` judges what may be restored.
+//! Modules: `table` has the games, each of them `boxed`; `coming` and `judging` say what a command meets, `entering`
+//! adds an entry, `answers` has the line that answers it; `records` and `restoring` turn entries and whole tables into
+//! records and back, `standing` judges what may be restored.
 #![tactic(auto)]
 
 mod answers;
+mod boxed;
 mod coming;
 mod entering;
 mod judging;

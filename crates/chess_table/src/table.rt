@@ -8,6 +8,7 @@ ghost use Rattle.chess_entry.specs.Table.{empty_table, IsTable, IsOnTable};
 ghost use Rattle.chess_table.specs.Places.{AreNumbered, IsPlaceOf};
 ghost use Rattle.chess_table.specs.Widened.{with_limits};
 
+use crate::boxed::BoxedGame;
 use chess_game::Game;
 use indexmap::IndexMap;
 use rec_codec::Limits;
@@ -18,7 +19,7 @@ use std::marker::Model;
 #[derive(Drop)]
 pub struct Table {
     pub(crate) limits: Limits,
-    pub(crate) games: IndexMap<u32, Game>,
+    pub(crate) games: IndexMap<u32, BoxedGame>,
     pub(crate) moment: u64,
     pub(crate) last: u32,
     pub(crate) entries: u64,
@@ -71,7 +72,7 @@ impl Table {
         ensures game { option_copied result ≡ slice_get self.now.games place }
     {
         match self.games.get_index(place) {
-            Some((_, game)) => Some(game),
+            Some((_, boxed)) => Some(boxed.game()),
             None => None,
         }
     }
@@ -81,7 +82,10 @@ impl Table {
         ensures game { option_copied result ≡ find_game number self.now.games }
         ensures on_table { IfSome result (λ game. IsOnTable self.now game.now) }
     {
-        self.games.get(&number)
+        match self.games.get(&number) {
+            Some(boxed) => Some(boxed.game()),
+            None => None,
+        }
     }
 
     /// The greatest moment of any entry so far, in milliseconds; 0 before the first.
@@ -117,7 +121,7 @@ impl Table {
 }
 
 // Where the game of a number stands among games under their numbers.
-pub(crate) fn place_of(games: &IndexMap<u32, Game>, number: u32) -> Option<usize>
+pub(crate) fn place_of(games: &IndexMap<u32, BoxedGame>, number: u32) -> Option<usize>
     requires { AreNumbered games.now.entries }
     ensures some { IfSome result (IsPlaceOf (values games.now) number) }
     ensures none { IfNone result (find_game number (values games.now) ≡ None) }

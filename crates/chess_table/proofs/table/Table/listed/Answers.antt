@@ -3,7 +3,7 @@ use Rattle.std.proofs.lemmas.List.{take_more}
 use Rattle.chess_entry.specs.State.{GameState, TableState}
 use Rattle.chess_entry.proofs.OneMore.{flat_map-more}
 use Rattle.chess_answer.specs.Reads.{list_row, list_text}
-use Rattle.chess_table.proofs.Numbered.{read_at}
+use Rattle.chess_table.proofs.Numbered.{read_at, is_boxed}
 use Rattle.chess_table.proofs.table.Table.listed.Goals as goal
 
 -- the rows of one game more
@@ -18,8 +18,9 @@ pub loop-place-preserved : goal.loop-place-preserved
 loop-place-preserved c =
     let games = c.args.self.now.games in
     let place = c.loop-place.place in
-    let game = c.index.result.now in
+    let game = c.game.result.now in
     let read = read_at c.self.inside.games.entries games c.len-place-end.result place game
-    (ap (λ (t : TableState). t.games) c.self.view_is) c.len-place-end.ensures.len c.loop-place-test.true c.index.ensures in
+    (ap (λ (t : TableState). t.games) c.self.view_is) c.len-place-end.ensures.len c.loop-place-test.true
+    (is_boxed c.index.ensures c.game.ensures) in
     c.in_ok-write_row.ensures.written ∙ ap (λ (t : List ℕ). t ++ list_row game) c.loop-place.invariant
     ∙ row_more games place game read.within read.here
