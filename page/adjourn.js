@@ -5,7 +5,9 @@
 import { language, t } from './language.js';
 import { readPgn, readRefusal, readShow, readTimes, sideOf } from './lines.js';
 import { arrange, byId, copy, focused, make, read, setText, write } from './make.js';
-import { AGREED, NO_GAME, OTHER, SIDES, arbiterWords, clockText, colourWord, resultWords, timesWords } from './words.js';
+import {
+  AGREED, NO_GAME, OTHER, SIDES, arbiterWords, clockText, colourWord, resultWords, timesWords, withReason,
+} from './words.js';
 
 const PREFIX = 'adjourned-';
 const DAY = 86400;                   // seconds: the longest first period that the server takes
@@ -126,7 +128,7 @@ export class Adjournments {
 
   rows(note) {
     const row = (head, text) => [make('dt', {}, head), make('dd', {}, text)];
-    return [...SIDES.flatMap((side) => row(colourWord(side), `${this.nameOf(note, side)}: ${clockOf(note, side)}`)),
+    return [...SIDES.flatMap((side) => row(colourWord(side), t`${this.nameOf(note, side)}: ${clockOf(note, side)}`)),
       ...row(t`Position`, positionOf(note)), ...row('FEN', note.fen),
       ...row(t`Times`, `${timesWords(readTimes(note.times))} (${note.times})`)];
   }
@@ -199,8 +201,8 @@ export class Adjournments {
       this.say(note, '');
       this.keep({ ...note, left, ply, fen: position[1], closed: true });
     } else if (article) {
-      const words = resultWords(result, article);
-      this.say(note, t`It was not adjourned: the game has ended before. ${words.result} ${words.reason}.`);
+      const words = resultWords(result, article), ended = withReason(words.result, words.reason);
+      this.say(note, t`It was not adjourned: the game has ended before. ${ended}.`);
     } else {
       this.say(note, t`It is not closed: the game goes on.`);
       this.keep({ ...note, left, ply, fen: position[1] });
@@ -280,7 +282,7 @@ export class Adjournments {
   item(note) {
     const copied = make('p', { class: 'small', role: 'status' }), may = this.app.reachable() && !this.busy;
     const button = (kind, words, act, given = {}) => make('button', { type: 'button', 'data-key': `${kind}-${note.key}`,
-      onclick: act, ...given }, words, make('span', { class: 'unseen' }, `, game ${note.game}`));
+      onclick: act, ...given }, words, make('span', { class: 'unseen' }, t`, game ${note.game}`));
     const acts = [];
     if (!note.closed && !note.gone) {
       acts.push(button('close', t`Close it as a draw`, () => this.settle(note, true), { disabled: !may }));

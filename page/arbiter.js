@@ -10,7 +10,9 @@ import { arrange, byId, focused, make, save, setText } from './make.js';
 import { Pairing } from './pairing.js';
 import { Question } from './question.js';
 import { Waits } from './waits.js';
-import { AGREED, NO_GAME, OTHER, SIDES, actWords, arbiterWords, colourWord, refusalWords, resultWords } from './words.js';
+import {
+  AGREED, NO_GAME, OTHER, SIDES, actWords, arbiterWords, colourWord, refusalWords, resultWords, sanShown, withReason,
+} from './words.js';
 
 const MOST = 12;                     // games on a page: each that runs is watched
 const ASKS_WHO = 10000;
@@ -320,7 +322,7 @@ export class ArbiterView {
 
   lastMove(card, last) {
     card.move = last;
-    if (!card.act && last.san) card.act = last.san;
+    if (!card.act && last.san) card.act = sanShown(last.san);
   }
 
   /** How a game stands that is over, which is not watched: it may leave the table. */
@@ -387,7 +389,7 @@ export class ArbiterView {
   stateWords({ standing: { white, black, side, offer, result, article }, clocks }) {
     if (article) {
       const words = resultWords(result, article);
-      return `${words.score} ${words.result} ${words.reason}`;
+      return `${words.score} ${withReason(words.result, words.reason)}`;
     }
     if (!white || !black) return t`Waiting for ${colourWord(white ? 'b' : 'w')}`;
     const offers = [...offer].map((one) => t`${colourWord(one)} offers a draw`);

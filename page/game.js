@@ -10,7 +10,7 @@ import { asksFirst } from './settings.js';
 import { sound } from './sound.js';
 import {
   FLAG_UP, NOT_YOUR_MOVE, NO_GAME, OTHER, OVER, SIDES, WRONG_PLY, clockWords, colourWord, enteredWords, kindWord,
-  refusalWords, resultWords, sanWords,
+  movesTyped, refusalWords, resultWords, sanWords, withReason,
 } from './words.js';
 
 const WHAT = {
@@ -258,7 +258,7 @@ export class GameView {
 
   over() {
     const words = resultWords(this.standing.result, this.standing.article);
-    if (words.result) say(`${words.result} ${words.reason}.`);
+    if (words.result) say(`${withReason(words.result, words.reason)}.`);
     sound('end');
   }
 
@@ -372,9 +372,24 @@ export class GameView {
       field.select();
       return;
     }
+    const meant = movesTyped(text), legal = meant.filter((san) => this.hasMove(san));
+    if (legal.length > 1) {
+      this.note(t`${text} may be a move of the king or of the rook. Type its squares, as e1e2.`);
+      field.select();
+      return;
+    }
     field.value = '';
     this.goTo(this.last());
-    this.move(text);
+    this.move(legal[0] || meant[0]);
+  }
+
+  /** Whether one of the moves that were told may be what is written so, with the letter of a man. */
+  hasMove(san) {
+    const found = /^([KQRBN])([a-h]?)([1-8]?)x?([a-h][1-8])/.exec(san), men = placementOf(this.standing.fen);
+    if (!found) return false;
+    const [, letter, file, rank, to] = found, isOf = (square) => (men.get(square) || '').toUpperCase() === letter;
+    return this.standing.moves.some((move) => move.slice(2, 4) === to && isOf(move.slice(0, 2))
+      && move[0].includes(file) && move[1].includes(rank));
   }
 
   act(word) {
@@ -611,9 +626,9 @@ export class GameView {
   }
 
   async share(what, text) {
-    const found = await text(), done = found && await copy(found);
-    setText(byId('shared'), done ? t`${what === 'link' ? t`The link` : what} is copied.`
-      : t`The ${what} could not be copied. Save it instead.`);
+    const found = await text(), done = found && await copy(found), isLink = what === 'link';
+    setText(byId('shared'), done ? isLink ? t`The link is copied.` : t`${what} is copied.`
+      : isLink ? t`The game’s address is ${found}` : t`The ${what} could not be copied. Save it instead.`);
   }
 
   // ---- drawing
@@ -682,7 +697,7 @@ export class GameView {
 
   clocksInWords() {
     if (!this.standing) return '';
-    return SIDES.map((side) => `${colourWord(side)} has ${clockWords(this.clockOf(side).now())}`).join(', ');
+    return SIDES.map((side) => t`${colourWord(side)} has ${clockWords(this.clockOf(side).now())}`).join(', ');
   }
 
   /** The position in words, for who asks for it. */

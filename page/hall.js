@@ -5,7 +5,7 @@ import { Clock } from './clock.js';
 import { t } from './language.js';
 import { isNoGame, placementOf, readLine, readStanding, squaresOf } from './lines.js';
 import { arrange, byId, make, read, setText, write } from './make.js';
-import { colourWord, resultWords } from './words.js';
+import { colourWord, resultWords, sanShown, withReason } from './words.js';
 
 const STAYS = 45000;                  // how long a game that is over is told of, in a place that no running game wants
 const MOST_OVER = 3;                  // so many games that have just ended and have no place are named
@@ -215,7 +215,7 @@ export class HallView {
     }
     const words = resultWords(standing.result, standing.article);
     card.root.classList.toggle('done', !runs);
-    setText(card.last, runs ? card.san || '' : `${words.score} ${words.reason}`);
+    setText(card.last, runs ? sanShown(card.san || '') : withReason(words.score, words.reason));
     card.board.root.setAttribute('aria-label', t`Game ${number}, ${placementOf(standing.fen).size} men on the board`);
   }
 }

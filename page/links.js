@@ -127,7 +127,7 @@ export class Links {
 
   item(name, role, full) {
     const button = (kind, words, act) => make('button', { type: 'button', 'data-key': `${kind}-link-${name}`, onclick: act },
-      words, make('span', { class: 'unseen' }, ` for ${full}`));
+      words, make('span', { class: 'unseen' }, t` for ${full}`));
     return make('li', { class: 'link-row' }, make('span', { class: 'link-name' }, make('span', { class: 'name' }, full),
       full !== name && make('span', { class: 'small' }, name),
       role === 'arbiter' && make('span', { class: 'small' }, t`arbiter`),

@@ -5,7 +5,7 @@ import { t } from './language.js';
 import { isNoGame, readLine, readPlayers, readRows, readStanding, sideOf } from './lines.js';
 import { byId, make, setText } from './make.js';
 import { Wire } from './wire.js';
-import { resultWords } from './words.js';
+import { resultWords, sanShown, withReason } from './words.js';
 
 const ASKS_ANEW = 15000;             // for the table: nobody tells of games that were opened past the lobby
 const MOST_SHOWN = 6;                // so many of the last moves, of both sides together
@@ -67,7 +67,7 @@ class OneBoard extends HallView {
     const known = card.line && card.line.length === standing.ply + 1 && card.move && card.move.from;
     if (sent && standing.ply && !known) this.recall(number);
     const words = resultWords(standing.result, standing.article);
-    setText(card.outcome, standing.article ? `${words.score} ${words.reason}` : '');
+    setText(card.outcome, standing.article ? withReason(words.score, words.reason) : '');
     card.root.classList.toggle('waits', !standing.white || !standing.black);
     this.drawMoves(card);
     this.app.titled(`${this.app.nameWords(standing.white) || '…'} – ${this.app.nameWords(standing.black) || '…'}`);
@@ -90,7 +90,7 @@ class OneBoard extends HallView {
     card.line.slice(1).forEach(({ san }, ply) => {
       const place = ply + shift, number = first + Math.floor(place / 2);
       if (!rows.has(number)) rows.set(number, ['', '']);
-      rows.get(number)[place % 2] = san;
+      rows.get(number)[place % 2] = sanShown(san);
     });
     const shown = [...rows].slice(-MOST_SHOWN / 2);
     card.moves.replaceChildren(...shown.map(([number, sans]) => make('li', {},

@@ -4,7 +4,9 @@ import { t } from './language.js';
 import { placementOf, readTimes, sideOf } from './lines.js';
 import { byId, make, setText } from './make.js';
 import { drawTaken } from './material.js';
-import { SIDES, colourWord, kindWord, resultWords, sanWords, timesInFull, timesWords } from './words.js';
+import {
+  SIDES, colourWord, kindWord, resultWords, sanShown, sanWords, timesInFull, timesWords, withReason,
+} from './words.js';
 
 export function drawPlayers(game) {
   const standing = game.standing, times = readTimes(game.tags.TimeControl || '');
@@ -53,7 +55,8 @@ function addMoves(list, game) {
   const shift = game.startSide() === 'b' ? 1 : 0, first = Number(start.split(' ')[5] || 1);
   const shown = list.querySelectorAll('button');
   let next = 1;
-  while (next <= shown.length && next <= game.last() && shown[next - 1].textContent === game.line[next].san) next += 1;
+  const stands = (ply) => shown[ply - 1].textContent === sanShown(game.line[ply].san);
+  while (next <= shown.length && next <= game.last() && stands(next)) next += 1;
   if (list.dataset.key !== key || next <= shown.length) {
     list.dataset.key = key;
     list.replaceChildren();
@@ -71,13 +74,13 @@ function addMoves(list, game) {
 
 function lastWords(game) {
   const { san, fen } = game.line[game.last()], full = Number(fen.split(' ')[5]);
-  return sideOf(fen) === 'b' ? `${full}. ${san}` : `${full - 1}… ${san}`;
+  return sideOf(fen) === 'b' ? `${full}. ${sanShown(san)}` : `${full - 1}… ${sanShown(san)}`;
 }
 
 function moveButton(game, ply, number, black) {
   const { san } = game.line[ply];
   return make('button', { type: 'button', class: 'ply', 'data-ply': String(ply),
-    'aria-label': `${number}${black ? t`, Black` : ''}: ${sanWords(san)}`, onclick: () => game.goTo(ply) }, san);
+    'aria-label': `${number}${black ? t`, Black` : ''}: ${sanWords(san)}`, onclick: () => game.goTo(ply) }, sanShown(san));
 }
 
 export function drawActions(game) {
@@ -120,7 +123,7 @@ export function drawOutcome(game) {
   place.classList.toggle('over', Boolean(words));
   let [head, more] = ['', ''];
   if (words) {
-    [head, more] = [`${words.score}  ${words.result} ${words.reason}`, words.article];
+    [head, more] = [`${words.score}  ${withReason(words.result, words.reason)}`, words.article];
   } else if (!game.started()) {
     head = game.seat() ? t`Waiting for an opponent` : t`This seat is free`;
     more = game.seat() ? t`The clocks start as soon as somebody joins.` : t`The clocks start as soon as you join.`;

@@ -7,6 +7,7 @@ export const WORDS = {
   'This browser keeps nothing: copy the note, or write it down.':
     'Dieser Browser bewahrt nichts auf: kopiere die Notiz oder schreibe sie ab.',
   'A move was made since the note was copied.': 'Seit die Notiz kopiert wurde, ist ein Zug gemacht worden.',
+  '{0}: {1}': '{0}: {1}',
   'Position': 'Stellung',
   'Times': 'Bedenkzeit',
   'Game {0}, {1} {2}': 'Partie {0}, {1} {2}',
@@ -18,8 +19,8 @@ export const WORDS = {
   'It could not be copied: write it down.': 'Sie konnte nicht kopiert werden: schreibe sie ab.',
   'The connection broke before the answer came.': 'Die Verbindung ist abgerissen, bevor die Antwort kam.',
   'Game {0} is one of other players now.': 'Partie {0} gehört jetzt anderen Spielern.',
-  'It was not adjourned: the game has ended before. {0} {1}.':
-    'Sie wurde nicht vertagt: die Partie war schon zu Ende. {0} {1}.',
+  'It was not adjourned: the game has ended before. {0}.':
+    'Sie wurde nicht vertagt: die Partie war schon zu Ende. {0}.',
   'It is not closed: the game goes on.': 'Sie ist nicht geschlossen: die Partie geht weiter.',
   'It is not closed. {0}': 'Sie ist nicht geschlossen. {0}',
   'It is not closed: there is no connection. Nothing was sent.':
@@ -141,7 +142,7 @@ export const WORDS = {
   'claim': 'Reklamation',
   'This game was taken off the table.': 'Diese Partie wurde vom Tisch genommen.',
   'The flag has fallen.': 'Die Zeit ist abgelaufen.',
-  'The arbiter, {0}, has entered {1} for {2}.': 'Der Schiedsrichter, {0}, hat {1} eingetragen für {2}.',
+  'The arbiter, {0}, has entered {1} for {2}.': 'Der Schiedsrichter, {0}, hat für {2} eingetragen: {1}.',
   'you': 'dich',
   '{0} has joined. The game has begun.': '{0} ist beigetreten. Die Partie hat begonnen.',
   '{0} offers a draw.': '{0} bietet Remis an.',
@@ -158,7 +159,9 @@ export const WORDS = {
   'Your next move: {0} to {1}.': 'Dein nächster Zug: {0} nach {1}.',
   'Your next move is taken back.': 'Dein nächster Zug ist zurückgenommen.',
   'Your move from {0} to {1} cannot be made now.': 'Dein Zug von {0} nach {1} ist jetzt nicht möglich.',
-  'A move is one word, such as e4, Nf3, exd5, O-O or e2e4.': 'Ein Zug ist ein Wort, etwa e4, Nf3, exd5, O-O oder e2e4.',
+  'A move is one word, such as e4, Nf3, exd5, O-O or e2e4.': 'Ein Zug ist ein Wort, etwa e4, Sf3, exd5, O-O oder e2e4.',
+  '{0} may be a move of the king or of the rook. Type its squares, as e1e2.':
+    '{0} kann ein Zug des Königs oder des Turms sein. Schreibe seine Felder, etwa e1e2.',
   'Your {0} has not been answered for {1} seconds: it may not have arrived. The clock runs on.':
     'Seit {1} Sekunden ohne Antwort: {0}. Vielleicht ist nichts angekommen. Die Uhr läuft weiter.',
   'The connection broke before the answer came. Asking how the game stands …':
@@ -178,9 +181,9 @@ export const WORDS = {
   'Move {0} of {1}{2}': 'Zug {0} von {1}{2}',
   ', the start': ', der Anfang',
   'The link is copied.': 'Der Link ist kopiert.',
+  '{0} has {1}': '{0} hat {1}',
   'The game’s address is {0}': 'Die Adresse der Partie ist {0}',
   '{0} is copied.': '{0} ist kopiert.',
-  'The link': 'Der Link',
   'The {0} could not be copied. Save it instead.': '{0}: das Kopieren ging nicht. Sichere es stattdessen.',
   'Draw offered: {0}': 'Remis angeboten: {0}',
   'Your turn: {0}': 'Du bist am Zug: {0}',
@@ -210,6 +213,7 @@ export const WORDS = {
   '{0} of {1} are shown: find the others by name.': '{0} von {1} sind zu sehen: suche die anderen nach dem Namen.',
   'No player has such a name.': 'Kein Spieler heißt so.',
   'link closed from here': 'Link von hier geschlossen',
+  ' for {0}': ' für {0}',
   'New link': 'Neuer Link',
   'Close the link': 'Link schließen',
   'Taken: {0}; {1} more': 'Geschlagen: {0}; {1} mehr',
@@ -339,8 +343,8 @@ export const WORDS = {
     + 'oder die Liste der Spieler wird gerade geändert. Du siehst zu. Diese Seite behält den Link und versucht ihn '
     + 'wieder. Um mit einem neuen weiterzuspielen, öffne ihn, oder frage deinen Schiedsrichter danach.',
   ['This link is cut short: {0} of its 32 last letters and digits have come. Copy the whole link, and open it again.']:
-    'Dieser Link ist abgeschnitten: von seinen letzten 32 Buchstaben und Ziffern sind {0} da. Kopiere den ganzen '
-    + 'Link und öffne ihn noch einmal.',
+    'Dieser Link ist abgeschnitten: von seinen letzten 32 Buchstaben und Ziffern {0:ist|sind} {0} da. Kopiere den '
+    + 'ganzen Link und öffne ihn noch einmal.',
   'That is no personal link. Copy the whole link, and open it again.':
     'Das ist kein persönlicher Link. Kopiere den ganzen Link und öffne ihn noch einmal.',
   'You are {0} here. Play as {1} instead?': 'Du bist hier {0}. Stattdessen als {1} spielen?',
@@ -359,7 +363,7 @@ export const WORDS = {
   'Another move was made meanwhile. Look at the position again.':
     'Inzwischen wurde ein anderer Zug gemacht. Sieh die Stellung noch einmal an.',
   'It is not your turn.': 'Du bist nicht am Zug.',
-  'That is no legal move in this position.': 'Das ist in dieser Stellung kein möglicher Zug.',
+  'That is no legal move in this position.': 'Das ist in dieser Stellung kein regelgemäßer Zug.',
   'An offer of a draw stands already.': 'Ein Remisangebot steht schon.',
   'No offer of your opponent stands.': 'Von deinem Gegner steht kein Angebot.',
   'You have claimed in this turn already.': 'Du hast in diesem Zug schon reklamiert.',
@@ -431,20 +435,20 @@ export const WORDS = {
   'by checkmate': 'durch Matt',
   'by resignation': 'durch Aufgabe',
   'by stalemate': 'durch Patt',
-  'since neither side can give mate': 'da keine Seite matt setzen kann',
+  'since neither side can give mate': ', da keine Seite matt setzen kann',
   'by agreement': 'durch Vereinbarung',
   'on time': 'durch Zeitüberschreitung',
   'by claim: the position stood for the third time': 'durch Reklamation: die Stellung stand zum dritten Mal',
   'by claim: fifty moves without a capture or a pawn’s move':
     'durch Reklamation: fünfzig Züge ohne Schlagen und Bauernzug',
-  'since the position stood for the fifth time': 'da die Stellung zum fünften Mal stand',
+  'since the position stood for the fifth time': ', da die Stellung zum fünften Mal stand',
   'since 75 moves were made without a capture or a pawn’s move':
-    'da 75 Züge ohne Schlagen und Bauernzug gemacht wurden',
-  'since a flag fell, and the opponent has the king alone': 'da eine Zeit ablief und der Gegner nur den König hat',
+    ', da 75 Züge ohne Schlagen und Bauernzug gemacht wurden',
+  'since a flag fell, and the opponent has the king alone': ', da eine Zeit ablief und der Gegner nur den König hat',
   'Article {0} of the FIDE Laws': 'Artikel {0} der FIDE-Regeln',
   'the opening of this game': 'die Eröffnung dieser Partie',
-  'the joining of this game': 'den Beitritt zu dieser Partie',
-  'a move': 'einen Zug',
+  'the joining of this game': 'der Beitritt zu dieser Partie',
+  'a move': 'ein Zug',
   'an offer of a draw': 'ein Remisangebot',
   'the agreement to a draw': 'die Annahme des Remis',
   'the refusal of a draw': 'die Ablehnung des Remis',
@@ -471,6 +475,7 @@ export const WORDS = {
   '{0} rooks': '{0} Türme',
   '{0} queens': '{0} Damen',
   '{0} kings': '{0} Könige',
+  'KQRBN': 'KDTLS',
   'white pawn': 'weißer Bauer',
   'white knight': 'weißer Springer',
   'white bishop': 'weißer Läufer',
@@ -497,6 +502,7 @@ export const WORDS = {
   '{0} minutes': '{0} Minuten',
   '1 second': '1 Sekunde',
   '{0} seconds': '{0} Sekunden',
+  ', 1 second more a move': ', 1 Sekunde mehr je Zug',
   ', {0} seconds more a move': ', {0} Sekunden mehr je Zug',
   '{0} a side{1}': '{0} je Seite{1}',
   '{0} for {1} moves, then {2}{3}': '{0} für {1} Züge, dann {2}{3}',
@@ -609,11 +615,12 @@ export const WORDS = {
     + 'Browser, wenn du es sagst; er ist nie Teil einer gesendeten Adresse.',
   'Resign': 'Aufgeben',
   'Open the game': 'Partie eröffnen',
-  'Because': 'Weil',
+  'Because': 'Grund',
   'turn the board': 'das Brett drehen',
   'Shall this browser tell you when it is your turn and you look elsewhere?':
     'Soll dieser Browser dir sagen, wenn du am Zug bist und woanders hinsiehst?',
-  'e4, Nf3, e2e4': 'e4, Nf3, e2e4',
+  'e4, Nf3, e2e4': 'e4, Sf3, e2e4',
+  'Nf3': 'Sf3',
   'The pairing that was begun': 'Die begonnene Ansetzung',
   'A move back': 'Ein Zug zurück',
   'say the position': 'die Stellung ansagen',

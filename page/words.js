@@ -90,6 +90,11 @@ const BY_ARTICLE = {
   '9.6.2': t`since 75 moves were made without a capture or a pawn’s move`,
 };
 
+/** A result with its reason behind it, which may begin with a comma. */
+export function withReason(result, reason) {
+  return reason.startsWith(',') ? result + reason : `${result} ${reason}`;
+}
+
 /** A result and its article: {result, score, reason, article}. */
 export function resultWords(result, article) {
   let reason = BY_ARTICLE[article] || '';
@@ -114,7 +119,7 @@ export function enteredWords(word) {
 /** An act that was accepted, in a few words: `Nf3 by Ann Lee`. Where the flag was found fallen, whose it is stands first. */
 export function actWords({ by, sent, arbiter }, answer, nameWords, standing) {
   const word = sent.split(' ')[0], moved = /^ok (?:move \d+|claim \d+ wrong) \d+ (\S+)/.exec(answer);
-  const what = moved ? moved[1] : { join: t`joining`, claim: t`a claim of a draw` }[word] || enteredWords(word);
+  const what = moved ? sanShown(moved[1]) : { join: t`joining`, claim: t`a claim of a draw` }[word] || enteredWords(word);
   if (answer.startsWith('fallen')) {
     const flag = t`${colourWord(standing.side)}’s flag had fallen`, who = nameWords(arbiter || by);
     const whose = nameWords(by);
@@ -144,6 +149,23 @@ export function kindWords(letter, number) {
 
 export function manWords(letter) {
   return COLOURED[letter];
+}
+
+const ENGLISH = 'KQRBN', LETTERS = t`KQRBN`;
+
+/** SAN with the language's letters, as it is read on the page: `Nf3` is `Sf3` in German. */
+export function sanShown(san) {
+  return san.replace(/[KQRBN]/g, (letter) => LETTERS[ENGLISH.indexOf(letter)]);
+}
+
+/** What a move that was typed may mean, with English letters: those of the language are taken, and the English ones too.
+ * There are two where the language has the rook's R for the king. */
+export function movesTyped(text) {
+  const meant = text.replace(/[A-Z]/g, (letter, place) => {
+    const english = ENGLISH[LETTERS.indexOf(letter)];
+    return english && (english !== 'K' || place === 0) ? english : letter;      // (nothing becomes a king)
+  });
+  return text.startsWith('R') && meant.startsWith('K') ? [meant, `R${meant.slice(1)}`] : [meant];
 }
 
 /** SAN as it is said aloud: `Nxf3+` is `knight takes f3, check`. */
@@ -193,7 +215,8 @@ function spoken(seconds) {
 /** The times in full, for a tooltip and for who listens. */
 export function timesInFull(times) {
   if (!times) return '';
-  const more = times.increment ? t`, ${times.increment} seconds more a move` : '';
+  const more = times.increment === 1 ? t`, 1 second more a move`
+    : times.increment ? t`, ${times.increment} seconds more a move` : '';
   if (!times.moves) return t`${spoken(times.initial)} a side${more}`;
   return t`${spoken(times.initial)} for ${times.moves} moves, then ${spoken(times.second)}${more}`;
 }

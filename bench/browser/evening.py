@@ -3,12 +3,13 @@
 import time
 
 from lib.browser import Keys
-from page_lines import by_lines
+from page_lines import by_lines, truth
 from readable import COORDINATES, NAMELESS, PALE, TWICE, UNSHOWN
 
 SCREENS = ((1280, 800, False), (1024, 768, False), (1080, 810, False), (900, 700, False), (1024, 600, False),
            (768, 1024, True), (360, 740, True))
 FOOLS = ['f2f3', 'e7e5', 'g2g4', 'd8h4']
+ROOK_AND_KING = '4k3/8/8/8/8/8/8/R3K3 w - - 0 1'
 
 
 def no_dead_buttons(hall):
@@ -528,14 +529,36 @@ def read_by_all(hall):
     ann.media()
 
 
-# The English texts that German says otherwise, and that are read on the page now.
-ENGLISH = '''const [done] = arguments;
-  import(new URL('words-de.js', location.href.split('#')[0])).then(({ WORDS }) => {
+# The English texts that the page's language says otherwise, and that are read on the page now.
+ENGLISH = '''const [done] = arguments, table = 'words-' + document.documentElement.lang + '.js';
+  import(new URL(table, location.href.split('#')[0])).then(({ WORDS }) => {
     const texts = new Set(Object.keys(WORDS).filter((text) => WORDS[text] !== text && /[A-Za-z]{3}/.test(text)));
     const seen = [...document.querySelectorAll('body *')].filter((e) => e.getClientRects().length).flatMap((e) => [
       ...[...e.childNodes].filter((node) => node.nodeType === 3).map((node) => node.data.trim().replace(/\\s+/g, ' ')),
       e.getAttribute('aria-label'), e.getAttribute('title'), e.getAttribute('placeholder')]);
     done([...new Set(seen.filter((text) => texts.has(text)))]); });'''
+
+
+# The tables of words that the page has loaded.
+TABLES = '''return performance.getEntriesByType('resource').map((one) => one.name.split('/').pop())
+    .filter((name) => name.startsWith('words-'))'''
+
+
+def fits(person, language):
+    """No word is too long, on any screen."""
+    for width, height, phone in SCREENS:
+        person.screen(width, height, 1, phone)
+        time.sleep(0.2)
+        wide = person.run('return document.documentElement.scrollWidth')
+        person.is_so(wide <= width, 'longer words fit into %d in %s: %d' % (width, language, wide))
+        cut = person.run('''return [...document.querySelectorAll('button')].filter((e) => e.getClientRects().length
+            && e.scrollWidth > e.clientWidth + 1).map((e) => e.textContent)''')
+        person.is_so(cut == [], 'and none is cut off at %d in %s: %s' % (width, language, cut))
+    person.screen(1280, 800)
+
+
+def left(person):
+    return person.driver.execute_async_script(ENGLISH)
 
 
 def in_german(hall):
@@ -551,7 +574,6 @@ def in_german(hall):
     ann.run('document.querySelector(\'#board [data-square="e2"]\').focus()')
     square = ann.run('return document.activeElement.getAttribute("aria-label")')
     ann.is_so(square == 'e2, weißer Bauer', 'and the squares: %s' % square)
-    left = lambda person: person.driver.execute_async_script(ENGLISH)
     ann.is_so(left(ann) == [], 'nothing is English at the board: %s' % left(ann))
     ann.click_move('f2f3')
     bob.until(lambda: bob.moves() == ['f3'], 'a move')
@@ -564,7 +586,8 @@ def in_german(hall):
     hall.play(FOOLS[2:], 2)
     ann.reads('#outcome', 'Schwarz gewinnt durch Matt')
     ann.reads('#outcome', 'Artikel 5.1.1 der FIDE-Regeln')
-    ann.is_so(ann.moves()[-1] == 'Qh4#' and left(ann) == [], 'SAN stays as it is')
+    ann.is_so(ann.moves()[-1] == 'Dh4#' and left(ann) == [], 'the sheet has the letters of German')
+    ann.is_so('Qh4#' in truth(hall, number)[0]['pgn'] and bob.moves()[-1] == 'Qh4#', 'and no other place')
     sue.run('localStorage.setItem("language", "de")')
     sue.run('location.hash = "#" + arguments[0]', hall.lobby.tokens['eve'])
     sue.driver.refresh()
@@ -575,15 +598,38 @@ def in_german(hall):
     sue.until(lambda: sue.sees('[data-key="new-link-bob"]'), 'its parts')
     sue.is_so(left(sue) == [], 'nor at the desk: %s' % left(sue))
     for person in (ann, sue):
-        for width, height, phone in SCREENS:
-            person.screen(width, height, 1, phone)
-            time.sleep(0.2)
-            wide = person.run('return document.documentElement.scrollWidth')
-            person.is_so(wide <= width, 'longer words fit into %d: %d' % (width, wide))
-            cut = person.run('''return [...document.querySelectorAll('button')].filter((e) => e.getClientRects().length
-                && e.scrollWidth > e.clientWidth + 1).map((e) => e.textContent)''')
-            person.is_so(cut == [], 'and none is cut off at %d: %s' % (width, cut))
-        person.screen(1280, 800)
+        fits(person, 'de')
+    for person in (ann, sue):
+        person.run('localStorage.removeItem("language")')
+        person.driver.refresh()
+        person.until(lambda: person.run('return document.documentElement.lang') == 'en', 'English again')
+
+
+def in_every_language(hall):
+    """The words of one language alone are loaded, all is said in them, and they fit on every screen. A move is typed with
+    its letters or with the English ones, and asked about where these mean two."""
+    hall.sit()
+    hall.open(minutes='20', fen=ROOK_AND_KING)
+    ann, sue = hall.ann, hall.sue
+    sue.run('location.hash = "#" + arguments[0]', hall.lobby.tokens['eve'])
+    sue.click('#to-arbiter')
+    for language in ('de', 'es', 'fr', 'it', 'nl', 'pl', 'pt'):
+        for person, place in ((ann, '#resign'), (sue, '#arbiter-desk .desk-card')):
+            person.run('localStorage.setItem("language", arguments[0])', language)
+            person.driver.refresh()
+            person.until(lambda: person.sees(place), 'the page in %s' % language)
+            tables = person.run(TABLES)
+            person.is_so(tables == ['words-%s.js' % language], 'one table is loaded for %s: %s' % (language, tables))
+            person.is_so(left(person) == [], 'nothing is English in %s: %s' % (language, left(person)))
+            fits(person, language)
+    ann.run('localStorage.setItem("language", "fr")')
+    ann.driver.refresh()
+    ann.until(lambda: ann.sees('#resign'), 'the page in French')
+    ann.type('#move-text', 'Rd1' + Keys.ENTER)
+    ann.reads('#note', 'Rd1 peut être un coup du roi')
+    ann.is_so(ann.moves() == [], 'nothing was sent')
+    ann.type('#move-text', 'Ra5' + Keys.ENTER)
+    ann.until(lambda: ann.moves() == ['Ta5'], 'the rook alone can go there')
     for person in (ann, sue):
         person.run('localStorage.removeItem("language")')
         person.driver.refresh()
@@ -592,4 +638,5 @@ def in_german(hall):
 
 NEEDS_CONTROL_TOO = (no_dead_buttons, slow_answers)
 EVENING = (no_dead_buttons, handy_moves, full_names, planned_moves, asked_first, heard_tones, own_marks, taken_men,
-           boards_and_men, told_elsewhere, slow_answers, foreign_links, room_for_all, read_by_all, in_german)
+           boards_and_men, told_elsewhere, slow_answers, foreign_links, room_for_all, read_by_all, in_german,
+           in_every_language)

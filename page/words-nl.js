@@ -1,0 +1,691 @@
+// The page's words in Dutch, by the English text (language.js).
+
+export const WORDS = {
+  'Draw': 'Remise',
+  'The note is copied.': 'De notitie is gekopieerd.',
+  'Adjourn game {0}?': 'Partij {0} afbreken?',
+  'This browser keeps nothing: copy the note, or write it down.':
+    'Deze browser bewaart niets: kopieer de notitie of schrijf hem over.',
+  'A move was made since the note was copied.': 'Er is een zet gedaan sinds de notitie is gekopieerd.',
+  '{0}: {1}': '{0}: {1}',
+  'Position': 'Stelling',
+  'Times': 'Speeltempo',
+  'Game {0}, {1} {2}': 'Partij {0}, {1} {2}',
+  'adjourned': 'afgebroken op',
+  'as it stood': 'stand op',
+  '{0}: {1}, {2} left': '{0}: {1}, nog {2}',
+  'Position: {0}': 'Stelling: {0}',
+  'Times: {0}': 'Speeltempo: {0}',
+  'It could not be copied: write it down.': 'Kopiëren lukte niet: schrijf de notitie over.',
+  'The connection broke before the answer came.': 'De verbinding is verbroken voordat het antwoord kwam.',
+  'Game {0} is one of other players now.': 'Partij {0} is nu van andere spelers.',
+  'It was not adjourned: the game has ended before. {0}.': 'Niet afgebroken: de partij was al afgelopen. {0}.',
+  'It is not closed: the game goes on.': 'Niet gesloten: de partij gaat door.',
+  'It is not closed. {0}': 'Niet gesloten. {0}',
+  'It is not closed: there is no connection. Nothing was sent.':
+    'Niet gesloten: er is geen verbinding. Er is niets verstuurd.',
+  'The connection broke before the answer came. Once it is there again, the game is looked at.':
+    'De verbinding is verbroken voordat het antwoord kwam. Zodra die er weer is, wordt naar de partij gekeken.',
+  'Forget the note of game {0}?': 'De notitie van partij {0} vergeten?',
+  'Forget it': 'Vergeten',
+  'This browser knows its position and its clocks no more.':
+    'Deze browser kent dan de stelling en de klokken niet meer.',
+  'Close it as a draw': 'Sluiten als remise',
+  'Go on with it': 'Hervatten',
+  'Copy the note': 'Notitie kopiëren',
+  'Game {0}: {1}': 'Partij {0}: {1}',
+  'It is not closed yet.': 'Nog niet gesloten.',
+  'Adjourned {0}. Game {1} stands in the record as a draw.':
+    'Afgebroken op {0}. Partij {1} staat te boek als remise.',
+  'Game {0} has left the table before it was seen how it ended: its PGN tells. It stood so {1}.':
+    'Partij {0} was van de lijst voordat te zien was hoe die afliep: de PGN vertelt het. Zo stond de partij op {1}.',
+  '{0} The game that goes on with it is the board’s.': '{0} Voor het bord telt de vervolgpartij.',
+  ['{0} It goes on as game {1}, which is the board’s: in a league’s round give --take BOARD={2} to chess-pairings '
+    + 'start.']:
+    '{0} Het vervolg is partij {1}, die voor het bord telt: geef in een competitieronde --take BORD={2} mee aan '
+    + 'chess-pairings start.',
+  'stands in the record as a draw': 'te boek staat als remise',
+  'is on the table no more': 'niet meer op de lijst staat',
+  '{0} had {1}': '{0} had {1}',
+  ['This goes on with game {0}, which {1}; the game that is opened here is the board’s. The server has one time for '
+    + 'both sides: {2}{3}.']:
+    'Dit is het vervolg van partij {0}, die {1}; voor het bord telt de partij die hier wordt geopend. De server '
+    + 'heeft één tijd voor beide spelers: {2}{3}.',
+  ', so both get the greater of the two': ', dus krijgen beide de grootste van de twee',
+  'The game has ended meanwhile.': 'De partij is intussen afgelopen.',
+  ['A draw can be agreed on once both sides have made a move, so this game cannot be closed yet. Have both make '
+    + 'their first move; or enter a resignation, which ends it too, and pair the two anew.']:
+    'Remise kan pas worden overeengekomen als beide spelers een zet hebben gedaan, dus deze partij kan nog niet '
+    + 'worden gesloten. Laat beiden hun eerste zet doen, of voer een opgave in, waarmee de partij ook eindigt, en '
+    + 'deel de twee opnieuw in.',
+  '{0}’s clock has run out: call the flag.': 'De tijd van {0} is op: claim de vlag.',
+  'move {0}, {1} to move': 'zet {0}, {1} aan zet',
+  ['New games are stopped: no player opens one, and who tries is told so. Games that wait can still be joined, and '
+    + 'arbiters pair on.']:
+    'Nieuwe partijen zijn stopgezet: geen speler kan er een openen, en wie het probeert, krijgt dat te horen. Aan '
+    + 'wachtende partijen kan men nog meedoen, en arbiters delen gewoon in.',
+  '{0} to {1} of {2}, {3} of them running': '{0} tot {1} van {2}, waarvan {3} bezig',
+  'Game {0}': 'Partij {0}',
+  'not connected': 'geen verbinding',
+  ', game {0}': ', partij {0}',
+  'More': 'Meer',
+  'Take off': 'Weghalen',
+  'Decide game {0}': 'Partij {0} beslissen',
+  'White resigns': 'Wit geeft op',
+  'Black resigns': 'Zwart geeft op',
+  'Flag': 'Vlag',
+  'Adjourn': 'Afbreken',
+  'Save PGN': 'PGN opslaan',
+  'Game {0} is not on the table any more. Nothing was entered.':
+    'Partij {0} staat niet meer op de lijst. Er is niets ingevoerd.',
+  'Game {0}, {1} men on the board': 'Partij {0}, {1} stukken op het bord',
+  'Last: {0}': 'Laatst: {0}',
+  'Waiting for {0}': 'Wacht op {0}',
+  '{0} offers a draw': '{0} biedt remise aan',
+  '{0}’s flag has fallen': 'De vlag van {0} is gevallen',
+  '{0} to move': '{0} aan zet',
+  'A draw can be agreed on once both sides have made a move.':
+    'Remise kan pas worden overeengekomen als beide spelers een zet hebben gedaan.',
+  'Enter the resignation of {0} in game {1}?': 'De opgave van {0} in partij {1} invoeren?',
+  '{0} wins with {1}. It cannot be taken back.': '{0} wint met {1}. Dit kan niet ongedaan worden gemaakt.',
+  'Enter a draw between {0} and {1} in game {2}?': 'Remise tussen {0} en {1} in partij {2} invoeren?',
+  '{0}, and its acceptance is entered for {1}. It cannot be taken back.':
+    '{0}, en voor {1} wordt de aanvaarding ingevoerd. Dit kan niet ongedaan worden gemaakt.',
+  'The offer of {0} stands': 'Het aanbod van {0} staat',
+  'An offer is entered for {0}': 'Voor {0} wordt een aanbod ingevoerd',
+  'Call the flag of {0} in game {1}?': 'De vlag van {0} in partij {1} claimen?',
+  'It is called for {0}, against {1}, who is to move. The server’s clock decides.':
+    'De claim is voor {0}, tegen {1}, die aan zet is. De klok van de server beslist.',
+  'Take game {0} of {1} off the table?': 'Partij {0} van {1} van de lijst halen?',
+  ' and ': ' en ',
+  'It waits for a second player. No move has been made.':
+    'De partij wacht op een tweede speler. Er is nog geen zet gedaan.',
+  'Take it off': 'Weghalen',
+  'The lobby did not tell how the game stands. Try again.':
+    'De lobby heeft niet gezegd hoe de partij staat. Probeer het opnieuw.',
+  'The lobby did not tell the PGN. Try again.': 'De lobby heeft de PGN niet gegeven. Probeer het opnieuw.',
+  'Game {0} is not on the table any more.': 'Partij {0} staat niet meer op de lijst.',
+  'The flag had fallen: the game is over by that.': 'De vlag was gevallen: daarmee is de partij afgelopen.',
+  'There is no connection. Nothing was sent.': 'Er is geen verbinding. Er is niets verstuurd.',
+  'The connection broke before the answer came. Look how the game stands before you enter it again.':
+    'De verbinding is verbroken voordat het antwoord kwam. Kijk hoe de partij staat voordat je het opnieuw invoert.',
+  'The connection broke before the answer came. Do it again.':
+    'De verbinding is verbroken voordat het antwoord kwam. Doe het nog een keer.',
+  'Allow new games': 'Partijen toestaan',
+  'Stop new games': 'Partijen stopzetten',
+  'New games are allowed.': 'Nieuwe partijen zijn toegestaan.',
+  'Board': 'Bord',
+  'The pawn becomes': 'De pion wordt',
+  '{0} put back': '{0} teruggezet',
+  'put back': 'teruggezet',
+  '{0} on {1} held, for your next move': '{0} op {1} opgepakt, voor je volgende zet',
+  '{0} on {1} held. It may go to {2}': '{0} op {1} opgepakt. Mogelijke velden: {2}',
+  'not to {0}': 'niet naar {0}',
+  'no move from {0}': 'geen zet vanaf {0}',
+  'nothing to move now': 'nu valt er niets te zetten',
+  'The pawn becomes a queen, knight, rook or bishop?': 'Wordt de pion een dame, paard, toren of loper?',
+  'held': 'opgepakt',
+  'your next move': 'je volgende zet',
+  'can be taken': 'kan geslagen worden',
+  'can be reached': 'mogelijk veld',
+  'in check': 'staat schaak',
+  'last move': 'laatste zet',
+  'move': 'zet',
+  'joining': 'deelname',
+  'offer': 'aanbod',
+  'acceptance': 'aanvaarding',
+  'answer': 'antwoord',
+  'resignation': 'opgave',
+  'call': 'tijdclaim',
+  'order': 'opdracht',
+  'claim': 'claim',
+  'This game was taken off the table.': 'Deze partij is van de lijst gehaald.',
+  'The flag has fallen.': 'De vlag is gevallen.',
+  'The arbiter, {0}, has entered {1} for {2}.': 'De arbiter, {0}, heeft {1} ingevoerd voor {2}.',
+  'you': 'jou',
+  '{0} has joined. The game has begun.': '{0} doet mee. De partij is begonnen.',
+  '{0} offers a draw.': '{0} biedt remise aan.',
+  'You have offered a draw.': 'Je hebt remise aangeboden.',
+  'You have declined the draw.': 'Je hebt remise geweigerd.',
+  '{0} declines the draw.': '{0} weigert remise.',
+  'Your claim was wrong: your opponent has two minutes more, and your offer of a draw stands.':
+    'Je claim was onjuist: je tegenstander krijgt er twee minuten bij, en je remiseaanbod staat.',
+  '{0} has claimed a draw wrongly: it stands as an offer, and {1} two minutes more.':
+    '{0} heeft ten onrechte remise geclaimd: dat geldt als aanbod, en {1} er twee minuten bij.',
+  'you have': 'je krijgt',
+  'the opponent has': 'de tegenstander krijgt',
+  '20 seconds left.': 'Nog 20 seconden.',
+  'Your next move: {0} to {1}.': 'Je volgende zet: {0} naar {1}.',
+  'Your next move is taken back.': 'Je volgende zet is teruggenomen.',
+  'Your move from {0} to {1} cannot be made now.': 'Je zet van {0} naar {1} kan nu niet.',
+  'A move is one word, such as e4, Nf3, exd5, O-O or e2e4.':
+    'Een zet is één woord, zoals e4, Pf3, exd5, O-O of e2e4.',
+  '{0} may be a move of the king or of the rook. Type its squares, as e1e2.':
+    '{0} kan een zet van de koning of van de toren zijn. Typ de velden, bijvoorbeeld e1e2.',
+  'Your {0} has not been answered for {1} seconds: it may not have arrived. The clock runs on.':
+    'Je {0} is na {1} seconden nog niet beantwoord: misschien is er niets aangekomen. De klok loopt door.',
+  'The connection broke before the answer came. Asking how the game stands …':
+    'De verbinding is verbroken voordat het antwoord kwam. Er wordt gevraagd hoe de partij staat …',
+  'The connection broke, but your {0} was taken.': 'De verbinding is verbroken, maar je {0} is aangekomen.',
+  'The connection broke before the answer to your {0} came, and the game has gone on.':
+    'De verbinding is verbroken voordat het antwoord op je {0} kwam, en de partij is doorgegaan.',
+  'The connection broke, and no offer of yours stands: it was not taken so far, or it was answered.':
+    'De verbinding is verbroken, en er staat geen aanbod van jou: het is nog niet aangekomen, of het is beantwoord.',
+  'The connection broke, and your {0} has not been taken so far. Look, and do it again.':
+    'De verbinding is verbroken, en je {0} is nog niet aangekomen. Kijk en doe het nog een keer.',
+  'none: for the position on the board': 'geen: voor de stelling op het bord',
+  ', becomes a {0}': ', promoveert tot {0}',
+  '{0} opens another game. ': '{0} opent een nieuwe partij. ',
+  'Look at game {0}': 'Partij {0} bekijken',
+  'Move {0} of {1}{2}': 'Zet {0} van {1}{2}',
+  ', the start': ', het begin',
+  'The link is copied.': 'De link is gekopieerd.',
+  '{0} has {1}': '{0} heeft {1}',
+  'The game’s address is {0}': 'Het adres van de partij is {0}',
+  '{0} is copied.': '{0} is gekopieerd.',
+  'The {0} could not be copied. Save it instead.': '{0}: kopiëren lukte niet. Sla het in plaats daarvan op.',
+  'Draw offered: {0}': 'Remise aangeboden: {0}',
+  'Your turn: {0}': 'Jij bent aan zet: {0}',
+  'waiting': 'wacht',
+  'Game {0} against {1}: your turn.': 'Partij {0} tegen {1}: jij bent aan zet.',
+  'Hall': 'Zaal',
+  '{0} to {1} of {2}': '{0} tot {1} van {2}',
+  'It could not be copied. Mark it, and copy it by hand.':
+    'Kopiëren lukte niet. Selecteer de link en kopieer hem met de hand.',
+  'Make a new link for {0}?': 'Een nieuwe link maken voor {0}?',
+  'Make it': 'Maken',
+  'That is your own. The link that you have holds no more; this page goes on with the new one.':
+    'Dat is je eigen link. De link die je hebt geldt dan niet meer; deze pagina gaat verder met de nieuwe.',
+  'The link that {0} has holds no more: a page that is open with it asks for the new one. Clocks run on.':
+    'De link van {0} geldt dan niet meer: een pagina die ermee open staat vraagt om de nieuwe. Klokken lopen door.',
+  'Make a link once more: it takes the place of one that was made.':
+    'Maak nog een keer een link: hij komt in de plaats van een die al gemaakt is.',
+  'The personal link of {0}, shown this once. Who opens it plays as {1}.':
+    'De persoonlijke link van {0}, alleen deze ene keer getoond. Wie hem opent, speelt als {1}.',
+  'Close the link of {0}?': 'De link van {0} sluiten?',
+  'Close it': 'Sluiten',
+  '{0} can do nothing here until a new link is made. Games go on, and clocks run on.':
+    '{0} kan hier niets doen tot er een nieuwe link is gemaakt. Partijen gaan door en klokken lopen door.',
+  'The link of {0} is closed.': 'De link van {0} is gesloten.',
+  'Close it once more: that does no harm.': 'Sluit hem nog een keer: dat kan geen kwaad.',
+  'The connection broke before the answer came. {0}': 'De verbinding is verbroken voordat het antwoord kwam. {0}',
+  '{0} of {1} are shown: find the others by name.': '{0} van {1} zijn te zien: zoek de anderen op naam.',
+  'No player has such a name.': 'Geen speler heet zo.',
+  'link closed from here': 'link van hieruit gesloten',
+  ' for {0}': ' voor {0}',
+  'New link': 'Nieuwe link',
+  'Close the link': 'Link sluiten',
+  'Taken: {0}; {1} more': 'Geslagen: {0}; {1} meer',
+  'Taken: {0}': 'Geslagen: {0}',
+  '{0} · Chess club': '{0} · Schaakclub',
+  'The connection broke before the answer came. Looking for your game …':
+    'De verbinding is verbroken voordat het antwoord kwam. Je partij wordt gezocht …',
+  'Your game {0} against {1} {2}': 'Je partij {0} tegen {1} {2}',
+  'has begun': 'is begonnen',
+  'goes on': 'gaat door',
+  '{0}: the clocks run. ': '{0}: de klokken lopen. ',
+  'Go there': 'Erheen',
+  'The connection broke, and your game has not been opened so far. Look, and open it again.':
+    'De verbinding is verbroken, en je partij is nog niet geopend. Kijk en open de partij opnieuw.',
+  'Your game {0} against {1}, paired by {2}, has begun': 'Je partij {0} tegen {1}, ingedeeld door {2}, is begonnen',
+  '{0} has joined your game {1}': '{0} doet mee in je partij {1}',
+  'The connection to the lobby is lost. Clocks run on. Trying again':
+    'De verbinding met de lobby is weg. Klokken lopen door. Nieuwe poging',
+  'The lobby does not answer. Trying again': 'De lobby antwoordt niet. Nieuwe poging',
+  'in {0} s.': 'over {0} s.',
+  'now.': 'nu.',
+  '{0} Trying again': '{0} Nieuwe poging',
+  'Choose a player': 'Kies een speler',
+  'Choose two players: nobody plays against himself.': 'Kies twee spelers: niemand speelt tegen zichzelf.',
+  'This FEN is too long.': 'Deze FEN is te lang.',
+  'The connection broke before the answer to the pairing came.':
+    'De verbinding is verbroken voordat het antwoord op de indeling kwam.',
+  'They were not paired. {0}': 'Ze zijn niet ingedeeld. {0}',
+  'Game {0} is open: {1} has White.': 'Partij {0} is geopend: {1} heeft wit.',
+  'The connection broke before the answer to the joining came.':
+    'De verbinding is verbroken voordat het antwoord op de deelname kwam.',
+  '{0} was not joined. {1}': '{0} doet niet mee. {1}',
+  '{0} has Black: the clocks run.': '{0} heeft zwart: de klokken lopen.',
+  'Game {0} is off the table.': 'Partij {0} is van de lijst.',
+  'Game {0} was not taken off. {1}': 'Partij {0} is niet van de lijst gehaald. {1}',
+  'Game {0} is left as it stands.': 'Partij {0} blijft zo staan.',
+  'This pairing is left.': 'Deze indeling blijft zo staan.',
+  '{0} against {1}: begun, and not ended here.': '{0} tegen {1}: hier begonnen en niet voltooid.',
+  '{0} Once the connection is there again, the table is looked at.':
+    '{0} Zodra de verbinding er weer is, wordt de lijst bekeken.',
+  'Game {0} was taken off the table.': 'Partij {0} is van de lijst gehaald.',
+  '{0} has joined {1} in game {2}. It stays as it is; pair {3} anew.':
+    '{0} speelt tegen {1} in partij {2}. Dat blijft zo; deel {3} opnieuw in.',
+  'Game {0} stands open: {1} has White, and {2} has not joined.':
+    'Partij {0} staat open: {1} heeft wit, en {2} doet nog niet mee.',
+  'It may be any of these games: {0}. Look at them, and leave this pairing.':
+    'Het kan elk van deze partijen zijn: {0}. Bekijk ze en laat deze indeling.',
+  'No game has been opened so far.': 'Er is nog geen partij geopend.',
+  'Join {0} again': '{0} opnieuw laten meedoen',
+  'Open it again': 'Opnieuw openen',
+  'Take game {0} off': 'Partij {0} weghalen',
+  '{0} plays already, in game {1}.': '{0} speelt al, in partij {1}.',
+  '{0} is not connected.': '{0} heeft geen verbinding.',
+  'Enter it': 'Invoeren',
+  'The last moves': 'De laatste zetten',
+  'Game {0} is not on the table.': 'Partij {0} staat niet op de lijst.',
+  'As the system': 'Systeem',
+  'Light': 'Licht',
+  'Dark': 'Donker',
+  'Wood': 'Hout',
+  'Green': 'Groen',
+  'Blue': 'Blauw',
+  'Club': 'Club',
+  'Bold': 'Vet',
+  'Plain': 'Sober',
+  'Sounds are on': 'Geluid staat aan',
+  'Sounds are off': 'Geluid staat uit',
+  'waiting …': 'wacht …',
+  '{0}’s clock': 'Klok van {0}',
+  ', Black': ', zwart',
+  'Draw offered': 'Remise aangeboden',
+  'Offer draw': 'Remise',
+  'Play {0}?': '{0} spelen?',
+  'Waiting for an opponent': 'Wacht op een tegenstander',
+  'This seat is free': 'Deze plaats is vrij',
+  'The clocks start as soon as somebody joins.': 'De klokken lopen zodra iemand meedoet.',
+  'The clocks start as soon as you join.': 'De klokken lopen zodra je meedoet.',
+  'To play, open your personal link.': 'Open je persoonlijke link om te spelen.',
+  'Calling it …': 'Vlag wordt geclaimd …',
+  'A player has to call it.': 'Een speler moet de vlag claimen.',
+  'An earlier position': 'Een eerdere stelling',
+  'The game goes on: go to the last move to play.': 'De partij gaat door: ga naar de laatste zet om te spelen.',
+  'Sending …': 'Versturen …',
+  'The lobby has not answered yet.': 'De lobby heeft nog niet geantwoord.',
+  'Your turn': 'Jij bent aan zet',
+  'Waiting for your opponent': 'Je tegenstander is aan zet',
+  'Check!': 'Schaak!',
+  'Then {0}–{1}: a click takes it back.': 'Dan {0}–{1}: een klik neemt het terug.',
+  'free seat': 'vrije plaats',
+  'From a position': 'Vanuit een stelling',
+  '+{0}{1} in 1 move': '+{0}{1} over 1 zet',
+  '+{0}{1} in {2} moves': '+{0}{1} over {2} zetten',
+  'second period': 'tweede tijdcontrole',
+  'It is your turn.': 'Jij bent aan zet.',
+  'Games': 'Partijen',
+  'Your turn in 1 game': 'Aan zet in 1 partij',
+  'Your turn in {0} games': 'Aan zet in {0} partijen',
+  'Show all {0}': 'Alle {0} tonen',
+  'white: ': 'wit: ',
+  'black: ': 'zwart: ',
+  'free': 'vrij',
+  'Game ': 'Partij ',
+  'from a position': 'vanuit een stelling',
+  'Join game {0}': 'Meedoen aan partij {0}',
+  'Join': 'Meedoen',
+  'your turn': 'aan zet',
+  'watch': 'kijken',
+  'their turn': 'ander aan zet',
+  'Nobody waits for an opponent.': 'Niemand wacht op een tegenstander.',
+  'No game is being played.': 'Er wordt geen partij gespeeld.',
+  'No game is over yet.': 'Er is nog geen partij afgelopen.',
+  'Chess club': 'Schaakclub',
+  '{0}’s flag has fallen, and nobody has called it': 'De vlag van {0} is gevallen, en niemand heeft dat geclaimd',
+  'White and Black offer a draw': 'Wit en zwart bieden remise aan',
+  '{0} of {1} are shown.': '{0} van {1} zijn te zien.',
+  'Arbiter': 'Arbiter',
+  'Arbiter: 1 waits': 'Arbiter: 1 wacht',
+  'Arbiter: {0} wait': 'Arbiter: {0} wachten',
+  'Game {0}: {1}.': 'Partij {0}: {1}.',
+  '{0} more things wait for an arbiter.': 'Er wachten nog {0} zaken op een arbiter.',
+  'Show it': 'Tonen',
+  ['Your personal link does not hold at the moment: an arbiter has made another one or closed it, or the list of '
+    + 'players is being changed. You are watching. This page keeps the link, and tries it again. To play on with a '
+    + 'new one, open it, or ask your arbiter for it.']:
+    'Je persoonlijke link geldt op dit moment niet: een arbiter heeft een andere gemaakt of hem gesloten, of de '
+    + 'spelerslijst wordt gewijzigd. Je kijkt toe. Deze pagina bewaart de link en probeert hem opnieuw. Open een '
+    + 'nieuwe link om verder te spelen, of vraag je arbiter erom.',
+  'This link is cut short: {0} of its 32 last letters and digits have come. Copy the whole link, and open it again.':
+    'Deze link is afgekapt: van de laatste 32 letters en cijfers {0:is|zijn} er {0} aangekomen. Kopieer de hele link '
+    + 'en open hem opnieuw.',
+  'That is no personal link. Copy the whole link, and open it again.':
+    'Dat is geen persoonlijke link. Kopieer de hele link en open hem opnieuw.',
+  'You are {0} here. Play as {1} instead?': 'Je bent hier {0}. In plaats daarvan als {1} spelen?',
+  'Play as {0}': 'Als {0} spelen',
+  'Stay {0}': '{0} blijven',
+  'Not signed in': 'Niet aangemeld',
+  'Watching': 'Toeschouwer',
+  'arbiter': 'arbiter',
+  'player': 'speler',
+  'The lobby could not read that line.': 'De lobby kon die regel niet lezen.',
+  'You have not signed in.': 'Je bent niet aangemeld.',
+  'There is no game of this number.': 'Er is geen partij met dit nummer.',
+  'You do not play in this game.': 'Je speelt niet in deze partij.',
+  'The game has not begun: a seat is empty.': 'De partij is niet begonnen: een plaats is vrij.',
+  'The game is over.': 'De partij is afgelopen.',
+  'Another move was made meanwhile. Look at the position again.':
+    'Intussen is er een andere zet gedaan. Bekijk de stelling opnieuw.',
+  'It is not your turn.': 'Je bent niet aan zet.',
+  'That is no legal move in this position.': 'Dat is in deze stelling geen reglementaire zet.',
+  'An offer of a draw stands already.': 'Er staat al een remiseaanbod.',
+  'No offer of your opponent stands.': 'Er staat geen aanbod van je tegenstander.',
+  'You have claimed in this turn already.': 'Je hebt in deze beurt al geclaimd.',
+  'The flag has not fallen.': 'De vlag is niet gevallen.',
+  'Both seats of this game are taken.': 'Beide plaatsen in deze partij zijn bezet.',
+  'You cannot play against yourself.': 'Je kunt niet tegen jezelf spelen.',
+  'That is no FEN of a valid position.': 'Dat is geen FEN van een geldige stelling.',
+  ['These times are out of range: 1 second to 24 hours a period, 0 to 60 seconds a move, 1 to 255 moves before the '
+    + 'second period.']:
+    'Dit speeltempo kan niet: 1 seconde tot 24 uur per periode, 0 tot 60 seconden per zet, 1 tot 255 zetten voor de '
+    + 'tweede periode.',
+  'The server has no room for another game.': 'De server heeft geen plaats voor nog een partij.',
+  'This game has as many moves as the server keeps for one.':
+    'Deze partij heeft zoveel zetten als de server voor één partij bewaart.',
+  'The game goes on, so it stays on the table.': 'De partij gaat door en blijft dus op de lijst.',
+  'The server was short of memory. Nothing has changed; try again.':
+    'De server kwam geheugen tekort. Er is niets veranderd; probeer het opnieuw.',
+  'The server’s clock is out of range. Tell your arbiter.':
+    'De klok van de server loopt niet goed. Zeg het je arbiter.',
+  'From that position the game would be over at once.': 'Vanuit die stelling zou de partij meteen afgelopen zijn.',
+  'You are watching. To play, open your personal link.': 'Je kijkt toe. Open je persoonlijke link om te spelen.',
+  'This personal link is not known here, at least not now. Ask your arbiter for a new one.':
+    'Deze persoonlijke link is hier niet bekend, nu althans niet. Vraag je arbiter om een nieuwe.',
+  'Only an arbiter may do that.': 'Dat mag alleen een arbiter.',
+  'That was too much within a second. Nothing was sent; try again.':
+    'Dat was te veel binnen een seconde. Er is niets verstuurd; probeer het opnieuw.',
+  ['As many of your games as may wait for an opponent already. Wait until one is joined, or ask an arbiter to take '
+    + 'one off.']:
+    'Er wachten al zoveel partijen van jou op een tegenstander als mag. Wacht tot iemand aan een ervan meedoet, of '
+    + 'vraag een arbiter er een weg te halen.',
+  'The lobby has no connection to the game server at the moment. Nothing was done; try again soon.':
+    'De lobby heeft op dit moment geen verbinding met de spelserver. Er is niets gedaan; probeer het straks opnieuw.',
+  'This page watches sixteen games already.': 'Deze pagina volgt al zestien partijen.',
+  'No player of this name is known here.': 'Een speler met deze naam is hier niet bekend.',
+  'An arbiter has stopped new games for the moment. Games that were begun go on.':
+    'Een arbiter heeft nieuwe partijen voorlopig stopgezet. Begonnen partijen gaan door.',
+  ['The lobby could not change the file of the players, or another writes it at the moment. Try again; if that does '
+    + 'not help, tell who runs the lobby.']:
+    'De lobby kon het spelersbestand niet wijzigen, of iemand anders schrijft er nu in. Probeer het opnieuw; als dat '
+    + 'niet helpt, zeg het dan de beheerder van de lobby.',
+  ['This game does not wait for a second player, so it is not taken off from here. One that is over goes by itself '
+    + 'once it is kept.']:
+    'Deze partij wacht niet op een tweede speler en wordt daarom niet van hieruit weggehaald. Een afgelopen partij '
+    + 'gaat vanzelf van de lijst zodra die bewaard is.',
+  'This game waits for nobody, or for another player. Look at the table again.':
+    'Deze partij wacht op niemand, of op een andere speler. Bekijk de lijst opnieuw.',
+  'The table is nearly full, and its last places are for arbiters. Wait until a game is taken off, or ask one.':
+    'De lijst is bijna vol, en de laatste plaatsen zijn voor arbiters. Wacht tot er een partij wordt weggehaald, of '
+    + 'vraag een arbiter.',
+  ['Too many of your games that are over are still on the table. They go once they are kept; try again then, or ask '
+    + 'an arbiter.']:
+    'Te veel afgelopen partijen van jou staan nog op de lijst. Ze gaan eraf zodra ze bewaard zijn; probeer het dan '
+    + 'opnieuw, of vraag een arbiter.',
+  'You play in as many games as a player may. End one first, or ask an arbiter.':
+    'Je speelt zoveel partijen als een speler mag. Beëindig er eerst een, of vraag een arbiter.',
+  'This player does not play in this game.': 'Deze speler speelt niet in deze partij.',
+  'It is not this player’s turn.': 'Deze speler is niet aan zet.',
+  'No offer of a draw stands: it was declined, or a move was made.':
+    'Er staat geen remiseaanbod: het is geweigerd, of er is een zet gedaan.',
+  ['As many games of this player as may wait for an opponent already: one of them has to be joined or taken off '
+    + 'first.']:
+    'Er wachten al zoveel partijen van deze speler op een tegenstander als mag: eerst moet iemand aan een ervan '
+    + 'meedoen, of moet er een worden weggehaald.',
+  'The server refused it: {0} (number {1}).': 'De server heeft het geweigerd: {0} (nummer {1}).',
+  'A FEN has letters, digits and the signs / and - alone.':
+    'Een FEN heeft alleen letters, cijfers en de tekens / en -.',
+  'White wins': 'Wit wint',
+  'Black wins': 'Zwart wint',
+  'by checkmate': 'door schaakmat',
+  'by resignation': 'door opgave',
+  'by stalemate': 'door pat',
+  'since neither side can give mate': ', omdat geen van beide spelers mat kan geven',
+  'by agreement': 'door overeenkomst',
+  'on time': 'op tijd',
+  'by claim: the position stood for the third time': 'door claim: de stelling kwam voor de derde keer voor',
+  'by claim: fifty moves without a capture or a pawn’s move':
+    'door claim: vijftig zetten zonder slaan en zonder pionzet',
+  'since the position stood for the fifth time': ', omdat de stelling voor de vijfde keer voorkwam',
+  'since 75 moves were made without a capture or a pawn’s move':
+    ', omdat er 75 zetten zonder slaan en zonder pionzet zijn gedaan',
+  'since a flag fell, and the opponent has the king alone':
+    ', omdat een vlag viel en de tegenstander alleen de koning heeft',
+  'Article {0} of the FIDE Laws': 'Artikel {0} van de FIDE-regels',
+  'the opening of this game': 'de opening van deze partij',
+  'the joining of this game': 'de deelname aan deze partij',
+  'a move': 'een zet',
+  'an offer of a draw': 'een remiseaanbod',
+  'the agreement to a draw': 'de aanvaarding van remise',
+  'the refusal of a draw': 'de weigering van remise',
+  'the resignation': 'de opgave',
+  'a claim of a draw': 'een remiseclaim',
+  'the call of the flag': 'de tijdclaim',
+  'an act': 'een handeling',
+  '{0}’s flag had fallen': 'De vlag van {0} was gevallen',
+  '{0}: called by {1} for {2}': '{0}: geclaimd door {1} voor {2}',
+  '{0}: called by {1}': '{0}: geclaimd door {1}',
+  '{0} before {1}, which {2} entered for {3}': '{0} vóór {1}, door {2} ingevoerd voor {3}',
+  '{0} before {1} by {2}': '{0} vóór {1} van {2}',
+  '{0} by {1}, entered by {2}': '{0} van {1}, ingevoerd door {2}',
+  '{0} by {1}': '{0} van {1}',
+  'pawn': 'pion',
+  'knight': 'paard',
+  'bishop': 'loper',
+  'rook': 'toren',
+  'queen': 'dame',
+  'king': 'koning',
+  '{0} pawns': '{0} pionnen',
+  '{0} knights': '{0} paarden',
+  '{0} bishops': '{0} lopers',
+  '{0} rooks': '{0} torens',
+  '{0} queens': '{0} dames',
+  '{0} kings': '{0} koningen',
+  'KQRBN': 'KDTLP',
+  'white pawn': 'witte pion',
+  'white knight': 'wit paard',
+  'white bishop': 'witte loper',
+  'white rook': 'witte toren',
+  'white queen': 'witte dame',
+  'white king': 'witte koning',
+  'black pawn': 'zwarte pion',
+  'black knight': 'zwart paard',
+  'black bishop': 'zwarte loper',
+  'black rook': 'zwarte toren',
+  'black queen': 'zwarte dame',
+  'black king': 'zwarte koning',
+  ', checkmate': ', schaakmat',
+  ', check': ', schaak',
+  'castles kingside': 'korte rokade',
+  'castles queenside': 'lange rokade',
+  'takes': 'slaat',
+  'becomes a {0}': 'promoveert tot {0}',
+  'White': 'Wit',
+  'Black': 'Zwart',
+  '1 hour': '1 uur',
+  '{0} hours': '{0} uur',
+  '1 minute': '1 minuut',
+  '{0} minutes': '{0} minuten',
+  '1 second': '1 seconde',
+  '{0} seconds': '{0} seconden',
+  ', 1 second more a move': ', en 1 seconde extra per zet',
+  ', {0} seconds more a move': ', en {0} seconden extra per zet',
+  '{0} a side{1}': '{0} per speler{1}',
+  '{0} for {1} moves, then {2}{3}': '{0} voor {1} zetten, dan {2}{3}',
+  'no time': 'geen tijd',
+  'Running games': 'Lopende partijen',
+  'This page wants JavaScript.': 'Deze pagina heeft JavaScript nodig.',
+  'The games before': 'De vorige partijen',
+  'The next games': 'De volgende partijen',
+  'eight boards': 'acht borden',
+  'The game server does not answer. It is tried again by itself; the clocks run on.':
+    'De spelserver antwoordt niet. Er wordt vanzelf opnieuw geprobeerd; de klokken lopen door.',
+  'every 20 seconds': 'elke 20 seconden',
+  'Full screen': 'Volledig scherm',
+  'The connection to the lobby is lost. It is tried again by itself; the clocks run on.':
+    'De verbinding met de lobby is weg. Er wordt vanzelf opnieuw geprobeerd; de klokken lopen door.',
+  'To the games': 'Naar de partijen',
+  'Copy link': 'Link kopiëren',
+  'There is no game here.': 'Hier is geen partij.',
+  'Copy PGN': 'PGN kopiëren',
+  'Finished': 'Afgelopen',
+  'to the board': 'naar het bord',
+  'Rematch': 'Revanche',
+  'To the board or the games': 'Naar het bord of de partijen',
+  'FEN, empty for the usual start': 'FEN, leeg voor de gewone beginstelling',
+  'Minutes': 'Minuten',
+  'Keys that are letters': 'Letters als toetsen',
+  'What you can do': 'Wat je kunt doen',
+  'You are watching. To play, open the personal link that you were given, or paste it here.':
+    'Je kijkt toe. Open om te spelen de persoonlijke link die je hebt gekregen, of plak hem hier.',
+  'Try now': 'Nu proberen',
+  'Projector': 'Projector',
+  'half moves of 100': 'van 100 halve zetten',
+  'A move back (←)': 'Een zet terug (←)',
+  'Copy the link': 'Link kopiëren',
+  'Adjourned games': 'Afgebroken partijen',
+  'Seconds a move': 'Seconden per zet',
+  'What waits': 'Wat wacht',
+  'Black:': 'Zwart:',
+  'The arbiter’s desk': 'De tafel van de arbiter',
+  'Open and join the game': 'Partij openen en laten beginnen',
+  'All boards': 'Alle borden',
+  'Your colour': 'Je kleur',
+  'Turn the board': 'Bord draaien',
+  'In the record this game stays a draw. The game that goes on with it later is the board’s.':
+    'In de boeken blijft deze partij remise. Voor het bord telt de vervolgpartij.',
+  'To the last move': 'Naar de laatste zet',
+  'Your move': 'Je zet',
+  'Your opponent wins. It cannot be taken back.': 'Je tegenstander wint. Dit kan niet ongedaan worden gemaakt.',
+  'This desk is an arbiter’s. Sign in by an arbiter’s personal link.':
+    'Deze tafel is voor arbiters. Meld je aan met de persoonlijke link van een arbiter.',
+  'To the start (Home)': 'Naar het begin (Home)',
+  'Players and links': 'Spelers en links',
+  'A move on': 'Een zet verder',
+  'Leave it so': 'Zo laten',
+  'The game server does not answer. The lobby tries again by itself; every game is kept, and the clocks run on.':
+    'De spelserver antwoordt niet. De lobby probeert het vanzelf opnieuw; elke partij is bewaard, en de klokken '
+    + 'lopen door.',
+  'Help and keys': 'Hulp en toetsen',
+  'About this game': 'Over deze partij',
+  'Go through the game': 'Door de partij gaan',
+  'FEN of the board shown': 'FEN van de getoonde stelling',
+  'Your opponent offers a draw.': 'Je tegenstander biedt remise aan.',
+  'Resign this game?': 'Deze partij opgeven?',
+  'After moves': 'Na zetten',
+  'Play on': 'Doorspelen',
+  'With the move that you are about to make': 'Met de zet die je gaat doen',
+  'say the clocks': 'de klokken voorlezen',
+  'A link of another player was opened. One tab plays for one player.':
+    'De link van een andere speler is geopend. Eén tabblad speelt voor één speler.',
+  'Minutes more': 'Minuten erbij',
+  'For the hall’s screen (h)': 'Voor het scherm in de zaal (h)',
+  'Personal link': 'Persoonlijke link',
+  'Sounds': 'Geluid',
+  'Either': 'Maakt niet uit',
+  'Moves': 'Zetten',
+  'fifty moves of each side without a capture or a pawn’s move (9.3): the board counts':
+    'vijftig zetten van elke speler zonder slaan en zonder pionzet (9.3): het bord telt',
+  'Ask before a move on the board is sent': 'Vragen voordat een zet op het bord wordt verstuurd',
+  'You are:': 'Je bent:',
+  'Find a player of the club': 'Een speler van de club zoeken',
+  'A new game of the same times, with the colours changed':
+    'Een nieuwe partij in hetzelfde tempo, met verwisselde kleuren',
+  'Take this game off the table?': 'Deze partij van de lijst halen?',
+  'Decline': 'Weigeren',
+  ['While your opponent thinks, the same gives your next move: it is played at once if it can be, and a click on the '
+    + 'board takes it back. A king that is put on its rook castles. The right button draws circles and arrows for '
+    + 'you alone, with Shift in another colour. Sounds, boards, men and more are chosen at the head of the page.']:
+    'Terwijl je tegenstander nadenkt, geef je zo je volgende zet: hij wordt meteen gespeeld als hij kan, en een klik '
+    + 'op het bord neemt hem terug. Een koning die op zijn toren wordt gezet, rokeert. De rechterknop tekent cirkels '
+    + 'en pijlen voor jou alleen, met Shift in een andere kleur. Geluid, borden, stukken en meer kies je boven aan '
+    + 'de pagina.',
+  ['This browser keeps the note. Then the game is closed as a draw: an offer is entered for White and its acceptance '
+    + 'for Black, in your name as arbiter. The clocks run until then, and are noted as they stand at the end.']:
+    'Deze browser bewaart de notitie. Dan wordt de partij als remise gesloten: voor wit wordt een aanbod ingevoerd '
+    + 'en voor zwart de aanvaarding, op jouw naam als arbiter. Tot dan lopen de klokken, en ze worden genoteerd '
+    + 'zoals ze aan het eind staan.',
+  'The new link': 'De nieuwe link',
+  ['A claim that is right ends the game. A wrong one gives your opponent two minutes, stands as an offer of a draw, '
+    + 'and its move is made. You may claim once in a turn.']:
+    'Een juiste claim beëindigt de partij. Een onjuiste geeft je tegenstander twee minuten, geldt als remiseaanbod, '
+    + 'en de zet ervan wordt gedaan. Je mag één keer per beurt claimen.',
+  'Colours': 'Kleuren',
+  'Find a player': 'Speler zoeken',
+  'Men': 'Stukken',
+  'Keep me signed in here': 'Hier aangemeld blijven',
+  ['The page asks nothing of any other host. Your personal link is kept in this tab, or in this browser where you '
+    + 'say so; it is never part of an address that is sent.']:
+    'De pagina vraagt niets aan een andere host. Je persoonlijke link blijft in dit tabblad, of in deze browser als '
+    + 'je dat zegt; hij maakt nooit deel uit van een adres dat wordt verstuurd.',
+  'Resign': 'Opgeven',
+  'Open the game': 'Partij openen',
+  'Because': 'Reden',
+  'turn the board': 'het bord draaien',
+  'Shall this browser tell you when it is your turn and you look elsewhere?':
+    'Moet deze browser het je zeggen als je aan zet bent en ergens anders kijkt?',
+  'e4, Nf3, e2e4': 'e4, Pf3, e2e4',
+  'Nf3': 'Pf3',
+  'The pairing that was begun': 'De begonnen indeling',
+  'A move back': 'Een zet terug',
+  'say the position': 'de stelling voorlezen',
+  'Copy and save': 'Kopiëren en opslaan',
+  'Pages': 'Pagina’s',
+  'Offer of a draw': 'Remiseaanbod',
+  'White:': 'Wit:',
+  'a draw': 'remise',
+  'Minutes and seconds a move': 'Minuten, en seconden per zet',
+  'Leave it': 'Laten',
+  'A move on (→)': 'Een zet verder (→)',
+  'Pair by hand': 'Met de hand indelen',
+  'Save FEN': 'FEN opslaan',
+  'Sign in': 'Aanmelden',
+  'to the field for a move': 'naar het veld voor een zet',
+  'This tab alone': 'Alleen dit tabblad',
+  'the hall’s view, for a projector, and back': 'de weergave voor de zaal, met projector, en terug',
+  'Yes': 'Ja',
+  'Your link has signed you in, in this tab. Shall this browser keep it?':
+    'Je link heeft je in dit tabblad aangemeld. Moet deze browser hem bewaren?',
+  'You are watching.': 'Je kijkt toe.',
+  'What was done': 'Wat er is gedaan',
+  'Move': 'Zet',
+  'This browser alone knows these notes.': 'Alleen deze browser kent deze notities.',
+  'Copy FEN': 'FEN kopiëren',
+  'No': 'Nee',
+  'Join this game': 'Aan deze partij meedoen',
+  'Forget the link that is kept here': 'De hier bewaarde link vergeten',
+  'the start, the last move': 'het begin, de laatste zet',
+  'Open a game': 'Een partij openen',
+  'To the start': 'Naar het begin',
+  'Settings': 'Instellingen',
+  'A second period': 'Een tweede periode',
+  'Play': 'Spelen',
+  'Take off the table': 'Van de lijst halen',
+  'the same position stands for the third time (9.2)': 'dezelfde stelling voor de derde keer (9.2)',
+  'Keep it': 'Bewaren',
+  'Claim a draw': 'Remise claimen',
+  'Copy the game’s link': 'Link van de partij kopiëren',
+  'Claim': 'Claimen',
+  'Done: show it no more': 'Klaar: niet meer tonen',
+  'Empty the form': 'Formulier leegmaken',
+  'To the last move (End)': 'Naar de laatste zet (End)',
+  ['Click a man and then a square, or drag it. The squares that it may reach are marked. On the board, the arrow '
+    + 'keys go over the squares, Enter takes a man and puts it down, Escape puts it back. Or type the move:']:
+    'Klik op een stuk en dan op een veld, of sleep het. De velden die het kan bereiken zijn gemarkeerd. Op het bord '
+    + 'gaan de pijltjestoetsen over de velden, Enter pakt een stuk op en zet het neer, Escape zet het terug. Of typ '
+    + 'de zet:',
+  ['The game is opened for White and joined for Black, in your name as arbiter. From then on the clock of who is to '
+    + 'move runs.']:
+    'De partij wordt geopend voor wit, en zwart doet mee, op jouw naam als arbiter. Vanaf dan loopt de klok van wie '
+    + 'aan zet is.',
+  'a move back, a move on (on the board and in the list of moves the arrows walk)':
+    'een zet terug, een zet verder (op het bord en in de zettenlijst lopen de pijltjes)',
+  'Close': 'Sluiten',
+  'Turn the board (f)': 'Bord draaien (f)',
+  'Play it': 'Spelen',
+  'Accept': 'Aannemen',
+  'Language': 'Taal',
+  'Take it back': 'Terugnemen',
+  'Running': 'Bezig',
+  'Else this tab alone knows your link, until it is closed. Don’t keep it on a computer that others use.':
+    'Anders kent alleen dit tabblad je link, tot het wordt gesloten. Bewaar hem niet op een computer die anderen '
+    + 'gebruiken.',
+  'Adjourn it': 'Afbreken',
+  'Sign out': 'Afmelden',
+  'You are watching. To play, open the personal link that you were given.':
+    'Je kijkt toe. Open om te spelen de persoonlijke link die je hebt gekregen.',
+  'Your games': 'Je partijen',
+};
