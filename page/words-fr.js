@@ -39,8 +39,8 @@ export const WORDS = {
   'Adjourned {0}. Game {1} stands in the record as a draw.':
     'Ajournée le {0}. La partie {1} est enregistrée comme nulle.',
   'Game {0} has left the table before it was seen how it ended: its PGN tells. It stood so {1}.':
-    'La partie {0} a quitté la liste avant qu’on ait vu comment elle s’est terminée : son PGN le dit. Sa position '
-    + 'était celle du {1}.',
+    'La partie {0} a quitté la liste avant qu’on ait vu comment elle s’est terminée : son PGN le dit. Elle en était '
+    + 'là le {1}.',
   '{0} The game that goes on with it is the board’s.':
     '{0} C’est la partie qui la reprend qui compte pour l’échiquier.',
   ['{0} It goes on as game {1}, which is the board’s: in a league’s round give --take BOARD={2} to chess-pairings '
@@ -69,13 +69,13 @@ export const WORDS = {
     + 'peut encore rejoindre les parties en attente, et les arbitres continuent d’apparier.',
   '{0} to {1} of {2}, {3} of them running': '{0} à {1} sur {2}, dont {3} en cours',
   'Game {0}': 'Partie {0}',
-  'not connected': 'non connecté',
+  'not connected': 'hors ligne',
   ', game {0}': ', partie {0}',
   'More': 'Plus',
   'Take off': 'Retirer',
   'Decide game {0}': 'Décider la partie {0}',
-  'White resigns': 'Abandon Blancs',
-  'Black resigns': 'Abandon Noirs',
+  'White resigns': 'Abandon des Blancs',
+  'Black resigns': 'Abandon des Noirs',
   'Flag': 'Drapeau',
   'Adjourn': 'Ajourner',
   'Save PGN': 'Enregistrer PGN',
@@ -269,7 +269,7 @@ export const WORDS = {
   'Open it again': 'Ouvrir de nouveau',
   'Take game {0} off': 'Retirer la partie {0}',
   '{0} plays already, in game {1}.': '{0} joue déjà, dans la partie {1}.',
-  '{0} is not connected.': 'Pas de connexion : {0}.',
+  '{0} is not connected.': '{0} est hors ligne.',
   'Enter it': 'Enregistrer',
   'The last moves': 'Les derniers coups',
   'Game {0} is not on the table.': 'La partie {0} n’est pas dans la liste.',
@@ -280,7 +280,7 @@ export const WORDS = {
   'Green': 'Vert',
   'Blue': 'Bleu',
   'Club': 'Club',
-  'Bold': 'Gras',
+  'Bold': 'Épais',
   'Plain': 'Sobre',
   'Sounds are on': 'Les sons sont activés',
   'Sounds are off': 'Les sons sont coupés',
@@ -324,7 +324,7 @@ export const WORDS = {
   'Join': 'Rejoindre',
   'your turn': 'à vous',
   'watch': 'regarder',
-  'their turn': 'à l’adversaire',
+  'their turn': 'à l’autre',
   'Nobody waits for an opponent.': 'Personne n’attend d’adversaire.',
   'No game is being played.': 'Aucune partie en cours.',
   'No game is over yet.': 'Aucune partie terminée.',
@@ -352,12 +352,12 @@ export const WORDS = {
   'You are {0} here. Play as {1} instead?': 'Vous êtes ici {0}. Jouer plutôt au nom de {1} ?',
   'Play as {0}': 'Jouer pour {0}',
   'Stay {0}': 'Rester {0}',
-  'Not signed in': 'Non identifié',
+  'Not signed in': 'Non connecté',
   'Watching': 'Spectateur',
   'arbiter': 'arbitre',
   'player': 'joueur',
   'The lobby could not read that line.': 'Le lobby n’a pas pu lire cette ligne.',
-  'You have not signed in.': 'Vous n’êtes pas identifié.',
+  'You have not signed in.': 'Vous n’êtes pas connecté.',
   'There is no game of this number.': 'Il n’y a pas de partie de ce numéro.',
   'You do not play in this game.': 'Vous ne jouez pas dans cette partie.',
   'The game has not begun: a seat is empty.': 'La partie n’a pas commencé : une place est libre.',
@@ -557,7 +557,7 @@ export const WORDS = {
   'Your move': 'Votre coup',
   'Your opponent wins. It cannot be taken back.': 'Votre adversaire gagne. C’est irrévocable.',
   'This desk is an arbiter’s. Sign in by an arbiter’s personal link.':
-    'Cette table est celle des arbitres. Identifiez-vous par le lien personnel d’un arbitre.',
+    'Cette table est celle des arbitres. Connectez-vous par le lien personnel d’un arbitre.',
   'To the start (Home)': 'Au début (Début)',
   'Players and links': 'Joueurs et liens',
   'A move on': 'Un coup en avant',
@@ -581,7 +581,7 @@ export const WORDS = {
   'For the hall’s screen (h)': 'Pour l’écran de la salle (h)',
   'Personal link': 'Lien personnel',
   'Sounds': 'Sons',
-  'Either': 'Au choix',
+  'Either': 'Au hasard',
   'Moves': 'Coups',
   'fifty moves of each side without a capture or a pawn’s move (9.3): the board counts':
     'cinquante coups de chaque camp sans prise ni coup de pion (9.3) : l’échiquier compte',
@@ -612,7 +612,7 @@ export const WORDS = {
   'Colours': 'Couleurs',
   'Find a player': 'Chercher un joueur',
   'Men': 'Pièces',
-  'Keep me signed in here': 'Rester identifié ici',
+  'Keep me signed in here': 'Rester connecté ici',
   ['The page asks nothing of any other host. Your personal link is kept in this tab, or in this browser where you '
     + 'say so; it is never part of an address that is sent.']:
     'La page ne demande rien à aucun autre hôte. Votre lien personnel reste dans cet onglet, ou dans ce navigateur '
@@ -638,13 +638,13 @@ export const WORDS = {
   'A move on (→)': 'Un coup en avant (→)',
   'Pair by hand': 'Apparier à la main',
   'Save FEN': 'Enregistrer FEN',
-  'Sign in': 'S’identifier',
+  'Sign in': 'Se connecter',
   'to the field for a move': 'au champ pour un coup',
   'This tab alone': 'Cet onglet seulement',
   'the hall’s view, for a projector, and back': 'l’affichage pour la salle, au projecteur, et retour',
   'Yes': 'Oui',
   'Your link has signed you in, in this tab. Shall this browser keep it?':
-    'Votre lien vous a identifié dans cet onglet. Ce navigateur doit-il le garder ?',
+    'Votre lien vous a connecté dans cet onglet. Ce navigateur doit-il le garder ?',
   'You are watching.': 'Vous êtes spectateur.',
   'What was done': 'Ce qui a été fait',
   'Move': 'Coup',
