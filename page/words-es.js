@@ -109,8 +109,8 @@ export const WORDS = {
     'La conexión se cortó antes de la respuesta. Mira cómo está la partida antes de registrarlo otra vez.',
   'The connection broke before the answer came. Do it again.':
     'La conexión se cortó antes de la respuesta. Hazlo otra vez.',
-  'Allow new games': 'Permitir partidas',
-  'Stop new games': 'Suspender partidas',
+  'Allow new games': 'Permitir partidas nuevas',
+  'Stop new games': 'Suspender partidas nuevas',
   'New games are allowed.': 'Las partidas nuevas están permitidas.',
   'Board': 'Tablero',
   'The pawn becomes': 'El peón se convierte en',

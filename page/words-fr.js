@@ -65,7 +65,7 @@ export const WORDS = {
   'move {0}, {1} to move': 'coup {0}, trait aux {1}',
   ['New games are stopped: no player opens one, and who tries is told so. Games that wait can still be joined, and '
     + 'arbiters pair on.']:
-    'Les nouvelles parties sont suspendues : aucun joueur ne peut en ouvrir, et celui qui essaie en est averti. On '
+    'Les nouvelles parties sont bloquées : aucun joueur ne peut en ouvrir, et celui qui essaie en est averti. On '
     + 'peut encore rejoindre les parties en attente, et les arbitres continuent d’apparier.',
   '{0} to {1} of {2}, {3} of them running': '{0} à {1} sur {2}, dont {3} en cours',
   'Game {0}': 'Partie {0}',
@@ -112,8 +112,8 @@ export const WORDS = {
     'La connexion s’est rompue avant la réponse. Vérifiez où en est la partie avant de recommencer.',
   'The connection broke before the answer came. Do it again.':
     'La connexion s’est rompue avant la réponse. Recommencez.',
-  'Allow new games': 'Autoriser les parties',
-  'Stop new games': 'Suspendre les parties',
+  'Allow new games': 'Autoriser les nouvelles parties',
+  'Stop new games': 'Bloquer les nouvelles parties',
   'New games are allowed.': 'Les nouvelles parties sont autorisées.',
   'Board': 'Échiquier',
   'The pawn becomes': 'Le pion devient',
@@ -402,7 +402,7 @@ export const WORDS = {
   'This page watches sixteen games already.': 'Cette page suit déjà seize parties.',
   'No player of this name is known here.': 'Aucun joueur de ce nom n’est connu ici.',
   'An arbiter has stopped new games for the moment. Games that were begun go on.':
-    'Un arbitre a suspendu les nouvelles parties pour le moment. Celles qui ont commencé continuent.',
+    'Un arbitre a bloqué les nouvelles parties pour le moment. Celles qui ont commencé continuent.',
   ['The lobby could not change the file of the players, or another writes it at the moment. Try again; if that does '
     + 'not help, tell who runs the lobby.']:
     'Le lobby n’a pas pu modifier le fichier des joueurs, ou quelqu’un d’autre y écrit en ce moment. Réessayez ; si '

@@ -111,8 +111,8 @@ export const WORDS = {
     'De verbinding is verbroken voordat het antwoord kwam. Kijk hoe de partij staat voordat je het opnieuw invoert.',
   'The connection broke before the answer came. Do it again.':
     'De verbinding is verbroken voordat het antwoord kwam. Doe het nog een keer.',
-  'Allow new games': 'Partijen toestaan',
-  'Stop new games': 'Partijen stopzetten',
+  'Allow new games': 'Nieuwe partijen toestaan',
+  'Stop new games': 'Nieuwe partijen stoppen',
   'New games are allowed.': 'Nieuwe partijen zijn toegestaan.',
   'Board': 'Bord',
   'The pawn becomes': 'De pion wordt',

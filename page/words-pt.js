@@ -107,8 +107,8 @@ export const WORDS = {
   'The connection broke before the answer came. Look how the game stands before you enter it again.':
     'A conexão caiu antes da resposta. Veja como está a partida antes de registrar de novo.',
   'The connection broke before the answer came. Do it again.': 'A conexão caiu antes da resposta. Faça de novo.',
-  'Allow new games': 'Permitir partidas',
-  'Stop new games': 'Suspender partidas',
+  'Allow new games': 'Permitir novas partidas',
+  'Stop new games': 'Suspender novas partidas',
   'New games are allowed.': 'Novas partidas são permitidas.',
   'Board': 'Tabuleiro',
   'The pawn becomes': 'O peão vira',
