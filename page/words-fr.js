@@ -78,7 +78,7 @@ export const WORDS = {
   'Black resigns': 'Abandon des Noirs',
   'Flag': 'Drapeau',
   'Adjourn': 'Ajourner',
-  'Save PGN': 'Enregistrer PGN',
+  'Save PGN': 'Fichier PGN',
   'Game {0} is not on the table any more. Nothing was entered.':
     'La partie {0} n’est plus dans la liste. Rien n’a été enregistré.',
   'Game {0}, {1} men on the board': 'Partie {0}, {1} pièces sur l’échiquier',
@@ -637,7 +637,7 @@ export const WORDS = {
   'Leave it': 'Laisser',
   'A move on (→)': 'Un coup en avant (→)',
   'Pair by hand': 'Apparier à la main',
-  'Save FEN': 'Enregistrer FEN',
+  'Save FEN': 'Fichier FEN',
   'Sign in': 'Se connecter',
   'to the field for a move': 'au champ pour un coup',
   'This tab alone': 'Cet onglet seulement',

@@ -72,7 +72,7 @@ export const WORDS = {
   'Decide game {0}': 'Rozstrzygnij partię {0}',
   'White resigns': 'Białe się poddają',
   'Black resigns': 'Czarne się poddają',
-  'Flag': 'Chorągiewka',
+  'Flag': 'Czas',
   'Adjourn': 'Odłóż',
   'Save PGN': 'Zapisz PGN',
   'Game {0} is not on the table any more. Nothing was entered.':
