@@ -549,7 +549,7 @@ export const WORDS = {
   'Open and join the game': 'Ouvrir et lancer la partie',
   'All boards': 'Tous les échiquiers',
   'Your colour': 'Votre couleur',
-  'Turn the board': 'Tourner l’échiquier',
+  'Turn the board': 'Retourner l’échiquier',
   'In the record this game stays a draw. The game that goes on with it later is the board’s.':
     'Dans l’enregistrement, cette partie reste nulle. C’est la partie qui la reprendra plus tard qui compte pour '
     + 'l’échiquier.',
@@ -602,7 +602,7 @@ export const WORDS = {
   ['This browser keeps the note. Then the game is closed as a draw: an offer is entered for White and its acceptance '
     + 'for Black, in your name as arbiter. The clocks run until then, and are noted as they stand at the end.']:
     'Ce navigateur garde la note. Ensuite la partie est close par la nulle : une proposition est enregistrée pour '
-    + 'les Blancs et son acceptation pour les Noirs, en votre nom d’arbitre. Jusque-là les pendules tournent, et '
+    + 'les Blancs et son acceptation pour les Noirs, en votre qualité d’arbitre. Jusque-là les pendules tournent, et '
     + 'elles sont notées telles qu’elles sont à la fin.',
   'The new link': 'Le nouveau lien',
   ['A claim that is right ends the game. A wrong one gives your opponent two minutes, stands as an offer of a draw, '
@@ -620,7 +620,7 @@ export const WORDS = {
   'Resign': 'Abandonner',
   'Open the game': 'Ouvrir la partie',
   'Because': 'Motif',
-  'turn the board': 'tourner l’échiquier',
+  'turn the board': 'retourner l’échiquier',
   'Shall this browser tell you when it is your turn and you look elsewhere?':
     'Ce navigateur doit-il vous avertir quand c’est à vous de jouer et que vous regardez ailleurs ?',
   'e4, Nf3, e2e4': 'e4, Cf3, e2e4',
@@ -675,16 +675,16 @@ export const WORDS = {
     + 'place. Ou tapez le coup :',
   ['The game is opened for White and joined for Black, in your name as arbiter. From then on the clock of who is to '
     + 'move runs.']:
-    'La partie est ouverte pour les Blancs et rejointe pour les Noirs, en votre nom d’arbitre. Dès lors, la pendule '
-    + 'de celui qui a le trait tourne.',
+    'La partie est ouverte pour les Blancs et rejointe pour les Noirs, en votre qualité d’arbitre. Dès lors, la '
+    + 'pendule de celui qui a le trait tourne.',
   'a move back, a move on (on the board and in the list of moves the arrows walk)':
     'un coup en arrière, un coup en avant (sur l’échiquier et dans la liste des coups, les flèches se déplacent)',
   'Close': 'Fermer',
-  'Turn the board (f)': 'Tourner l’échiquier (f)',
+  'Turn the board (f)': 'Retourner l’échiquier (f)',
   'Play it': 'Jouer',
   'Accept': 'Accepter',
   'Language': 'Langue',
-  'Take it back': 'Reprendre',
+  'Take it back': 'Annuler',
   'Running': 'En cours',
   'Else this tab alone knows your link, until it is closed. Don’t keep it on a computer that others use.':
     'Sinon, seul cet onglet connaît votre lien, jusqu’à sa fermeture. Ne le gardez pas sur un ordinateur que '

@@ -569,7 +569,7 @@ export const WORDS = {
   'say the clocks': 'leggi gli orologi',
   'A link of another player was opened. One tab plays for one player.':
     'È stato aperto il link di un altro giocatore. Una scheda gioca per un solo giocatore.',
-  'Minutes more': 'Minuti in più',
+  'Minutes more': 'Altri minuti',
   'For the hall’s screen (h)': 'Per lo schermo della sala (h)',
   'Personal link': 'Link personale',
   'Sounds': 'Suoni',

@@ -566,7 +566,7 @@ export const WORDS = {
   'say the clocks': 'odczytaj zegary',
   'A link of another player was opened. One tab plays for one player.':
     'Otwarto link innego gracza. Jedna karta gra za jednego gracza.',
-  'Minutes more': 'Minuty więcej',
+  'Minutes more': 'Dodatkowe minuty',
   'For the hall’s screen (h)': 'Na ekran w sali (h)',
   'Personal link': 'Osobisty link',
   'Sounds': 'Dźwięki',
@@ -603,7 +603,7 @@ export const WORDS = {
   'Keep me signed in here': 'Nie wylogowuj mnie tutaj',
   ['The page asks nothing of any other host. Your personal link is kept in this tab, or in this browser where you '
     + 'say so; it is never part of an address that is sent.']:
-    'Strona nie pyta o nic innych serwerów. Twój osobisty link pozostaje w tej karcie albo, jeśli tak wybierzesz, w '
+    'Strona o nic nie pyta innych serwerów. Twój osobisty link pozostaje w tej karcie albo, jeśli tak wybierzesz, w '
     + 'tej przeglądarce; nigdy nie jest częścią wysyłanego adresu.',
   'Resign': 'Poddaj',
   'Open the game': 'Otwórz partię',
