@@ -4,13 +4,13 @@ import os
 import re
 import time
 
-from selenium import webdriver
 from selenium.common.exceptions import StaleElementReferenceException, WebDriverException
-from selenium.webdriver.chrome.options import Options
-from selenium.webdriver.chrome.service import Service
 from selenium.webdriver.common.action_chains import ActionChains
 from selenium.webdriver.common.by import By
 from selenium.webdriver.common.keys import Keys
+
+from lib.chromium import chromium
+from lib.program import Wrong
 
 PATIENCE = 20
 # What the page sends is written down before the socket takes it, and what stands behind # when the body begins.
@@ -28,25 +28,11 @@ WebSocket.prototype.send = function (line) {
   return window.spied.call(this, line); };'''
 
 
-class Wrong(Exception):
-    """The page is not as it has to be."""
-
-
 class Person:
     def __init__(self, name, folder, checked):
         self.name, self.checked = name, checked
-        options = Options()
-        options.binary_location = os.environ.get('CHROMIUM', '/usr/bin/chromium')
-        for word in ('--headless=new', '--no-sandbox', '--disable-gpu', '--hide-scrollbars', '--disable-dev-shm-usage',
-                     '--disable-background-timer-throttling', '--disable-renderer-backgrounding',
-                     '--disable-background-networking', '--no-first-run',
-                     '--user-data-dir=%s' % os.path.join(folder, 'profile-' + name),
-                     *os.environ.get('CHROMIUM_WORDS', '').split(',')):
-            if word:
-                options.add_argument(word)
-        options.set_capability('goog:loggingPrefs', {'browser': 'ALL'})
-        self.driver = webdriver.Chrome(service=Service(os.environ.get('CHROMEDRIVER', '/usr/bin/chromedriver')),
-                                       options=options)
+        self.driver = chromium(os.path.join(folder, 'profile-' + name), '--hide-scrollbars', '--disable-renderer-backgrounding',
+                               '--disable-background-timer-throttling')
         self.cdp('Page.addScriptToEvaluateOnNewDocument', source=SPY)
         self.screen(1280, 800)
 

@@ -7,15 +7,15 @@ call `note`.
 import collections
 import hashlib
 import os
-import re
 import selectors
-import socket
 import subprocess
 
 from lib import disk
 from lib.model import rules as model
 from lib.model.rules import Table, coordinate, legal_moves, other
-from lib.program import Wrong
+from lib.net import connect
+from lib.program import Wrong, run
+from lib.server import FOR_EVER, Server, fault_of, limits_of
 
 PATIENCE = 60                   # seconds after which an answer does not come
 
@@ -55,38 +55,28 @@ def digest(lines):
 
 # ------------------------------------------------------------------- the program
 
-def fault_of(error):
-    """The fault that standard error tells, as `fault NAME`, or all of it."""
-    told = re.search('^fault [A-Za-z]+', error, re.MULTILINE)
-    return told.group() if told else error.strip()
-
-
 class Chess:
     """The program under test, on one journal."""
 
-    def __init__(self, server, journal, environment=None):
-        self.server, self.journal = server, journal
-        self.environment = dict(os.environ, **(environment or {}))
+    def __init__(self, journal, environment=None):
+        self.journal, self.how = journal, {'env': dict(os.environ, **(environment or {}))}
 
     def work(self, word, *more, given=''):
-        done = subprocess.run([self.server, word, '--journal', self.journal, *map(str, more)], input=given, text=True,
-                              capture_output=True, timeout=PATIENCE, env=self.environment)
-        return done.returncode, done.stdout, fault_of(done.stderr)
+        """The status, what it wrote, and its fault or all that it told."""
+        done = run('chess_server', word, '--journal', self.journal, *map(str, more), input=given, timeout=PATIENCE, **self.how)
+        return done.returncode, done.stdout, fault_of(done.stderr) or done.stderr.strip()
 
     def limits(self, word, limits):
-        return self.work(word, '--games', limits[0], '--plies', limits[1])
+        return self.work(word, *limits_of(*limits))
 
     def reads(self, last):
         return self.work('run', given=''.join(line + '\n' for line in reads_of(last)))
 
     def serve(self):
-        words = [self.server, 'serve', '--journal', self.journal, '--port', '0', '--turns', '4294967295']
-        process = subprocess.Popen(words, stdout=subprocess.PIPE, stderr=subprocess.PIPE, text=True,
-                                   preexec_fn=disk.die_with_parent, env=self.environment)
-        told = process.stdout.readline().split()
-        if told[:1] != ['port']:
-            raise Wrong('serve does not start: %s' % process.stderr.read())
-        return process, int(told[1])
+        server = Server(self.journal, *FOR_EVER, stderr=subprocess.PIPE, preexec_fn=disk.die_with_parent, **self.how)
+        if server.port is None:
+            raise Wrong('serve does not start: %s' % server.process.stderr.read())
+        return server
 
 
 # ------------------------------------------------------------------- players
@@ -97,8 +87,7 @@ class Player:
 
     def __init__(self, port, name):
         self.name, self.rest, self.waiting = name, b'', collections.deque()
-        self.connection = socket.create_connection(('127.0.0.1', port), PATIENCE)
-        self.connection.setsockopt(socket.IPPROTO_TCP, socket.TCP_NODELAY, 1)
+        self.connection = connect(port, PATIENCE)
         self.connection.sendall(b'name %s\n' % name.encode())
         if self.connection.recv(4096) != b'ok name %s\n' % name.encode():
             raise Wrong('no name %s' % name)

@@ -1,84 +1,184 @@
-"""Runs the program under test at a moment that is chosen: for bench/correct/hostile-lines and bench/correct/hostile-images.
+"""The programs under test: where they are, how they are begun and ended, and what they take."""
 
-`run` takes its moments from the system's clocks: that of the date at its start, and the steady one from there on. A shim
-before the C library's `clock_gettime` gives the first another value, and stops both for a whole run; the program itself is
-the one that is served. So each answer, the times of `show` and fallen flags among them, can be told to the last byte.
-"""
-
-import fcntl
+import argparse
+import contextlib
+import functools
 import multiprocessing
 import os
+import re
+import resource
 import shutil
 import subprocess
 import sys
 import tempfile
-import threading
 import time
 
 TOP = os.path.dirname(os.path.dirname(os.path.dirname(os.path.realpath(__file__))))
-PATIENCE = 120                  # seconds after which a run hangs
-SET_PIPE_SIZE, PAGE = 1031, 4096        # F_SETPIPE_SZ of Linux, which Python before 3.10 does not name
-SHIM = r'''
-#define _GNU_SOURCE
-#include <stdlib.h>
-#include <sys/syscall.h>
-#include <time.h>
-#include <unistd.h>
-int clock_gettime(clockid_t clock, struct timespec *now) {
-  const char *moment = getenv("MOMENT");
-  if (!moment || (clock != CLOCK_REALTIME && clock != CLOCK_MONOTONIC))
-    return syscall(SYS_clock_gettime, clock, now);
-  long long milliseconds = clock == CLOCK_REALTIME ? atoll(moment) : 1000;
-  now->tv_sec = milliseconds / 1000;
-  now->tv_nsec = milliseconds % 1000 * 1000000;
-  return 0;
-}
-'''
+PAGE = os.path.join(TOP, 'page')
+# (a bench may go into a folder of its own)
+BEGUN_IN, NAME = os.getcwd(), os.path.relpath(os.path.realpath(sys.argv[0]), TOP)
+PATIENCE = 600                  # seconds after which a program that is to end hangs
 
 
 class Wrong(Exception):
-    """What the program did otherwise than it should."""
+    """What is otherwise than it should be."""
 
 
-def last_line(text):
-    return b''.join(text.splitlines(keepends=True)[-1:])
+# ------------------------------------------------------------------- where they are
 
-
-def server_path():
-    """The program that CHESS_SERVER names, or this repository's, which is built where it has to be."""
-    if 'CHESS_SERVER' in os.environ:
-        return os.path.realpath(os.environ['CHESS_SERVER'])
-    subprocess.run([os.path.join(TOP, 'chess-server'), '--version'], stdout=subprocess.DEVNULL, check=True)
-    return os.path.join(TOP, 'crates/chess_server/out/chess_server')
+@functools.lru_cache(None)
+def path_of(name):
+    """A program: that which the variable of its name in capitals names, or this repository's, which is built where it has
+    to be."""
+    given = os.environ.get(name.upper())
+    if given:
+        return os.path.realpath(os.path.join(BEGUN_IN, given))
+    # (the players and `perft` end with their input)
+    words = [] if name.startswith(('test_', 'perft')) else ['--help']
+    subprocess.run([os.path.join(TOP, 'tools', 'run-program'), name, *words], stdin=subprocess.DEVNULL,
+                   stdout=subprocess.DEVNULL, check=True)
+    return os.path.join(TOP, 'crates', name, 'out', name)
 
 
 def take_programs(folder, *more):
-    """The programs under test, the server, the lobby and these, are those of this folder, by the names that tools/build
-    gives, or those of an archive."""
-    for name in ('chess_server', 'chess_lobby', *more):
+    """The programs under test, the server, the lobby and these, and the archive where it is there, are those of this
+    folder, by the names that tools/build gives, or those of an archive of tools/release."""
+    for name in ('chess_server', 'chess_lobby', 'chess_archive', *more):
         found = [path for path in (os.path.join(folder, name), os.path.join(folder, name.replace('_', '-')))
                  if os.path.isfile(path)]
-        if not found:
+        if found:
+            os.environ[name.upper()] = os.path.realpath(found[0])
+        elif name != 'chess_archive' or name in more:
             sys.exit('there is no %s in %s' % (name, folder))
-        os.environ[name.upper()] = os.path.realpath(found[0])
-    # (not each bench wants this)
-    for path in (os.path.join(folder, 'chess_archive'), os.path.join(folder, 'chess-archive')):
-        if os.path.isfile(path):
-            os.environ['CHESS_ARCHIVE'] = os.path.realpath(path)
+    path_of.cache_clear()
 
 
-def build_shim(folder):
-    """The shim's library, in a folder."""
-    source, library = os.path.join(folder, 'moment.c'), os.path.join(folder, 'moment.so')
-    with open(source, 'w') as out:
-        out.write(SHIM)
-    subprocess.run(['cc', '-O1', '-shared', '-fPIC', '-o', library, source], check=True)
+def words_of(text, *options, needs=()):
+    """The words of a bench, whose text is this: `--programs FOLDER`, whose programs are taken, these `needs` too; and the
+    options, each its name and what argparse is to know of it."""
+    words = argparse.ArgumentParser(description=text, formatter_class=argparse.RawDescriptionHelpFormatter)
+    words.add_argument('--programs', metavar='FOLDER')
+    for name, how in options:
+        words.add_argument(name, **how)
+    given = words.parse_args()
+    if given.programs:
+        take_programs(given.programs, *needs)
+    return given
+
+
+def counted(text, count):
+    """The words of a bench that tries so many things, from a seed on, in so many processes: COUNT, SEED and `--jobs J`."""
+    return words_of(text, ('count', {'nargs': '?', 'type': int, 'default': count}), ('seed', {'nargs': '?', 'type': int, 'default': 1}),
+                    ('--jobs', {'type': int, 'default': max(1, (os.cpu_count() or 1) - 1)}))
+
+
+def number(name, usual):
+    """An option that is a number."""
+    return name, {'type': type(usual), 'default': usual, 'metavar': 'N'}
+
+
+# ------------------------------------------------------------------- what they do
+
+def run(name, *words, **how):
+    """What a program does that ends by itself."""
+    how = {'capture_output': True, 'text': True, 'timeout': PATIENCE, **how}
+    return subprocess.run([path_of(name), *words], **how)
+
+
+def begin(name, *words, **how):
+    """A program that goes on; what it writes on standard output is read, and nothing else unless `how` says so."""
+    how = {'stdout': subprocess.PIPE, 'stderr': subprocess.DEVNULL, 'text': True, **how}
+    return subprocess.Popen([path_of(name), *words], **how)
+
+
+def end(process):
+    """Kills a program, and waits for its end."""
+    process.kill()
+    process.wait()
+    for stream in (process.stdin, process.stdout, process.stderr):
+        if stream:
+            stream.close()
+
+
+def within(process, seconds=None, errors=False):
+    """The status of a program that ends within so many seconds, none where it was killed then; and what it wrote until then,
+    or with `errors` what it told."""
+    try:
+        said, status = process.communicate(timeout=seconds), process.returncode
+    except subprocess.TimeoutExpired:
+        process.kill()
+        said, status = process.communicate(), None
+    return status, said[errors]
+
+
+def fault_of(error):
+    """The fault that standard error tells of, as `fault NAME`, if any."""
+    told = re.findall('^fault .*', error, re.MULTILINE)
+    return told[-1] if told else ''
+
+
+def used(pid):
+    """The seconds of a processor that a process has taken."""
+    with open('/proc/%d/stat' % pid) as file:
+        fields = file.read().rpartition(')')[2].split()
+    return (int(fields[11]) + int(fields[12])) / os.sysconf('SC_CLK_TCK')
+
+
+def memory(pid, what='VmRSS'):
+    """Megabytes of a process; with VmHWM the most that it had."""
+    with open('/proc/%d/status' % pid) as file:
+        return next(int(line.split()[1]) for line in file if line.startswith(what)) / 1000
+
+
+def more_files():
+    """Lets this program have some thousand connections."""
+    resource.setrlimit(resource.RLIMIT_NOFILE, (8192, resource.getrlimit(resource.RLIMIT_NOFILE)[1]))
+
+
+def shared_library(folder, name, text):
+    """A library of C, compiled in a folder, to be loaded before a program."""
+    source, library = (os.path.join(folder, name + kind) for kind in ('.c', '.so'))
+    with open(source, 'w') as file:
+        file.write(text)
+    subprocess.run(['cc', '-O1', '-shared', '-fPIC', '-o', library, source, '-ldl'], check=True)
     return library
 
 
-def work_folder(name):
-    """A folder for a bench's files, in memory where that can be, since each accepted line is synced."""
-    return tempfile.TemporaryDirectory(prefix=name + '-', dir='/dev/shm' if os.access('/dev/shm', os.W_OK) else None)
+# ------------------------------------------------------------------- a bench
+
+def put(path, text):
+    with open(path, 'w', encoding='utf-8') as file:
+        file.write(text)
+
+
+def content(path):
+    with open(path, encoding='utf-8') as file:
+        return file.read()
+
+
+def is_soon(holds, seconds=4, rest=0.05):
+    """Whether this holds before so many seconds have passed."""
+    until = time.monotonic() + seconds
+    while not (found := holds()) and time.monotonic() < until:
+        time.sleep(rest)
+    return found
+
+
+def stop(why):
+    """Ends a bench."""
+    sys.exit('%s: %s' % (NAME, why))
+
+
+@contextlib.contextmanager
+def work_folder(name, where=None):
+    """A folder for a bench's files, in memory where that can be, since each accepted line is synced. What is Wrong ends the
+    bench."""
+    memory_files = '/dev/shm' if os.access('/dev/shm', os.W_OK) else None
+    with tempfile.TemporaryDirectory(prefix=name + '-', dir=where or memory_files, ignore_cleanup_errors=True) as folder:
+        try:
+            yield folder
+        except Wrong as why:
+            stop(why)
 
 
 def kept(folder, name):
@@ -86,79 +186,8 @@ def kept(folder, name):
     return shutil.copytree(folder, tempfile.mkdtemp(prefix=name + '-kept-'), dirs_exist_ok=True)
 
 
-class Program:
-    def __init__(self, server, shim):
-        self.server, self.shim = server, shim
-
-    def start(self, journal, moment):
-        environment = dict(os.environ, LD_PRELOAD=self.shim, MOMENT=str(moment))
-        return subprocess.Popen([self.server, 'run', '--journal', journal], env=environment, stdin=subprocess.PIPE,
-                                stdout=subprocess.PIPE, stderr=subprocess.PIPE, bufsize=0)
-
-    def format(self, journal, games, plies):
-        words = [self.server, 'format', '--journal', journal, '--games', str(games), '--plies', str(plies)]
-        made = subprocess.run(words, capture_output=True)
-        if made.returncode != 0 or not made.stdout.startswith(b'ok format '):
-            raise Wrong('format with limits %d and %d: status %d, %r' % (games, plies, made.returncode, made.stderr))
-
-    def run(self, journal, moment, data):
-        """Status and output of a run that reads all of data, and the last line of its standard error, which names the
-        fault; what stands before it says why in words."""
-        process = self.start(journal, moment)
-        try:
-            out, error = process.communicate(data, timeout=PATIENCE)
-        except subprocess.TimeoutExpired:
-            process.kill()
-            process.wait()
-            raise Wrong('it hangs: no end of the run in %d seconds' % PATIENCE)
-        return process.returncode, out, last_line(error)
-
-    def run_in_pieces(self, journal, moment, pieces, kill_after=None, kill_in=PATIENCE, reads=True):
-        """The same, the input in pieces. It is killed once it has written so many bytes, or after so many seconds.
-        Unless `reads`, nothing is read before it has ended, and what it may write until then is a page."""
-        process = self.start(journal, moment)
-        if not reads:
-            fcntl.fcntl(process.stdout, SET_PIPE_SIZE, PAGE)
-        alarm = threading.Timer(kill_in, process.kill)
-        feeder = threading.Thread(target=feed, args=(process.stdin, pieces), daemon=True)
-        begun = time.monotonic()
-        alarm.start()
-        feeder.start()
-        if not reads:
-            process.wait()
-        out = bytearray()
-        while True:
-            if kill_after is not None and len(out) >= kill_after:
-                process.kill()
-                kill_after = None
-            piece = process.stdout.read(1 << 16)
-            if not piece:
-                break
-            out += piece
-        error = process.stderr.read()
-        status = process.wait()
-        alarm.cancel()
-        feeder.join()
-        process.stdout.close()
-        process.stderr.close()
-        if time.monotonic() - begun >= PATIENCE:
-            raise Wrong('it hangs: no end of the run in %d seconds' % PATIENCE)
-        return status, bytes(out), last_line(error)
-
-
-def feed(stream, pieces):
-    """Writes each piece by itself, as long as anybody reads."""
-    try:
-        for piece in pieces:
-            view = memoryview(piece)
-            while view:
-                view = view[stream.write(view):]
-    except BrokenPipeError:
-        pass
-    try:
-        stream.close()
-    except BrokenPipeError:
-        pass
+def say(text):
+    print(text, flush=True)
 
 
 # ------------------------------------------------------------------- many processes
@@ -173,20 +202,6 @@ def in_jobs(work, tasks, jobs, told):
     return None
 
 
-def say(text):
-    print(text, flush=True)
-
-
 def share(count, part):
     """How many parts of a size make at least a count."""
     return max(1, (count + part - 1) // part)
-
-
-def default_jobs():
-    return max(1, (os.cpu_count() or 1) - 1)
-
-
-def ended(name, error):
-    """Ends a bench at a difference."""
-    print('%s: %s' % (name, error), file=sys.stderr)
-    sys.exit(1)

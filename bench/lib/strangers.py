@@ -1,14 +1,16 @@
-"""Strangers before a lobby: connections that have shown no token and ask, and players who move beside them. For bench/speed/lobby."""
+"""Strangers before a lobby: connections that have shown no token and ask, and players who move beside them. For
+bench/speed/lobby."""
 
 import os
 import selectors
-import socket
 import subprocess
 import sys
 import time
 
 sys.path.insert(0, os.path.dirname(os.path.dirname(os.path.realpath(__file__))))
-from lib.web import TEXT, Line, frame, handshake, taken_frame, token_of
+from lib.net import connect  # noqa: E402
+from lib.server import Session  # noqa: E402
+from lib.web import TEXT, Guest, frame, handshake, token_of  # noqa: E402
 
 # (messages that a connection may say in a second, and at once)
 RATE, BURST = 20, 18
@@ -20,7 +22,7 @@ class Stranger:
 
     def __init__(self, port, line, burst):
         self.asked, self.burst = frame(TEXT, line.encode()) * burst, burst
-        self.socket = socket.create_connection(('127.0.0.1', port))
+        self.socket = connect(port)
         self.socket.sendall(handshake('127.0.0.1:%d' % port))
         self.head, self.left, self.waits, self.answers, self.at = bytearray(), 0, 0, 0, 0
         self.is_open = False
@@ -122,37 +124,16 @@ class Crowd:
 
 def play(port, plays):
     """Plays games on the server, past the lobby: white, black, and the texts of its moves; 64 lines at once."""
-    with socket.create_connection(('127.0.0.1', port)) as connection:
-        answers = connection.makefile('rb')
-
-        def ask(lines):
-            connection.sendall(''.join(line + '\n' for line in lines).encode())
-            return [answers.readline().decode().rstrip('\n') for _ in lines]
+    with Session(port) as past:
         for white, black, texts in plays:
-            number = ask(['name ' + white, 'open white 86400 0'])[1].split()[2]
-            joined = ask(['name ' + black, 'join ' + number])[1]
-            assert joined.startswith('ok join'), joined
+            number = past.game(white, black, 'open white 86400 0')
             for at in range(0, len(texts), 64):
                 lines = []
                 for ply in range(at, min(at + 64, len(texts))):
-                    lines += ['name ' + (white, black)[ply % 2], 'move %s %d %s' % (number, ply, texts[ply])]
-                last = ask(lines)[-1]
+                    lines += ['name ' + (white, black)[ply % 2], 'move %d %d %s' % (number, ply, texts[ply])]
+                past.send(*lines)
+                last = [past.line() for _ in lines][-1]
                 assert last.startswith('ok move'), last
-
-
-class Mover:
-    """A player at a board, by blocking calls: each move is timed until it is answered."""
-
-    def __init__(self, port, name):
-        self.line = Line(port, 60)
-        self.ask('login ' + token_of(name))
-
-    def ask(self, text):
-        self.line.send(text)
-        while True:
-            answer = self.line.hear()
-            if not answer.startswith(('told ', 'server ')):
-                return answer
 
 
 class Played:
@@ -160,7 +141,7 @@ class Played:
 
     def __init__(self, port, number, names, texts, ply):
         self.number, self.texts, self.ply = number, texts, ply
-        self.players = [Mover(port, name) for name in names]
+        self.players = [Guest(port, token_of(name), 60) for name in names]
 
     def move(self):
         """The milliseconds that a move took."""

@@ -1,13 +1,14 @@
-"""What benches say to a lobby over HTTP and its WebSocket: by blocking calls (Line), as a player who comes back (Seat), in an
-asyncio program (Browser), one request (fetch), and the figures of /health."""
+"""What benches say to a lobby over HTTP and its WebSocket: by blocking calls (Line, and Guest, who hears answers alone), as a
+player who comes back (Seat), in an asyncio program (Browser), one request (fetch), and the figures of /health."""
 
 import asyncio
 import base64
 import hashlib
 import os
 import re
-import socket
 import time
+
+from lib.net import connect, to_end
 
 TEXT, CLOSE, PING, PONG = 1, 8, 9, 10
 
@@ -56,12 +57,15 @@ class Line:
     """A browser's socket, by blocking calls."""
 
     def __init__(self, port, timeout=None):
-        self.data = bytearray()
-        self.socket = socket.create_connection(('127.0.0.1', port), timeout=timeout)
-        self.socket.sendall(handshake('127.0.0.1:%d' % port))
+        self.begin(connect(port, timeout), handshake('127.0.0.1:%d' % port))
+
+    def begin(self, line, request):
+        """Says over a connection what opens a WebSocket; `head` is what is answered."""
+        self.socket, self.data = line, bytearray()
+        line.sendall(request)
         while b'\r\n\r\n' not in self.data:
             self.more()
-        del self.data[:self.data.index(b'\r\n\r\n') + 4]
+        self.head, _, self.data = self.data.partition(b'\r\n\r\n')
 
     def close(self):
         self.socket.close()
@@ -87,6 +91,34 @@ class Line:
 
     def send(self, line):
         self.socket.sendall(frame(TEXT, line.encode()))
+
+
+class Guest(Line):
+    """A browser that hears answers alone, with a token or none; it rests before each line so long, in seconds."""
+
+    def __init__(self, port, token=None, timeout=20, rest=0.0):
+        super().__init__(port, timeout)
+        self.rest = rest
+        self.hear()
+        if token and not self.ask('login ' + token).startswith('ok login '):
+            raise Gone
+
+    def ask(self, line):
+        """The answer to a line, without the last line feed."""
+        time.sleep(self.rest)
+        self.send(line)
+        while True:
+            text = self.hear()
+            if not text.startswith(('told ', 'server ')):
+                return text.rstrip('\n')
+
+    def open(self, line='open white 300 2'):
+        """The number of a game that is opened."""
+        return self.ask(line).split()[2]
+
+    def rows(self):
+        """The games of the table."""
+        return [row.split() for row in self.ask('list').splitlines()[1:]]
 
 
 class Seat:
@@ -205,14 +237,17 @@ class Browser(asyncio.Protocol):
         return answer
 
 
-def fetch(port, path, method='GET', more=''):
+async def come(make, port):
+    """A Browser, or what else `make` makes of it, once it is connected."""
+    return (await asyncio.get_running_loop().create_connection(make, '127.0.0.1', port))[1]
+
+
+def fetch(port, path, method='GET', more='', timeout=60):
     """The status, the fields in small letters, and the body. More fields are lines that end in CRLF."""
-    with socket.create_connection(('127.0.0.1', port)) as line:
+    with connect(port, timeout) as line:
         line.sendall(('%s %s HTTP/1.1\r\nHost: 127.0.0.1:%d\r\n%sConnection: close\r\n\r\n' %
                       (method, path, port, more)).encode())
-        data = b''
-        while some := line.recv(65536):
-            data += some
+        data = to_end(line)[0]
     head, _, body = data.partition(b'\r\n\r\n')
     first, *rows = head.decode().split('\r\n')
     fields = {}

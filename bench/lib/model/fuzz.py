@@ -9,7 +9,6 @@ With --bytes some lines hold bytes over 127, byte 0 and carriage returns (also
 at the end); without it every byte of a line is 1 to 127, none of them 10 or 13.
 """
 
-import os
 import random
 import sys
 from collections import Counter
