@@ -292,8 +292,11 @@ class Tap:
 
     def taken(self, near):
         with contextlib.suppress(OSError), near, connect(self.to) as far:
-            with near.makefile('rb') as lines, far.makefile('rb') as answers:
-                self.pass_on(lines, near, far, answers)
+            try:
+                self.pass_on(near.makefile('rb'), near, far, far.makefile('rb'))
+            finally:
+                # (a thread may read from either)
+                cut(near, far)
 
     def pass_on(self, lines, near, far, answers):
         for line in lines:
