@@ -8,3 +8,4 @@ pub mod Saying
 pub mod Logging
 pub mod Room
 pub mod Seats
+pub mod Keeping

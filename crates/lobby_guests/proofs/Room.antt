@@ -1,5 +1,5 @@
 -- What is promised of who has a place, and who makes room.
-use Rattle.std.proofs.Common.{ℕ, zero, suc, ◌≡◌, ◌≤◌, ◌<◌, ◌+◌, ◌-◌, ◌⊎◌, ◌==◌, ◌&&◌, ◌||◌, Bool, true, false, List, [], ◌∷◌, Option, None, Some, length, cond, refl, sym, ap, ◌∙◌, subst, inl, inr, arith}
+use Rattle.std.proofs.Common.{ℕ, zero, suc, ◌≡◌, ◌≤◌, ◌<◌, ◌+◌, ◌-◌, ◌⊎◌, ◌&&◌, ◌||◌, Bool, true, false, List, [], ◌∷◌, Option, None, Some, length, cond, refl, sym, ap, ◌∙◌, subst, inl, inr, arith}
 use Rattle.std.specs.Prelude.{count_by, nat_lt, nat_le}
 use Rattle.std.specs.List.{AllZip}
 use Rattle.std.proofs.lemmas.Bool.Decides.{nat_tests}
@@ -9,8 +9,8 @@ use Rattle.lobby_guests.specs.declared.places.Place.{Place}
 use Rattle.lobby_guests.specs.declared.places.Role.{Role}
 use Rattle.lobby_guests.specs.declared.places.Role.TheVariants as roles
 use Rattle.lobby_guests.specs.declared.places.Class.{Class}
-use Rattle.lobby_guests.specs.declared.places.Class.TheVariants.{Gone, Players, Nameless, Watchers, Newcomers, Aged, Own}
-use Rattle.lobby_guests.specs.Places.{is_of, own_room, each_own, IsOwned, is_in, is_at, is_nameless, is_watcher, is_newcomer, is_player, has_address, counted, count_of, gone, leave, beyond, trim, make_room, room_at, room_for, each_room, in_time, most_nameless, judged, IsKeptOrClosed, IsYoung, HasCrowd, HasChance, HaveChance, IsFair}
+use Rattle.lobby_guests.specs.declared.places.Class.TheVariants.{Players, Nameless, Watchers, Newcomers, Aged, Own}
+use Rattle.lobby_guests.specs.Places.{is_of, own_room, each_own, IsOwned, is_at, is_nameless, is_watcher, is_newcomer, is_player, has_address, counted, count_of, gone, leave, beyond, trim, make_room, room_at, room_for, each_room, in_time, most_nameless, judged, IsKeptOrClosed, IsYoung, HasCrowd, HasChance, HaveChance, IsFair}
 
 -- ---- closing the first, or all but the first
 

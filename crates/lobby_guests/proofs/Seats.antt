@@ -10,7 +10,7 @@ use Rattle.lobby_guests.specs.declared.places.Place.{Place}
 use Rattle.lobby_guests.specs.declared.places.Role.{Role}
 use Rattle.lobby_guests.specs.Guests.{IsAsBefore}
 use Rattle.lobby_guests.specs.Places.{is_gone, is_player, gone, each_own, judged, IsKeptOrClosed, IsKeptOrGone, IsOwned, IsFair}
-use Rattle.lobby_guests.specs.Roles.{role_by, role_at}
+use Rattle.lobby_guests.specs.Roles.{role_by}
 use Rattle.lobby_guests.specs.Seating.{role_of, player_of, place_of, Yields, AreYielding, YieldAt, AreSeated, AreSeatedIf}
 use Rattle.lobby_guests.proofs.Each.{SameFrom, further_same, further_front}
 

@@ -8,3 +8,5 @@ pub mod Places
 pub mod Origins
 pub mod Roles
 pub mod Seating
+pub mod Counting
+pub mod Keeping

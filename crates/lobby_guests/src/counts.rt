@@ -1,4 +1,7 @@
-//! What is counted for who looks after a lobby. No law speaks of it, and nothing else goes by it.
+//! What is counted for who looks after a lobby. Nothing else goes by it.
+ghost use Rattle.std.specs.Prelude.{◌≡◌};
+ghost use Rattle.lobby_guests.specs.Guests.{refuses_login};
+ghost use Rattle.lobby_guests.specs.Counting.{counted_up, one_if};
 
 use crate::guest::is_refused_login;
 
@@ -38,7 +41,9 @@ pub struct Counts {
 }
 
 // One more.
-fn count(number: &mut u64) {
+fn count(number: &mut u64)
+    ensures { number.new ≡ counted_up number.old 1 }
+{
     *number = number.saturating_add(1);
 }
 
@@ -55,6 +60,53 @@ fn second_word(text: &str) -> &str {
     match text.split_once(' ') {
         Some((_, rest)) => first_word(rest),
         None => "",
+    }
+}
+
+// An act was accepted, if it is one.
+fn count_act(acts: &mut [u64; 11], word: &str) {
+    for (act, number) in ACTS.iter().zip(acts.iter_mut()) {
+        if *act == word {
+            count(number);
+        }
+    }
+}
+
+// An answer came so many milliseconds behind its message.
+fn count_within(within: &mut [u64; 12], time: u64) {
+    for (bound, number) in BOUNDS.iter().zip(within.iter_mut()) {
+        if time <= *bound {
+            count(number);
+        }
+    }
+}
+
+// What came in a turn and is counted: pieces that began with a request for figures, and messages.
+#[derive(Clone, Copy)]
+pub(crate) struct Coming {
+    figures: u64,
+    messages: u64,
+}
+
+impl Coming {
+    // Nothing came.
+    pub(crate) fn new() -> Coming {
+        Coming {
+            figures: 0,
+            messages: 0,
+        }
+    }
+
+    // A piece came of a browser.
+    pub(crate) fn take(&mut self, piece: &[u8]) {
+        if piece.starts_with(FIGURES) {
+            count(&mut self.figures);
+        }
+    }
+
+    // A message was taken.
+    pub(crate) fn said(&mut self) {
+        count(&mut self.messages);
     }
 }
 
@@ -77,59 +129,40 @@ impl Counts {
         }
     }
 
-    /// A piece came of a browser.
-    pub fn came(&mut self, piece: &[u8]) {
-        if piece.starts_with(FIGURES) {
-            count(&mut self.figures);
-        }
-    }
-
-    /// A message was taken.
-    pub fn said(&mut self) {
-        count(&mut self.messages);
-    }
-
-    // An act was accepted, if it is one.
-    fn acted(&mut self, word: &str) {
-        for (act, number) in ACTS.iter().zip(self.acts.iter_mut()) {
-            if *act == word {
-                count(number);
-            }
-        }
-    }
-
-    // An answer came so many milliseconds behind its message.
-    fn took(&mut self, time: u64) {
-        count(&mut self.timed);
-        self.time = self.time.saturating_add(time);
-        for (bound, number) in BOUNDS.iter().zip(self.within.iter_mut()) {
-            if time <= *bound {
-                count(number);
-            }
-        }
+    // What came is counted too.
+    pub(crate) fn add(&mut self, coming: &Coming)
+        ensures { self.new.logins_refused ≡ self.old.logins_refused }
+    {
+        self.figures = self.figures.saturating_add(coming.figures);
+        self.messages = self.messages.saturating_add(coming.messages);
     }
 
     // An answer goes out to the earliest message that has none, where that is known.
-    fn answered(&mut self, asked: &mut Asked) {
+    fn answered(&mut self, asked: &mut Asked)
+        ensures { self.new.logins_refused ≡ self.old.logins_refused }
+    {
         if let Some(asked_at) = asked.take() {
-            self.took(self.at.saturating_sub(asked_at));
+            let time = self.at.saturating_sub(asked_at);
+            count(&mut self.timed);
+            self.time = self.time.saturating_add(time);
+            count_within(&mut self.within, time);
         }
     }
 
     // A browser that asked at these moments is told a text: an answer, or a notice, which is not counted. It tells
     // whether it is an answer.
-    pub(crate) fn told(&mut self, text: &str, asked: &mut Asked) -> bool {
+    pub(crate) fn told(&mut self, text: &str, asked: &mut Asked) -> bool
+        ensures { self.new.logins_refused ≡ counted_up self.old.logins_refused (one_if (refuses_login text.now)) }
+    {
+        if is_refused_login(text) {
+            count(&mut self.logins_refused);
+        }
         match first_word(text) {
             "ok" => {
                 count(&mut self.ok);
-                self.acted(second_word(text));
+                count_act(&mut self.acts, second_word(text));
             }
-            "no" => {
-                count(&mut self.no);
-                if is_refused_login(text) {
-                    count(&mut self.logins_refused);
-                }
-            }
+            "no" => count(&mut self.no),
             "fallen" => count(&mut self.fallen),
             "lost" => count(&mut self.lost),
             _ => return false,

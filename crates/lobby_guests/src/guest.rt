@@ -2,9 +2,10 @@
 ghost use Rattle.std.specs.Prelude.{ℕ, ◌≡◌, ◌↔◌, None, Some, true, false, IsTrue, OnOk};
 ghost use Rattle.lobby_desk.specs.Who.{IsReady, at_table};
 ghost use Rattle.lobby_guests.specs.Guests.{has_time, refuses_login, is_beyond, IsNewGuest, IsAsBefore, IsRead, IsHeardAs, IsHeard, IsAsked, MaySpeak, IsSaid, IsTold, AreTold, IsWritten, IsLookedAfter};
+ghost use Rattle.lobby_guests.specs.Counting.{counted_up, one_if, refuses, refusals_of};
 ghost use Rattle.lobby_guests.specs.Seating.{role_of, player_of, place_of, Yields};
 
-use crate::counts::Asked;
+use crate::counts::{Asked, Coming};
 use crate::origin::Origin;
 use crate::pieces::{Gone, PIECE_ROOM, write_piece};
 use crate::places::{Place, Role, is_gone};
@@ -255,7 +256,7 @@ impl<S> Guest<S> {
         talk: &mut Talk,
         at: u64,
         links: &mut K,
-        counts: &mut Counts,
+        coming: &mut Coming,
     ) -> Result<bool, AllocError>
         requires { MaySpeak talk.old.desk self.old.number }
         ensures told { OnOk result (IsHeardAs (Some heard.now) at self.old.number self.new.number talk.old talk.new) }
@@ -282,7 +283,7 @@ impl<S> Guest<S> {
                 }
                 Some(number) => {
                     say_to_desk(text.as_slice(), number, talk, at, links)?;
-                    counts.said();
+                    coming.said();
                     self.asked.push(at);
                     Ok(true)
                 }
@@ -292,12 +293,12 @@ impl<S> Guest<S> {
 
     /// What came next of it is said to the desk: that its socket is open, or a message, once the one before it is
     /// answered. It tells whether there was any.
-    pub fn hear<K: KeepsLinks>(
+    pub(crate) fn hear<K: KeepsLinks>(
         &mut self,
         talk: &mut Talk,
         at: u64,
         links: &mut K,
-        counts: &mut Counts,
+        coming: &mut Coming,
     ) -> Result<bool, AllocError>
         ensures heard { OnOk result (IsHeard at self.old self.new talk.old talk.new) }
         ensures asks { OnOk result (self.old.is_lost ≡ false → MaySpeak talk.old.desk self.old.number →
@@ -311,7 +312,7 @@ impl<S> Guest<S> {
                 self.has_more = false;
                 Ok(false)
             }
-            Some(heard) => self.speak(&heard, talk, at, links, counts),
+            Some(heard) => self.speak(&heard, talk, at, links, coming),
         }
     }
 
@@ -353,7 +354,9 @@ impl<S> Guest<S> {
 
     // It is told a message, if that goes to it.
     fn be_told(&mut self, made: &Message, counts: &mut Counts)
-        ensures { IsTold made.now self.old self.new }
+        ensures told { IsTold made.now self.old self.new }
+        ensures logins { counts.new.logins_refused
+            ≡ counted_up counts.old.logins_refused (one_if (refuses self.old.number made.now)) }
     {
         match self.number {
             None => {}
@@ -371,7 +374,9 @@ impl<S> Guest<S> {
 
     /// It is told those of these messages that go to it, in their order.
     pub fn be_told_all(&mut self, made: &[Message], counts: &mut Counts)
-        ensures { AreTold made.now self.old self.new }
+        ensures told { AreTold made.now self.old self.new }
+        ensures logins { counts.new.logins_refused
+            ≡ counted_up counts.old.logins_refused (refusals_of made.now self.old.number) }
     {
         for one in made {
             self.be_told(one, counts);
@@ -407,12 +412,12 @@ impl<S> Guest<S> {
 
 impl<S: Read + Write> Guest<S> {
     /// Reads a piece, if bytes are wanted. It tells whether anything came.
-    pub fn read_in(
+    pub(crate) fn read_in(
         &mut self,
         site: &Site,
         at: u64,
         piece: &mut [u8; PIECE_ROOM],
-        counts: &mut Counts,
+        coming: &mut Coming,
     ) -> bool
         ensures { IsRead S.remaining site.now self.old self.new }
     {
@@ -426,7 +431,7 @@ impl<S: Read + Write> Guest<S> {
             }
             Came::Interrupted => true,
             Came::Bytes(count) => {
-                counts.came(&piece[..count]);
+                coming.take(&piece[..count]);
                 self.browser.take(site, &piece[..count]);
                 self.origin = self.origin.told(self.browser.forwarded());
                 self.heard_at = at;

@@ -3,9 +3,12 @@
 
 ghost use Rattle.std.specs.Prelude.{ℕ, Bool, true, false, ◌≡◌, ◌++◌, ◌∷◌, [], List, Option, OnOk};
 ghost use Rattle.std.specs.List.{AllZip};
+ghost use Rattle.lobby_guests.specs.Counting.{counted_up, refusals_in, CountsLogins};
 ghost use Rattle.lobby_guests.specs.Guests as guests;
 ghost use Rattle.lobby_guests.specs.Guests.{IsAsBefore, IsServed, IsPlayersTurn, IsOthersTurn, InTurn, Room, full_room, AreAttended, AreTold, AreDelivered, IsWritten, IsLookedAfter, IsClosedIf, AreClosed, AreParted};
+ghost use Rattle.lobby_guests.specs.Keeping.{AreKept};
 
+use crate::counts::Coming;
 use crate::guest::Guest;
 use crate::made::finish_all;
 use crate::pieces::PIECE_ROOM;
@@ -24,12 +27,12 @@ fn attend<S: Read + Write, K: KeepsLinks>(
     at: u64,
     links: &mut K,
     piece: &mut [u8; PIECE_ROOM],
-    counts: &mut Counts,
+    coming: &mut Coming,
 ) -> Result<bool, AllocError>
     ensures { OnOk result (IsServed S.remaining site.now at guest.old guest.new talk.old talk.new) }
 {
-    let has_read = guest.read_in(site, at, piece, counts);
-    let has_heard = guest.hear(talk, at, links, counts)?;
+    let has_read = guest.read_in(site, at, piece, coming);
+    let has_heard = guest.hear(talk, at, links, coming)?;
     Ok(has_read | has_heard)
 }
 
@@ -41,7 +44,7 @@ fn attend_player<S: Read + Write, K: KeepsLinks>(
     at: u64,
     links: &mut K,
     piece: &mut [u8; PIECE_ROOM],
-    counts: &mut Counts,
+    coming: &mut Coming,
 ) -> Result<bool, AllocError>
     ensures { OnOk result (IsPlayersTurn S.remaining site.now at guest.old guest.new talk.old talk.new) }
 {
@@ -49,7 +52,7 @@ fn attend_player<S: Read + Write, K: KeepsLinks>(
     if !is_turn {
         return Ok(false);
     }
-    attend(guest, site, talk, at, links, piece, counts)
+    attend(guest, site, talk, at, links, piece, coming)
 }
 
 // Attends each that acts for a player.
@@ -60,13 +63,13 @@ fn attend_players<S: Read + Write, K: KeepsLinks>(
     at: u64,
     links: &mut K,
     piece: &mut [u8; PIECE_ROOM],
-    counts: &mut Counts,
+    coming: &mut Coming,
 ) -> Result<bool, AllocError>
     ensures { OnOk result (InTurn (IsPlayersTurn S.remaining site.now at) guests.old.items guests.new.items talk.old talk.new) }
 {
     let mut any = false;
     for guest in guests.iter_mut() {
-        any |= attend_player(guest, site, talk, at, links, piece, counts)?;
+        any |= attend_player(guest, site, talk, at, links, piece, coming)?;
     }
     Ok(any)
 }
@@ -103,7 +106,7 @@ fn attend_other<S: Read + Write, K: KeepsLinks>(
     at: u64,
     links: &mut K,
     piece: &mut [u8; PIECE_ROOM],
-    counts: &mut Counts,
+    coming: &mut Coming,
 ) -> Result<bool, AllocError>
     ensures { OnOk result (IsOthersTurn others S.remaining site.now at guest.old guest.new
         (record { talk = talk.old; left = round.old.left }) (record { talk = talk.new; left = round.new.left })) }
@@ -119,7 +122,7 @@ fn attend_other<S: Read + Write, K: KeepsLinks>(
         return Ok(false);
     }
     round.take(guest.key());
-    attend(guest, site, talk, at, links, piece, counts)
+    attend(guest, site, talk, at, links, piece, coming)
 }
 
 // Attends some of these others, and tells whether there was anything or more can be attended at once.
@@ -133,7 +136,7 @@ fn attend_others<S: Read + Write, K: KeepsLinks>(
     at: u64,
     links: &mut K,
     piece: &mut [u8; PIECE_ROOM],
-    counts: &mut Counts,
+    coming: &mut Coming,
 ) -> Result<bool, AllocError>
     ensures { OnOk result ((room : Room) × (room.talk ≡ talk.new)
         × InTurn (IsOthersTurn others S.remaining site.now at) guests.old.items guests.new.items (full_room talk.old) room) }
@@ -142,7 +145,7 @@ fn attend_others<S: Read + Write, K: KeepsLinks>(
     round.begin_attending();
     for guest in guests.iter_mut() {
         any |= attend_other(
-            guest, others, is_fresh, round, site, talk, at, links, piece, counts,
+            guest, others, is_fresh, round, site, talk, at, links, piece, coming,
         )?;
     }
     let can_more = round.end();
@@ -161,29 +164,62 @@ pub fn attend_all<S: Read + Write, K: KeepsLinks>(
     piece: &mut [u8; PIECE_ROOM],
     counts: &mut Counts,
 ) -> Result<bool, AllocError>
-    ensures { OnOk result (AreAttended S.remaining site.now at guests.old.items guests.new.items talk.old talk.new) }
+    ensures attended { OnOk result (AreAttended S.remaining site.now at guests.old.items guests.new.items
+        talk.old talk.new) }
+    ensures logins { OnOk result (counts.new.logins_refused ≡ counts.old.logins_refused) }
 {
+    let mut coming = Coming::new();
     let new = Others::Newcomers;
     let round = &mut rounds.newcomers;
-    let players = attend_players(guests, site, talk, at, links, piece, counts)?;
-    let came = attend_others(
-        guests, new, true, round, site, talk, at, links, piece, counts,
+    let players = attend_players(guests, site, talk, at, links, piece, &mut coming)?;
+    let newcomers = attend_others(
+        guests,
+        new,
+        true,
+        round,
+        site,
+        talk,
+        at,
+        links,
+        piece,
+        &mut coming,
     )?;
     let strange = Others::Strangers;
     let round = &mut rounds.fresh;
     let fresh = attend_others(
-        guests, strange, true, round, site, talk, at, links, piece, counts,
+        guests,
+        strange,
+        true,
+        round,
+        site,
+        talk,
+        at,
+        links,
+        piece,
+        &mut coming,
     )?;
     let round = &mut rounds.strangers;
     let other = attend_others(
-        guests, strange, false, round, site, talk, at, links, piece, counts,
+        guests,
+        strange,
+        false,
+        round,
+        site,
+        talk,
+        at,
+        links,
+        piece,
+        &mut coming,
     )?;
-    Ok(players | came | fresh | other)
+    counts.add(&coming);
+    Ok(players | newcomers | fresh | other)
 }
 
 // Each is told the messages that go to it.
 fn tell_all<S>(guests: &mut Vec<Guest<S>>, made: &[Message], counts: &mut Counts)
-    ensures { AllZip (AreTold made.now) guests.old.items guests.new.items }
+    ensures told { AllZip (AreTold made.now) guests.old.items guests.new.items }
+    ensures logins { counts.new.logins_refused
+        ≡ counted_up counts.old.logins_refused (refusals_in made.now guests.old.items) }
 {
     for guest in guests.iter_mut() {
         guest.be_told_all(made, counts);
@@ -202,6 +238,9 @@ pub fn deliver<S>(
     ensures desk { OnOk result (talk.new.desk ≡ talk.old.desk) }
     ensures wire { OnOk result (talk.new.wire ≡ talk.old.wire) }
     ensures next { OnOk result (talk.new.next ≡ talk.old.next) }
+    ensures logins { OnOk result (CountsLogins talk.old.told.items guests.old.items counts.old.logins_refused
+        counts.new.logins_refused) }
+    ensures kept { OnOk result (AreKept talk.new.kept.answers.items) }
 {
     finish_all(alloc, &mut talk.told, &mut talk.kept)?;
     talk.rest_strangers(counts.at);

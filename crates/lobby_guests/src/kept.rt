@@ -1,39 +1,13 @@
 //! The answers to `line G` that were made, as long as the server tells the same PGN: each is made once.
-ghost use Rattle.std.specs.Prelude.{IfSome};
-ghost use Rattle.std.specs.String.{string_bytes};
+ghost use Rattle.std.specs.Prelude.{◌≡◌, ◌≤◌, ◌+◌, IfSome, [], OnOk};
 ghost use Rattle.lobby_guests.specs.Making.{IsOfLine};
+ghost use Rattle.lobby_guests.specs.Keeping.{size_of_all, kept_most, shown};
 
+use crate::kept_answer::KeptAnswer;
 use std::alloc::{AllocError, Global};
 
-/// So many bytes of them are kept at most, and one answer.
+/// So many bytes of them are kept at most.
 const KEPT_MOST: usize = 16_777_216;
-
-/// An answer, and the server's answer to `pgn G` of which it was made.
-#[derive(Drop)]
-pub struct KeptAnswer {
-    game: u32,
-    pgn: String,
-    answer: String,
-    ghost made: { ∥ IsOfLine (string_bytes pgn) (string_bytes answer) ∥₁ },
-}
-
-impl KeptAnswer {
-    // How many bytes it takes.
-    fn size(&self) -> usize {
-        self.pgn.len().saturating_add(self.answer.len())
-    }
-
-    // The answer, where it is of this PGN.
-    fn answer_of(&self, pgn: &str) -> Option<&str>
-        ensures { IfSome result (λ answer. ∥ IsOfLine pgn.now answer.now ∥₁) }
-    {
-        if self.pgn.as_str() == pgn {
-            Some(self.answer.as_str())
-        } else {
-            None
-        }
-    }
-}
 
 /// Answers, the oldest first, of each game one.
 #[derive(Drop)]
@@ -42,15 +16,47 @@ pub struct KeptAnswers {
     answers: Vec<KeptAnswer>,
     // So many bytes of answers were made and not told of.
     made: usize,
+    ghost within: { size_of_all answers.items ≤ kept_most },
 }
 
 // How many bytes answers take.
-fn size_of_all(answers: &[KeptAnswer]) -> usize {
+fn size_of_all(answers: &[KeptAnswer]) -> usize
+    ensures { result ≡ shown (size_of_all answers.now) }
+{
     let mut size: usize = 0;
     for one in answers {
         size = size.saturating_add(one.size());
     }
     size
+}
+
+// The oldest go where there are more bytes than these.
+fn let_go_beyond(answers: &mut Vec<KeptAnswer>, most: usize)
+    requires { most ≤ kept_most }
+    ensures { size_of_all answers.new.items ≤ most }
+{
+    while answers.len() > 0 && size_of_all(answers.as_slice()) > most {
+        answers.remove(0);
+    }
+}
+
+// Puts one of a game in the place of the one that there was of it, behind the others, of which the oldest go where
+// there are too many bytes. One that alone has too many is not kept.
+fn put(answers: &mut Vec<KeptAnswer>, game: u32, one: KeptAnswer) -> Result<(), AllocError>
+    ensures { size_of_all answers.new.items ≤ kept_most }
+{
+    answers.retain(|kept| !kept.is_of(game));
+    match KEPT_MOST.checked_sub(one.size()) {
+        None => {
+            let_go_beyond(answers, KEPT_MOST);
+            Ok(())
+        }
+        Some(most) => {
+            let_go_beyond(answers, most);
+            answers.push(one)?;
+            Ok(())
+        }
+    }
 }
 
 impl KeptAnswers {
@@ -87,17 +93,8 @@ impl KeptAnswers {
     pub fn keep(&mut self, game: u32, pgn: &str, answer: &str) -> Result<(), AllocError>
         requires { ∥ IsOfLine pgn.now answer.now ∥₁ }
     {
-        let one = KeptAnswer {
-            game,
-            pgn: String::from_str(self.alloc, pgn)?,
-            answer: String::from_str(self.alloc, answer)?,
-        };
+        let one = KeptAnswer::new(self.alloc, game, pgn, answer)?;
         self.made = self.made.saturating_add(answer.len());
-        self.answers.retain(|kept| kept.game != game);
-        while self.answers.len() > 0 && size_of_all(self.answers.as_slice()) > KEPT_MOST {
-            self.answers.remove(0);
-        }
-        self.answers.push(one)?;
-        Ok(())
+        put(&mut self.answers, game, one)
     }
 }

@@ -13,6 +13,7 @@ mod counts;
 mod guest;
 mod guests;
 mod kept;
+mod kept_answer;
 mod lines;
 mod link;
 mod links;

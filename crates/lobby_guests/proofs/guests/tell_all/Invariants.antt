@@ -1,7 +1,12 @@
 -- Those so far are told, and the others are as they were.
+use Rattle.std.proofs.Common.{◌≡◌, take}
 use Rattle.lobby_guests.specs.Guests.{AreTold}
+use Rattle.lobby_guests.specs.Counting.{counted_up, refusals_in}
 use Rattle.lobby_guests.proofs.Each.{IsZippedTo}
 use Rattle.lobby_guests.proofs.guests.tell_all.Given as goal
 
 abbrev pub invariant-loop-guest : goal.invariant-loop-guest
-invariant-loop-guest g l = IsZippedTo (AreTold l.made) l.guest-index l.fn.guests.items l.guest-items
+invariant-loop-guest g l = record {
+  told : IsZippedTo (AreTold l.made) l.guest-index l.fn.guests.items l.guest-items;
+  logins : l.counts.logins_refused ≡ counted_up l.fn.counts.logins_refused (refusals_in l.made (take l.guest-index l.fn.guests.items));
+}

@@ -1,9 +1,8 @@
 -- Whoever yields is closed, and all others stay.
 use Rattle.std.proofs.Common.{◌≡◌, ◌∙◌, List, length, map, sym, subst, ap}
-use Rattle.lobby_guests.specs.declared.guest.Guest.{Guest}
 use Rattle.lobby_guests.specs.declared.places.Place.{Place}
 use Rattle.lobby_guests.specs.Places.{each_own, IsOwned}
-use Rattle.lobby_guests.specs.Seating.{place_of, YieldAt}
+use Rattle.lobby_guests.specs.Seating.{place_of}
 use Rattle.lobby_guests.proofs.Seats.{seated, places_length, owned_length}
 use Rattle.lobby_guests.proofs.seating.seat_all.Goals as goal
 

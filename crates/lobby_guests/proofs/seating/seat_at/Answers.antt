@@ -1,8 +1,7 @@
 -- All are judged, and those yield who are to.
-use Rattle.std.proofs.Common.{◌≡◌, List, length, sym, subst, ◌∙◌, arith}
-use Rattle.lobby_guests.specs.declared.guest.Guest.{Guest}
+use Rattle.std.proofs.Common.{List, sym, subst, ◌∙◌}
 use Rattle.lobby_guests.specs.declared.places.Place.{Place}
-use Rattle.lobby_guests.specs.Places.{judged, IsFair}
+use Rattle.lobby_guests.specs.Places.{IsFair}
 use Rattle.lobby_guests.specs.Seating.{AreYielding}
 use Rattle.lobby_guests.proofs.Seats.{fair_length}
 use Rattle.lobby_guests.proofs.seating.seat_at.Goals as goal

@@ -1,5 +1,5 @@
 -- Where it is due, and where it is not.
-use Rattle.std.proofs.Common.{◌≡◌, Bool, sym, subst}
+use Rattle.std.proofs.Common.{Bool, sym, subst}
 use Rattle.lobby_guests.specs.Seating.{AreSeatedIf}
 use Rattle.lobby_guests.proofs.Seats.{seated_so, seated_not}
 use Rattle.lobby_guests.proofs.seating.seat_if.Goals as goal

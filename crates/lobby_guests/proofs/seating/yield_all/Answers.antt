@@ -1,5 +1,5 @@
 -- One browser more.
-use Rattle.std.proofs.Common.{◌<◌, ◌≡◌, ◌∙◌, List, length, get_or, sym, subst, arith}
+use Rattle.std.proofs.Common.{◌<◌, ◌∙◌, List, length, get_or, sym, subst, arith}
 use Rattle.std.proofs.lemmas.List.{with_items_is}
 use Rattle.lobby_guests.specs.declared.guest.Guest.{Guest}
 use Rattle.lobby_guests.specs.declared.places.Place.{Place}

@@ -1,11 +1,28 @@
-use Rattle.std.proofs.Common.{subst}
+use Rattle.std.proofs.Common.{Bool, get_or, take, subst, ap, sym, ◌∙◌}
 use Rattle.lobby_desk.specs.declared.telling.Message.{Message}
 use Rattle.lobby_guests.specs.Guests.{IsTold}
-use Rattle.lobby_guests.proofs.Telling.{told_further}
+use Rattle.lobby_guests.specs.Counting.{counted_up, one_if, refuses, refusals_of}
+use Rattle.lobby_guests.proofs.Telling.{told_further, refusals_more, counted_more}
 use Rattle.lobby_guests.proofs.guest.Guest.be_told_all.Goals as goal
 
 pub loop-one-preserved : goal.loop-one-preserved
 loop-one-preserved g c =
-    told_further c.loop-one.one-index c.args.made.now c.one-item.result c.args.self.now c.loop-one.self c.be_told.new.self
-    c.loop-one-test.true c.loop-one.invariant
-    (subst (λ (m : Message). IsTold m c.loop-one.self c.be_told.new.self) c.one-item.is c.be_told.ensures)
+    let told : IsTold c.one-item.result c.loop-one.self c.be_told.new.self = c.be_told.ensures.told in
+    let made = c.args.made.now in
+    let i = c.loop-one.one-index in
+    let d = c.one-item.result in
+    let number = c.args.self.now.number in
+    let before = c.loop-one.counts.logins_refused in
+    record {
+      told = told_further c.loop-one.one-index c.args.made.now c.one-item.result c.args.self.now c.loop-one.self c.be_told.new.self
+          c.loop-one-test.true c.loop-one.invariant.told
+          (subst (λ (m : Message). IsTold m c.loop-one.self c.be_told.new.self) c.one-item.is told);
+      number = told.number ∙ c.loop-one.invariant.number;
+      logins =
+          counted_more c.args.counts.now.logins_refused before (refusals_of (take i made) number)
+          (one_if (refuses number (get_or made i d))) c.be_told.new.counts.logins_refused c.loop-one.invariant.logins
+          (c.be_told.ensures.logins
+          ∙ ap (λ (b : Bool). counted_up before (one_if b))
+          (ap (λ n. refuses n d) c.loop-one.invariant.number ∙ ap (refuses number) c.one-item.is))
+          ∙ ap (counted_up c.args.counts.now.logins_refused) (sym (refusals_more made number i d c.loop-one-test.true));
+    }
