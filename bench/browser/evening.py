@@ -14,9 +14,7 @@ ROOK_AND_KING = '4k3/8/8/8/8/8/8/R3K3 w - - 0 1'
 
 def no_dead_buttons(hall):
     """A game is asked for while the lobby is killed: "Rematch" works after that as before it."""
-    hall.sit()
-    number = hall.open(minutes='20')
-    ann, bob = hall.ann, hall.bob
+    number, ann, bob, _ = hall.begin(minutes='20')
     hall.play(FOOLS)
     bob.reads('#again', 'Rematch')
     ann.run('location.hash = "#/"')
@@ -37,9 +35,7 @@ def no_dead_buttons(hall):
 
 def handy_moves(hall):
     """A king that is put on its rook castles; a mate is said behind its move; the tab says that a draw is offered."""
-    hall.sit()
-    hall.open(fen='r3k2r/pppppppp/8/8/8/8/PPPPPPPP/R3K2R w KQkq - 0 1', minutes='20')
-    ann, bob, sue = hall.ann, hall.bob, hall.sue
+    _, ann, bob, sue = hall.begin(fen='r3k2r/pppppppp/8/8/8/8/PPPPPPPP/R3K2R w KQkq - 0 1', minutes='20')
     ann.tap('e1')
     ann.is_so('g1' in ann.lit() and 'h1' not in ann.lit(), 'the king’s squares are lit, and no rook')
     ann.tap('h1')
@@ -92,9 +88,7 @@ def moves_of(person):
 
 def planned_moves(hall):
     """A move for the next turn: drawn, taken back by a click, sent where it is among those told, and else not."""
-    hall.sit()
-    number = hall.open(minutes='20', fen='rnbqkbnr/pppppppp/8/8/8/8/PPPPPPPP/RNBQKBNR w KQkq - 0 1')
-    ann, bob, sue = hall.ann, hall.bob, hall.sue
+    number, ann, bob, sue = hall.begin(minutes='20', fen='rnbqkbnr/pppppppp/8/8/8/8/PPPPPPPP/RNBQKBNR w KQkq - 0 1')
     bob.until(lambda: bob.lit('.ahead'), 'Black’s men may be moved ahead')
     bob.forget_sent()
     bob.click_move('g8f6')
@@ -140,8 +134,7 @@ def planned_moves(hall):
     bob.keys(Keys.ESCAPE)
     bob.until(lambda: planned(bob) == set(), 'Escape takes it back')
     bob.click_move('g8f6')
-    ann.click('#resign')
-    ann.click('#resign-dialog [value=yes]')
+    ann.asked('#resign')
     bob.reads('#outcome', 'Black wins by resignation')
     bob.is_so(planned(bob) == set() and bob.lit('.ahead') == set(), 'nothing is planned in a game that is over')
     hall.open(minutes='20', fen='k7/8/8/8/8/8/p6P/K7 w - - 0 1')
@@ -155,9 +148,7 @@ def planned_moves(hall):
 
 def asked_first(hall):
     """Where it is wished, a move on the board is sent only once it is agreed to, by a click or Enter."""
-    hall.sit()
-    hall.open(minutes='20')
-    ann, bob = hall.ann, hall.bob
+    _, ann, bob, _ = hall.begin(minutes='20')
     ann.click('#settings summary')
     ann.click('#ask-first')
     ann.keys(Keys.ESCAPE)
@@ -176,13 +167,11 @@ def asked_first(hall):
     ann.click('#play-it')
     bob.until(lambda: bob.moves() == ['d4'], 'who agrees has moved')
     hall.play(['d7d5'], 1)
-    ann.until(lambda: ann.lit('.movable'), 'is on move')
-    ann.click_move('c2c4')
+    ann.moves_on('c2c4')
     ann.keys(Keys.ENTER)
     bob.until(lambda: bob.moves() == ['d4', 'd5', 'c4'], 'by Enter too')
     hall.play(['e7e6'], 3)
-    ann.until(lambda: ann.lit('.movable'), 'is on move')
-    ann.click_move('b1c3')
+    ann.moves_on('b1c3')
     ann.keys(Keys.ARROW_LEFT)
     ann.until(lambda: not ann.sees('#proposed'), 'who looks at another position takes it back')
     ann.keys(Keys.END)
@@ -200,9 +189,7 @@ HEARD = '''window.tones = []; const begin = OscillatorNode.prototype.start;
 
 def heard_tones(hall):
     """Sounds are on from the first click: move, capture, check, offer, low time and end; a switch is in sight."""
-    hall.sit()
-    hall.open(minutes='20')
-    ann, bob = hall.ann, hall.bob
+    _, ann, bob, _ = hall.begin(minutes='20')
     ann.run(HEARD)
     tones = lambda: [round(tone) for tone in ann.run('return window.tones.splice(0)')]
     ann.is_so(ann.sees('#sound[aria-pressed=true]'), 'the switch is in sight, and on')
@@ -218,8 +205,7 @@ def heard_tones(hall):
     ann.is_so(ann.sees('#sound[aria-pressed=false]'), 'off by one click')
     ann.run('tones.length = 0')
     hall.play(['f1e2'], 6)
-    bob.click('#resign')
-    bob.click('#resign-dialog [value=yes]')
+    bob.asked('#resign')
     ann.reads('#outcome', 'White wins by resignation')
     time.sleep(0.3)
     ann.is_so(tones() == [], 'then all is quiet')
@@ -232,8 +218,7 @@ def heard_tones(hall):
     ann.run('tones.length = 0')
     bob.click('[data-key="join-%s"]' % number)
     ann.until(lambda: tones() == [880] * 3, 'low time', 30)
-    ann.click('#resign')
-    ann.click('#resign-dialog [value=yes]')
+    ann.asked('#resign')
     ann.until(lambda: tones() == [520, 390], 'the end')
 
 
@@ -275,9 +260,7 @@ def own_marks(hall):
 
 def taken_men(hall):
     """What a side has taken stands beside its name, and by how much it has more; also in an earlier position."""
-    hall.sit()
-    hall.open(minutes='20', fen='4k3/8/8/3q4/4P3/8/8/4K2R w K - 0 1')
-    ann, bob, sue = hall.ann, hall.bob, hall.sue
+    _, ann, bob, sue = hall.begin(minutes='20', fen='4k3/8/8/3q4/4P3/8/8/4K2R w K - 0 1')
     taken = lambda person, css: (len(person.driver.find_elements('css selector', css + ' .taken img')),
                                  person.text(css + ' .taken .ahead'))
     sue.until(lambda: taken(sue, '.player.black') == (0, '+3'), 'who has more at the start')
@@ -485,9 +468,7 @@ def room_for_all(hall):
 
 def read_by_all(hall):
     """Coordinates of 4.5 to 1 on every board, all texts too, light and dark; what has the keys shows it; all has a name."""
-    hall.sit()
-    number = hall.open(minutes='20')
-    ann, bob = hall.ann, hall.bob
+    number, ann, bob, _ = hall.begin(minutes='20')
     ann.run('localStorage.setItem("ask-first", "on")')
     for board in ('wood', 'green', 'blue'):
         ann.run('document.documentElement.dataset.board = arguments[0]', board)
@@ -563,9 +544,7 @@ def left(person):
 
 def in_german(hall):
     """All words in German, by the switch or by what the browser wants, also in what is said; and English again."""
-    hall.sit()
-    number = hall.open(minutes='20')
-    ann, bob, sue = hall.ann, hall.bob, hall.sue
+    number, ann, bob, sue = hall.begin(minutes='20')
     ann.click('#settings summary')
     ann.click('.choice:has([name=language][value=de])')
     ann.until(lambda: ann.run('return document.documentElement.lang') == 'de', 'chosen')

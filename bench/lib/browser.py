@@ -28,6 +28,11 @@ WebSocket.prototype.send = function (line) {
   return window.spied.call(this, line); };'''
 
 
+def each_reads(people, css, part, patience=PATIENCE):
+    for person in people:
+        person.reads(css, part, patience)
+
+
 class Person:
     def __init__(self, name, folder, checked):
         self.name, self.checked = name, checked
@@ -165,6 +170,16 @@ class Person:
     def click_move(self, move):
         self.tap(move[:2])
         self.tap(move[2:4])
+
+    def moves_on(self, move):
+        """Moves once it is on move."""
+        self.until(lambda: self.lit('.movable'), 'on move')
+        self.click_move(move)
+
+    def asked(self, button, answer='yes'):
+        """Presses a button, and answers what its dialog asks."""
+        self.click(button)
+        self.click('%s-dialog [value=%s]' % (button, answer))
 
     def drag_move(self, move):
         start, end = self.square(move[:2]), self.square(move[2:4])

@@ -2,7 +2,7 @@
 """A plain lobby: it speaks the protocol of docs/client/LOBBY.md to browsers, over a WebSocket on loopback, and serves the
 files of page/ with the policy header. The game server behind it is the model of bench/lib/model/rules.py.
 
-    lobby_model.py --players FILE [--journal FILE] [--port P] [--page FOLDER] [--control]
+    plain_lobby.py --players FILE [--journal FILE] [--port P] [--page FOLDER] [--control]
 
 FILE of the players has lines `NAME ROLE TOKEN FULL NAME`; `link` and `close` write it. The journal keeps `MOMENT WHO LINE` of each entry, so that a
 lobby that was killed comes back with its games. It prints its address once it listens. With --control it reads words
@@ -35,18 +35,9 @@ import websockets
 
 sys.path.insert(0, os.path.dirname(os.path.dirname(os.path.dirname(os.path.realpath(__file__)))))
 from lib.model import rules as model
+from lib.model.desk import ACTS, IN_A_GAME, NAMES, OF_ARBITERS, OF_LINKS, OPENING, OWN, READS, Refused
 
 TOP = os.path.dirname(os.path.dirname(os.path.dirname(os.path.dirname(os.path.realpath(__file__)))))
-READS = ('show', 'fen', 'pgn', 'list')
-IN_A_GAME = ('move', 'offer', 'accept', 'decline', 'resign', 'claim', 'flag')
-OPENING = ('open', 'join')
-ACTS = (*OPENING, 'drop', *IN_A_GAME)
-OF_ARBITERS = ('who', 'pause entries', 'resume entries')
-OF_LINKS = ('link', 'close')
-OWN = ('login', 'players', 'lobby', 'watch', 'leave', 'line')
-REFUSED = {1: 'BadLine', 31: 'NoToken', 32: 'BadToken', 33: 'NotArbiter', 34: 'TooFast', 35: 'TooManyOpen',
-           36: 'NoServer', 37: 'TooManyWatched', 38: 'NoPlayer', 39: 'EntriesPaused', 40: 'NotWritten',
-           41: 'NotWaiting', 42: 'NotOffered', 43: 'TooManyGames', 44: 'NearlyFull', 45: 'TooManyOver'}
 POLICY = ("default-src 'none'; script-src 'self'; style-src 'self'; img-src 'self'; connect-src 'self'; "
           "base-uri 'none'; form-action 'none'; frame-ancestors 'none'")
 TYPES = {'html': 'text/html; charset=utf-8', 'css': 'text/css; charset=utf-8',
@@ -56,12 +47,8 @@ COST_MS, AHEAD_MS = 50, 950
 G = '(0|[1-9][0-9]{0,9})'
 
 
-class Refused(Exception):
-    """A refusal of the lobby."""
-
-
 def refuse(number):
-    raise Refused('no %d %s' % (number, REFUSED[number]))
+    raise Refused('no %d %s' % (number, NAMES[number]))
 
 
 class Server:

@@ -12,7 +12,7 @@ list of its entries, and every field of it is read off that whole list.
 `at` is an int, `who` a name or None, `line` a str of the bytes before the line
 feed (latin-1: one character a byte).
 
-As a program: model.py GAMES PLIES [FILE]  reads lines `MOMENT WHO LINE`
+As a program: rules.py GAMES PLIES [FILE]  reads lines `MOMENT WHO LINE`
 (WHO `-` for no name) and prints the answers.
 """
 
@@ -806,6 +806,10 @@ class Refused(Exception):
             self.line += ' %d' % ply
 
 
+class Fallen(Exception):
+    """A flag had fallen, which is the answer."""
+
+
 class Table:
     def __init__(self, games_limit, plies_limit):
         self.games_limit = games_limit
@@ -836,6 +840,8 @@ class Table:
             return getattr(self, word)(at, who, f)
         except Refused as refused:
             return [refused.line]
+        except Fallen as fallen:
+            return [str(fallen)]
 
     # ---- what the acts share
 
@@ -862,8 +868,7 @@ class Table:
         return ' %s %s' % ending if ending else ''
 
     def running(self, at, who, f):
-        """Checks 3, 4, 5, 6, fallen: (fields, the player's side, None), or
-        the Fallen answer in place of None."""
+        """Checks 3, 4, 5, 6, fallen: fields and the player's side."""
         g = self.fields(f)
         side = g.seat_of(who)
         if side is None:
@@ -875,8 +880,26 @@ class Table:
         if g.fallen(at):
             number = f['game']
             self.enter(Entry('fallen', number, at))
-            return g, side, ['fallen %d%s' % (number, self.end(number))]
-        return g, side, None
+            raise Fallen('fallen %d%s' % (number, self.end(number)))
+        return g, side
+
+    def on_move(self, at, who, f):
+        """The same, and checks 7 and 8."""
+        g, side = self.running(at, who, f)
+        if f['ply'] != g.ply:
+            raise Refused(7, g.ply)
+        if side != g.side:
+            raise Refused(8)
+        return g, side
+
+    def read(self, g, f):
+        """Checks 20 and 9: the move that a text means."""
+        if f['ply'] == self.plies_limit:
+            raise Refused(20)
+        m = reads(g.present, f['text'])
+        if m is None:
+            raise Refused(9)
+        return m
 
     # ---- the acts
 
@@ -914,35 +937,21 @@ class Table:
         return ['ok join %d %s' % (f['game'], colour)]
 
     def move(self, at, who, f):
-        g, side, fallen = self.running(at, who, f)
-        if fallen:
-            return fallen
-        if f['ply'] != g.ply:
-            raise Refused(7, g.ply)
-        if side != g.side:
-            raise Refused(8)
-        if f['ply'] == self.plies_limit:
-            raise Refused(20)
-        m = reads(g.present, f['text'])
-        if m is None:
-            raise Refused(9)
+        g, _ = self.on_move(at, who, f)
+        m = self.read(g, f)
         self.enter(Entry('move', f['game'], at, move=m))
         return ['ok move %d %d %s%s' % (f['game'], g.ply + 1,
                                         san(g.present, m), self.end(f['game']))]
 
     def offer(self, at, who, f):
-        g, side, fallen = self.running(at, who, f)
-        if fallen:
-            return fallen
+        g, side = self.running(at, who, f)
         if g.offers[WHITE] or g.offers[BLACK]:
             raise Refused(10)
         self.enter(Entry('offer', f['game'], at, side=side))
         return ['ok offer %d' % f['game']]
 
     def accept(self, at, who, f):
-        g, side, fallen = self.running(at, who, f)
-        if fallen:
-            return fallen
+        g, side = self.running(at, who, f)
         if not g.offers[other(side)]:
             raise Refused(11)
         if g.ply < 2:
@@ -951,38 +960,22 @@ class Table:
         return ['ok accept %d%s' % (f['game'], self.end(f['game']))]
 
     def decline(self, at, who, f):
-        g, side, fallen = self.running(at, who, f)
-        if fallen:
-            return fallen
+        g, side = self.running(at, who, f)
         if not g.offers[other(side)]:
             raise Refused(11)
         self.enter(Entry('decline', f['game'], at, side=side))
         return ['ok decline %d' % f['game']]
 
     def resign(self, at, who, f):
-        g, side, fallen = self.running(at, who, f)
-        if fallen:
-            return fallen
+        _, side = self.running(at, who, f)
         self.enter(Entry('resign', f['game'], at, side=side))
         return ['ok resign %d%s' % (f['game'], self.end(f['game']))]
 
     def claim(self, at, who, f):
-        g, side, fallen = self.running(at, who, f)
-        if fallen:
-            return fallen
-        if f['ply'] != g.ply:
-            raise Refused(7, g.ply)
-        if side != g.side:
-            raise Refused(8)
+        g, side = self.on_move(at, who, f)
         if g.claimed:
             raise Refused(13)
-        m = None
-        if f['text'] is not None:
-            if f['ply'] == self.plies_limit:
-                raise Refused(20)
-            m = reads(g.present, f['text'])
-            if m is None:
-                raise Refused(9)
+        m = self.read(g, f) if f['text'] is not None else None
         number = f['game']
         self.enter(Entry('claim', number, at, side=side, fifty=f['fifty'],
                          move=m))
@@ -997,9 +990,7 @@ class Table:
                                                self.end(number))]
 
     def flag(self, at, who, f):
-        g, side, fallen = self.running(at, who, f)
-        if fallen:
-            return fallen
+        self.running(at, who, f)
         raise Refused(14)
 
     def drop(self, at, who, f):
