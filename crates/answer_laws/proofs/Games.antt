@@ -36,12 +36,12 @@ offers_same true false = refl
 offers_same false true = refl
 offers_same false false = refl
 
-score_same : (score : end_result.GameResult) → pgn.score_text score ≡ score_text (score_as score)
+pub score_same : (score : end_result.GameResult) → pgn.score_text score ≡ score_text (score_as score)
 score_same end_results.White = refl
 score_same end_results.Black = refl
 score_same end_results.Draw = refl
 
-article_same : (article : end_article.Article) → pgn.article_text article ≡ article_text (article_as article)
+pub article_same : (article : end_article.Article) → pgn.article_text article ≡ article_text (article_as article)
 article_same end_articles.A511 = refl
 article_same end_articles.A512 = refl
 article_same end_articles.A521 = refl

@@ -2,3 +2,5 @@ pub mod Times
 pub mod Joined
 pub mod Games
 pub mod Refused
+pub mod Sans
+pub mod Entered

@@ -1,2 +1,3 @@
 pub mod Told
 pub mod Refusals
+pub mod Acts

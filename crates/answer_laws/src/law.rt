@@ -1,14 +1,19 @@
 //! What is promised of the server's answers and of their readers together.
-ghost use Rattle.std.specs.Prelude.{ℕ, ◌≡◌, ◌++◌, ◌∷◌, [], List, Some};
+ghost use Rattle.std.specs.Prelude.{ℕ, ◌≡◌, ◌<◌, ◌^◌, ◌++◌, ◌∷◌, [], List, Some, codes};
+ghost use Rattle.rec_codec.specs.declared.record.Event.{Event};
 ghost use Rattle.chess_entry.specs.State.{GameState};
 ghost use Rattle.chess_entry.specs.Bounds.{IsGame};
 ghost use Rattle.chess_entry.specs.declared.refusals.Refusal.{Refusal};
+ghost use Rattle.chess_answer.specs.Fields.{ok_text};
+ghost use Rattle.chess_answer.specs.Acts.{IsGameLine};
 ghost use Rattle.chess_answer.specs.Refusals.{refusal_text};
 ghost use Rattle.chess_answer.specs.Reads.{show_text, list_row};
+ghost use Rattle.server_answers.specs.Entered.{Opened, entered_in};
 ghost use Rattle.server_answers.specs.Refusals.{refusal_in};
 ghost use Rattle.server_answers.specs.Games.{shown_in, row_in};
 ghost use Rattle.answer_laws.specs.Told.{shown_as, row_as};
 ghost use Rattle.answer_laws.specs.Refusals.{refusal_as, IsTold};
+ghost use Rattle.answer_laws.specs.Acts.{IsReadAs};
 
 /// The answer to `show` of every game that the server keeps is read to the game's number, players, moves made, side on
 /// move, what both sides have left, offers and ending.
@@ -26,4 +31,13 @@ pub fn law_of_rows_read()
 /// Each refusal of the server is read as that refusal.
 pub fn law_of_refusals_read()
     ensures { (refusal : Refusal) → IsTold refusal → refusal_in (refusal_text refusal) ≡ Some (refusal_as refusal) }
+{}
+
+/// The answer to each act that becomes an entry of a game that the server keeps is read to the game and to what came to
+/// pass in it, a move with its number, its SAN and its end; and that to an opening to the new game.
+pub fn law_of_acts_read()
+    ensures acts { (game : GameState) (e : Event) (text : List ℕ) → IsGame 20000 game → IsGameLine game e text →
+        IsReadAs game e text }
+    ensures openings { (number : ℕ) → number < 2 ^ 32 →
+        entered_in (ok_text (codes "open") number []) ≡ Some (record { game = number; done = Opened }) }
 {}

@@ -1,5 +1,5 @@
 -- A line that was joined of fields has these fields, and each line is joined of its own.
-use Rattle.std.proofs.Common.{ℕ, zero, suc, ◌≡◌, ◌+◌, ◌==◌, Bool, true, false, List, [], ◌∷◌, length, take, drop, refl, sym, ap, ◌∙◌, arith}
+use Rattle.std.proofs.Common.{ℕ, zero, suc, ◌≡◌, ◌+◌, ◌==◌, Bool, true, false, List, [], ◌∷◌, length, take, drop, refl, sym, ap, subst, ◌∙◌, arith}
 use Rattle.std.specs.List.{All, position_or_len, count_by, slice_split, onto_first}
 use Rattle.std.proofs.lemmas.Bool.{or_parts}
 use Rattle.std.proofs.lemmas.Bool.Decides.{nat_tests}
@@ -8,7 +8,7 @@ use Rattle.std.proofs.lemmas.List.Sums.{sum_by-cons}
 use Rattle.std.proofs.lemmas.List.Splits.{slice_split_at, slice_split_none, join_with_byte-slice_split, length-slice_split}
 use Rattle.std.specs.Prelude.{if◌then◌else◌}
 use Rattle.text_parts.proofs.Cuts.{Lacks}
-use Rattle.server_answers.specs.Fields.{field_of, rest_of, first_fields, has_fields, line_of}
+use Rattle.server_answers.specs.Fields.{field_of, rest_of, first_fields, field_count, has_fields, line_of}
 
 abbrev pub split : List ℕ → List (List ℕ)
 split line = slice_split (λ b. b == 32) line
@@ -120,3 +120,23 @@ has_joined f fs h = as_counted (length fs) (line_of (f ∷ fs)) (spaces_joined f
 pub fields_joined : (f : List ℕ) (fs : List (List ℕ)) → EachLacks (f ∷ fs) →
     first_fields (suc (length fs)) (line_of (f ∷ fs)) ≡ f ∷ fs
 fields_joined f fs h = split_is (line_of (f ∷ fs)) (length fs) (spaces_joined f fs h) ∙ split_joined f fs h
+
+pub count_joined : (f : List ℕ) (fs : List (List ℕ)) → EachLacks (f ∷ fs) → field_count (line_of (f ∷ fs)) ≡ suc (length fs)
+count_joined f fs h = let spaces = spaces_joined f fs h in omega (arith, spaces)
+
+counted_at : (line : List ℕ) (n : ℕ) → field_count line ≡ suc n → spaces line ≡ n
+counted_at line n h = omega (arith, h)
+
+pub joined_at : (n : ℕ) (line : List ℕ) → field_count line ≡ suc n → line ≡ line_of (first_fields (suc n) line)
+joined_at n line h =
+    sym (ap line_of (split_is line n (counted_at line n h)) ∙ join_with_byte-slice_split 32 line)
+
+-- ---- no space stands in a field
+
+field_by : (b : ℕ) (bs : List ℕ) (t : Bool) → (b == 32) ≡ t → Lacks 32 (field_of bs) → Lacks 32 (field_of (b ∷ bs))
+field_by b bs true e more = subst (Lacks 32) (sym (field_here b bs e)) refl
+field_by b bs false e more = subst (Lacks 32) (sym (field_more b bs e)) (rw e more)
+
+pub field_lacks : (line : List ℕ) → Lacks 32 (field_of line)
+field_lacks [] = refl
+field_lacks (b ∷ bs) = field_by b bs (b == 32) refl (field_lacks bs)

@@ -186,7 +186,7 @@ score_only field score e =
     pick score_text field results.Black score _ (λ g.
     pick score_text field results.Draw score None (λ h. absurd (none-some score h)) g) f) e
 
-score_lacks : (score : GameResult) → Lacks 32 (score_text score)
+pub score_lacks : (score : GameResult) → Lacks 32 (score_text score)
 score_lacks results.White = refl
 score_lacks results.Black = refl
 score_lacks results.Draw = refl
@@ -200,7 +200,7 @@ pub result_read : (r : Option GameResult) → result_in (result_text r) ≡ Some
 result_read None = refl
 result_read (Some score) = rw (no_star score) (ap told (score_read score))
 
-told_some : {A : Type 0} (o p : Option A) → told o ≡ Some p → o ≡ p
+pub told_some : {A : Type 0} (o p : Option A) → told o ≡ Some p → o ≡ p
 told_some None p e = absurd (none-some p e)
 told_some (Some a) p e = same_Some (Some a) p e
 
@@ -232,7 +232,7 @@ article_read articles.A93 = refl
 article_read articles.A961 = refl
 article_read articles.A962 = refl
 
-article_lacks : (article : Article) → Lacks 32 (article_text article)
+pub article_lacks : (article : Article) → Lacks 32 (article_text article)
 article_lacks articles.A511 = refl
 article_lacks articles.A512 = refl
 article_lacks articles.A521 = refl

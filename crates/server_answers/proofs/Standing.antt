@@ -74,7 +74,7 @@ shown_lack s is = (
   ),
 )
 
-if_has : {A : Type 0} (b : Bool) (o : Option A) → b ≡ true → (if b then o else None) ≡ o
+pub if_has : {A : Type 0} (b : Bool) (o : Option A) → b ≡ true → (if b then o else None) ≡ o
 if_has b o e = rw e refl
 
 pub shown_read : (s : Shown) → IsShown s → shown_in (shown_line s) ≡ Some s
@@ -112,7 +112,7 @@ row_read r is =
 
 -- ---- nothing else is read
 
-then_some : {A : Type 0} (b : Bool) (o : Option A) (a : A) → (if b then o else None) ≡ Some a → (b ≡ true) × (o ≡ Some a)
+pub then_some : {A : Type 0} (b : Bool) (o : Option A) (a : A) → (if b then o else None) ≡ Some a → (b ≡ true) × (o ≡ Some a)
 then_some true o a e = (refl, e)
 then_some false o a e = absurd (none-some a e)
 

@@ -9,14 +9,22 @@ field_of line = before_first (λ b. b == 32) line
 abbrev pub rest_of : List ℕ → List ℕ
 rest_of line = after_first (λ b. b == 32) line
 
+-- the field that stands behind so many others
+abbrev pub field : ℕ → List ℕ → List ℕ
+field zero line = field_of line
+field (suc n) line = field n (rest_of line)
+
 -- the first fields of a line, so many
 abbrev pub first_fields : ℕ → List ℕ → List (List ℕ)
 first_fields zero line = []
 first_fields (suc n) line = field_of line ∷ first_fields n (rest_of line)
 
--- whether a line has so many fields: one more than spaces
+-- how many fields a line has: one more than spaces
+abbrev pub field_count : List ℕ → ℕ
+field_count line = count_by (λ b. b == 32) line + 1
+
 abbrev pub has_fields : ℕ → List ℕ → Bool
-has_fields n line = count_by (λ b. b == 32) line + 1 == n
+has_fields n line = field_count line == n
 
 -- the line of these fields
 abbrev pub line_of : List (List ℕ) → List ℕ

@@ -1,4 +1,6 @@
 pub mod Fields
 pub mod Values
 pub mod Games
+pub mod Heads
 pub mod Refusals
+pub mod Entered

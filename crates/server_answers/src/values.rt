@@ -106,6 +106,26 @@ impl Article {
     }
 }
 
+/// A seat as the server spells it: the name of who sits there, or `-`.
+pub fn seat_text(seat: &Option<Name>) -> &str
+    ensures { result.now ≡ spec.seat_text seat.now }
+{
+    match seat {
+        Some(name) => name.as_str(),
+        None => "-",
+    }
+}
+
+/// RESULT of a game as the server spells it, which is `*` while the game goes on.
+pub fn result_text(ending: Option<Ending>) -> &'static str
+    ensures { result.now ≡ spec.ending_result ending }
+{
+    match ending {
+        Some(ending) => ending.result.as_str(),
+        None => "*",
+    }
+}
+
 #[tactic(auto, using(crate::proofs::Names::name_is, crate::proofs::Names::name_is_not))]
 // Who sits in a seat.
 fn seat_of(field: &str) -> Option<Option<Name>>
