@@ -6,12 +6,20 @@ use chess_hub::Hub;
 use chess_sockets::Server;
 use sector_dev::MemoryDevice;
 
+// Why a loop over one board breaks off.
+fn place(fault: BoardFault) -> u8 {
+    match fault {
+        BoardFault::Read => 0,
+        BoardFault::Write => 1,
+    }
+}
+
 #[test]
 fn server_board(rt: HostRuntime) {
     let mut reader = b"move e2e4\nmove e2e4\nhello\n".as_slice();
     let mut written = Vec::new(rt.alloc());
     let ended: Result<(), BoardFault> = board(&mut reader, &mut written);
-    assert!(rt; ended == Ok(()));
+    assert!(rt; ended == Ok(()) && place(BoardFault::Write) == 1);
     let wanted =
         "rnbqkbnr/pppppppp/8/8/4P3/8/PPPP1PPP/RNBQKBNR b KQkq e3 0 1\nno 9 BadMove\nno 1 BadLine\n";
     assert!(rt; written.as_slice() == wanted.as_bytes());

@@ -8,6 +8,7 @@ use chess_table::{
     record_entry, refusal_line,
 };
 use rec_codec::{Record, Version, write_record};
+use std::alloc::Global;
 use std::process::Abort;
 
 // Both knights go out and back twice; then each side claims wrongly, White with a move.
@@ -116,6 +117,21 @@ fn widen(rt: &impl Abort, table: &mut Table) {
     table.widen(more);
 }
 
+// Why no table is read.
+fn place(fault: TableFault) -> u8 {
+    match fault {
+        TableFault::Damaged => 0,
+        TableFault::NoMemory => 1,
+    }
+}
+
+// The records of a game stand behind one of the table.
+fn check_damaged(rt: &impl Abort, alloc: Global, limits: Limits, records: &[Record]) {
+    assert!(rt; records.len() == 3 && limits.is_in_range(Version::Two));
+    let none: Result<Table, TableFault> = Table::from_records(alloc, limits, &records[1..], &[]);
+    assert!(rt; place(none.err().expect(rt, "a fault")) == 0);
+}
+
 #[test]
 fn a_table_and_its_records(rt: HostRuntime) {
     let limits = Limits {
@@ -134,4 +150,5 @@ fn a_table_and_its_records(rt: HostRuntime) {
     check_records(&rt, &records);
     let made: Result<Table, TableFault> = Table::from_records(rt.alloc(), limits, &records, &[]);
     check_game(&rt, &made.ok().expect(&rt, "a table"));
+    check_damaged(&rt, rt.alloc(), limits, &records);
 }

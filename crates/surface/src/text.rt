@@ -21,11 +21,24 @@ static FAULTS: [(&str, FenError); 7] = [
     ),
 ];
 
+// The order in which the faults of a FEN are looked for.
+fn place(fault: FenError) -> u8 {
+    match fault {
+        FenError::Shape => 0,
+        FenError::Placement => 1,
+        FenError::Side => 2,
+        FenError::Castling => 3,
+        FenError::Target => 4,
+        FenError::Counter => 5,
+        FenError::Board(_) => 6,
+    }
+}
+
 #[test]
 fn texts_of_positions(rt: HostRuntime) {
-    for (text, fault) in &FAULTS {
+    for (at, (text, fault)) in FAULTS.iter().enumerate() {
         let read: Result<Board, FenError> = fen_read(text);
-        assert!(rt; read.err() == Some(*fault));
+        assert!(rt; read.err() == Some(*fault) && place(*fault) as usize == at);
     }
     let written: ArrayString<96> = fen_write(&Board::initial());
     assert!(rt; written.as_str() == "rnbqkbnr/pppppppp/8/8/8/8/PPPPPPPP/RNBQKBNR w KQkq - 0 1");
