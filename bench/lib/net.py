@@ -18,6 +18,16 @@ def connect(to, timeout=None, own=None):
     return line
 
 
+def may_listen(address):
+    """Whether this machine can listen at an address of IPv6."""
+    try:
+        with socket.socket(socket.AF_INET6) as trial:
+            trial.bind((address, 0))
+        return True
+    except OSError:
+        return False
+
+
 def to_end(line):
     """What comes, and whether the connection ends with it; not, where nothing comes for its timeout."""
     text = b''
