@@ -18,7 +18,7 @@ use Rattle.lobby_words.specs.Words.{word_of}
 use Rattle.lobby_words.specs.Answers.{ended}
 use Rattle.lobby_words.specs.Lines.{bytes_of}
 use Rattle.lobby_words.specs.declared.players.Player.{Player}
-use Rattle.lobby_players.specs.File.{Entry, IsWord, IsLineOf, AreTwo, AreLinesOf, IsFileOf, lines_of, spoken, is_silent, is_full_name, is_shown_byte, is_seen, role_text, has_name, is_alike, has_sum, entry_of, entries_of}
+use Rattle.lobby_players.specs.File.{Entry, IsWord, IsLineOf, AreTwo, AreLinesOf, IsFileOf, lines_of, spoken, is_silent, is_full_name, is_shown_byte, is_spaced, is_seen, role_text, has_name, is_alike, has_sum, entry_of, entries_of}
 use Rattle.lobby_players.specs.Adding.{IsAdded, added_text, added_entries, in_place, is_of, is_other, line_of}
 use Rattle.lobby_players.proofs.Told.{name_word}
 use Rattle.lobby_players.proofs.Words.{head_of}
@@ -96,11 +96,8 @@ shown_bytes : (text : List ℕ) → is_full_name text ≡ true → list_all is_s
 shown_bytes text is =
     let room = nat_le 1 (length text) && nat_le (length text) 100 in
     let shown = list_all is_shown_byte text in
-    let first = not (slice_index text 0 == 32) in
-    let last = not (slice_index text (length text - 1) == 32) in
     let seen = list_all is_seen (chars text) in
-    (and_parts room shown (and_parts (room && shown) first (and_parts ((room && shown) && first) last
-    (and_parts (((room && shown) && first) && last) seen is).0).0).0).1
+    (and_parts room shown (and_parts (room && shown) (is_spaced text) (and_parts ((room && shown) && is_spaced text) seen is).0).0).1
 
 line_free : (e : Entry) → IsName e.name → decode_sized (encode_lower e.sum) 32 ≡ Ok e.sum → is_full_name e.full_name ≡ true →
     HasNoFeed (line_of e)

@@ -1,6 +1,7 @@
 -- The players' file.
-use Rattle.std.specs.Prelude.{ℕ, ◌≡◌, ◌≢◌, ◌-◌, Bool, true, false, ◌&&◌, ◌==◌, not, nat_le, List, [], ◌∷◌, ◌++◌, length, codes, Ok, EachIndex, slice_index, map, filter, chars}
+use Rattle.std.specs.Prelude.{ℕ, ◌≡◌, ◌≢◌, ◌-◌, Bool, true, false, ◌&&◌, ◌||◌, ◌==◌, not, nat_le, List, [], ◌∷◌, ◌++◌, length, codes, Ok, EachIndex, slice_index, map, filter, chars}
 use Rattle.std.specs.List.{AllZip, AllPairs, list_all, list_any}
+use Rattle.std.specs.Char.{is_whitespace}
 use Rattle.std.specs.Str.{bytes_eq, str_to_ascii_lowercase, str_eq_ignore_ascii_case}
 use Rattle.std.specs.String.{string_bytes}
 use Rattle.text_parts.specs.Parts.{parts_of}
@@ -36,14 +37,15 @@ abbrev pub is_from_to : ℕ → ℕ → ℕ → Bool
 is_from_to first last c = nat_le first c && nat_le c last
 
 -- The characters that are not seen, or that change how others are, each row from the first to the last: the controls
--- behind DEL; what breaks a line (U+2028, U+2029) or stands for a note beside it (U+FFF9 to U+FFFB); and all that
--- Unicode has shown as nothing (its property Default_Ignorable_Code_Point), as what joins or parts letters, sets the
--- direction of writing or chooses a form, the fillers of Hangul, and tags.
+-- behind DEL; what breaks a line (U+2028, U+2029) or stands for a note beside it (U+FFF9 to U+FFFB); the blank pattern
+-- of Braille (U+2800); and all that Unicode has shown as nothing (its property Default_Ignorable_Code_Point), as what
+-- joins or parts letters, sets the direction of writing or chooses a form, the fillers of Hangul, and tags.
 abbrev pub hidden : List (ℕ × ℕ)
 hidden =
     (0x80, 0x9f) ∷ (0xad, 0xad) ∷ (0x34f, 0x34f) ∷ (0x61c, 0x61c) ∷ (0x115f, 0x1160) ∷ (0x17b4, 0x17b5) ∷ (0x180b, 0x180f)
-    ∷ (0x200b, 0x200f) ∷ (0x2028, 0x202e) ∷ (0x2060, 0x206f) ∷ (0x3164, 0x3164) ∷ (0xfe00, 0xfe0f) ∷ (0xfeff, 0xfeff)
-    ∷ (0xffa0, 0xffa0) ∷ (0xfff0, 0xfffb) ∷ (0x1bca0, 0x1bca3) ∷ (0x1d173, 0x1d17a) ∷ (0xe0000, 0xe0fff) ∷ []
+    ∷ (0x200b, 0x200f) ∷ (0x2028, 0x202e) ∷ (0x2060, 0x206f) ∷ (0x2800, 0x2800) ∷ (0x3164, 0x3164)
+    ∷ (0xfe00, 0xfe0f) ∷ (0xfeff, 0xfeff) ∷ (0xffa0, 0xffa0) ∷ (0xfff0, 0xfffb) ∷ (0x1bca0, 0x1bca3)
+    ∷ (0x1d173, 0x1d17a) ∷ (0xe0000, 0xe0fff) ∷ []
 
 abbrev pub is_among : List (ℕ × ℕ) → ℕ → Bool
 is_among rows c = list_any (λ row. is_from_to row.0 row.1 c) rows
@@ -51,14 +53,24 @@ is_among rows c = list_any (λ row. is_from_to row.0 row.1 c) rows
 abbrev pub is_hidden : ℕ → Bool
 is_hidden c = is_among hidden c
 
+-- a character that is seen, or the plain space; all other white space (Unicode's property White_Space) looks like it
 abbrev pub is_seen : ℕ → Bool
-is_seen c = not (is_hidden c)
+is_seen c = not (is_hidden c) && (c == 32 || not (is_whitespace c))
 
--- a full name: 1 to 100 bytes, no control and no hidden character, and no space at either end
+-- A text in which a space stands only between two other bytes: none at either end, and no two in a row. `is_behind`
+-- tells that a space stands before these bytes, or nothing.
+abbrev pub is_spaced_from : Bool → List ℕ → Bool
+is_spaced_from is_behind [] = not is_behind
+is_spaced_from is_behind (b ∷ bs) = not (is_behind && b == 32) && is_spaced_from (b == 32) bs
+
+abbrev pub is_spaced : List ℕ → Bool
+is_spaced text = is_spaced_from true text
+
+-- a full name: 1 to 100 bytes, no control and no hidden character, and no white space but one space between two words
 abbrev pub is_full_name : List ℕ → Bool
 is_full_name text =
-    nat_le 1 (length text) && nat_le (length text) 100 && list_all is_shown_byte text
-    && not (slice_index text 0 == 32) && not (slice_index text (length text - 1) == 32) && list_all is_seen (chars text)
+    nat_le 1 (length text) && nat_le (length text) 100 && list_all is_shown_byte text && is_spaced text
+    && list_all is_seen (chars text)
 
 -- a text without a space
 abbrev pub IsWord : List ℕ → Type 0

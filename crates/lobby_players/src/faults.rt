@@ -67,7 +67,7 @@ pub enum AddFault {
     File(PlayersFault),
     #[error("a name is 1 to 16 of the letters A to Z and a to z, the digits, and _")]
     BadName,
-    #[error("a full name is 1 to 100 bytes, has no control and no hidden character, and no space at either end")]
+    #[error("a full name is 1 to 100 bytes, has no control or hidden character, and only single spaces between words")]
     BadFullName,
     /// The name of another player differs in small and capital letters alone.
     #[error("another player's name differs from it in small and capital letters alone")]

@@ -73,7 +73,7 @@ fn are_shown_bytes(bytes: &[u8]) -> bool
 }
 
 // The characters that are not seen, or change how others are, each row from the first to the last.
-const HIDDEN: [(char, char); 18] = [
+const HIDDEN: [(char, char); 19] = [
     ('\u{80}', '\u{9f}'),
     ('\u{ad}', '\u{ad}'),
     ('\u{34f}', '\u{34f}'),
@@ -84,6 +84,7 @@ const HIDDEN: [(char, char); 18] = [
     ('\u{200b}', '\u{200f}'),
     ('\u{2028}', '\u{202e}'),
     ('\u{2060}', '\u{206f}'),
+    ('\u{2800}', '\u{2800}'),
     ('\u{3164}', '\u{3164}'),
     ('\u{fe00}', '\u{fe0f}'),
     ('\u{feff}', '\u{feff}'),
@@ -108,11 +109,11 @@ fn is_among(rows: &[(char, char)], c: char) -> bool
     rows.iter().any(|row| is_from_to(row.0, row.1, c))
 }
 
-// Whether a character is seen, and leaves others as they are.
+// Whether a character is seen, and leaves others as they are, or is the plain space.
 fn is_seen(c: char) -> bool
     ensures { result ≡ file.is_seen c }
 {
-    !is_among(HIDDEN.as_slice(), c)
+    !is_among(HIDDEN.as_slice(), c) && (c == ' ' || !c.is_whitespace())
 }
 
 // Whether each character is.
@@ -122,20 +123,32 @@ fn are_seen(text: &str) -> bool
     text.chars().all(|c| is_seen(c))
 }
 
+// Whether a space stands only between two other bytes.
+fn is_spaced(bytes: &[u8]) -> bool
+    ensures { result ≡ file.is_spaced bytes.now }
+{
+    let mut is_behind = true;
+    for byte in bytes {
+        let is_space = *byte == b' ';
+        if is_behind && is_space {
+            return false;
+        }
+        is_behind = is_space;
+    }
+    !is_behind
+}
+
 /// Whether a text is a full name: 1 to 100 bytes, without a control and without a hidden character (`is_hidden` of
-/// `specs/File`), and without a space at either end.
+/// `specs/File`), and with no white space but one plain space between two words.
 pub fn is_full_name(text: &str) -> bool
     ensures { result ≡ file.is_full_name text.now }
 {
     let bytes = text.as_bytes();
-    if bytes.is_empty() {
-        return false;
-    }
-    let last = bytes.len() - 1;
-    let short = bytes.len() <= 100;
+    let short = !bytes.is_empty() && bytes.len() <= 100;
     let shown = are_shown_bytes(bytes);
+    let spaced = is_spaced(bytes);
     let seen = are_seen(text);
-    short & shown & (bytes[0] != b' ') & (bytes[last] != b' ') & seen
+    short & shown & spaced & seen
 }
 
 // The player that fields tell.
