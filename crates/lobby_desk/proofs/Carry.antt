@@ -107,9 +107,10 @@ order_last : (closes : Bool) (linked : Option (List ℕ)) (said : Option (List �
 order_last closes None said text c = refl
 order_last closes (Some name) said text c = refl
 
-players_last : (who : Option Identity) (said : Option (List ℕ)) (text : List ℕ) (c : ℕ) → LastIs (players_plan who) said text c (Asker c ForItself)
-players_last None said text c = refl
-players_last (Some who) said text c = refl
+players_last : (s : Standing) (who : Option Identity) (said : Option (List ℕ)) (text : List ℕ) (c : ℕ) →
+    LastIs (players_plan s who) said text c (Asker c ForItself)
+players_last s None said text c = refl
+players_last s (Some who) said text c = refl
 
 login_last : (holder : Option Identity) (said : Option (List ℕ)) (text : List ℕ) (c : ℕ) → LastIs (login_plan holder) said text c (Asker c ForItself)
 login_last None said text c = refl
@@ -148,7 +149,7 @@ planned_last players true sorts.As s game said text c same = as_last s s.who sai
 planned_last players true sorts.Pair s game said text c same = pair_last players s s.who said text c same
 planned_last players true sorts.Drop s game said text c same = numbered_last s game said text c
 planned_last players true sorts.Login s game said text c same = login_last s.holder said text c
-planned_last players true sorts.Players s game said text c same = players_last s.who said text c
+planned_last players true sorts.Players s game said text c same = players_last s s.who said text c
 planned_last players true sorts.Who s game said text c same = arbiter_last s.who plans.Who said text c refl
 planned_last players true sorts.Pause s game said text c same = arbiter_last s.who plans.Pause said text c refl
 planned_last players true sorts.Resume s game said text c same = arbiter_last s.who plans.Resume said text c refl
@@ -245,9 +246,9 @@ pub link_does : (P : Plan → Type 0) (who : Option Identity) (closes : Bool) (l
     ((o : Order) → P (plans.Order o)) → P (arbiter_plan who (order_plan closes linked))
 link_does P who closes linked none h = arbiter_does P who (order_plan closes linked) none (order_does P closes linked none h)
 
-pub players_does : (P : Plan → Type 0) (who : Option Identity) → P plans.Seated → P plans.Players → P (players_plan who)
-players_does P None seated h = seated
-players_does P (Some who) seated h = h
+pub players_does : (P : Plan → Type 0) (s : Standing) (who : Option Identity) → P (plans.Seated s.names) → P plans.Players → P (players_plan s who)
+players_does P s None seated h = seated
+players_does P s (Some who) seated h = h
 
 pub login_does : (P : Plan → Type 0) (holder : Option Identity) → ((r : Refusal) → P (plans.Refuse r)) → ((one : Identity) → P (plans.Login one)) →
     P (login_plan holder)
@@ -291,7 +292,7 @@ planned true sorts.As s game c watches table = as_does (Stays c watches table) s
 planned true sorts.Pair s game c watches table = pair_does (Stays c watches table) s s.who (λ _. (refl, refl)) (λ _ _ _. (refl, refl))
 planned true sorts.Drop s game c watches table = dropped_does (Stays c watches table) s game (λ _. (refl, refl)) (λ _ _. (refl, refl))
 planned true sorts.Login s game c watches table = login_does (Stays c watches table) s.holder (λ _. (refl, refl)) (λ _. (refl, refl))
-planned true sorts.Players s game c watches table = players_does (Stays c watches table) s.who (refl, refl) (refl, refl)
+planned true sorts.Players s game c watches table = players_does (Stays c watches table) s s.who (refl, refl) (refl, refl)
 planned true sorts.Who s game c watches table = arbiter_does (Stays c watches table) s.who plans.Who (λ _. (refl, refl)) (refl, refl)
 planned true sorts.Pause s game c watches table = arbiter_does (Stays c watches table) s.who plans.Pause (λ _. (refl, refl)) (refl, refl)
 planned true sorts.Resume s game c watches table = arbiter_does (Stays c watches table) s.who plans.Resume (λ _. (refl, refl)) (refl, refl)
@@ -333,7 +334,7 @@ answered_or_sent is_paused players seats is_open acts_for (plans.Pair who white 
 answered_or_sent is_paused players seats is_open acts_for (plans.Drop who game) said text c tells h = h
 answered_or_sent is_paused players seats is_open acts_for (plans.Login who) said text c tells h = (h.0, h.2)
 answered_or_sent is_paused players seats is_open acts_for plans.Players said text c tells h = (h.0, h.2)
-answered_or_sent is_paused players seats is_open acts_for plans.Seated said text c tells h = (h.0, h.2)
+answered_or_sent is_paused players seats is_open acts_for (plans.Seated form) said text c tells h = (h.0, h.2)
 answered_or_sent is_paused players seats is_open acts_for plans.Who said text c tells h = (h.0, h.2)
 answered_or_sent is_paused players seats is_open acts_for plans.Pause said text c tells h = (h.0, h.2)
 answered_or_sent is_paused players seats is_open acts_for plans.Resume said text c tells h = (h.0, h.2)
@@ -388,7 +389,7 @@ planned_orders true sorts.As s game = as_does (OfOrder (Orders true sorts.As s))
 planned_orders true sorts.Pair s game = pair_does (OfOrder (Orders true sorts.Pair s)) s s.who (λ _. tt) (λ _ _ _. tt)
 planned_orders true sorts.Drop s game = dropped_does (OfOrder (Orders true sorts.Drop s)) s game (λ _. tt) (λ _ _. tt)
 planned_orders true sorts.Login s game = login_does (OfOrder (Orders true sorts.Login s)) s.holder (λ _. tt) (λ _. tt)
-planned_orders true sorts.Players s game = players_does (OfOrder (Orders true sorts.Players s)) s.who tt tt
+planned_orders true sorts.Players s game = players_does (OfOrder (Orders true sorts.Players s)) s s.who tt tt
 planned_orders true sorts.Who s game = arbiter_does (OfOrder (Orders true sorts.Who s)) s.who plans.Who (λ _. tt) tt
 planned_orders true sorts.Pause s game = arbiter_does (OfOrder (Orders true sorts.Pause s)) s.who plans.Pause (λ _. tt) tt
 planned_orders true sorts.Resume s game = arbiter_does (OfOrder (Orders true sorts.Resume s)) s.who plans.Resume (λ _. tt) tt
@@ -417,7 +418,7 @@ is_order (plans.Pair who white black) order is = absurd (false≢true (ap is_som
 is_order (plans.Drop who game) order is = absurd (false≢true (ap is_some is))
 is_order (plans.Login who) order is = absurd (false≢true (ap is_some is))
 is_order plans.Players order is = absurd (false≢true (ap is_some is))
-is_order plans.Seated order is = absurd (false≢true (ap is_some is))
+is_order (plans.Seated form) order is = absurd (false≢true (ap is_some is))
 is_order plans.Who order is = absurd (false≢true (ap is_some is))
 is_order plans.Pause order is = absurd (false≢true (ap is_some is))
 is_order plans.Resume order is = absurd (false≢true (ap is_some is))

@@ -13,3 +13,4 @@ pub mod Counted
 pub mod Logged
 pub mod Paired
 pub mod Named
+pub mod Alike

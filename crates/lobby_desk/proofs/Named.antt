@@ -1,5 +1,5 @@
 -- The answer to an act counts only under the name that the server's answers show.
-use Rattle.std.proofs.Common.{ℕ, ◌≡◌, ◌⊎◌, inl, inr, Bool, true, false, ◌&&◌, not, List, [], ◌∷◌, ◌++◌, Option, None, Some, codes, refl, sym, ap, ◌∙◌, subst, append-nil}
+use Rattle.std.proofs.Common.{ℕ, ◌≡◌, inl, inr, Bool, true, false, ◌&&◌, not, List, [], ◌∷◌, ◌++◌, Option, None, Some, codes, refl, sym, ap, ◌∙◌, subst, append-nil}
 use Rattle.std.specs.Prelude.{if◌then◌else◌, is_some}
 use Rattle.std.specs.List.{list_any}
 use Rattle.std.specs.Str.{bytes_eq}
@@ -13,7 +13,7 @@ use Rattle.lobby_words.specs.declared.planning.Standing.{Standing}
 use Rattle.lobby_words.specs.declared.planning.Identity.{Identity}
 use Rattle.lobby_words.specs.declared.players.Player.{Player}
 use Rattle.lobby_words.specs.Players.{known_name}
-use Rattle.lobby_words.specs.Words.{word_of, rest_of, as_name, as_line, black_name, pair_line, line_said, actor, is_message, sort_of, is_act_sort, is_pair_sort, is_drop_sort, is_name_sort, u32_in, or_0}
+use Rattle.lobby_words.specs.Words.{rest_of, as_name, as_line, black_name, pair_line, line_said, actor, is_message, sort_of, is_act_sort, is_pair_sort, is_drop_sort, is_name_sort, u32_in, or_0}
 use Rattle.lobby_words.specs.Naming.{takes_name}
 use Rattle.lobby_words.specs.Plans.{entered_plan, act_plan, named_plan, as_plan, black_plan, white_plan, pair_plan, numbered_plan, plan_of}
 use Rattle.lobby_words.specs.Answers.{is_whole, act_game, answer}
@@ -21,8 +21,8 @@ use Rattle.lobby_desk.specs.Lines.{lines_of, act_lines, join_line, name_line, ga
 use Rattle.lobby_desk.specs.Refusals.{game_named}
 use Rattle.lobby_desk.specs.Events.{DeskInput, Opened, Closed, Said, Hurried, Heard, ServerTurned, Renewed, Linked, MessageValue, ForItself, ForPositions, ForTable, ForGame, ForAct, Owed, Nobody, Naming, Asker, Dropper, Pairer, Followers, Behind, owed_lines, sort_asker, asker, followers_of, follower, asked_after}
 use Rattle.lobby_desk.specs.Tellings.{Known, is_counted, misnamed_heard, misnamed_next, owed_answered}
-use Rattle.lobby_desk.specs.Who.{View, IsSaid, IsSentFor, IsSentNext, IsSentHeard, IsDone, IsDropped, IsPaired, name_of, speaker}
-use Rattle.lobby_desk.specs.History.{Step, player_in, players_in, says_name, is_act, is_drop, is_pairing, name_behind, name_through, name_before, name_in, known_in, HasAsked, PairsNow, HasPaired, IsRun, Sent, sent_under, but_first, unanswered_now, unanswered_in, shown_behind, shown_next, shown_now, shown_in, IsLineIf, IsLineOf, IsNameIf, IsNameOf, IsOfAct, IsOfOwed, IsOfNext, IsOfHeard, IsOfName, AllNamed}
+use Rattle.lobby_desk.specs.Who.{View, IsSaid, IsSentFor, IsSentNext, IsSentHeard, IsDone, IsDropped, IsPaired, name_of}
+use Rattle.lobby_desk.specs.History.{Step, player_in, players_in, says_name, is_act, is_drop, is_pairing, name_behind, name_through, name_in, known_in, HasAsked, PairsNow, HasPaired, IsRun, Sent, sent_under, but_first, unanswered_in, shown_behind, shown_next, shown_in, IsLineIf, IsLineOf, IsNameIf, IsNameOf, IsOfOwed, IsOfNext, IsOfHeard, IsOfName, AllNamed}
 use Rattle.lobby_desk.proofs.Sent.{is_said_same}
 use Rattle.lobby_desk.proofs.Lines.{join_line_acts, show_reads, fen_reads, pgn_reads, list_reads, name_names}
 use Rattle.lobby_desk.proofs.As.{as_acts, as_word, plain_word, pair_acts}
@@ -249,7 +249,7 @@ planned_fits players true sorts.Drop s game said text c is other =
     dropped_does (FitsPlan said text (Dropper c (name_of s.who) text)) s game (λ _. tt)
     (λ one g. (no_name (game_line (codes "show ") g) (show_reads g), tt))
 planned_fits players true sorts.Login s game said text c is other = login_does (FitsPlan said text (Asker c ForItself)) s.holder (λ _. tt) (λ _. tt)
-planned_fits players true sorts.Players s game said text c is other = players_does (FitsPlan said text (Asker c ForItself)) s.who tt tt
+planned_fits players true sorts.Players s game said text c is other = players_does (FitsPlan said text (Asker c ForItself)) s s.who tt tt
 planned_fits players true sorts.Who s game said text c is other = arbiter_does (FitsPlan said text (Asker c ForItself)) s.who plans.Who (λ _. tt) tt
 planned_fits players true sorts.Pause s game said text c is other = arbiter_does (FitsPlan said text (Asker c ForItself)) s.who plans.Pause (λ _. tt) tt
 planned_fits players true sorts.Resume s game said text c is other = arbiter_does (FitsPlan said text (Asker c ForItself)) s.who plans.Resume (λ _. tt) tt

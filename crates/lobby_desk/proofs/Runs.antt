@@ -89,7 +89,7 @@ planned_who true sorts.As s game before = as_who s s.who before
 planned_who true sorts.Pair s game before = pair_does (λ plan. who_noted plan before ≡ before) s s.who (λ _. refl) (λ _ _ _. refl)
 planned_who true sorts.Drop s game before = dropped_who s game before
 planned_who true sorts.Login s game before = login_who s.holder before
-planned_who true sorts.Players s game before = players_does (λ plan. who_noted plan before ≡ before) s.who refl refl
+planned_who true sorts.Players s game before = players_does (λ plan. who_noted plan before ≡ before) s s.who refl refl
 planned_who true sorts.Who s game before = arbiter_does (λ plan. who_noted plan before ≡ before) s.who plans.Who (λ _. refl) refl
 planned_who true sorts.Pause s game before = arbiter_does (λ plan. who_noted plan before ≡ before) s.who plans.Pause (λ _. refl) refl
 planned_who true sorts.Resume s game before = arbiter_does (λ plan. who_noted plan before ≡ before) s.who plans.Resume (λ _. refl) refl
@@ -419,7 +419,7 @@ plan_good players text s said game true sorts.Pair other message is small named 
 plan_good players text s said game true sorts.Drop other message is small named = dropped_good text s (name_for players s.who text) said game small named
 plan_good players text s said game true sorts.Login other message is small named = login_good text (name_for players s.who text) said s.holder
 plan_good players text s said game true sorts.Players other message is small named =
-    players_does (λ p. Good [] (name_for players s.who text) said (lines_of p said text) (said_after p said)) s.who
+    players_does (λ p. Good [] (name_for players s.who text) said (lines_of p said text) (said_after p said)) s s.who
     (none_good [] (name_for players s.who text) said) (none_good [] (name_for players s.who text) said)
 plan_good players text s said game true sorts.Who other message is small named =
     silent_good text s.who (name_for players s.who text) said plans.Who (none_good [] (name_for players s.who text) said)

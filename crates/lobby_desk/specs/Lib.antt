@@ -9,5 +9,6 @@ pub mod Logging
 pub mod Tellings
 pub mod Who
 pub mod Strangers
+pub mod Initials
 pub mod History
 pub mod Roles

@@ -1,5 +1,5 @@
 -- Connections that act for nobody.
-use Rattle.std.specs.Prelude.{ℕ, Bool, false, not, List, map, Option, None, Some, is_some}
+use Rattle.std.specs.Prelude.{ℕ, Bool, false, not, List, Option, None, Some, is_some}
 use Rattle.std.specs.List.{list_any}
 use Rattle.lobby_words.specs.declared.planning.Identity.{Identity}
 use Rattle.lobby_desk.specs.declared.desk.Desk.{Desk}

@@ -10,6 +10,7 @@ use Rattle.lobby_words.specs.declared.refusals.Refusal.{Refusal}
 use Rattle.lobby_words.specs.declared.refusals.Refusal.TheVariants as refusals
 use Rattle.lobby_words.specs.declared.listing.Seat.{Seat}
 use Rattle.lobby_words.specs.declared.planning.Order.{Order}
+use Rattle.lobby_words.specs.declared.initials.NameForm.TheVariants as forms
 use Rattle.lobby_words.specs.declared.planning.Standing.{Standing}
 use Rattle.lobby_words.specs.declared.planning.Identity.{Identity}
 use Rattle.lobby_words.specs.declared.players.Player.{Player}
@@ -114,7 +115,7 @@ abbrev pub is_own : Plan → Bool
 is_own (plans.Refuse refusal) = true
 is_own (plans.Login who) = true
 is_own plans.Players = true
-is_own plans.Seated = true
+is_own (plans.Seated form) = true
 is_own plans.Who = true
 is_own plans.Pause = true
 is_own plans.Resume = true
@@ -135,8 +136,8 @@ IsPresence is_paused players is_open acts_for text =
 abbrev pub IsOwnText : Bool → List Player → List Seat → (ℕ → Bool) → (ℕ → Option Identity) → Plan → List ℕ → Type 0
 IsOwnText is_paused players seats is_open acts_for (plans.Refuse refusal) text = text ≡ refusal_text refusal
 IsOwnText is_paused players seats is_open acts_for (plans.Login who) text = text ≡ login_text players who
-IsOwnText is_paused players seats is_open acts_for plans.Players text = text ≡ players_text players
-IsOwnText is_paused players seats is_open acts_for plans.Seated text = text ≡ seated_text seats players
+IsOwnText is_paused players seats is_open acts_for plans.Players text = text ≡ players_text forms.Full players
+IsOwnText is_paused players seats is_open acts_for (plans.Seated form) text = text ≡ seated_text form seats players
 IsOwnText is_paused players seats is_open acts_for plans.Who text = IsPresence is_paused players is_open acts_for text
 IsOwnText is_paused players seats is_open acts_for plans.Pause text = text ≡ codes "ok pause entries\n"
 IsOwnText is_paused players seats is_open acts_for plans.Resume text = text ≡ codes "ok resume entries\n"
@@ -248,6 +249,7 @@ standing_of desk c text = record {
   is_full = is_full desk.watches.items c (u32_in (rest_of text));
   bar = bar_of desk.limits (known desk) (who_of desk c) text;
   is_paused = opens_game text && desk.is_paused;
+  names = desk.limits.names;
 }
 
 -- what a message at this moment has done with a player's link; nothing where it comes too fast
@@ -269,6 +271,7 @@ pub record IsSaid (players : List Player) (old : View) (c : ℕ) (text : List �
   pub full : standing.is_full ≡ is_full old.known.watches c (u32_in (rest_of text))
   pub bar : standing.bar ≡ bar_of old.limits old.known (old.who c) text
   pub paused : standing.is_paused ≡ (opens_game text && old.paused)
+  pub names : standing.names ≡ old.limits.names
   pub plan : Plan
   pub planned : plan ≡ plan_of (is_message text) (sort_of text) standing (u32_in (rest_of text))
   pub named : IsNamed plan

@@ -67,7 +67,7 @@ fn own_answer(
         Plan::Refuse(refusal) => Ok(Some(String::from_str(alloc, refusal.line())?)),
         Plan::Login(who) => Ok(Some(login_line(alloc, who, players)?)),
         Plan::Players => Ok(Some(player_rows(alloc, players)?)),
-        Plan::Seated => Ok(Some(seated_rows(alloc, players, seats)?)),
+        Plan::Seated(form) => Ok(Some(seated_rows(alloc, *form, players, seats)?)),
         Plan::Who => Ok(Some(present_rows(alloc, is_paused, players, visitors)?)),
         Plan::Pause => Ok(Some(String::from_str(alloc, "ok pause entries\n")?)),
         Plan::Resume => Ok(Some(String::from_str(alloc, "ok resume entries\n")?)),

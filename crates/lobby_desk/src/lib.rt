@@ -28,7 +28,9 @@ mod waiting;
 mod watching;
 
 pub use desk::Desk;
-pub use law::{law_of_lines, law_of_logs, law_of_names, law_of_pairings, law_of_tellings};
+pub use law::{
+    law_of_initials, law_of_lines, law_of_logs, law_of_names, law_of_pairings, law_of_tellings,
+};
 pub use lobby_words::Order;
 pub use telling::{Kind, Message};
 pub use waiting::Limits;

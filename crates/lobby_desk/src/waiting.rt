@@ -8,13 +8,13 @@ ghost use Rattle.lobby_desk.specs.Waiting as spec;
 
 use crate::server_line::{Acting, Due, ServerLine};
 use lobby_words::{
-    Seat, Stage, actor, as_name, black_name, ends_wait, is_list, is_pair, is_stage, joins_game,
-    opens_game, seat_of, seats_in, tells_end,
+    NameForm, Seat, Stage, actor, as_name, black_name, ends_wait, is_list, is_pair, is_stage,
+    joins_game, opens_game, seat_of, seats_in, tells_end,
 };
 use player_name::Name;
 use std::alloc::{AllocError, Global};
 
-/// How many games there may be.
+/// How many games there may be, and how much of a player's name is told.
 #[derive(Clone, Copy)]
 pub struct Limits {
     /// Of a player's that wait for a second one, that go on, and that are over and still on the table.
@@ -23,6 +23,8 @@ pub struct Limits {
     pub over: usize,
     /// The places on the server's table, where they are known.
     pub places: Option<u32>,
+    /// What who acts for nobody is told of a full name.
+    pub names: NameForm,
 }
 
 // Whether it is a seat of this player in a game that stands so.

@@ -5,3 +5,4 @@ pub mod Texts
 pub mod Found
 pub mod ByName
 mod PlayerRows
+pub mod Alike

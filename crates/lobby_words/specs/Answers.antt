@@ -1,5 +1,6 @@
 -- The answers that come from the server.
-use Rattle.std.specs.Prelude.{ℕ, ◌≡◌, ◌-◌, ◌⊎◌, ◌==◌, ◌&&◌, ◌||◌, Bool, true, false, not, List, [], ◌∷◌, ◌++◌, codes, Option, Some, None, if◌then◌else◌}
+use Rattle.std.specs.Prelude.{ℕ, ◌≡◌, ◌-◌, ◌⊎◌, ◌==◌, ◌&&◌, ◌||◌, Bool, true, false, not, List, [], ◌∷◌, ◌++◌, codes}
+use Rattle.std.specs.Prelude.{Option, Some, None, if◌then◌else◌}
 use Rattle.std.specs.List.{starts_with, ends_with, before_first}
 use Rattle.std.specs.Str.{bytes_eq}
 use Rattle.std.specs.String.{string_bytes}
@@ -35,9 +36,11 @@ answer begun line = begun ++ ended line
 
 -- a line of an answer is taken: the whole answer is given where it was the last
 abbrev pub IsTaken : {A : Type 0} → Coming → List ℕ → Option (String A) → Coming → Type 0
-IsTaken old line None new = (is_whole old.left line ≡ false) × (string_bytes new.text ≡ answer (string_bytes old.text) line)
+IsTaken old line None new =
+    (is_whole old.left line ≡ false) × (string_bytes new.text ≡ answer (string_bytes old.text) line)
 IsTaken old line (Some text) new =
-    (is_whole old.left line ≡ true) × (string_bytes text ≡ answer (string_bytes old.text) line) × (string_bytes new.text ≡ [])
+    (is_whole old.left line ≡ true) × (string_bytes text ≡ answer (string_bytes old.text) line)
+    × (string_bytes new.text ≡ [])
 
 -- whether the server does what it was asked
 abbrev pub is_accepted : List ℕ → Bool

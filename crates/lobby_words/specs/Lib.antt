@@ -5,3 +5,4 @@ pub mod Waiting
 pub mod Naming
 pub mod Players
 pub mod Lines
+pub mod Initials

@@ -13,7 +13,8 @@ is_said (Some said) name = bytes_eq said name
 -- and by no other answer.
 abbrev pub says_taken : List ℕ → List ℕ → Bool
 says_taken name line =
-    bytes_eq (word_of line) (codes "ok") && bytes_eq (word_of (rest_of line)) (codes "name") && bytes_eq (rest_of (rest_of line)) name
+    bytes_eq (word_of line) (codes "ok") && bytes_eq (word_of (rest_of line)) (codes "name")
+    && bytes_eq (rest_of (rest_of line)) name
 
 abbrev pub takes_name : List ℕ → List ℕ → Bool
 takes_name name answer = says_taken name (first_line answer)

@@ -44,7 +44,8 @@ entered_plan s plan = asked s (barred s.bar plan)
 -- but by an arbiter.
 abbrev pub act_plan : Standing → Option Identity → Plan
 act_plan s None = plans.Refuse refusals.NoToken
-act_plan s (Some who) = if s.is_paused && not who.is_arbiter then plans.Refuse refusals.EntriesPaused else entered_plan s (plans.Act who)
+act_plan s (Some who) =
+    if s.is_paused && not who.is_arbiter then plans.Refuse refusals.EntriesPaused else entered_plan s (plans.Act who)
 
 -- an act of an arbiter under the name of another: not where no player has it
 abbrev pub named_plan : Standing → Identity → Option (List ℕ) → Plan
@@ -79,10 +80,10 @@ abbrev pub arbiter_plan : Option Identity → Plan → Plan
 arbiter_plan None plan = plans.Refuse refusals.NoToken
 arbiter_plan (Some who) plan = if who.is_arbiter then plan else plans.Refuse refusals.NotArbiter
 
--- who the players are; without a token who of them sits in a game on the table
-abbrev pub players_plan : Option Identity → Plan
-players_plan None = plans.Seated
-players_plan (Some who) = plans.Players
+-- who the players are; without a token who of them sits in a game on the table, in the form that is told to strangers
+abbrev pub players_plan : Standing → Option Identity → Plan
+players_plan s None = plans.Seated s.names
+players_plan s (Some who) = plans.Players
 
 -- the link of a player is changed, or closed: not where no player has the name
 abbrev pub order_plan : Bool → Option (List ℕ) → Plan
@@ -119,7 +120,7 @@ sort_plan sorts.As s game = as_plan s s.who
 sort_plan sorts.Pair s game = pair_plan s s.who
 sort_plan sorts.Drop s game = numbered_plan sorts.Drop s game
 sort_plan sorts.Login s game = login_plan s.holder
-sort_plan sorts.Players s game = players_plan s.who
+sort_plan sorts.Players s game = players_plan s s.who
 sort_plan sorts.Who s game = arbiter_plan s.who plans.Who
 sort_plan sorts.Pause s game = arbiter_plan s.who plans.Pause
 sort_plan sorts.Resume s game = arbiter_plan s.who plans.Resume

@@ -1,5 +1,6 @@
 -- Whom a token shows, and how players are told.
-use Rattle.std.specs.Prelude.{ℕ, ◌≡◌, Bool, true, false, ◌&&◌, ◌||◌, ◌==◌, nat_le, List, [], length, ◌++◌, codes, decimal, map, filter, Option, Some, None, find, option_map, if◌then◌else◌}
+use Rattle.std.specs.Prelude.{ℕ, ◌≡◌, Bool, true, false, ◌&&◌, ◌||◌, ◌==◌, nat_le, List, [], length, ◌++◌, codes}
+use Rattle.std.specs.Prelude.{decimal, map, filter, Option, Some, None, find, option_map, if◌then◌else◌}
 use Rattle.std.specs.List.{AllZip, flat_map, list_any, list_all}
 use Rattle.std.specs.String.{string_bytes}
 use Rattle.std.specs.Str.{bytes_eq}
@@ -8,6 +9,8 @@ use Rattle.lobby_words.specs.declared.players.Player.{Player}
 use Rattle.lobby_words.specs.declared.planning.Identity.{Identity}
 use Rattle.lobby_words.specs.declared.listing.Seat.{Seat}
 use Rattle.lobby_words.specs.Answers.{ended}
+use Rattle.lobby_words.specs.declared.initials.NameForm.{NameForm}
+use Rattle.lobby_words.specs.Initials.{initials, name_told}
 
 abbrev pub identity_of : Player → Identity
 identity_of player = record { name = player.name; is_arbiter = player.is_arbiter }
@@ -61,8 +64,9 @@ role_text is_arbiter = if is_arbiter then codes " arbiter " else codes " player 
 abbrev pub player_row : List ℕ → Bool → List ℕ → List ℕ
 player_row name is_arbiter full_name = name ++ role_text is_arbiter ++ full_name ++ codes "\n"
 
-abbrev pub row_of : Player → List ℕ
-row_of player = player_row player.name player.is_arbiter (string_bytes player.full_name)
+-- the same of a player, with the full name in this form
+abbrev pub row_in : NameForm → Player → List ℕ
+row_in form player = player_row player.name player.is_arbiter (name_told form (string_bytes player.full_name))
 
 -- the full name of the first player of this name
 abbrev pub full_name_or_none : Option Player → List ℕ
@@ -72,19 +76,20 @@ full_name_or_none (Some player) = string_bytes player.full_name
 abbrev pub full_name_of : List Player → List ℕ → List ℕ
 full_name_of players name = full_name_or_none (find (λ player. bytes_eq player.name name) players)
 
--- the answer to a `login` of this player, and that to `players`
+-- the answer to a `login` of this player, and that to `players` with their full names in this form
 abbrev pub login_text : List Player → Identity → List ℕ
 login_text players who = codes "ok login " ++ player_row who.name who.is_arbiter (full_name_of players who.name)
 
-abbrev pub players_text : List Player → List ℕ
-players_text players = codes "ok players " ++ decimal (length players) ++ codes "\n" ++ flat_map row_of players
+abbrev pub players_text : NameForm → List Player → List ℕ
+players_text form players =
+    codes "ok players " ++ decimal (length players) ++ codes "\n" ++ flat_map (row_in form) players
 
 -- those of the players who have one of these seats
 abbrev pub is_seated : List Seat → Player → Bool
 is_seated seats player = list_any (λ (s : Seat). bytes_eq s.by player.name) seats
 
-abbrev pub seated_text : List Seat → List Player → List ℕ
-seated_text seats players = players_text (filter (is_seated seats) players)
+abbrev pub seated_text : NameForm → List Seat → List Player → List ℕ
+seated_text form seats players = players_text form (filter (is_seated seats) players)
 
 -- whether it is the player of this name
 abbrev pub is_named : Option Identity → List ℕ → Bool
@@ -98,7 +103,8 @@ is_present who connections name = list_any (λ c. is_named (who c) name) connect
 -- the names of the players of whom that is so, in the list's order
 abbrev pub present_names : (ℕ → Option Identity) → List ℕ → List Player → List (List ℕ)
 present_names who connections players =
-    map (λ (player : Player). player.name) (filter (λ (player : Player). is_present who connections player.name) players)
+    map (λ (player : Player). player.name)
+    (filter (λ (player : Player). is_present who connections player.name) players)
 
 -- the answer to `who`, which tells whether entries are paused, and these names
 abbrev pub who_front : Bool → List ℕ
@@ -129,3 +135,14 @@ pub record IsRelinked (name token : List ℕ) (before after : List Player) : Typ
   pub each : AllZip (λ (old new : Player). IsWithSum (sum_given name (sha256 token) old) old new) before after
   pub fresh : list_any (has_sum (sha256 token)) before ≡ false
   pub holds : is_token_of after token name ≡ true
+
+-- two players whom a stranger cannot tell apart by their names: they differ in no more than their full names, of which
+-- the initials are the same
+pub record IsAlike (a b : Player) : Type 0 where
+  pub name : b.name ≡ a.name
+  pub is_arbiter : b.is_arbiter ≡ a.is_arbiter
+  pub sum_is : b.sum ≡ a.sum
+  pub initials_are : initials (string_bytes b.full_name) ≡ initials (string_bytes a.full_name)
+
+abbrev pub AreAlike : List Player → List Player → Type 0
+AreAlike players others = AllZip IsAlike players others

@@ -1,5 +1,6 @@
 -- The games on the server's table, as its answers tell: each waits for a second player, goes on, or is over.
-use Rattle.std.specs.Prelude.{ℕ, Bool, true, false, [], ◌∷◌, ◌++◌, ◌&&◌, ◌||◌, ◌==◌, nat_le, List, length, codes, Option, None, Some, if◌then◌else◌}
+use Rattle.std.specs.Prelude.{ℕ, Bool, true, false, [], ◌∷◌, ◌++◌, ◌&&◌, ◌||◌, ◌==◌, nat_le, List, length, codes}
+use Rattle.std.specs.Prelude.{Option, None, Some, if◌then◌else◌}
 use Rattle.std.specs.List.{list_all, list_any, flat_map, starts_with}
 use Rattle.std.specs.Str.{bytes_eq}
 use Rattle.text_parts.specs.Parts.{parts_of}
@@ -57,9 +58,12 @@ stage_in row = if bytes_eq (result_in row) (codes "*") then stages.Plays else st
 
 abbrev pub seats_row : List ℕ → List Seat
 seats_row row =
-    if bytes_eq (word_of (rest_of row)) (codes "-") then listed (seat_of (u32_in (word_of row)) (word_of (rest_of (rest_of row))) stages.Waits)
-    else (if bytes_eq (word_of (rest_of (rest_of row))) (codes "-") then listed (seat_of (u32_in (word_of row)) (word_of (rest_of row)) stages.Waits)
-    else listed (seat_of (u32_in (word_of row)) (word_of (rest_of row)) (stage_in row)) ++ listed (seat_of (u32_in (word_of row)) (word_of (rest_of (rest_of row))) (stage_in row)))
+    if bytes_eq (word_of (rest_of row)) (codes "-")
+    then listed (seat_of (u32_in (word_of row)) (word_of (rest_of (rest_of row))) stages.Waits)
+    else (if bytes_eq (word_of (rest_of (rest_of row))) (codes "-")
+    then listed (seat_of (u32_in (word_of row)) (word_of (rest_of row)) stages.Waits)
+    else listed (seat_of (u32_in (word_of row)) (word_of (rest_of row)) (stage_in row))
+    ++ listed (seat_of (u32_in (word_of row)) (word_of (rest_of (rest_of row))) (stage_in row)))
 
 -- whether an answer to an act tells that the game is over: the article by which it ended is the only word of any with a
 -- full stop

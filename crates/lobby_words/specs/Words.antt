@@ -1,5 +1,6 @@
 -- What the first word of a message says.
-use Rattle.std.specs.Prelude.{ℕ, ◌^◌, Bool, true, false, ◌&&◌, ◌||◌, ◌==◌, not, nat_le, List, ◌++◌, length, codes, Option, None, Some, if◌then◌else◌}
+use Rattle.std.specs.Prelude.{ℕ, ◌^◌, Bool, true, false, ◌&&◌, ◌||◌, ◌==◌, not, nat_le, List, ◌++◌, length, codes}
+use Rattle.std.specs.Prelude.{Option, None, Some, if◌then◌else◌}
 use Rattle.std.specs.List.{before_first, after_first, list_all}
 use Rattle.std.specs.Str.{bytes_eq}
 use Rattle.text_parts.specs.Numbers.{number_below}
@@ -28,7 +29,8 @@ is_read_word w =
 -- the words of acts in a game that is played
 unfoldable pub is_play_word : List ℕ → Bool
 is_play_word w =
-    bytes_eq w (codes "move") || bytes_eq w (codes "offer") || bytes_eq w (codes "accept") || bytes_eq w (codes "decline")
+    bytes_eq w (codes "move") || bytes_eq w (codes "offer") || bytes_eq w (codes "accept")
+    || bytes_eq w (codes "decline")
     || bytes_eq w (codes "resign") || bytes_eq w (codes "claim") || bytes_eq w (codes "flag")
 
 -- the words of acts, but `drop`
@@ -60,7 +62,8 @@ pair_line text = codes "open white " ++ pair_times text
 -- what a message asks for whose word is `pair`: two players, and times with which that line has no more than 255 bytes
 abbrev pub pair_sort : List ℕ → Sort
 pair_sort text =
-    if not (bytes_eq (as_name text) (black_name text)) && nat_le 1 (length (pair_times text)) && nat_le (length (pair_times text)) 244
+    if not (bytes_eq (as_name text) (black_name text)) && nat_le 1 (length (pair_times text))
+    && nat_le (length (pair_times text)) 244
     then sorts.Pair else sorts.Nothing
 
 -- what a message asks for whose word is `as`: LINE is an act, but `drop`

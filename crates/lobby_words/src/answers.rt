@@ -2,7 +2,8 @@
 ghost use Rattle.std.specs.Prelude.{codes, ◌≡◌, ◌==◌, IfSome, IfNone};
 ghost use Rattle.std.specs.List.{ends_with};
 ghost use Rattle.player_name.specs.Name.{IsName};
-ghost use Rattle.lobby_words.specs.Answers.{IsSeated, IsFirstSeated, IsSeatless, has_empty_seat, first_line, act_game, is_table_act, is_accepted, is_ended, is_no_game, is_over};
+ghost use Rattle.lobby_words.specs.Answers.{IsSeated, IsFirstSeated, IsSeatless, has_empty_seat, first_line, act_game};
+ghost use Rattle.lobby_words.specs.Answers.{is_table_act, is_accepted, is_ended, is_no_game, is_over};
 
 use crate::words::{cut_word, line_said, number_named};
 use player_name::Name;
@@ -54,9 +55,7 @@ fn goes_on(shown: &str) -> bool
 fn is_ended(shown: &str) -> bool
     ensures { result ≡ is_ended shown.now }
 {
-    let is_shown = is_accepted(shown);
-    let goes_on = goes_on(shown);
-    is_shown & !goes_on
+    is_accepted(shown) && !goes_on(shown)
 }
 
 // Whether there is no such game.
@@ -116,7 +115,5 @@ pub fn has_empty_seat(answer: &str) -> bool
     let (_, rest) = cut_word(rest);
     let (white, rest) = cut_word(rest);
     let (black, _) = cut_word(rest);
-    let is_white = white == "-";
-    let is_black = black == "-";
-    is_white | is_black
+    white == "-" || black == "-"
 }

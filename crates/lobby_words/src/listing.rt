@@ -1,6 +1,7 @@
 //! The games on the server's table, as its answers tell: each waits for a second player, goes on, or is over.
 ghost use Rattle.std.specs.Prelude.{◌≡◌, ◌++◌, true, IfOk, OnOk};
-ghost use Rattle.lobby_words.specs.Waiting.{opens_game, joins_game, ends_wait, is_stage, seat_of, listed, stage_in, seats_row, tells_end, is_list, seats_in};
+ghost use Rattle.lobby_words.specs.Waiting.{opens_game, joins_game, ends_wait, is_stage, seat_of, listed, stage_in};
+ghost use Rattle.lobby_words.specs.Waiting.{seats_row, tells_end, is_list, seats_in};
 
 use crate::words::{cut_word, line_said, number_named};
 use player_name::Name;
@@ -100,7 +101,8 @@ fn push_both(
     black: &str,
     stage: Stage,
 ) -> Result<(), AllocError>
-    ensures { OnOk result (seats.new.items ≡ seats.old.items ++ (listed (seat_of game white.now stage) ++ listed (seat_of game black.now stage))) }
+    ensures { OnOk result (seats.new.items
+        ≡ seats.old.items ++ (listed (seat_of game white.now stage) ++ listed (seat_of game black.now stage))) }
 {
     push_seat(seats, seat_of(game, white, stage))?;
     push_seat(seats, seat_of(game, black, stage))?;

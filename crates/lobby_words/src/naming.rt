@@ -25,8 +25,5 @@ pub fn takes_name(name: &Name, answer: &str) -> bool
 {
     let (ok, rest) = cut_word(first_line(answer));
     let (word, said) = cut_word(rest);
-    let is_ok = ok == "ok";
-    let is_name = word == "name";
-    let is_same = said == name.as_str();
-    is_ok & is_name & is_same
+    ok == "ok" && word == "name" && said == name.as_str()
 }

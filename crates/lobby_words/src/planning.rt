@@ -3,6 +3,7 @@ ghost use Rattle.std.specs.Prelude.{◌≡◌};
 ghost use Rattle.lobby_words.specs.Words as words;
 ghost use Rattle.lobby_words.specs.Plans as plans;
 
+use crate::initials::NameForm;
 use crate::refusals::Refusal;
 use crate::words::{Sort, cut_word, is_message, number_named, sort_of};
 use player_name::Name;
@@ -37,9 +38,10 @@ pub enum Plan {
     /// Who is seated in the game is asked for, and the message is passed on under a name of theirs.
     Drop(Identity, u32),
     Login(Identity),
-    /// Who the players are, and which of them sit in a game on the table.
+    /// Who the players are.
     Players,
-    Seated,
+    /// Which of them sit in a game on the table, with their full names told in this form.
+    Seated(NameForm),
     /// Which players are there.
     Who,
     /// No games are opened from now on, and games are again.
@@ -75,6 +77,8 @@ pub struct Standing {
     pub bar: Option<Refusal>,
     /// Whether the message opens a game while entries are paused.
     pub is_paused: bool,
+    /// How full names are told to who acts for nobody.
+    pub names: NameForm,
 }
 
 /// Whether a message shows a token.
@@ -126,8 +130,7 @@ fn act_plan(standing: &Standing) -> Plan
     match standing.who {
         None => Plan::Refuse(Refusal::NoToken),
         Some(who) => {
-            let is_player = !who.is_arbiter;
-            if standing.is_paused & is_player {
+            if standing.is_paused && !who.is_arbiter {
                 Plan::Refuse(Refusal::EntriesPaused)
             } else {
                 entered_plan(standing, Plan::Act(who))
@@ -220,8 +223,7 @@ fn arbiter_plan(standing: &Standing, plan: Plan) -> Plan
     match standing.who {
         None => Plan::Refuse(Refusal::NoToken),
         Some(who) => {
-            let is_arbiter = who.is_arbiter;
-            if is_arbiter {
+            if who.is_arbiter {
                 plan
             } else {
                 Plan::Refuse(Refusal::NotArbiter)
@@ -231,11 +233,11 @@ fn arbiter_plan(standing: &Standing, plan: Plan) -> Plan
 }
 
 // Who the players are.
-fn players_plan(who: &Option<Identity>) -> Plan
-    ensures { result ≡ plans.players_plan who.now }
+fn players_plan(standing: &Standing) -> Plan
+    ensures { result ≡ plans.players_plan standing.now standing.now.who }
 {
-    match who {
-        None => Plan::Seated,
+    match standing.who {
+        None => Plan::Seated(standing.names),
         Some(_) => Plan::Players,
     }
 }
@@ -298,7 +300,7 @@ fn sort_plan(sort: Sort, standing: &Standing, game: Option<u32>) -> Plan
         Sort::As => as_plan(standing),
         Sort::Pair => pair_plan(standing),
         Sort::Login => login_plan(standing.holder),
-        Sort::Players => players_plan(&standing.who),
+        Sort::Players => players_plan(standing),
         Sort::Who => arbiter_plan(standing, Plan::Who),
         Sort::Pause => arbiter_plan(standing, Plan::Pause),
         Sort::Resume => arbiter_plan(standing, Plan::Resume),
@@ -316,7 +318,8 @@ fn sort_plan(sort: Sort, standing: &Standing, game: Option<u32>) -> Plan
 
 /// What is done about a message.
 pub fn plan_of(standing: &Standing, text: &str) -> Plan
-    ensures { result ≡ plans.plan_of (words.is_message text.now) (words.sort_of text.now) standing.now (words.u32_in (words.rest_of text.now)) }
+    ensures { result ≡ plans.plan_of (words.is_message text.now) (words.sort_of text.now) standing.now
+        (words.u32_in (words.rest_of text.now)) }
 {
     let (_, rest) = cut_word(text);
     let game = number_named(rest);

@@ -2,7 +2,8 @@
 ghost use Rattle.std.specs.Prelude.{◌≡◌};
 ghost use Rattle.std.specs.List.{list_all};
 ghost use Rattle.std.specs.Str.{bytes_eq};
-ghost use Rattle.lobby_words.specs.Players.{identity_of, is_token_digit, is_token, or_holder, holder_of_sum, holder_of, is_named};
+ghost use Rattle.lobby_words.specs.Players.{identity_of, is_token_digit, is_token, or_holder, holder_of_sum, holder_of};
+ghost use Rattle.lobby_words.specs.Players.{is_named};
 
 use crate::Identity;
 use player_name::Name;

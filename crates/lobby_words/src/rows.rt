@@ -1,14 +1,17 @@
 //! How players are told.
-ghost use Rattle.std.specs.Prelude.{◌≡◌, ◌++◌, ◌∷◌, [], codes, decimal, length, filter, IfOk, OnOk, find, if◌then◌else◌};
+ghost use Rattle.std.specs.Prelude.{◌≡◌, ◌++◌, ◌∷◌, [], codes, decimal, length, filter, IfOk, OnOk, find};
+ghost use Rattle.std.specs.Prelude.{if◌then◌else◌};
 ghost use Rattle.std.specs.List.{flat_map};
 ghost use Rattle.std.specs.Option.{option_copied};
 ghost use Rattle.std.specs.Str.{bytes_eq};
 ghost use Rattle.std.specs.String.{string_bytes};
 ghost use Rattle.lobby_words.specs.Answers.{ended};
-ghost use Rattle.lobby_words.specs.Players.{role_text, player_row, row_of, known_name, full_name_of, login_text, players_text, is_seated, seated_text, who_front, who_text};
+ghost use Rattle.lobby_words.specs.declared.initials.NameForm.TheVariants as forms;
+ghost use Rattle.lobby_words.specs.Players.{role_text, row_in, known_name, full_name_of, login_text, players_text};
+ghost use Rattle.lobby_words.specs.Players.{is_seated, seated_text, who_front, who_text};
 
 use crate::players::Player;
-use crate::{Identity, Seat};
+use crate::{Identity, NameForm, Seat, push_full_name};
 use itoa::Buffer;
 use player_name::Name;
 use std::alloc::{AllocError, Global};
@@ -19,32 +22,21 @@ fn role_text(is_arbiter: bool) -> &'static str
     if is_arbiter { " arbiter " } else { " player " }
 }
 
-// A player's name, role and full name, and a line feed.
-fn push_row(
-    text: &mut String,
-    name: &str,
-    is_arbiter: bool,
-    full_name: &str,
-) -> Result<(), AllocError>
-    ensures { OnOk result (string_bytes text.new ≡ string_bytes text.old ++ player_row name.now is_arbiter full_name.now) }
+// A player's name and role, as they stand before the full name.
+fn push_front(text: &mut String, name: &str, is_arbiter: bool) -> Result<(), AllocError>
+    ensures { OnOk result (string_bytes text.new ≡ string_bytes text.old ++ (name.now ++ role_text is_arbiter)) }
 {
     text.push_str(name)?;
-    text.push_str(role_text(is_arbiter))?;
-    text.push_str(full_name)?;
-    text.push('\n')?;
-    Ok(())
+    text.push_str(role_text(is_arbiter))
 }
 
-// The row of a player.
-fn push_player(text: &mut String, player: &Player) -> Result<(), AllocError>
-    ensures { OnOk result (string_bytes text.new ≡ string_bytes text.old ++ row_of player.now) }
+// The row of a player, with the full name in a form.
+fn push_player(text: &mut String, form: NameForm, player: &Player) -> Result<(), AllocError>
+    ensures { OnOk result (string_bytes text.new ≡ string_bytes text.old ++ row_in form player.now) }
 {
-    push_row(
-        text,
-        player.name.as_str(),
-        player.is_arbiter,
-        player.full_name.as_str(),
-    )
+    push_front(text, player.name.as_str(), player.is_arbiter)?;
+    push_full_name(text, form, player.full_name.as_str())?;
+    text.push('\n')
 }
 
 /// The first player of a name; `None` where nobody has it.
@@ -80,7 +72,9 @@ pub fn login_line(alloc: Global, who: &Identity, players: &[Player]) -> Result<S
 {
     let mut text = String::from_str(alloc, "ok login ")?;
     let name = who.name.as_str();
-    push_row(&mut text, name, who.is_arbiter, full_name_of(players, name))?;
+    push_front(&mut text, name, who.is_arbiter)?;
+    text.push_str(full_name_of(players, name))?;
+    text.push('\n')?;
     Ok(text)
 }
 
@@ -97,11 +91,11 @@ pub fn headed(alloc: Global, word: &str, number: u64) -> Result<String, AllocErr
 
 /// The answer to `players`.
 pub fn player_rows(alloc: Global, players: &[Player]) -> Result<String, AllocError>
-    ensures { IfOk result (λ text. string_bytes text ≡ players_text players.now) }
+    ensures { IfOk result (λ text. string_bytes text ≡ players_text forms.Full players.now) }
 {
     let mut text = headed(alloc, "ok players ", players.len() as u64)?;
     for player in players {
-        push_player(&mut text, player)?;
+        push_player(&mut text, NameForm::Full, player)?;
     }
     Ok(text)
 }
@@ -126,24 +120,34 @@ fn count_seated(players: &[Player], seats: &[Seat]) -> usize
 }
 
 // The row of a player, if it is to be there.
-fn push_if(text: &mut String, is_so: bool, player: &Player) -> Result<(), AllocError>
-    ensures { OnOk result (string_bytes text.new ≡ string_bytes text.old ++ flat_map row_of (if is_so then player.now ∷ [] else [])) }
+fn push_if(
+    text: &mut String,
+    form: NameForm,
+    is_so: bool,
+    player: &Player,
+) -> Result<(), AllocError>
+    ensures { OnOk result (string_bytes text.new
+        ≡ string_bytes text.old ++ flat_map (row_in form) (if is_so then player.now ∷ [] else [])) }
 {
     if is_so {
-        push_player(text, player)?;
-        Ok(())
+        push_player(text, form, player)
     } else {
         Ok(())
     }
 }
 
-/// The answer to `players` that tells those alone who have one of these seats.
-pub fn seated_rows(alloc: Global, players: &[Player], seats: &[Seat]) -> Result<String, AllocError>
-    ensures { IfOk result (λ text. string_bytes text ≡ seated_text seats.now players.now) }
+/// The answer to `players` that tells those alone who have one of these seats, with their full names in a form.
+pub fn seated_rows(
+    alloc: Global,
+    form: NameForm,
+    players: &[Player],
+    seats: &[Seat],
+) -> Result<String, AllocError>
+    ensures { IfOk result (λ text. string_bytes text ≡ seated_text form seats.now players.now) }
 {
     let mut text = headed(alloc, "ok players ", count_seated(players, seats) as u64)?;
     for player in players {
-        push_if(&mut text, is_seated(player, seats), player)?;
+        push_if(&mut text, form, is_seated(player, seats), player)?;
     }
     Ok(text)
 }
@@ -153,8 +157,7 @@ fn push_name(text: &mut String, name: &Name) -> Result<(), AllocError>
     ensures { OnOk result (string_bytes text.new ≡ string_bytes text.old ++ ended name.now) }
 {
     text.push_str(name.as_str())?;
-    text.push('\n')?;
-    Ok(())
+    text.push('\n')
 }
 
 // How the answer to `who` begins.

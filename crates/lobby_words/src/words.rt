@@ -63,10 +63,7 @@ pub fn is_message(text: &str) -> bool
     ensures { result ≡ words.is_message text.now }
 {
     let bytes = text.as_bytes();
-    let some = 1 <= bytes.len();
-    let short = bytes.len() <= 255;
-    let shown = are_message_bytes(bytes);
-    some & short & shown
+    !bytes.is_empty() && bytes.len() <= 255 && are_message_bytes(bytes)
 }
 
 // Whether a line of the server with this word changes nothing.
@@ -170,10 +167,8 @@ fn pair_sort(text: &str) -> Sort
     ensures { result ≡ words.pair_sort text.now }
 {
     let are_one = as_name(text) == black_name(text);
-    let times = pair_times(text).len();
-    let is_some = 1 <= times;
-    let is_short = times <= 244;
-    if !are_one & is_some & is_short {
+    let times = pair_times(text);
+    if !are_one && !times.is_empty() && times.len() <= 244 {
         Sort::Pair
     } else {
         Sort::Nothing

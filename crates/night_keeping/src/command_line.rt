@@ -3,6 +3,7 @@ use clap::{ArgMatches, Command, Error};
 use command_lines::{
     OptionText, OptionValue, SERVER, WordText, command_line, read_by, read_or_told,
 };
+use lobby_words::{NameForm, name_form};
 use sockets::ServerAddress;
 use std::alloc::{AllocError, Global};
 use std::net::SocketAddr;
@@ -47,7 +48,8 @@ It writes the games that are played at the game server at --server to a file, ea
 its moves until now, and those that are over; with --archive also those that were kept and
 have left the table. The file is put in its place at once, and only where it has changed, so
 it may be fetched at any moment: pages that show games live take its address. With --log
-each move has its player's clock behind it where the lobby's log knows it.
+each move has its player's clock behind it where the lobby's log knows it. With --initials
+the players are told by their initials, as where a club has minors.
 
 With --every it goes on until it is killed, and comes back to a server that was away.
 
@@ -115,6 +117,8 @@ pub struct Living<'a> {
     pub archive: Option<&'a str>,
     /// The date, where it is given.
     pub date: Option<&'a str>,
+    /// How full names are told.
+    pub names: NameForm,
 }
 
 const ARCHIVE: OptionText = OptionText {
@@ -211,6 +215,13 @@ const LIVE_ARCHIVE: OptionText = OptionText {
     ..ARCHIVE
 };
 
+const INITIALS: OptionText = OptionText {
+    name: "initials",
+    value: OptionValue::Nothing,
+    help: "Tells the initials of players in place of their full names",
+    is_required: false,
+};
+
 const LIVE_EVERY: OptionText = OptionText {
     help: "After how many seconds it is written again, 1 to 3600; once without it",
     ..KEEP_EVERY
@@ -246,6 +257,7 @@ const LIVE: WordText = WordText {
         SITE,
         DATE,
         ROUND,
+        INITIALS,
         LIVE_EVERY,
     ],
 };
@@ -391,6 +403,7 @@ fn living_of<'a>(values: &ArgMatches<'a>) -> Option<Word<'a>> {
         file: values.get_str("file")?,
         archive: values.get_str("archive"),
         date: values.get_str("date"),
+        names: name_form(values.get_flag("initials")),
     }))
 }
 

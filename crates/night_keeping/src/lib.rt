@@ -3,13 +3,14 @@
 //! Modules: `command_line` has the words, `keeping`, `exporting` and `living` are what the three do. `keeper` does what
 //! the clerk decides, `telling` does work again and again, and tells what goes wrong once. `rows` has the games of the
 //! server's list, `asking` asks for a game's PGN, `sources` has what PGNs are made with: `players` has the players of
-//! their file, `log_reader` the log, read on as it grows; `reading` reads files. `specs/Games` says which games of a
-//! list are over.
+//! their file, `log_reader` the log, read on as it grows; `reading` reads files; `initials` tells of players by their
+//! initials. `specs/Games` says which games of a list are over, `specs/Names` how a tag tells of a player.
 #![tactic(auto)]
 
 mod asking;
 mod command_line;
 mod exporting;
+mod initials;
 mod keeper;
 mod keeping;
 mod living;

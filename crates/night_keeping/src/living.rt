@@ -1,6 +1,7 @@
 //! The word that writes the games of a night where others fetch them.
 use crate::asking::pgn_of;
 use crate::command_line::Living;
+use crate::initials::push_told;
 use crate::reading::found;
 use crate::rows::rows_of;
 use crate::sources::{Sources, link_to};
@@ -75,15 +76,6 @@ fn in_order<'a>(
     Ok(boards)
 }
 
-// Their PGNs, one behind the other.
-fn text_of(alloc: Global, boards: &[&Board]) -> Result<Vec<u8>, AllocError> {
-    let mut text = Vec::new(alloc);
-    for board in boards {
-        text.extend_from_slice(board.pgn.as_slice())?;
-    }
-    Ok(text)
-}
-
 // The length of a file; 0 where it is not there.
 fn length_of<R: Files>(rt: &R, path: &str) -> Result<u64> {
     if !fs::exists(rt, path)? {
@@ -134,10 +126,21 @@ fn put<R: Files + AllocGlobal>(rt: &R, path: &str, text: &[u8]) -> Result<()> {
 }
 
 impl<R> Writer<'_, R> {
-    // What the file is to have.
-    fn text(&self, alloc: Global) -> Result<Vec<u8>, AllocError> {
+    // What the file is to have: the PGNs, one behind the other.
+    fn text(&self, alloc: Global) -> Result<Vec<u8>> {
+        let players = self.sources.known().players;
         let boards = in_order(alloc, self.seen.as_slice(), self.archived.as_slice())?;
-        text_of(alloc, boards.as_slice())
+        let mut text = Vec::new(alloc);
+        for board in boards.as_slice() {
+            push_told(
+                &mut text,
+                alloc,
+                self.living.names,
+                players,
+                board.pgn.as_slice(),
+            )?;
+        }
+        Ok(text)
     }
 
     // Those games of the server's list that are played or over, but those that were kept.

@@ -7,8 +7,8 @@ use crate::is_tag;
 use std::alloc::AllocError;
 use text_parts::before;
 
-// What stands before a tag's value.
-fn head_of(line: &str) -> &str
+/// What stands before a tag's value.
+pub fn head_of(line: &str) -> &str
     ensures { result.now ≡ spec.head_of line.entry.now }
 {
     before(line, ' ')
@@ -57,21 +57,27 @@ fn push_value(out: &mut Vec<u8>, value: &[u8]) -> Result<(), AllocError>
     Ok(())
 }
 
+/// A tag's line with this value, where there is one, and else as it is; without its line feed.
+pub fn push_value_told(out: &mut Vec<u8>, line: &str, value: Option<&str>) -> Result<(), AllocError>
+    ensures { OnOk result (out.new.items
+        ≡ out.old.items ++ spec.told_value line.now (option_map (λ v. v.now) value.entry)) }
+{
+    match value {
+        None => out.extend_from_slice(line.as_bytes()),
+        Some(value) => {
+            out.extend_from_slice(head_of(line).as_bytes())?;
+            out.extend_from_slice(b" \"")?;
+            push_value(out, value.as_bytes())?;
+            out.extend_from_slice(b"\"]")
+        }
+    }
+}
+
 // A tag's line without its line feed.
 fn push_told(out: &mut Vec<u8>, heading: &Heading<'_>, line: &str) -> Result<(), AllocError>
     ensures { OnOk result (out.new.items ≡ out.old.items ++ spec.told_value line.now (spec.value_for heading.now (spec.head_of line.now))) }
 {
-    let head = head_of(line);
-    match value_for(heading, head) {
-        None => out.extend_from_slice(line.as_bytes())?,
-        Some(value) => {
-            out.extend_from_slice(head.as_bytes())?;
-            out.extend_from_slice(b" \"")?;
-            push_value(out, value.as_bytes())?;
-            out.extend_from_slice(b"\"]")?;
-        }
-    }
-    Ok(())
+    push_value_told(out, line, value_for(heading, head_of(line)))
 }
 
 // A line, if it is a tag.

@@ -1,10 +1,8 @@
-use Rattle.std.proofs.Common.{ℕ, ◌++◌, ◌∷◌, [], Bool, List, length, filter, codes, decimal, sym, ap, ◌∙◌}
+use Rattle.std.proofs.Common.{ℕ, ◌++◌, ◌∷◌, [], Bool, List, length, filter, codes, decimal, ap, ◌∙◌}
 use Rattle.std.specs.Prelude.{if◌then◌else◌}
 use Rattle.std.specs.List.{flat_map}
 use Rattle.std.specs.String.{string_bytes}
-use Rattle.std.proofs.lemmas.List.{take_all}
-use Rattle.lobby_words.specs.declared.players.Player.{Player}
-use Rattle.lobby_words.specs.Players.{row_of, is_seated}
+use Rattle.lobby_words.specs.Players.{row_in, is_seated}
 use Rattle.lobby_words.proofs.PlayerRows.{tested_more}
 use Rattle.lobby_words.proofs.rows.seated_rows.Goals as goal
 
@@ -14,7 +12,7 @@ loop-player-preserved c =
     let test = is_seated c.args.seats.now in
     let item = c.player-item.result in
     c.in_ok-push_if.ensures
-    ∙ (ap (λ (b : Bool). string_bytes c.loop-player.text ++ flat_map row_of (if b then item ∷ [] else [])) c.is_seated.ensures
-    ∙ (ap (λ (t : List ℕ). t ++ flat_map row_of (if test item then item ∷ [] else [])) c.loop-player.invariant
-    ∙ tested_more (codes "ok players " ++ decimal (length (filter test players)) ++ codes "\n") test players c.loop-player.player-index item
+    ∙ (ap (λ (b : Bool). string_bytes c.loop-player.text ++ flat_map (row_in c.args.form) (if b then item ∷ [] else [])) c.is_seated.ensures
+    ∙ (ap (λ (t : List ℕ). t ++ flat_map (row_in c.args.form) (if test item then item ∷ [] else [])) c.loop-player.invariant
+    ∙ tested_more c.args.form (codes "ok players " ++ decimal (length (filter test players)) ++ codes "\n") test players c.loop-player.player-index item
     c.loop-player-test.true c.player-item.is))

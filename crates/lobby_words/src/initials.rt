@@ -1,0 +1,70 @@
+//! The full name of a player, as it is told.
+ghost use Rattle.std.specs.Prelude.{◌≡◌, ◌++◌, IfOk, OnOk};
+ghost use Rattle.std.specs.String.{string_bytes};
+ghost use Rattle.lobby_words.specs.Initials.{form_asked, initial_at, initials, name_told};
+
+use std::alloc::{AllocError, Global};
+
+/// How full names are told to who acts for nobody.
+#[derive(Clone, Copy, PartialEq, Eq)]
+pub enum NameForm {
+    /// Whole.
+    Full,
+    /// By their initials.
+    Initials,
+}
+
+/// The form in which strangers are told full names, where initials are asked for or not.
+pub fn name_form(by_initials: bool) -> NameForm
+    ensures { result ≡ form_asked by_initials }
+{
+    if by_initials {
+        NameForm::Initials
+    } else {
+        NameForm::Full
+    }
+}
+
+// Appends what is told of a character of a name: of one that begins a word itself and a full stop, and each space.
+fn push_initial(text: &mut String, begins: bool, c: char) -> Result<(), AllocError>
+    ensures { OnOk result (string_bytes text.new ≡ string_bytes text.old ++ initial_at begins c) }
+{
+    if c == ' ' {
+        text.push(' ')?;
+    } else if begins {
+        text.push(c)?;
+        text.push('.')?;
+    }
+    Ok(())
+}
+
+// Appends the initials of a full name.
+fn push_initials(text: &mut String, full_name: &str) -> Result<(), AllocError>
+    ensures { OnOk result (string_bytes text.new ≡ string_bytes text.old ++ initials full_name.now) }
+{
+    let mut begins = true;
+    for c in full_name.chars() {
+        push_initial(text, begins, c)?;
+        begins = c == ' ';
+    }
+    Ok(())
+}
+
+/// Appends a full name as it is told in a form. Nothing else chooses what is told of a full name.
+pub fn push_full_name(text: &mut String, form: NameForm, full_name: &str) -> Result<(), AllocError>
+    ensures { OnOk result (string_bytes text.new ≡ string_bytes text.old ++ name_told form full_name.now) }
+{
+    match form {
+        NameForm::Full => text.push_str(full_name),
+        NameForm::Initials => push_initials(text, full_name),
+    }
+}
+
+/// A full name as it is told in a form.
+pub fn name_told(alloc: Global, form: NameForm, full_name: &str) -> Result<String, AllocError>
+    ensures { IfOk result (λ text. string_bytes text ≡ name_told form full_name.now) }
+{
+    let mut text = String::new(alloc);
+    push_full_name(&mut text, form, full_name)?;
+    Ok(text)
+}
