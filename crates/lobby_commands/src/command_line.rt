@@ -1,9 +1,11 @@
 //! The words of the command line, with the texts of their help.
+use crate::limits::limits_of;
 use clap::{ArgMatches, Command, Error};
 use command_lines::{
     ADDRESS, OptionText, OptionValue, PLAYERS, SERVER, WordText, command_line, own_address,
     read_by, read_or_fault, server_address,
 };
+use lobby_desk::Limits;
 use sockets::ServerAddress;
 use std::alloc::{AllocError, Global};
 use std::net::{IpAddr, Ipv6Addr, SocketAddr};
@@ -27,6 +29,9 @@ It goes on until it is ended: kill it, by any signal. Nothing is lost by that.
 The line is not encrypted. On an address other than 127.0.0.1 whoever is on the way reads
 along, links too: docs/client/LOBBY.md has how to put nginx in front. Name nginx's address by
 --proxy then, and have it tell each browser's own by X-Forwarded-For.
+
+With --initials who has shown no link gets the initials of players in place of their full
+names, as for a club with minors: give it to chess-archive live too.
 
 Limits: 1,000 browsers at a time, of them 600 that have shown no link, 500 that watch, and
 32 of an address. Whoever comes when they are reached has another one closed: of those
@@ -101,12 +106,8 @@ pub struct Serving<'a> {
     pub hosts: Vec<&'a str>,
     /// The address of the proxy that is believed who asks.
     pub proxy: Option<IpAddr>,
-    /// Of a player's games so many wait at most, go on, and are over and still on the table.
-    pub waiting_most: u32,
-    pub playing_most: u32,
-    pub over_most: u32,
-    /// The places on the server's table.
-    pub games: Option<u32>,
+    /// How many games there may be, and how much of a player's name is told.
+    pub limits: Limits,
     pub log: Option<&'a str>,
     /// The file of games that is served as `/live.pgn`.
     pub live: Option<&'a str>,
@@ -175,6 +176,13 @@ const GAMES: OptionText = OptionText {
     name: "games",
     value: OptionValue::Number("N", 0, 4_294_967_295),
     help: "The server's games at once; an eighth of them is for arbiters then, and none without it",
+    is_required: false,
+};
+
+const INITIALS: OptionText = OptionText {
+    name: "initials",
+    value: OptionValue::Nothing,
+    help: "Tells who has shown no link the initials of players in place of their full names",
     is_required: false,
 };
 
@@ -252,6 +260,7 @@ const SERVE: WordText = WordText {
         PLAYING_MOST,
         OVER_MOST,
         GAMES,
+        INITIALS,
     ],
 };
 
@@ -387,10 +396,7 @@ fn serving_of<'a>(alloc: Global, values: &ArgMatches<'a>) -> Result<Option<Word<
         address: SocketAddr::new(address, values.get_one("port").unwrap_or(PORT)),
         page: values.get_str("page").unwrap_or("page"),
         proxy,
-        waiting_most: values.get_one("waiting-most").unwrap_or(4),
-        playing_most: values.get_one("playing-most").unwrap_or(8),
-        over_most: values.get_one("over-most").unwrap_or(32),
-        games: values.get_one("games"),
+        limits: limits_of(values),
         live: values.get_str("live"),
         log: values.get_str("log"),
         hosts,

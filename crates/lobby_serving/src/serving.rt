@@ -8,7 +8,6 @@ use crate::players::Players;
 use crate::table::Table;
 use anyhow::{Context, Result};
 use lobby_commands::Serving;
-use lobby_desk::Limits;
 use lobby_loop::{ActLog, Lobby, LobbyListener, NoActLog, Turned};
 use lobby_players::PauseFile;
 use lobby_words::Player;
@@ -202,16 +201,6 @@ struct Server<'a, R> {
     serving: &'a Serving<'a>,
 }
 
-// How many games there may be.
-fn limits_of(serving: &Serving<'_>) -> Limits {
-    Limits {
-        waiting: serving.waiting_most as usize,
-        playing: serving.playing_most as usize,
-        over: serving.over_most as usize,
-        places: serving.games,
-    }
-}
-
 impl<R> Server<'_, R>
 where
     R: Files + AllocGlobal + Clone + Drop + Net + RandomSource,
@@ -236,7 +225,7 @@ where
             site,
             known,
             is_paused,
-            limits_of(serving),
+            serving.limits,
             serving.proxy,
         )?)
     }
