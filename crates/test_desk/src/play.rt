@@ -5,7 +5,9 @@ use anyhow::{Context, Result, bail};
 use hex::FromHex;
 use lobby_desk::{Desk, Kind, Limits, Message};
 use lobby_players::relinked;
+use lobby_words::NameForm;
 use std::alloc::Global;
+use std::mem;
 
 // The players of the desk at first: two, and an arbiter.
 const CLUB: &str =
@@ -17,6 +19,7 @@ const LIMITS: Limits = Limits {
     playing: 8,
     over: 6,
     places: Some(16),
+    names: NameForm::Full,
 };
 
 /// A desk, the time that has passed, and what is told of the archive's next game.
@@ -85,6 +88,18 @@ impl Play {
         })
     }
 
+    // A desk begins that tells strangers the players' initials.
+    fn begin_with_initials(&mut self) -> Result<()> {
+        let players = players_of(self.alloc, self.members.as_slice())?;
+        let limits = Limits {
+            names: NameForm::Initials,
+            ..LIMITS
+        };
+        let desk = Desk::new(self.alloc, players, false, limits);
+        drop(mem::replace(&mut self.desk, desk));
+        Ok(())
+    }
+
     // The players are others.
     fn renew(&mut self, given: &str) -> Result<()> {
         self.members = members_of(self.alloc, given)?;
@@ -135,6 +150,7 @@ impl Play {
             "say" => self.say(given, wire, told)?,
             "link" => self.link(given, told)?,
             "renew" => self.renew(given)?,
+            "initials" => self.begin_with_initials()?,
             "wait" => self.now = self.now.saturating_add(leading_number(given)?.0),
             "here" => self.desk.here(told)?,
             "gone" => self.desk.gone(told)?,

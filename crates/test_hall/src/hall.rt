@@ -5,7 +5,7 @@ use lobby_desk::{Limits, Order};
 use lobby_loop::{Acceptor, ActLog, Fault, Hall, KeepsLinks, NoActLog, NoLinks, Welcomed, welcome};
 use lobby_players::relinked;
 use lobby_web::Kind;
-use lobby_words::{Linked, Player};
+use lobby_words::{Linked, NameForm, Player};
 use player_name::Name;
 use sockets::AcceptFault;
 use std::alloc::Global;
@@ -180,6 +180,7 @@ fn hall_of(rt: &impl Abort, alloc: Global, keys: RandomState, is_paused: bool) -
         playing: 8,
         over: 32,
         places: None,
+        names: NameForm::Full,
     };
     let players = players(rt, alloc, SUM);
     Hall::new(alloc, keys, site, players, is_paused, limits, None)

@@ -1,5 +1,5 @@
 //! Games of a club. How one stands in the archive is in the stored run of `test_desk`.
-use text_pgn::{Heading, TextFault, archived};
+use text_pgn::{Heading, TextFault, archived, with_players};
 
 const CLUB: Heading<'static> = Heading {
     event: "Club",
@@ -25,4 +25,17 @@ fn what_is_no_game_is_refused(rt: HostRuntime) {
     for (text, wanted) in &TEXTS {
         assert!(rt; archived(rt.alloc(), &CLUB, text, &[]).err() == *wanted);
     }
+}
+
+// A PGN, and the same with other names of its players.
+const PGN: &str =
+    "[Event \"A\"]\n[White \"Anna Maria Lee\"]\n[Black \"Bo\\\\b\"]\n[WhiteElo \"1\"]\n\n1. e4 *\n\n";
+
+const NAMED: &str =
+    "[Event \"A\"]\n[White \"A. M. L.\"]\n[Black \"\\\"B\\\"\"]\n[WhiteElo \"1\"]\n\n1. e4 *\n\n";
+
+#[test]
+fn other_names_of_the_players_are_put_into_a_pgn(rt: HostRuntime) {
+    let named = with_players(rt.alloc(), PGN, "A. M. L.", "\"B\"").expect(&rt, "memory");
+    assert!(rt; named.as_slice() == NAMED.as_bytes());
 }

@@ -2,6 +2,7 @@
 use lobby_players::{
     AddFault, Addition, LineFault, PlayersFault, RereadFault, added, link_text, read, reread,
 };
+use lobby_words::{name_form, name_told};
 
 const ANN: &str =
     "ann player 2222222222222222222222222222222222222222222222222222222222222222 Ann Lee\n";
@@ -156,6 +157,70 @@ fn adds_a_player_and_gives_a_new_token(rt: HostRuntime) {
             Err(_) => false,
         };
         assert!(rt; told == *wanted && is_new == (*name == "cid"));
+    }
+}
+
+// What is no full name: white space but the plain space, blanks, and spaces at an end or in a row.
+static NO_FULL_NAMES: [&str; 16] = [
+    "",
+    " ",
+    "Ann ",
+    "Ann  Lee",
+    "Ann\tLee",
+    "Ann\u{a0}Lee",
+    "\u{a0}",
+    "Ann\u{1680}Lee",
+    "Ann\u{2000}Lee",
+    "Ann\u{200a}Lee",
+    "Ann\u{2028}Lee",
+    "Ann\u{202f}Lee",
+    "Ann\u{205f}Lee",
+    "Ann\u{3000}Lee",
+    "\u{2800}",
+    "Ann\u{fe0f}",
+];
+
+static FULL_NAMES: [&str; 5] = [
+    "A",
+    "Anna Maria Lee",
+    "\u{c9}lodie d'Or",
+    "\u{674e}\u{660e}",
+    "A\u{2011}B",
+];
+
+#[test]
+fn a_full_name_has_no_space_but_one_between_two_words(rt: HostRuntime) {
+    for (full_names, is_one) in [(NO_FULL_NAMES.as_slice(), false), (&FULL_NAMES, true)] {
+        for full_name in full_names {
+            let who = Addition {
+                name: "bob",
+                full_name,
+                is_arbiter: false,
+            };
+            let made = added(rt.alloc(), ANN.as_bytes(), &who, &TOKEN);
+            assert!(rt; made.is_ok() == is_one);
+        }
+    }
+}
+
+// A full name, and what a stranger is told of it where that is by initials.
+static INITIALS: [(&str, &str); 6] = [
+    ("Anna Maria Lee", "A. M. L."),
+    ("Bob", "B."),
+    ("Anne-Marie O'Neil", "A. O."),
+    ("\u{c9}lodie d'Or", "\u{c9}. d."),
+    ("\u{674e}\u{660e}", "\u{674e}."),
+    ("X \u{1f600}", "X. \u{1f600}."),
+];
+
+#[test]
+fn a_full_name_is_told_whole_or_by_its_initials(rt: HostRuntime) {
+    for (full_name, initials) in &INITIALS {
+        for (by_initials, wanted) in [(false, full_name), (true, initials)] {
+            let form = name_form(by_initials);
+            let told = name_told(rt.alloc(), form, full_name).expect(&rt, "memory");
+            assert!(rt; told.as_str() == *wanted);
+        }
     }
 }
 
