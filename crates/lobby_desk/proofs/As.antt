@@ -10,7 +10,7 @@ use Rattle.std.proofs.lemmas.List.Folds.{list_all-append}
 use Rattle.std.proofs.lemmas.Slice.Eq.{bytes_eq-Decides}
 use Rattle.lobby_words.specs.declared.words.Sort.{Sort}
 use Rattle.lobby_words.specs.declared.words.Sort.TheVariants as sorts
-use Rattle.lobby_words.specs.Words.{word_of, rest_of, as_name, as_line, black_name, pair_times, pair_line, is_as_word, is_act_sort, is_message, is_message_byte, is_play_word, is_read_word, is_act_word, as_sort, own_sort, whole_sort, sort_of, is_as_sort, is_pair_sort}
+use Rattle.lobby_words.specs.Words.{word_of, rest_of, as_name, as_line, black_name, pair_times, pair_line, is_as_word, is_act_sort, is_message, is_message_byte, is_play_word, is_question, is_read, is_show_word, is_act_word, as_sort, own_sort, whole_sort, sort_of, is_as_sort, is_pair_sort}
 use Rattle.lobby_desk.proofs.Lines.{message}
 
 -- ---- where a message asks for that, LINE is an act
@@ -65,7 +65,7 @@ as_plays : (text : List ℕ) → sort_of text ≡ sorts.As → is_act_word (word
 unfolding sort_of
 as_plays text is =
     let w = word_of text in
-    plays_if (bytes_eq w (codes "name")) (is_read_word w) (is_act_word w) (bytes_eq w (codes "drop")) (bytes_eq w (codes "as"))
+    plays_if (bytes_eq w (codes "name")) (is_read text) (is_act_word w) (bytes_eq w (codes "drop")) (bytes_eq w (codes "as"))
     (is_act_word (word_of (as_line text))) (own_sort w text) (own_not_as w text) (ap is_as_sort is)
 
 -- ---- and its word is `as`, as that of an act in one's own name is not
@@ -84,7 +84,7 @@ pub as_word : (text : List ℕ) → sort_of text ≡ sorts.As → is_as_word (wo
 unfolding sort_of
 as_word text is =
     let w = word_of text in
-    as_if (bytes_eq w (codes "name")) (is_read_word w) (is_act_word w) (bytes_eq w (codes "drop")) (bytes_eq w (codes "as"))
+    as_if (bytes_eq w (codes "name")) (is_read text) (is_act_word w) (bytes_eq w (codes "drop")) (bytes_eq w (codes "as"))
     (is_act_word (word_of (as_line text))) (own_sort w text) (own_not_as w text) (ap is_as_sort is)
 
 -- a sort that is of an act in one's own name, and no other
@@ -106,13 +106,13 @@ no_act_if false false false true e p last h k l m n = absurd (false≢true (sym 
 no_act_if false false false false false p last h k l m n = absurd (false≢true n)
 
 as_no_act : (text : List ℕ) → is_as_word (word_of text) ≡ true → is_act_sort (sort_of text) ≡ false
-unfolding sort_of is_read_word is_act_word is_play_word
+unfolding sort_of is_read is_show_word is_act_word is_play_word
 as_no_act text is =
     let w = word_of text in
     let same : word_of text ≡ codes "as" = (bytes_eq-Decides (word_of text) (codes "as")).0 is in
-    no_act_if (bytes_eq w (codes "name")) (is_read_word w) (is_act_word w) (bytes_eq w (codes "drop")) (bytes_eq w (codes "as"))
+    no_act_if (bytes_eq w (codes "name")) (is_read text) (is_act_word w) (bytes_eq w (codes "drop")) (bytes_eq w (codes "as"))
     (is_act_word (word_of (as_line text))) (own_sort w text)
-    (ap (λ (v : List ℕ). bytes_eq v (codes "name")) same) (ap is_read_word same) (ap is_act_word same)
+    (ap (λ (v : List ℕ). bytes_eq v (codes "name")) same) (ap (λ (v : List ℕ). is_question v (rest_of text) text) same) (ap is_act_word same)
     (ap (λ (v : List ℕ). bytes_eq v (codes "drop")) same) is
 
 plain_if : (text : List ℕ) (b : Bool) → is_as_word (word_of text) ≡ b → is_act_sort (sort_of text) ≡ true → b ≡ false
@@ -170,13 +170,14 @@ each_word P w opens joins plays h =
 
 -- what such a word is
 abbrev pub IsActWord : List ℕ → Type 0
-IsActWord w = (bytes_eq w (codes "name") ≡ false) × (is_read_word w ≡ false) × (is_act_word w ≡ true)
+IsActWord w =
+    (bytes_eq w (codes "name") ≡ false) × ((rest text : List ℕ) → is_question w rest text ≡ false) × (is_act_word w ≡ true)
 
 plays_acts : (w : List ℕ) → is_act_word w ≡ true → IsActWord w
-unfolding is_read_word is_act_word is_play_word
+unfolding is_show_word is_act_word is_play_word
 plays_acts w h =
-    each_word IsActWord w (refl, refl, refl) (refl, refl, refl)
-    (each_play IsActWord w (refl, refl, refl) (refl, refl, refl) (refl, refl, refl) (refl, refl, refl) (refl, refl, refl) (refl, refl, refl) (refl, refl, refl))
+    each_word IsActWord w (refl, (λ rest text. refl), refl) (refl, (λ rest text. refl), refl)
+    (each_play IsActWord w (refl, (λ rest text. refl), refl) (refl, (λ rest text. refl), refl) (refl, (λ rest text. refl), refl) (refl, (λ rest text. refl), refl) (refl, (λ rest text. refl), refl) (refl, (λ rest text. refl), refl) (refl, (λ rest text. refl), refl))
     h
 
 acts_if : (a b c : Bool) (last : Sort) → a ≡ false → b ≡ false → c ≡ true →
@@ -187,11 +188,12 @@ acts_if false true c last h k l = absurd (false≢true (sym k))
 acts_if false false false last h k l = absurd (false≢true l)
 
 act_by_word : (line : List ℕ) → IsActWord (word_of line) → sort_of line ≡ sorts.Act
-unfolding sort_of
+unfolding sort_of is_read
 act_by_word line h =
     let w = word_of line in
-    acts_if (bytes_eq w (codes "name")) (is_read_word w) (is_act_word w)
-    (if bytes_eq w (codes "drop") then sorts.Drop else (if bytes_eq w (codes "as") then as_sort line else own_sort w line)) h.0 h.1 h.2
+    acts_if (bytes_eq w (codes "name")) (is_read line) (is_act_word w)
+    (if bytes_eq w (codes "drop") then sorts.Drop else (if bytes_eq w (codes "as") then as_sort line else own_sort w line)) h.0
+    (h.1 (rest_of line) line) h.2
 
 pub as_acts : (text : List ℕ) → sort_of text ≡ sorts.As → sort_of (as_line text) ≡ sorts.Act
 as_acts text is = act_by_word (as_line text) (plays_acts (word_of (as_line text)) (as_plays text is))
@@ -286,7 +288,7 @@ pairs_so text is =
     (bytes_eq w (codes "pair")) (may_pair text) (whole_sort text)
     (whole_no_pair (bytes_eq text (codes "players")) (bytes_eq text (codes "who")) (bytes_eq text (codes "pause entries"))
     (bytes_eq text (codes "resume entries")) (bytes_eq text (codes "lobby")) (bytes_eq text (codes "leave lobby")))
-    (pair_if (bytes_eq w (codes "name")) (is_read_word w) (is_act_word w) (bytes_eq w (codes "drop")) (bytes_eq w (codes "as"))
+    (pair_if (bytes_eq w (codes "name")) (is_read text) (is_act_word w) (bytes_eq w (codes "drop")) (bytes_eq w (codes "as"))
     (as_sort text) (own_sort w text) (as_no_pair (is_act_word (word_of (as_line text)))) (ap is_pair_sort is))
 
 at_most_244 : (n : ℕ) → nat_le n 244 ≡ true → n ≤ 244
@@ -303,7 +305,7 @@ pair_whole text is sort =
     (list_all-append is_message_byte (codes "open white ") times ∙ behind_space (as_line text) (behind_space (rest_of text) (behind_space text p.shown)))
 
 pub pair_acts : (text : List ℕ) → sort_of (pair_line text) ≡ sorts.Act
-unfolding sort_of is_read_word is_act_word
+unfolding sort_of is_read is_show_word is_act_word
 pair_acts text = refl
 
 pub as_whole : (text : List ℕ) → is_message text ≡ true → sort_of text ≡ sorts.As → is_message (as_line text) ≡ true

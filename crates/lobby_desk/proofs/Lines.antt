@@ -1,16 +1,17 @@
 -- The desk's own lines.
-use Rattle.std.proofs.Common.{ℕ, ◌≡◌, ◌<◌, ◌≤◌, ◌^◌, true, ◌&&◌, List, [], ◌∷◌, length, length-append, codes, decimal, refl, ap, ◌∙◌, arith}
+use Rattle.std.proofs.Common.{ℕ, ◌≡◌, ◌<◌, ◌≤◌, ◌^◌, true, ◌&&◌, List, [], ◌∷◌, length, length-append, codes, decimal, false, ◌||◌, Bool, refl, ap, ◌∙◌, arith}
+use Rattle.std.specs.Prelude.{if◌then◌else◌}
 use Rattle.std.specs.Int.{IsInRange}
 use Rattle.std.specs.List.{list_all}
 use Rattle.std.specs.Str.Parse.{AllDigits}
-use Rattle.std.proofs.lemmas.Bool.{and_from, and_parts}
+use Rattle.std.proofs.lemmas.Bool.{false≢true, and_from, and_parts}
 use Rattle.std.proofs.lemmas.Bool.Decides.{nat_tests}
-use Rattle.std.proofs.lemmas.Fmt.{digits_decimal, length-decimal-le}
+use Rattle.std.proofs.lemmas.Fmt.{digits_decimal, decimal_nonempty, length-decimal-le}
 use Rattle.std.proofs.lemmas.List.Folds.{list_all-append}
 use Rattle.std.proofs.lemmas.Str.Parse.{digit_at}
 use Rattle.player_name.specs.Name.{IsName, is_name_byte}
 use Rattle.lobby_words.specs.declared.words.Sort.TheVariants as sorts
-use Rattle.lobby_words.specs.Words.{is_message, is_message_byte, sort_of, is_read_word, is_act_word}
+use Rattle.lobby_words.specs.Words.{is_message, is_message_byte, is_digit, are_digits, is_show_word, is_read, sort_of, is_act_word, is_play_word}
 use Rattle.lobby_desk.specs.Lines.{name_line, game_line, join_line}
 use Rattle.lobby_words.proofs.Numbers.{own}
 
@@ -80,24 +81,45 @@ name_whole name is =
     (list_all-append is_message_byte (codes "name ") name ∙ name_shown name is.bytes)
 
 -- what the desk's own lines are
-pub show_reads : (n : ℕ) → sort_of (game_line (codes "show ") n) ≡ sorts.Read
-unfolding sort_of is_read_word
-show_reads n = refl
+digit_tested : (c : ℕ) → 48 ≤ c → c ≤ 57 → is_digit c ≡ true
+digit_tested c low high = grind (arith, nat_tests)
 
-pub fen_reads : (n : ℕ) → sort_of (game_line (codes "fen ") n) ≡ sorts.Read
-unfolding sort_of is_read_word
-fen_reads n = refl
+digits_tested : (ds : List ℕ) → AllDigits 10 ds → list_all is_digit ds ≡ true
+digits_tested [] h = refl
+digits_tested (c ∷ cs) h =
+    let here : IsInRange 48 57 c = digit_at (c ∷ cs) 0 h (omega arith) in
+    and_from (is_digit c) (list_all is_digit cs) (digit_tested c (omega arith) (omega arith)) (digits_tested cs h.1)
 
-pub pgn_reads : (n : ℕ) → sort_of (game_line (codes "pgn ") n) ≡ sorts.Read
-unfolding sort_of is_read_word
-pgn_reads n = refl
+some_digits : (ds : List ℕ) → 1 ≤ length ds → list_all is_digit ds ≡ true → are_digits ds ≡ true
+some_digits ds some h = grind (arith, nat_tests)
+
+number_digits : (n : ℕ) → n < 2 ^ 32 → are_digits (decimal n) ≡ true
+number_digits n small =
+    some_digits (decimal n) (omega (arith, decimal_nonempty n (omega arith))) (digits_tested (decimal n) (digits_decimal own n (omega arith)))
+
+-- a question about a game with such a text behind its word
+asked_reads : (d : Bool) → d ≡ true → (if d || false then sorts.Read else sorts.Nothing) ≡ sorts.Read
+asked_reads true h = refl
+asked_reads false h = absurd (false≢true h)
+
+pub show_reads : (n : ℕ) → n < 2 ^ 32 → sort_of (game_line (codes "show ") n) ≡ sorts.Read
+unfolding sort_of is_read is_show_word is_act_word is_play_word
+show_reads n small = asked_reads (are_digits (decimal n)) (number_digits n small)
+
+pub fen_reads : (n : ℕ) → n < 2 ^ 32 → sort_of (game_line (codes "fen ") n) ≡ sorts.Read
+unfolding sort_of is_read is_show_word is_act_word is_play_word
+fen_reads n small = asked_reads (are_digits (decimal n)) (number_digits n small)
+
+pub pgn_reads : (n : ℕ) → n < 2 ^ 32 → sort_of (game_line (codes "pgn ") n) ≡ sorts.Read
+unfolding sort_of is_read is_show_word is_act_word is_play_word
+pgn_reads n small = asked_reads (are_digits (decimal n)) (number_digits n small)
 
 pub join_line_acts : (n : ℕ) → sort_of (join_line n) ≡ sorts.Act
-unfolding sort_of is_read_word is_act_word
+unfolding sort_of is_read is_show_word is_act_word is_play_word
 join_line_acts n = refl
 
 pub list_reads : sort_of (codes "list") ≡ sorts.Read
-unfolding sort_of is_read_word
+unfolding sort_of is_read is_show_word
 list_reads = refl
 
 pub name_names : (name : List ℕ) → sort_of (name_line name) ≡ sorts.Name

@@ -1,5 +1,5 @@
 -- The answer to an act counts only under the name that the server's answers show.
-use Rattle.std.proofs.Common.{ℕ, ◌≡◌, inl, inr, Bool, true, false, ◌&&◌, not, List, [], ◌∷◌, ◌++◌, Option, None, Some, codes, refl, sym, ap, ◌∙◌, subst, append-nil}
+use Rattle.std.proofs.Common.{ℕ, ◌≡◌, inl, inr, Bool, true, false, ◌&&◌, ◌||◌, not, List, [], ◌∷◌, ◌++◌, Option, None, Some, codes, decimal, refl, sym, ap, ◌∙◌, subst, append-nil}
 use Rattle.std.specs.Prelude.{if◌then◌else◌, is_some}
 use Rattle.std.specs.List.{list_any}
 use Rattle.std.specs.Str.{bytes_eq}
@@ -13,7 +13,7 @@ use Rattle.lobby_words.specs.declared.planning.Standing.{Standing}
 use Rattle.lobby_words.specs.declared.planning.Identity.{Identity}
 use Rattle.lobby_words.specs.declared.players.Player.{Player}
 use Rattle.lobby_words.specs.Players.{known_name}
-use Rattle.lobby_words.specs.Words.{rest_of, as_name, as_line, black_name, pair_line, line_said, actor, is_message, sort_of, is_act_sort, is_pair_sort, is_drop_sort, is_name_sort, u32_in, or_0}
+use Rattle.lobby_words.specs.Words.{rest_of, as_name, as_line, black_name, pair_line, line_said, actor, is_message, sort_of, is_act_sort, is_pair_sort, is_drop_sort, is_name_sort, is_act_word, is_play_word, is_digit, are_digits, is_show_word, is_read, u32_in, or_0}
 use Rattle.lobby_words.specs.Naming.{takes_name}
 use Rattle.lobby_words.specs.Plans.{entered_plan, act_plan, named_plan, as_plan, black_plan, white_plan, pair_plan, numbered_plan, plan_of}
 use Rattle.lobby_words.specs.Answers.{is_whole, act_game, answer}
@@ -24,7 +24,7 @@ use Rattle.lobby_desk.specs.Tellings.{Known, is_counted, misnamed_heard, misname
 use Rattle.lobby_desk.specs.Who.{View, IsSaid, IsSentFor, IsSentNext, IsSentHeard, IsDone, IsDropped, IsPaired, name_of}
 use Rattle.lobby_desk.specs.History.{Step, player_in, players_in, says_name, is_act, is_drop, is_pairing, name_behind, name_through, name_in, known_in, HasAsked, PairsNow, HasPaired, IsRun, Sent, sent_under, but_first, unanswered_in, shown_behind, shown_next, shown_in, IsLineIf, IsLineOf, IsNameIf, IsNameOf, IsOfOwed, IsOfNext, IsOfHeard, IsOfName, AllNamed}
 use Rattle.lobby_desk.proofs.Sent.{is_said_same}
-use Rattle.lobby_desk.proofs.Lines.{join_line_acts, show_reads, fen_reads, pgn_reads, list_reads, name_names}
+use Rattle.lobby_desk.proofs.Lines.{join_line_acts, list_reads, name_names}
 use Rattle.lobby_desk.proofs.As.{as_acts, as_word, plain_word, pair_acts}
 use Rattle.lobby_desk.proofs.Carry.{asked_does, entered_does, dropped_does, arbiter_does, players_does, link_does, login_does, watch_does, line_does}
 use Rattle.lobby_desk.proofs.Runs.{AreAsked, IsAsked, Agrees, was_asked, run_good}
@@ -87,6 +87,23 @@ waits_still owed sent shown said lines none h =
 no_name : (line : List ℕ) → sort_of line ≡ sorts.Read → says_name line ≡ false
 no_name line is = ap is_name_sort is
 
+-- a question about a game is one, or nothing that is known
+asked_silent : (d : Bool) → is_name_sort (if d || false then sorts.Read else sorts.Nothing) ≡ false
+asked_silent true = refl
+asked_silent false = refl
+
+show_silent : (n : ℕ) → says_name (game_line (codes "show ") n) ≡ false
+unfolding sort_of is_read is_show_word is_act_word is_play_word
+show_silent n = asked_silent (are_digits (decimal n))
+
+fen_silent : (n : ℕ) → says_name (game_line (codes "fen ") n) ≡ false
+unfolding sort_of is_read is_show_word is_act_word is_play_word
+fen_silent n = asked_silent (are_digits (decimal n))
+
+pgn_silent : (n : ℕ) → says_name (game_line (codes "pgn ") n) ≡ false
+unfolding sort_of is_read is_show_word is_act_word is_play_word
+pgn_silent n = asked_silent (are_digits (decimal n))
+
 act_no_name : (sort : Sort) → is_act_sort sort ≡ true → is_name_sort sort ≡ false
 act_no_name sorts.Name h = absurd (false≢true h)
 act_no_name _ h = refl
@@ -107,8 +124,8 @@ acts_fit c by text name line None said act of_text named true same = ((act, of_t
 acts_fit c by text name line (Some game) said act of_text named true same = (
   (act, of_text, (name, same refl, named)),
   (
-    no_name (game_line (codes "show ") game) (show_reads game),
-    (no_name (game_line (codes "fen ") game) (fen_reads game), tt),
+    show_silent game,
+    (fen_silent game, tt),
   ),
 )
 acts_fit c by text name line None said act of_text named false same =
@@ -118,8 +135,8 @@ acts_fit c by text name line (Some game) said act of_text named false same = (
   (
     (act, of_text, (name, named_first said name, named)),
     (
-      no_name (game_line (codes "show ") game) (show_reads game),
-      (no_name (game_line (codes "fen ") game) (fen_reads game), tt),
+      show_silent game,
+      (fen_silent game, tt),
     ),
   ),
 )
@@ -247,7 +264,7 @@ planned_fits players true sorts.As s game said text c is other = as_fits players
 planned_fits players true sorts.Pair s game said text c is other = pair_fits players s s.who said text c other
 planned_fits players true sorts.Drop s game said text c is other =
     dropped_does (FitsPlan said text (Dropper c (name_of s.who) text)) s game (λ _. tt)
-    (λ one g. (no_name (game_line (codes "show ") g) (show_reads g), tt))
+    (λ one g. (show_silent g, tt))
 planned_fits players true sorts.Login s game said text c is other = login_does (FitsPlan said text (Asker c ForItself)) s.holder (λ _. tt) (λ _. tt)
 planned_fits players true sorts.Players s game said text c is other = players_does (FitsPlan said text (Asker c ForItself)) s s.who tt tt
 planned_fits players true sorts.Who s game said text c is other = arbiter_does (FitsPlan said text (Asker c ForItself)) s.who plans.Who (λ _. tt) tt
@@ -262,10 +279,10 @@ planned_fits players true sorts.Lobby s game said text c is other =
 planned_fits players true sorts.LeaveLobby s game said text c is other = tt
 planned_fits players true sorts.Watch s game said text c is other =
     watch_does (FitsPlan said text (Asker c (ForGame (or_0 game)))) s game (λ _. tt)
-    (λ g. (no_name (game_line (codes "show ") g) (show_reads g), (no_name (game_line (codes "fen ") g) (fen_reads g), tt)))
+    (λ g. (show_silent g, (fen_silent g, tt)))
 planned_fits players true sorts.Leave s game said text c is other = leave_fits s game said text (Asker c ForItself)
 planned_fits players true sorts.Line s game said text c is other =
-    line_does (FitsPlan said text (Asker c ForPositions)) s game (λ _. tt) (λ g. (no_name (game_line (codes "pgn ") g) (pgn_reads g), tt))
+    line_does (FitsPlan said text (Asker c ForPositions)) s game (λ _. tt) (λ g. (pgn_silent g, tt))
 planned_fits players true sorts.Name s game said text c is other = tt
 planned_fits players true sorts.Nothing s game said text c is other = tt
 
@@ -289,7 +306,7 @@ notice_fits : (game : Option ℕ) (by text now : List ℕ) (said : Option (List 
     AreFor (owed_lines (followers_of game by text now) (notice_lines game)) (sent_under said (notice_lines game))
 notice_fits None by text now said = tt
 notice_fits (Some game) by text now said =
-    (no_name (game_line (codes "show ") game) (show_reads game), (no_name (game_line (codes "fen ") game) (fen_reads game), tt))
+    (show_silent game, (fen_silent game, tt))
 
 drop_no_pair : (sort : Sort) → is_drop_sort sort ≡ true → is_pair_sort sort ≡ false
 drop_no_pair sorts.Drop h = refl

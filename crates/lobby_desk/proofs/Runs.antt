@@ -196,7 +196,7 @@ said_or_not text name rest read rest_whole said sort message is no_name named fa
 -- what asks how a game stands
 pub notice_read : (game : Option ℕ) → IfSome game (λ g. g < 2 ^ 32) → AllRead (notice_lines game) × AreWhole (notice_lines game)
 notice_read None small = (tt, tt)
-notice_read (Some game) small = ((show_reads game, (fen_reads game, tt)), (show_whole game small, (fen_whole game small, tt)))
+notice_read (Some game) small = ((show_reads game small, (fen_reads game small, tt)), (show_whole game small, (fen_whole game small, tt)))
 
 -- the game that an act names is small
 pub named_small : (text : List ℕ) → IfSome (game_named text) (λ g. g < 2 ^ 32)
@@ -338,7 +338,7 @@ pair_good players text s said (Some who) other message is = paired_good players 
 show_good : (under said : Option (List ℕ)) (game : ℕ) → game < 2 ^ 32 →
     Good (game_line (codes "show ") game ∷ []) under said (game_line (codes "show ") game ∷ []) said
 show_good under said game small =
-    reads_good under said (game_line (codes "show ") game ∷ []) (show_reads game, tt) (show_whole game small, tt)
+    reads_good under said (game_line (codes "show ") game ∷ []) (show_reads game small, tt) (show_whole game small, tt)
 
 drop_good : (text : List ℕ) (s : Standing) (under said : Option (List ℕ)) (who : Option Identity) (game : ℕ) → game < 2 ^ 32 →
     IsNamed (drop_plan s who game) →
@@ -374,7 +374,7 @@ watch_good text s under said (Some game) small =
       | true ↦ asked_good (sort_asks sorts.Watch game text) text s under said (plans.Refuse refusals.TooManyWatched) (λ _. none_good (sort_asks sorts.Watch game text) under said)
       | false ↦ asked_good (sort_asks sorts.Watch game text) text s under said (plans.Watch game) (λ _.
           reads_good under said (game_line (codes "show ") game ∷ game_line (codes "fen ") game ∷ [])
-          (show_reads game, (fen_reads game, tt)) (show_whole game small, (fen_whole game small, tt)))
+          (show_reads game small, (fen_reads game small, tt)) (show_whole game small, (fen_whole game small, tt)))
     ]
 
 -- a plan of an arbiter's by which nothing goes out
@@ -402,7 +402,7 @@ line_good : (text : List ℕ) (s : Standing) (under said : Option (List ℕ)) (g
 line_good text s under said None small named = none_good (sort_asks sorts.Line 0 text) under said
 line_good text s under said (Some game) small named =
     asked_good (sort_asks sorts.Line game text) text s under said (plans.Line game)
-    (λ _. reads_good under said (game_line (codes "pgn ") game ∷ []) (pgn_reads game, tt) (pgn_whole game small, tt)) named
+    (λ _. reads_good under said (game_line (codes "pgn ") game ∷ []) (pgn_reads game small, tt) (pgn_whole game small, tt)) named
 
 -- each plan for a message
 plan_good : (players : List Player) (text : List ℕ) (s : Standing) (said : Option (List ℕ)) (game : Option ℕ) (m : Bool) (sort : Sort) →

@@ -1,5 +1,5 @@
 -- The name that the lobby is shown is the session's.
-use Rattle.std.proofs.Common.{ℕ, ◌≡◌, Bool, true, false, List, [], ◌∷◌, ◌++◌, Option, None, Some, codes, decimal, refl, sym, ap, ◌∙◌, arith}
+use Rattle.std.proofs.Common.{ℕ, ◌≡◌, Bool, true, false, ◌||◌, List, [], ◌∷◌, ◌++◌, Option, None, Some, codes, decimal, refl, sym, ap, ◌∙◌, arith}
 use Rattle.std.specs.Prelude.{if◌then◌else◌, is_some}
 use Rattle.std.proofs.lemmas.Bool.{false≢true}
 use Rattle.std.proofs.lemmas.Fmt.{decimal_digit, decimal_step}
@@ -18,7 +18,8 @@ use Rattle.chess_hub.specs.Session.{Said as Answer}
 use Rattle.chess_hub.specs.Turn.{IsReading}
 use Rattle.chess_hub.specs.Answers.{is_late, given_name, renamed, own_answer, alone, asked}
 use Rattle.lobby_words.specs.declared.players.Player.{Player}
-use Rattle.lobby_words.specs.Words.{rest_of, as_name, pair_line, sort_of, is_read_word, is_act_word, is_play_word}
+use Rattle.lobby_words.specs.Words.{rest_of, as_name, pair_line, sort_of, is_read, is_show_word, is_act_word, is_play_word, are_digits, is_name_sort}
+use Rattle.lobby_words.specs.declared.words.Sort.TheVariants as sorts
 use Rattle.lobby_words.specs.Naming.{takes_name}
 use Rattle.lobby_words.specs.Answers.{ended, answer}
 use Rattle.lobby_desk.specs.Events.{DeskInput, Opened, Closed, Said, Hurried, Heard, ServerTurned, Renewed, Linked, ForItself, ForPositions, ForTable, ForGame, ForAct, Owed, Nobody, Naming, Asker, Dropper, Pairer, Followers, Behind}
@@ -30,8 +31,13 @@ use Rattle.lobby_names.specs.Names.{Taken, IsTaken, name_after, Told, told_first
 
 -- ---- what the server reads
 
+-- a question about a game is one, or nothing that is known
+asked_silent : (d : Bool) → is_name_sort (if d || false then sorts.Read else sorts.Nothing) ≡ false
+asked_silent true = refl
+asked_silent false = refl
+
 act_words : (act : Asked) → says_name (join_with_byte 32 (act_fields act)) ≡ false
-unfolding sort_of is_read_word is_act_word is_play_word
+unfolding sort_of is_read is_show_word is_act_word is_play_word
 act_words (acts.NewGame colour initial increment fen period) = refl
 act_words (acts.Join game) = refl
 act_words (acts.Play game ply text) = refl
@@ -42,9 +48,9 @@ act_words (acts.Resign game) = refl
 act_words (acts.Claim game ply fifty text) = refl
 act_words (acts.Flag game) = refl
 act_words (acts.Remove game) = refl
-act_words (acts.Show game) = refl
-act_words (acts.Fen game) = refl
-act_words (acts.Pgn game) = refl
+act_words (acts.Show game) = asked_silent (are_digits (decimal game))
+act_words (acts.Fen game) = asked_silent (are_digits (decimal game))
+act_words (acts.Pgn game) = asked_silent (are_digits (decimal game))
 act_words acts.List = refl
 
 name_words : (name : List ℕ) → says_name (join_with_byte 32 (codes "name" ∷ name ∷ [])) ≡ true

@@ -21,10 +21,25 @@ is_message_byte b = nat_le 32 b && nat_le b 126
 abbrev pub is_message : List ℕ → Bool
 is_message text = nat_le 1 (length text) && nat_le (length text) 255 && list_all is_message_byte text
 
--- the words of the server's lines that change nothing
-unfoldable pub is_read_word : List ℕ → Bool
-is_read_word w =
-    bytes_eq w (codes "show") || bytes_eq w (codes "fen") || bytes_eq w (codes "pgn") || bytes_eq w (codes "list")
+-- the words of the server's lines that ask about a game
+unfoldable pub is_show_word : List ℕ → Bool
+is_show_word w = bytes_eq w (codes "show") || bytes_eq w (codes "fen") || bytes_eq w (codes "pgn")
+
+abbrev pub is_digit : ℕ → Bool
+is_digit b = nat_le 48 b && nat_le b 57
+
+-- one digit or more
+abbrev pub are_digits : List ℕ → Bool
+are_digits text = nat_le 1 (length text) && list_all is_digit text
+
+-- A line of the server that changes nothing, as it is passed on: with a game's number and nothing more, or `list`
+-- alone. So none can be taken for the first line of a request for a web page.
+abbrev pub is_question : List ℕ → List ℕ → List ℕ → Bool
+is_question word rest text =
+    is_show_word word && are_digits rest || bytes_eq word (codes "list") && bytes_eq word text
+
+unfoldable pub is_read : List ℕ → Bool
+is_read text = is_question (word_of text) (rest_of text) text
 
 -- the words of acts in a game that is played
 unfoldable pub is_play_word : List ℕ → Bool
@@ -110,7 +125,7 @@ own_sort w text =
 unfoldable pub sort_of : List ℕ → Sort
 sort_of text =
     if bytes_eq (word_of text) (codes "name") then sorts.Name
-    else (if is_read_word (word_of text) then sorts.Read
+    else (if is_read text then sorts.Read
     else (if is_act_word (word_of text) then sorts.Act
     else (if bytes_eq (word_of text) (codes "drop") then sorts.Drop
     else (if bytes_eq (word_of text) (codes "as") then as_sort text

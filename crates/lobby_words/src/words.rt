@@ -66,16 +66,44 @@ pub fn is_message(text: &str) -> bool
     !bytes.is_empty() && bytes.len() <= 255 && are_message_bytes(bytes)
 }
 
-// Whether a line of the server with this word changes nothing.
-#[tactic(auto, unfolding(crate::specs::Words::is_read_word))]
-fn is_read_word(word: &str) -> bool
-    ensures { result ≡ words.is_read_word word.now }
+// Whether a line of the server with this word asks about a game.
+#[tactic(auto, unfolding(crate::specs::Words::is_show_word))]
+fn is_show_word(word: &str) -> bool
+    ensures { result ≡ words.is_show_word word.now }
 {
-    let show = word == "show";
-    let fen = word == "fen";
-    let pgn = word == "pgn";
-    let list = word == "list";
-    show | fen | pgn | list
+    word == "show" || word == "fen" || word == "pgn"
+}
+
+// Whether a byte is a digit.
+fn is_digit(byte: u8) -> bool
+    ensures { result ≡ words.is_digit byte }
+{
+    48 <= byte && byte <= 57
+}
+
+// Whether each byte is a digit.
+fn are_digit_bytes(bytes: &[u8]) -> bool
+    ensures { result ≡ list_all words.is_digit bytes.now }
+{
+    bytes.iter().all(|byte| is_digit(*byte))
+}
+
+// Whether a text has digits alone, one or more.
+fn are_digits(text: &str) -> bool
+    ensures { result ≡ words.are_digits text.now }
+{
+    let bytes = text.as_bytes();
+    !bytes.is_empty() && are_digit_bytes(bytes)
+}
+
+// Whether a message is a line of the server that changes nothing: about a game, with its number and nothing more, or
+// `list` alone.
+#[tactic(auto, unfolding(crate::specs::Words::is_read))]
+fn is_read(text: &str) -> bool
+    ensures { result ≡ words.is_read text.now }
+{
+    let (word, rest) = cut_word(text);
+    is_show_word(word) && are_digits(rest) || word == "list" && word == text
 }
 
 /// Whether a line of the server with this word is an act in a game that is played.
@@ -248,7 +276,7 @@ pub fn sort_of(text: &str) -> Sort
     let (word, _) = cut_word(text);
     if word == "name" {
         Sort::Name
-    } else if is_read_word(word) {
+    } else if is_read(text) {
         Sort::Read
     } else if is_act_word(word) {
         Sort::Act
