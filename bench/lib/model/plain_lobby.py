@@ -126,6 +126,8 @@ class Lobby:
             return self.pair(c, text)
         if word not in (*READS, *ACTS, 'as'):
             refuse(1)
+        if word in READS and not re.fullmatch('(show|fen|pgn) [0-9]+|list', text):
+            refuse(1)
         _, other, line = (text.split(' ', 2) + ['', ''])[:3]
         act = line.split(' ')[0] if word == 'as' else word
         if word == 'as' and act not in (*OPENING, *IN_A_GAME):
