@@ -4,3 +4,4 @@ pub mod Games
 pub mod Refused
 pub mod Sans
 pub mod Entered
+pub mod Heads

@@ -7,8 +7,9 @@ ghost use Rattle.chess_entry.specs.declared.refusals.Refusal.{Refusal};
 ghost use Rattle.chess_answer.specs.Fields.{ok_text};
 ghost use Rattle.chess_answer.specs.Acts.{IsGameLine};
 ghost use Rattle.chess_answer.specs.Refusals.{refusal_text};
-ghost use Rattle.chess_answer.specs.Reads.{show_text, list_row};
+ghost use Rattle.chess_answer.specs.Reads.{show_text, list_row, list_line_text, line_count, IsPgnReply};
 ghost use Rattle.server_answers.specs.Entered.{Opened, entered_in};
+ghost use Rattle.server_answers.specs.Heads.{list_in, pgn_in};
 ghost use Rattle.server_answers.specs.Refusals.{refusal_in};
 ghost use Rattle.server_answers.specs.Games.{shown_in, row_in};
 ghost use Rattle.answer_laws.specs.Told.{shown_as, row_as};
@@ -40,4 +41,12 @@ pub fn law_of_acts_read()
         IsReadAs game e text }
     ensures openings { (number : ℕ) → number < 2 ^ 32 →
         entered_in (ok_text (codes "open") number []) ≡ Some (record { game = number; done = Opened }) }
+{}
+
+/// The first line of each answer to `list` is read to the number of rows, and that of each answer to `pgn` to the game
+/// and the number of lines of its PGN.
+pub fn law_of_heads_read()
+    ensures list { (count : ℕ) → count < 2 ^ 32 → list_in (list_line_text count) ≡ Some count }
+    ensures pgn { (game : GameState) (line body : List ℕ) → IsGame 20000 game → IsPgnReply game line body →
+        line_count body < 2 ^ 32 → pgn_in line ≡ Some (record { game = game.number; lines = line_count body }) }
 {}

@@ -4,4 +4,6 @@
 
 mod law;
 
-pub use law::{law_of_acts_read, law_of_refusals_read, law_of_rows_read, law_of_shown_read};
+pub use law::{
+    law_of_acts_read, law_of_heads_read, law_of_refusals_read, law_of_rows_read, law_of_shown_read,
+};
