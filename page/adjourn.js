@@ -305,7 +305,7 @@ export class Adjournments {
         ${momentOf(note)}.`;
     if (!note.later) return t`${record} The game that goes on with it is the board’s.`;
     return t`${record} It goes on as game ${note.later}, which is the board’s: in a league’s round give
-      --take BOARD=${note.later} to chess-pairings start.`;
+      --take BOARD=${note.later} to chess-club start.`;
   }
 }
 

@@ -41,9 +41,9 @@ export const WORDS = {
   'Game {0} has left the table before it was seen how it ended: its PGN tells. It stood so {1}.':
     'Partie {0} war nicht mehr am Tisch, bevor zu sehen war, wie sie endete: ihre PGN sagt es. So stand sie am {1}.',
   '{0} The game that goes on with it is the board’s.': '{0} Für das Brett zählt die Partie, die sie fortsetzt.',
-  ['{0} It goes on as game {1}, which is the board’s: in a league’s round give --take BOARD={2} to chess-pairings '
+  ['{0} It goes on as game {1}, which is the board’s: in a league’s round give --take BOARD={2} to chess-club '
     + 'start.']:
-    '{0} Sie geht als Partie {1} weiter, die für das Brett zählt: in der Runde einer Liga gib chess-pairings start '
+    '{0} Sie geht als Partie {1} weiter, die für das Brett zählt: in der Runde einer Liga gib chess-club start '
     + '--take BRETT={2} mit.',
   'stands in the record as a draw': 'in der Aufzeichnung als Remis steht',
   'is on the table no more': 'nicht mehr am Tisch ist',

@@ -39,10 +39,10 @@ export const WORDS = {
   'Game {0} has left the table before it was seen how it ended: its PGN tells. It stood so {1}.':
     'La partida {0} salió de la lista antes de que se viera cómo terminó: lo dice su PGN. Así estaba el {1}.',
   '{0} The game that goes on with it is the board’s.': '{0} Para el tablero cuenta la partida que la reanuda.',
-  ['{0} It goes on as game {1}, which is the board’s: in a league’s round give --take BOARD={2} to chess-pairings '
+  ['{0} It goes on as game {1}, which is the board’s: in a league’s round give --take BOARD={2} to chess-club '
     + 'start.']:
     '{0} Sigue en la partida {1}, que cuenta para el tablero: en la ronda de una liga, añade --take TABLERO={2} a '
-    + 'chess-pairings start.',
+    + 'chess-club start.',
   'stands in the record as a draw': 'consta como tablas',
   'is on the table no more': 'ya no está en la lista',
   '{0} had {1}': '{0} tenían {1}',

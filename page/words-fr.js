@@ -43,10 +43,10 @@ export const WORDS = {
     + 'là le {1}.',
   '{0} The game that goes on with it is the board’s.':
     '{0} C’est la partie qui la reprend qui compte pour l’échiquier.',
-  ['{0} It goes on as game {1}, which is the board’s: in a league’s round give --take BOARD={2} to chess-pairings '
+  ['{0} It goes on as game {1}, which is the board’s: in a league’s round give --take BOARD={2} to chess-club '
     + 'start.']:
     '{0} Elle se poursuit par la partie {1}, qui compte pour l’échiquier : dans la ronde d’un championnat, donnez '
-    + '--take ÉCHIQUIER={2} à chess-pairings start.',
+    + '--take ÉCHIQUIER={2} à chess-club start.',
   'stands in the record as a draw': 'est enregistrée comme nulle',
   'is on the table no more': 'n’est plus dans la liste',
   '{0} had {1}': '{0} : {1}',

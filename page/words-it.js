@@ -40,10 +40,10 @@ export const WORDS = {
   'Game {0} has left the table before it was seen how it ended: its PGN tells. It stood so {1}.':
     'La partita {0} è uscita dall’elenco prima che si vedesse com’è finita: lo dice il suo PGN. Era così il {1}.',
   '{0} The game that goes on with it is the board’s.': '{0} Per la scacchiera vale la partita che la riprende.',
-  ['{0} It goes on as game {1}, which is the board’s: in a league’s round give --take BOARD={2} to chess-pairings '
+  ['{0} It goes on as game {1}, which is the board’s: in a league’s round give --take BOARD={2} to chess-club '
     + 'start.']:
     '{0} Continua come partita {1}, che vale per la scacchiera: nel turno di un campionato aggiungi --take '
-    + 'SCACCHIERA={2} a chess-pairings start.',
+    + 'SCACCHIERA={2} a chess-club start.',
   'stands in the record as a draw': 'risulta patta nel registro',
   'is on the table no more': 'non è più in elenco',
   '{0} had {1}': '{0} aveva {1}',

@@ -40,10 +40,10 @@ export const WORDS = {
   'Game {0} has left the table before it was seen how it ended: its PGN tells. It stood so {1}.':
     'Partij {0} was van de lijst voordat te zien was hoe die afliep: de PGN vertelt het. Zo stond de partij op {1}.',
   '{0} The game that goes on with it is the board’s.': '{0} Voor het bord telt de vervolgpartij.',
-  ['{0} It goes on as game {1}, which is the board’s: in a league’s round give --take BOARD={2} to chess-pairings '
+  ['{0} It goes on as game {1}, which is the board’s: in a league’s round give --take BOARD={2} to chess-club '
     + 'start.']:
     '{0} Het vervolg is partij {1}, die voor het bord telt: geef in een competitieronde --take BORD={2} mee aan '
-    + 'chess-pairings start.',
+    + 'chess-club start.',
   'stands in the record as a draw': 'te boek staat als remise',
   'is on the table no more': 'niet meer op de lijst staat',
   '{0} had {1}': '{0} had {1}',

@@ -40,10 +40,10 @@ export const WORDS = {
   'Game {0} has left the table before it was seen how it ended: its PGN tells. It stood so {1}.':
     'Partia {0} zniknęła z listy, zanim było widać jej wynik: podaje go jej PGN. Stan z {1}.',
   '{0} The game that goes on with it is the board’s.': '{0} Dla szachownicy liczy się partia, która ją wznawia.',
-  ['{0} It goes on as game {1}, which is the board’s: in a league’s round give --take BOARD={2} to chess-pairings '
+  ['{0} It goes on as game {1}, which is the board’s: in a league’s round give --take BOARD={2} to chess-club '
     + 'start.']:
     '{0} Toczy się dalej jako partia {1}, która liczy się dla szachownicy: w rundzie ligi podaj --take '
-    + 'SZACHOWNICA={2} w chess-pairings start.',
+    + 'SZACHOWNICA={2} w chess-club start.',
   'stands in the record as a draw': 'figuruje w zapisie jako remis',
   'is on the table no more': 'nie jest już na liście',
   '{0} had {1}': '{0} miały {1}',

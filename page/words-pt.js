@@ -39,10 +39,10 @@ export const WORDS = {
   'Game {0} has left the table before it was seen how it ended: its PGN tells. It stood so {1}.':
     'A partida {0} saiu da lista antes que se visse como terminou: o PGN diz. Estava assim em {1}.',
   '{0} The game that goes on with it is the board’s.': '{0} Para o tabuleiro vale a partida que a retoma.',
-  ['{0} It goes on as game {1}, which is the board’s: in a league’s round give --take BOARD={2} to chess-pairings '
+  ['{0} It goes on as game {1}, which is the board’s: in a league’s round give --take BOARD={2} to chess-club '
     + 'start.']:
     '{0} Continua na partida {1}, que vale para o tabuleiro: na rodada de uma liga, acrescente --take TABULEIRO={2} '
-    + 'a chess-pairings start.',
+    + 'a chess-club start.',
   'stands in the record as a draw': 'consta como empate',
   'is on the table no more': 'já não está na lista',
   '{0} had {1}': '{0} tinham {1}',

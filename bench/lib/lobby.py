@@ -38,16 +38,16 @@ def put_players(path, rows):
 
 
 class Lobby:
-    """`chess_lobby serve` over a players' file, before a server at a port, at a port of its own that it keeps. It may be
+    """`chess-club lobby` over a players' file, before a server at a port, at a port of its own that it keeps. It may be
     killed and begun again, also before another server."""
 
     def __init__(self, club, server_port, *words, errors=subprocess.DEVNULL, port=0, program=None):
         self.club, self.server_port, self.words, self.errors, self.port = club, server_port, words, errors, port
-        self.program = program or path_of('chess_lobby')
+        self.program = program or path_of('chess_club')
         self.start()
 
     def start(self):
-        words = [self.program, 'serve', '--players', self.club, '--server', '127.0.0.1:%d' % self.server_port,
+        words = [self.program, 'lobby', '--players', self.club, '--server', '127.0.0.1:%d' % self.server_port,
                  '--port', str(self.port), '--page', PAGE, *self.words]
         for _ in range(50 if self.port > 80 else 1):
             self.process = subprocess.Popen(words, stdout=subprocess.PIPE, stderr=self.errors, text=True)

@@ -40,29 +40,28 @@ def path_of(name):
     return os.path.join(TOP, 'crates', name, 'out', name)
 
 
-def take_programs(folder, *more):
-    """The programs under test, the server, the lobby and these, and the archive where it is there, are those of this
-    folder, by the names that tools/build gives, or those of an archive of tools/release."""
-    for name in ('chess_server', 'chess_lobby', 'chess_archive', *more):
-        found = [path for path in (os.path.join(folder, name), os.path.join(folder, name.replace('_', '-')))
-                 if os.path.isfile(path)]
-        if found:
-            os.environ[name.upper()] = os.path.realpath(found[0])
-        elif name != 'chess_archive' or name in more:
+def take_programs(folder):
+    """The programs under test are those of this folder, by the names that tools/build gives, or those of an archive of
+    tools/release."""
+    for name in ('chess_server', 'chess_club'):
+        found = [path for path in (os.path.join(folder, name), os.path.join(folder, 'tools', name),
+                                   os.path.join(folder, name.replace('_', '-'))) if os.path.isfile(path)]
+        if not found:
             sys.exit('there is no %s in %s' % (name, folder))
+        os.environ[name.upper()] = os.path.realpath(found[0])
     path_of.cache_clear()
 
 
-def words_of(text, *options, needs=()):
-    """The words of a bench, whose text is this: `--programs FOLDER`, whose programs are taken, these `needs` too; and the
-    options, each its name and what argparse is to know of it."""
+def words_of(text, *options):
+    """The words of a bench, whose text is this: `--programs FOLDER`, whose programs are taken; and the options, each its
+    name and what argparse is to know of it."""
     words = argparse.ArgumentParser(description=text, formatter_class=argparse.RawDescriptionHelpFormatter)
     words.add_argument('--programs', metavar='FOLDER')
     for name, how in options:
         words.add_argument(name, **how)
     given = words.parse_args()
     if given.programs:
-        take_programs(given.programs, *needs)
+        take_programs(given.programs)
     return given
 
 

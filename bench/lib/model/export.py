@@ -1,5 +1,5 @@
 #!/usr/bin/env python3
-"""What chess_archive writes, by docs/use/NIGHT.md: export.py export --archive FILE prints the PGNs of an archive's games ("Keeping
+"""What `chess-club export` writes, by docs/use/NIGHT.md: export.py export --archive FILE prints the PGNs of an archive's games ("Keeping
 games", "Adjourned games"). Of its other words, and of `--csv`, there is no model."""
 
 import argparse

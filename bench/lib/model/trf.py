@@ -1,5 +1,5 @@
 #!/usr/bin/env python3
-"""What chess_pairings writes, by docs/use/NIGHT.md, "A round": trf.py trf --players FILE --archive FILE --rounds CSV,GAMES .. prints
+"""What `chess-club trf` writes, by docs/use/NIGHT.md, "A round": trf.py trf --players FILE --archive FILE --rounds CSV,GAMES .. prints
 the report of a tournament. Of its other words there is no model."""
 
 import argparse

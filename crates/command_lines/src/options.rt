@@ -29,30 +29,6 @@ pub struct OptionText {
     pub is_required: bool,
 }
 
-/// `--server A:P`, or the path of a socket in place of `A:P`, of a program that plays on a game server.
-pub const SERVER: OptionText = OptionText {
-    name: "server",
-    value: OptionValue::Text("A:P"),
-    help: "Where the game server listens: an address and a port, or with a / in it a socket's path",
-    is_required: true,
-};
-
-/// `--address A`, of a program that listens.
-pub const ADDRESS: OptionText = OptionText {
-    name: "address",
-    value: OptionValue::Text("A"),
-    help: "The address of this machine, 127.0.0.1 without it",
-    is_required: false,
-};
-
-/// `--players FILE`, of a program that cannot do without the players' file.
-pub const PLAYERS: OptionText = OptionText {
-    name: "players",
-    value: OptionValue::Text("FILE"),
-    help: "The players' file",
-    is_required: true,
-};
-
 /// A word of a program, with its options in the order in which help lists them.
 #[derive(Clone, Copy)]
 pub struct WordText {

@@ -5,9 +5,10 @@
 //! Modules: `line` has the line of a player, `lines` what stands in front of a line and which names are alike,
 //! `reading` the file, `adding` a player more, `relinking` a player's new link, `token` tokens and links, `faults` what
 //! is wrong; `file` reads and puts the file on a disk, by one at a time (`Hold`), `entries` keeps beside it whether
-//! entries are paused, `players` has who stands in a file. `proofs/Told` has what a line tells, `proofs/EachLine` the
-//! players of lines, `proofs/Written` that a file that was written is read back, `proofs/NewLink` whose the new link
-//! is, `proofs/Same` which players are the same, and `proofs/TokenText` that a token's text is one.
+//! entries are paused, `players` has who stands in a file, `putting` is the word that puts a player into one.
+//! `proofs/Told` has what a line tells, `proofs/EachLine` the players of lines, `proofs/Written` that a file that was
+//! written is read back, `proofs/NewLink` whose the new link is, `proofs/Same` which players are the same, and
+//! `proofs/TokenText` that a token's text is one.
 #![tactic(auto)]
 
 mod adding;
@@ -17,6 +18,7 @@ mod line;
 mod lines;
 mod pause_file;
 mod players;
+mod putting;
 mod reading;
 mod relinking;
 mod token;
@@ -26,6 +28,7 @@ pub use faults::{AddFault, LineFault, LinkFault, PlayersFault, RereadFault};
 pub use file::{Hold, put_file, read_file};
 pub use pause_file::PauseFile;
 pub use players::{full_name, later_players_of, players_of};
+pub use putting::{Adding, add_player};
 pub use reading::{read, reread};
 pub use relinking::{ChangedFile, relinked};
 pub use token::{forget, link_text, new_token, token_text};

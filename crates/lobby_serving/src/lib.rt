@@ -1,12 +1,12 @@
-//! The word of the lobby's program that serves browsers: the page, the figures and the files that are looked at, the
-//! log of acts.
+//! The word that serves browsers: the page, the figures and the files that are looked at, the log of acts.
 //!
-//! Modules: `serving` takes turns, `page` has the files at the start, `health` makes the figures by `lines`, `table`
-//! asks the server whether it is up and how many games it has, which `listing` counts, `live` reads the file of games
-//! and `players` that of the players, by `mark`, which tells whether a file has changed, `links` changes links in it,
-//! `log` keeps the log in its file.
+//! Modules: `asked` has what is asked of it, `serving` takes turns, `page` has the files at the start, `health` makes
+//! the figures by `lines`, `table` asks the server whether it is up and how many games it has, which `listing` counts,
+//! `live` reads the file of games and `players` that of the players, by `mark`, which tells whether a file has changed,
+//! `links` changes links in it, `log` keeps the log in its file.
 #![tactic(auto)]
 
+mod asked;
 mod health;
 mod lines;
 mod links;
@@ -19,5 +19,6 @@ mod players;
 mod serving;
 mod table;
 
+pub use asked::Serving;
 pub use listing::{Games, Listing, Told};
 pub use serving::serve;

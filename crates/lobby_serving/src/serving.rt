@@ -1,4 +1,5 @@
 //! The word that serves browsers.
+use crate::asked::Serving;
 use crate::health::Health;
 use crate::links::FileLinks;
 use crate::live::Live;
@@ -7,7 +8,6 @@ use crate::page::site_of;
 use crate::players::Players;
 use crate::table::Table;
 use anyhow::{Context, Result};
-use lobby_commands::Serving;
 use lobby_loop::{ActLog, Lobby, LobbyListener, NoActLog, Turned};
 use lobby_players::PauseFile;
 use lobby_words::Player;

@@ -1,15 +1,17 @@
 //! The word that writes the games of an archive.
-use crate::command_line::{Exporting, Form};
+use crate::asked::{Exporting, Form};
 use anyhow::Result;
 use night_archive::lines_of;
 use night_games::{Kept, games_kept, write_games, write_rows};
+use std::io;
 use std::rt::Files;
 
-// Writes games in a form.
+// Writes games in a form to standard output.
 fn write<R: AllocGlobal + Print>(rt: &R, form: Form, games: &[Kept]) -> Result<()> {
+    let mut output = io::writer(rt);
     match form {
-        Form::Pgn => write_games(rt, games),
-        Form::Csv => write_rows(rt, games),
+        Form::Pgn => write_games(rt.alloc(), &mut output, games),
+        Form::Csv => write_rows(rt.alloc(), &mut output, games),
     }
 }
 

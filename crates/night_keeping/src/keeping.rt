@@ -4,7 +4,7 @@ ghost use Rattle.night_archive.specs.Files.{contains};
 ghost use Rattle.night_archive.specs.Night.{AreAll};
 ghost use Rattle.night_keeping.specs.Games.{games_over_in};
 
-use crate::command_line::Keeping;
+use crate::asked::Keeping;
 use crate::keeper::{Counts, Done, Keeper, NOTHING, Onlookers};
 use crate::rows::{games_over, rows_of};
 use crate::sources::{Sources, link_to};

@@ -1,14 +1,14 @@
-//! The words of chess-archive, by which games are kept, exported and written live; and their command line.
+//! The words by which games are kept, exported and written live.
 //!
-//! Modules: `command_line` has the words, `keeping`, `exporting` and `living` are what the three do. `keeper` does what
-//! the clerk decides, `telling` does work again and again, and tells what goes wrong once. `rows` has the games of the
-//! server's list, `asking` asks for a game's PGN, `sources` has what PGNs are made with: `players` has the players of
-//! their file, `log_reader` the log, read on as it grows; `reading` reads files; `initials` tells of players by their
-//! initials. `specs/Games` says which games of a list are over, `specs/Names` how a tag tells of a player.
+//! Modules: `asked` has what is asked of them, `keeping`, `exporting` and `living` are what the three do. `keeper` does
+//! what the clerk decides, `telling` does work again and again, and tells what goes wrong once. `rows` has the games of
+//! the server's list, `asking` asks for a game's PGN, `sources` has what PGNs are made with: `players` has the players
+//! of their file, `log_reader` the log, read on as it grows; `reading` reads files; `initials` tells of players by
+//! their initials. `specs/Games` says which games of a list are over, `specs/Names` how a tag tells of a player.
 #![tactic(auto)]
 
+mod asked;
 mod asking;
-mod command_line;
 mod exporting;
 mod initials;
 mod keeper;
@@ -21,7 +21,7 @@ mod rows;
 mod sources;
 mod telling;
 
-pub use command_line::{Exporting, Form, Keeping, Living, Source, Word, command, read_words};
+pub use asked::{Exporting, Form, Keeping, Living, Source};
 pub use exporting::export;
 pub use keeping::keep;
 pub use living::live;

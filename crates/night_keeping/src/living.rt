@@ -1,6 +1,6 @@
 //! The word that writes the games of a night where others fetch them.
+use crate::asked::Living;
 use crate::asking::pgn_of;
-use crate::command_line::Living;
 use crate::initials::push_told;
 use crate::reading::found;
 use crate::rows::rows_of;

@@ -1,6 +1,6 @@
 //! What PGNs are made with: the players' file, the tags of the command line, and the lobby's log.
+use crate::asked::Source;
 use crate::asking::Knowledge;
-use crate::command_line::Source;
 use crate::log_reader::LogReader;
 use crate::players::Players;
 use anyhow::{Result, bail};

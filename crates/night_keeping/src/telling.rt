@@ -1,5 +1,6 @@
 //! What is told on standard error of work that is done again and again.
 use anyhow::Result;
+use command_lines::tell;
 use std::rt::Clock;
 use std::thread;
 use std::time::Duration;
@@ -36,7 +37,7 @@ impl<'a, R: AllocGlobal + Eprint> Telling<'a, R> {
             } else {
                 text.as_str()
             };
-            let _ = eprintln!(self.rt; "chess-archive: {said}");
+            let _ = tell(self.rt, said);
             self.told = text;
         }
         Ok(())

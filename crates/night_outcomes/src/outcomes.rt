@@ -1,12 +1,13 @@
 //! What came of games: in the archive, and on the table.
+use crate::asked::Source;
 use anyhow::{Context, Result, bail};
+use command_lines::tell;
 use lobby_players::full_name;
 use lobby_words::Player;
 use night_archive::{game_of, lines_of, pgn_of};
 use night_boards::{Shown, show_game};
 use night_links::Link;
 use night_rounds::{Note, Pairing, Seats, game_in, last_of};
-use pairing_commands::Source;
 use player_name::Name;
 use sockets::ServerAddress;
 use std::alloc::{AllocError, Global};
@@ -532,7 +533,7 @@ impl<'a> Outcomes<'a> {
     /// Tells the words of the boards.
     pub fn tell<R: Eprint>(&self, rt: &R) -> Result<()> {
         for word in self.words.as_slice() {
-            eprintln!(rt; "chess-pairings: {word}")?;
+            tell(rt, word.as_str())?;
         }
         Ok(())
     }

@@ -1,12 +1,12 @@
 //! The word that writes the report of a tournament.
+use crate::asked::Reporting;
 use crate::outcomes::{Ended, Outcomes, check_halves};
 use anyhow::{Context, Result};
 use lobby_players::players_of;
 use lobby_words::Player;
-use night_boards::{Paired, paired_of};
+use night_boards::{Paired, Round, paired_of};
 use night_report::{Meeting, Play, Score, Tournament, report};
 use night_rounds::Pairing;
-use pairing_commands::{Reporting, Round};
 use player_name::Name;
 use std::alloc::{AllocError, Global};
 use std::io::{self, Write};

@@ -1,11 +1,11 @@
 //! The word that writes the results of a round.
+use crate::asked::Asking;
 use crate::outcomes::{Ended, Outcomes, check_halves, noted_game};
 use anyhow::Result;
 use lobby_players::players_of;
 use lobby_words::Player;
 use night_boards::{Paired, paired_of};
 use night_rounds::{Note, Outcome, Pairing, results};
-use pairing_commands::Asking;
 use std::alloc::{AllocError, Global};
 use std::io::{self, Write};
 use std::net::{Net, TcpStream};

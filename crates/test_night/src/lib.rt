@@ -17,6 +17,8 @@ mod cuts;
 #[cfg(test)]
 mod dates;
 #[cfg(test)]
+mod exports;
+#[cfg(test)]
 mod headings;
 #[cfg(test)]
 mod moves;
@@ -28,3 +30,5 @@ mod positions;
 mod report;
 #[cfg(test)]
 mod rounds;
+#[cfg(test)]
+mod words;

@@ -1,0 +1,36 @@
+//! A chess club's lobby, archive and rounds, over a game server: its words.
+//!
+//! What was read of its words goes to the crates that do the work: `lobby_serving`, `lobby_players`, `night_games`,
+//! `night_keeping`, `night_boards` and `night_outcomes`.
+#![tactic(auto)]
+
+use club_words::{Word, command, read_words};
+use command_lines::{CLUB, NotDone, end_of, words_given};
+use lobby_players::add_player;
+use lobby_serving::serve;
+use night_boards::start;
+use night_games::print_evidence;
+use night_keeping::{export, keep, live};
+use night_outcomes::{write_report, write_results};
+use std::process::ExitCode;
+
+fn main(rt: HostRuntime) -> ExitCode {
+    end_of(&rt, CLUB, do_words(&rt))
+}
+
+// Does what the words of the command line ask for.
+fn do_words(rt: &HostRuntime) -> Result<(), NotDone> {
+    let words = words_given(rt, command(rt.alloc())?)?;
+    match read_words(rt.alloc(), words.as_slice())? {
+        Word::Lobby(serving) => serve(rt, &serving),
+        Word::Player(adding) => add_player(rt, &adding),
+        Word::Evidence(asked) => print_evidence(rt, &asked),
+        Word::Keep(keeping) => keep(rt, &keeping),
+        Word::Export(exporting) => export(rt, &exporting),
+        Word::Live(living) => live(rt, &living),
+        Word::Start(starting) => start(rt, &starting),
+        Word::Results(asking) => write_results(rt, &asking),
+        Word::Report(reporting) => write_report(rt, &reporting),
+    }
+    .map_err(NotDone::Work)
+}

@@ -1,0 +1,294 @@
+//! The words of the archive, with the texts of their help: games are kept, exported and written live.
+use crate::addresses::server_named;
+use crate::options::{ARCHIVE, PLAYERS, SERVER};
+use clap::ArgMatches;
+use command_lines::{OptionText, OptionValue, WordText};
+use lobby_words::name_form;
+use night_keeping::{Exporting, Form, Keeping, Living, Source};
+use std::alloc::{AllocError, Global};
+use std::net::SocketAddr;
+use text_pgn::{Heading, is_date};
+
+const HELP_OF_KEEP: &str = "\
+It asks the game server at --server for its games, and keeps each one that is over in the
+archive, which it makes where there is none: a line a game, each game once, on the disk
+before the next is asked for. With --drop it then drops the game from the server's table.
+With --lobby it drops no game that somebody watches there, and none where that lobby cannot
+be asked, or began less than 20 seconds ago. With --log each move has its player's clock
+behind it where the lobby's log knows it.
+
+It ends once all games of the table were looked at; with --every it goes on until it is
+killed, and comes back to a server that was away. It may be killed at any moment and given
+again, as often as is wished.
+
+An archive is of one journal: games have other numbers in another.
+
+Exit status: 0; 1 with what is wrong on standard error; 2 for words that the program does
+not know.
+
+Example:
+  chess-club keep --server 127.0.0.1:5001 --archive night.jsonl --players club.players
+prints
+  kept 12, dropped 0, in the archive 40";
+
+const HELP_OF_EXPORT: &str = "\
+It writes the PGN of each game of an archive, in the order in which they were kept; with
+--csv a row for each, as CSV: its number, how many moves were made, the values of its tags,
+and its PGN. The archive is only read, also while another keeps games in it.
+
+Exit status: 0; 1 with what is wrong on standard error; 2 for words that the program does
+not know.
+
+Examples:
+  chess-club export --archive night.jsonl >night.pgn
+  chess-club export --archive night.jsonl --csv >games.csv";
+
+const HELP_OF_LIVE: &str = "\
+It writes the games that are played at the game server at --server to a file, each with all
+its moves until now, and those that are over; with --archive also those that were kept and
+have left the table. The file is put in its place at once, and only where it has changed, so
+it may be fetched at any moment: pages that show games live take its address. With --log
+each move has its player's clock behind it where the lobby's log knows it. With --initials
+the players are told by their initials, as where a club has minors.
+
+With --every it goes on until it is killed, and comes back to a server that was away.
+
+Exit status: 0; 1 with what is wrong on standard error; 2 for words that the program does
+not know.
+
+Example:
+  chess-club live --server 127.0.0.1:5001 --file live.pgn --log club.log --every 5";
+
+const PLAYERS_NAMED: OptionText = OptionText {
+    help: "The players' file, for full names",
+    is_required: false,
+    ..PLAYERS
+};
+
+const LOG: OptionText = OptionText {
+    name: "log",
+    value: OptionValue::Text("FILE"),
+    help: "The lobby's log, for clocks",
+    is_required: false,
+};
+
+const EVENT: OptionText = OptionText {
+    name: "event",
+    value: OptionValue::Text("TEXT"),
+    help: "The tag Event, ? without it",
+    is_required: false,
+};
+
+const SITE: OptionText = OptionText {
+    name: "site",
+    help: "The tag Site, ? without it",
+    ..EVENT
+};
+
+const DATE: OptionText = OptionText {
+    name: "date",
+    value: OptionValue::Text("DATE"),
+    help: "The tag Date as YYYY.MM.DD, with ?? for what is not known; ????.??.?? without it",
+    is_required: false,
+};
+
+const ROUND: OptionText = OptionText {
+    name: "round",
+    help: "The tag Round, ? without it",
+    ..EVENT
+};
+
+const DROP: OptionText = OptionText {
+    name: "drop",
+    value: OptionValue::Nothing,
+    help: "Drops each game that is in the archive from the table",
+    is_required: false,
+};
+
+const LOBBY: OptionText = OptionText {
+    name: "lobby",
+    value: OptionValue::Text("A:P"),
+    help: "Where the lobby listens: with --drop, no game is dropped that is watched there",
+    is_required: false,
+};
+
+const KEEP_EVERY: OptionText = OptionText {
+    name: "every",
+    value: OptionValue::Number("SECONDS", 1, 3_600),
+    help: "After how many seconds it is done again, 1 to 3600; once without it",
+    is_required: false,
+};
+
+const PGN: OptionText = OptionText {
+    name: "pgn",
+    value: OptionValue::Nothing,
+    help: "Writes the PGN of each game, as without it",
+    is_required: false,
+};
+
+const CSV: OptionText = OptionText {
+    name: "csv",
+    help: "Writes a row a game as CSV, with its PGN last",
+    ..PGN
+};
+
+const FILE: OptionText = OptionText {
+    name: "file",
+    value: OptionValue::Text("FILE"),
+    help: "The file that is written",
+    is_required: true,
+};
+
+const LIVE_ARCHIVE: OptionText = OptionText {
+    help: "An archive whose games are written too; with --date those of this date",
+    is_required: false,
+    ..ARCHIVE
+};
+
+const INITIALS: OptionText = OptionText {
+    name: "initials",
+    value: OptionValue::Nothing,
+    help: "Tells the initials of players in place of their full names",
+    is_required: false,
+};
+
+const LIVE_EVERY: OptionText = OptionText {
+    help: "After how many seconds it is written again, 1 to 3600; once without it",
+    ..KEEP_EVERY
+};
+
+pub const KEEP: WordText = WordText {
+    name: "keep",
+    about: "Keeps the games that are over",
+    help: HELP_OF_KEEP,
+    options: &[
+        SERVER,
+        ARCHIVE,
+        PLAYERS_NAMED,
+        LOG,
+        EVENT,
+        SITE,
+        DATE,
+        ROUND,
+        DROP,
+        LOBBY,
+        KEEP_EVERY,
+    ],
+};
+
+pub const EXPORT: WordText = WordText {
+    name: "export",
+    about: "Writes the games of an archive as PGN or CSV",
+    help: HELP_OF_EXPORT,
+    options: &[ARCHIVE, PGN, CSV],
+};
+
+pub const LIVE: WordText = WordText {
+    name: "live",
+    about: "Writes the games that are played to a file that others fetch",
+    help: HELP_OF_LIVE,
+    options: &[
+        SERVER,
+        FILE,
+        LIVE_ARCHIVE,
+        PLAYERS_NAMED,
+        LOG,
+        EVENT,
+        SITE,
+        DATE,
+        ROUND,
+        INITIALS,
+        LIVE_EVERY,
+    ],
+};
+
+/// What is said where a date is given, and is none.
+pub fn no_date_told(alloc: Global, values: &ArgMatches<'_>) -> Result<Option<String>, AllocError> {
+    match values.get_str("date") {
+        Some(date) if !is_date(date) => Ok(Some(format!(in alloc;
+            "--date {date:?} is no date: it is YYYY.MM.DD, as 2026.11.27, with ?? for what is not known"
+        )?)),
+        _ => Ok(None),
+    }
+}
+
+// What the tags are to say; none where a value cannot stand in a tag.
+fn heading_of<'a>(values: &ArgMatches<'a>) -> Option<Heading<'a>> {
+    Some(Heading {
+        event: value_of(values, "event", "?")?,
+        site: value_of(values, "site", "?")?,
+        date: value_of(values, "date", "????.??.??")?,
+        round: value_of(values, "round", "?")?,
+        white: "",
+        black: "",
+    })
+}
+
+// The lobby that is asked; none where its address is none, or no game is dropped.
+fn lobby_of(values: &ArgMatches<'_>, drops: bool) -> Option<Option<SocketAddr>> {
+    match values.get_str("lobby") {
+        None => Some(None),
+        Some(address) if drops => Some(Some(address.parse().ok()?)),
+        Some(_) => None,
+    }
+}
+
+// What `keep` and `live` both ask for; none where the address is none, or a value cannot stand in a tag.
+fn source_of<'a>(values: &ArgMatches<'a>) -> Option<Source<'a>> {
+    Some(Source {
+        server: server_named(values)?,
+        players: values.get_str("players"),
+        log: values.get_str("log"),
+        heading: heading_of(values)?,
+        every: values.get_one("every"),
+    })
+}
+
+/// What `keep` asks for; none where an address is none, a value cannot stand in a tag, or a lobby is asked for nothing.
+pub fn keeping_of<'a>(values: &ArgMatches<'a>) -> Option<Keeping<'a>> {
+    let drops = values.get_flag("drop");
+    Some(Keeping {
+        source: source_of(values)?,
+        archive: values.get_str("archive")?,
+        drops,
+        lobby: lobby_of(values, drops)?,
+    })
+}
+
+// The form that is asked for; none where both are.
+fn form_of(values: &ArgMatches<'_>) -> Option<Form> {
+    match (values.get_flag("pgn"), values.get_flag("csv")) {
+        (_, false) => Some(Form::Pgn),
+        (false, true) => Some(Form::Csv),
+        (true, true) => None,
+    }
+}
+
+/// What `export` asks for; none where it asks for both forms.
+pub fn exporting_of<'a>(values: &ArgMatches<'a>) -> Option<Exporting<'a>> {
+    Some(Exporting {
+        archive: values.get_str("archive")?,
+        form: form_of(values)?,
+    })
+}
+
+/// What `live` asks for; none where the address is none, or a value cannot stand in a tag.
+pub fn living_of<'a>(values: &ArgMatches<'a>) -> Option<Living<'a>> {
+    Some(Living {
+        source: source_of(values)?,
+        file: values.get_str("file")?,
+        archive: values.get_str("archive"),
+        date: values.get_str("date"),
+        names: name_form(values.get_flag("initials")),
+    })
+}
+
+// The value of a tag; none where it has a control character.
+fn value_of<'a>(values: &ArgMatches<'a>, name: &str, unknown: &'a str) -> Option<&'a str> {
+    let value = values.get_str(name).unwrap_or(unknown);
+    let is_shown = value
+        .as_bytes()
+        .iter()
+        .all(|byte| *byte >= 32 && *byte != 127);
+    if is_shown { Some(value) } else { None }
+}

@@ -1,0 +1,429 @@
+//! The words of a league's rounds, with the texts of their help: games are opened, results and the report written.
+use crate::addresses::server_named;
+use crate::days::is_day;
+use crate::options::{ARCHIVE, PLAYERS, SERVER};
+use clap::ArgMatches;
+use command_lines::{OptionText, OptionValue, WordText};
+use night_boards::{Round, Said, Starting};
+use night_outcomes::{Asking, Reporting, Source};
+use night_report::Tournament;
+use std::alloc::{AllocError, Global};
+use std::net::SocketAddr;
+
+const HELP_OF_START: &str = "\
+It has the lobby at --lobby pair each board of --pairings, at the board's start, as the arbiter
+whose token or link --token-file has, a file that its owner alone may read; and notes in
+--round-file which game is which board's; it makes that file where there is none. It ends once
+each board has its game, and may be killed at any moment and given again: no board gets a second
+game, but in the cases of which docs/use/NIGHT.md tells. While the lobby or its server is not there
+it waits for it.
+
+Where it cannot know which game is a board's, or whether it has one, it says so, leaves that
+board alone, and ends with status 1. Look at the games then, and give it again with --take for the
+game that is the board's, or with --after where none up to a game is: it is opened then.
+
+A row of --pairings with a board and White alone is a bye: nothing is opened for it. By
+--players a name that is not in that file is refused before anything is opened. So is an
+initial time of less than 60 seconds, since 15+10 is 15 seconds here, but with --short.
+
+Exit status: 0; 1 with what is wrong on standard error; 2 for words that the program does
+not know.
+
+Example:
+  chess-club start --pairings round1.csv --round-file round1.games \\
+      --lobby 127.0.0.1:8080 --token-file arbiter.link
+prints
+  board 1: game 17, ann against bob
+  boards 2, games 2";
+
+const HELP_OF_RESULTS: &str = "\
+It writes a line for each board, as CSV: the board, White, Black, the result (* while the
+game goes on), the article of the Laws by which it ended, and the game. Asked are the
+archive, where --archive names one, and then the server, where --server does. In the archive
+a game is the board's where it has the names of its players, or by --players their full
+names. Of each game that goes on or was not found it says so on standard error; where one is
+of others than the board's players it ends with status 1 besides.
+
+Exit status: 0; 1 with what is wrong on standard error; 2 for words that the program does
+not know.
+
+Example:
+  chess-club results --pairings round1.csv --round-file round1.games \\
+      --archive night.jsonl --players club.players
+prints
+  board,white,black,result,article,game
+  1,ann,bob,1-0,5.1.1,17";
+
+const HELP_OF_TRF: &str = "\
+It writes the tournament's report, TRF-16: who played whom in each round, with the results
+and points. Players are numbered by their place in the players' file. Asked for results are
+the archive, where --archive names one, and then the server, where --server does. Where a
+game is of others than its board's players it writes nothing, and ends with status 1.
+
+Exit status: 0; 1 with what is wrong on standard error; 2 for words that the program does
+not know.
+
+Example:
+  chess-club trf --players club.players --archive night.jsonl --name \"Club league\" \\
+      --rounds round1.csv,round1.games --rounds round2.csv,round2.games >league.trf";
+
+const PAIRINGS: OptionText = OptionText {
+    name: "pairings",
+    value: OptionValue::Text("FILE"),
+    help: "The round's pairings, a CSV file",
+    is_required: true,
+};
+
+const ROUND_FILE: OptionText = OptionText {
+    name: "round-file",
+    value: OptionValue::Text("FILE"),
+    help: "Which game is which board's",
+    is_required: true,
+};
+
+const LOBBY: OptionText = OptionText {
+    name: "lobby",
+    value: OptionValue::Text("A:P"),
+    help: "Where the lobby listens, which pairs the boards",
+    is_required: true,
+};
+
+const TOKEN_FILE: OptionText = OptionText {
+    name: "token-file",
+    value: OptionValue::Text("FILE"),
+    help: "An arbiter's token or link, in a file that its owner alone may read",
+    is_required: true,
+};
+
+const PLAYERS_OPENED: OptionText = OptionText {
+    help: "The players' file: nothing is opened where a player is not in it",
+    is_required: false,
+    ..PLAYERS
+};
+
+const TAKE: OptionText = OptionText {
+    name: "take",
+    value: OptionValue::Texts("BOARD=GAME"),
+    help: "This game is the board's; it may be given several times",
+    is_required: false,
+};
+
+const AFTER: OptionText = OptionText {
+    name: "after",
+    help: "No game up to this one is the board's; it may be given several times",
+    ..TAKE
+};
+
+const SHORT: OptionText = OptionText {
+    name: "short",
+    value: OptionValue::Nothing,
+    help: "Initial times of less than 60 seconds are meant",
+    is_required: false,
+};
+
+const PLAYERS_NAMED: OptionText = OptionText {
+    help: "The players' file, with the full names that the archive has",
+    ..PLAYERS_OPENED
+};
+
+const ROUNDS: OptionText = OptionText {
+    name: "rounds",
+    value: OptionValue::Texts("CSV,GAMES"),
+    help: "The two files of a round; it is given once for each round, in their order",
+    is_required: true,
+};
+
+const ARCHIVE_IF_ANY: OptionText = OptionText {
+    help: "The archive of games that are over",
+    is_required: false,
+    ..ARCHIVE
+};
+
+const SERVER_IF_ANY: OptionText = OptionText {
+    is_required: false,
+    ..SERVER
+};
+
+const NAME: OptionText = OptionText {
+    name: "name",
+    value: OptionValue::Text("TEXT"),
+    help: "The tournament's name",
+    is_required: false,
+};
+
+const CITY: OptionText = OptionText {
+    name: "city",
+    help: "The city",
+    ..NAME
+};
+
+const FEDERATION: OptionText = OptionText {
+    name: "federation",
+    help: "The federation, as GER",
+    ..NAME
+};
+
+const BEGINS: OptionText = OptionText {
+    name: "begins",
+    help: "The first day, YYYY/MM/DD",
+    ..NAME
+};
+
+const ENDS: OptionText = OptionText {
+    name: "ends",
+    help: "The last day, YYYY/MM/DD",
+    ..NAME
+};
+
+const KIND: OptionText = OptionText {
+    name: "kind",
+    help: "As Individual: Swiss-System",
+    ..NAME
+};
+
+const ARBITER: OptionText = OptionText {
+    name: "arbiter",
+    help: "The chief arbiter",
+    ..NAME
+};
+
+const DEPUTY: OptionText = OptionText {
+    name: "deputy",
+    help: "The deputy",
+    ..NAME
+};
+
+const TIMES: OptionText = OptionText {
+    name: "times",
+    help: "The times of a game",
+    ..NAME
+};
+
+const ALL_ROUNDS: OptionText = OptionText {
+    name: "all-rounds",
+    help: "How many rounds there are to be",
+    ..NAME
+};
+
+pub const START: WordText = WordText {
+    name: "start",
+    about: "Opens the games of a round",
+    help: HELP_OF_START,
+    options: &[
+        PAIRINGS,
+        ROUND_FILE,
+        LOBBY,
+        TOKEN_FILE,
+        PLAYERS_OPENED,
+        TAKE,
+        AFTER,
+        SHORT,
+    ],
+};
+
+pub const RESULTS: WordText = WordText {
+    name: "results",
+    about: "Writes the results of a round as CSV",
+    help: HELP_OF_RESULTS,
+    options: &[
+        PAIRINGS,
+        ROUND_FILE,
+        PLAYERS_NAMED,
+        ARCHIVE_IF_ANY,
+        SERVER_IF_ANY,
+    ],
+};
+
+pub const TRF: WordText = WordText {
+    name: "trf",
+    about: "Writes the report of a tournament, TRF-16",
+    help: HELP_OF_TRF,
+    options: &[
+        PLAYERS,
+        ROUNDS,
+        NAME,
+        CITY,
+        FEDERATION,
+        BEGINS,
+        ENDS,
+        KIND,
+        ARBITER,
+        DEPUTY,
+        TIMES,
+        ALL_ROUNDS,
+        ARCHIVE_IF_ANY,
+        SERVER_IF_ANY,
+    ],
+};
+
+// Which options are days.
+const DAYS: [&str; 2] = ["begins", "ends"];
+
+/// What is said where the tournament's first or last day is given and is none.
+pub fn no_day_told(alloc: Global, values: &ArgMatches<'_>) -> Result<Option<String>, AllocError> {
+    for name in &DAYS {
+        if let Some(text) = values.get_str(*name)
+            && !is_day(alloc, text)?
+        {
+            let told = format!(in alloc;
+                "--{name} {text:?} is no day: it is YYYY/MM/DD, as 2026/11/27"
+            )?;
+            return Ok(Some(told));
+        }
+    }
+    Ok(None)
+}
+
+fn round_of<'a>(values: &ArgMatches<'a>) -> Option<Round<'a>> {
+    Some(Round {
+        pairings: values.get_str("pairings")?,
+        games: values.get_str("round-file")?,
+    })
+}
+
+// Where results are looked for; none where an address is none, or there is no place.
+fn source_of<'a>(values: &ArgMatches<'a>) -> Option<Source<'a>> {
+    let archive = values.get_str("archive");
+    let server = match values.get_str("server") {
+        Some(_) => Some(server_named(values)?),
+        None => None,
+    };
+    if archive.is_none() && server.is_none() {
+        return None;
+    }
+    Some(Source { archive, server })
+}
+
+/// What `results` asks for; none where an address is none, or there is no place to look.
+pub fn asking_of<'a>(values: &ArgMatches<'a>) -> Option<Asking<'a>> {
+    let (Some(round), Some(source)) = (round_of(values), source_of(values)) else {
+        return None;
+    };
+    Some(Asking {
+        round,
+        source,
+        players: values.get_str("players"),
+    })
+}
+
+// A number from 1 on.
+fn number_of(text: &str) -> Option<u32> {
+    match text.parse::<u32>() {
+        Ok(number) if number > 0 => Some(number),
+        _ => None,
+    }
+}
+
+// A board and its game, `3=17`.
+fn take_of(text: &str) -> Option<(u32, u32)> {
+    let (board, game) = text.split_once('=')?;
+    Some((number_of(board)?, number_of(game)?))
+}
+
+// What each text of an option tells, by `read`; none where one tells nothing.
+fn all_of<'a, T: Drop, F>(
+    alloc: Global,
+    values: &ArgMatches<'a>,
+    name: &str,
+    read: F,
+) -> Result<Option<Vec<T>>, AllocError>
+where
+    F: Fn(&'a str) -> Option<T>,
+    requires { F.IsAlwaysCallable read }
+{
+    let texts = values.get_strs(name).unwrap_or(&[]);
+    texts.iter().map(|text| read(*text)).collect(alloc)
+}
+
+// What the arbiter said; none where a board or a game is none.
+fn said_of(alloc: Global, values: &ArgMatches<'_>) -> Result<Option<Said>, AllocError> {
+    let takes = all_of(alloc, values, "take", take_of)?;
+    let afters = all_of(alloc, values, "after", take_of)?;
+    let (Some(takes), Some(afters)) = (takes, afters) else {
+        return Ok(None);
+    };
+    Ok(Some(Said { takes, afters }))
+}
+
+// Where the lobby listens; none where that is no address.
+fn lobby_address(values: &ArgMatches<'_>) -> Option<SocketAddr> {
+    values.get_str("lobby")?.parse::<SocketAddr>().ok()
+}
+
+/// What `start` asks for; none where an address, a board or a game is none.
+pub fn starting_of<'a>(
+    alloc: Global,
+    values: &ArgMatches<'a>,
+) -> Result<Option<Starting<'a>>, AllocError> {
+    let (Some(round), Some(lobby), Some(token_file)) = (
+        round_of(values),
+        lobby_address(values),
+        values.get_str("token-file"),
+    ) else {
+        return Ok(None);
+    };
+    let Some(said) = said_of(alloc, values)? else {
+        return Ok(None);
+    };
+    Ok(Some(Starting {
+        round,
+        lobby,
+        token_file,
+        players: values.get_str("players"),
+        said,
+        is_short: values.get_flag("short"),
+    }))
+}
+
+// The files of a round, `round1.csv,round1.games`.
+fn files_of(text: &str) -> Option<Round<'_>> {
+    let (pairings, games) = text.split_once(',')?;
+    Some(Round { pairings, games })
+}
+
+fn text_of<'a>(values: &ArgMatches<'a>, name: &str) -> &'a str {
+    values.get_str(name).unwrap_or("")
+}
+
+// What is told of the tournament; none where the number of rounds is none.
+fn tournament_of<'a>(values: &ArgMatches<'a>) -> Option<Tournament<'a>> {
+    let rounds = match values.get_str("all-rounds") {
+        Some(text) => Some(number_of(text)?),
+        None => None,
+    };
+    Some(Tournament {
+        name: text_of(values, "name"),
+        city: text_of(values, "city"),
+        federation: text_of(values, "federation"),
+        begins: text_of(values, "begins"),
+        ends: text_of(values, "ends"),
+        kind: text_of(values, "kind"),
+        arbiter: text_of(values, "arbiter"),
+        deputy: text_of(values, "deputy"),
+        times: text_of(values, "times"),
+        rounds,
+    })
+}
+
+/// What `trf` asks for; none where an address, a number or a round's files are none.
+pub fn reporting_of<'a>(
+    alloc: Global,
+    values: &ArgMatches<'a>,
+) -> Result<Option<Reporting<'a>>, AllocError> {
+    let (Some(players), Some(source), Some(tournament)) = (
+        values.get_str("players"),
+        source_of(values),
+        tournament_of(values),
+    ) else {
+        return Ok(None);
+    };
+    let Some(rounds) = all_of(alloc, values, "rounds", files_of)? else {
+        return Ok(None);
+    };
+    Ok(Some(Reporting {
+        players,
+        rounds,
+        source,
+        tournament,
+    }))
+}

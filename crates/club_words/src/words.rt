@@ -1,0 +1,120 @@
+//! The words of the club's program, and what they ask for.
+use crate::archive::{EXPORT, KEEP, LIVE, exporting_of, keeping_of, living_of, no_date_told};
+use crate::lobby::{EVIDENCE, LOBBY, PLAYER, adding_of, evidence_of, serving_of};
+use crate::rounds::{RESULTS, START, TRF, asking_of, no_day_told, reporting_of, starting_of};
+use clap::{ArgMatches, Command, Error};
+use command_lines::{CLUB, WordText, command_line, read_by, read_or_told};
+use lobby_players::Adding;
+use lobby_serving::Serving;
+use night_boards::Starting;
+use night_games::Evidence;
+use night_keeping::{Exporting, Keeping, Living};
+use night_outcomes::{Asking, Reporting};
+use std::alloc::{AllocError, Global};
+
+/// What the program is to do.
+#[derive(Drop)]
+pub enum Word<'a> {
+    /// To serve browsers.
+    Lobby(Serving<'a>),
+    /// To put a player into a players' file.
+    Player(Adding<'a>),
+    /// To tell what the log has of a game.
+    Evidence(Evidence<'a>),
+    /// To keep games that are over.
+    Keep(Keeping<'a>),
+    /// To write the games of an archive.
+    Export(Exporting<'a>),
+    /// To write the games that are played.
+    Live(Living<'a>),
+    /// To open the games of a round.
+    Start(Starting<'a>),
+    /// To write the results of a round.
+    Results(Asking<'a>),
+    /// To write the report of a tournament.
+    Report(Reporting<'a>),
+}
+
+// The words, in the order in which help lists them. (They have a function of their own, since each step of a function
+// that has texts tells of all their bytes.)
+fn words() -> [WordText; 9] {
+    [
+        LOBBY, PLAYER, EVIDENCE, KEEP, EXPORT, LIVE, START, RESULTS, TRF,
+    ]
+}
+
+const ABOUT: &str = "\
+A chess club's lobby, archive and rounds, over a game server. Each word has its own --help.
+The script ./chess-club has the word evening besides, which runs server, lobby and archive.";
+
+/// The program's command line.
+pub fn command<'a>(alloc: Global) -> Result<Command<'a>, AllocError> {
+    command_line(alloc, CLUB, ABOUT, &words())
+}
+
+/// Reads the words, the program's own name first. An `Err` is a usage fault, or a request for help.
+pub fn read_words<'a>(alloc: Global, words: &'a [String]) -> Result<Word<'a>, Error> {
+    read_by(alloc, command(alloc)?, words, word_given)
+}
+
+fn word_given<'a>(
+    alloc: Global,
+    command: &mut Command<'a>,
+    matches: &ArgMatches<'a>,
+) -> Result<Word<'a>, Error> {
+    let told = no_date_given(alloc, matches)?;
+    let read = word_of(alloc, matches)?;
+    read_or_told(command, told, read, fault_of(matches))
+}
+
+// What is said where a date or a day is given, and is none.
+fn no_date_given(alloc: Global, matches: &ArgMatches<'_>) -> Result<Option<String>, AllocError> {
+    match matches.subcommand() {
+        Some(("keep", values)) => no_date_told(alloc, values),
+        Some(("live", values)) => no_date_told(alloc, values),
+        Some(("trf", values)) => no_day_told(alloc, values),
+        _ => Ok(None),
+    }
+}
+
+// What a word with its values asks for; none where a value is none that the word takes.
+fn word_of<'a>(alloc: Global, matches: &ArgMatches<'a>) -> Result<Option<Word<'a>>, AllocError> {
+    let Some((word, values)) = matches.subcommand() else {
+        return Ok(None);
+    };
+    Ok(match word {
+        "lobby" => serving_of(alloc, values)?.map(Word::Lobby),
+        "player" => adding_of(values).map(Word::Player),
+        "evidence" => evidence_of(values).map(Word::Evidence),
+        "keep" => keeping_of(values).map(Word::Keep),
+        "export" => exporting_of(values).map(Word::Export),
+        "live" => living_of(values).map(Word::Live),
+        "start" => starting_of(alloc, values)?.map(Word::Start),
+        "results" => asking_of(values).map(Word::Results),
+        "trf" => reporting_of(alloc, values)?.map(Word::Report),
+        _ => None,
+    })
+}
+
+// What is wrong where a word asks for nothing.
+fn fault_of(matches: &ArgMatches<'_>) -> &'static str {
+    match matches.subcommand() {
+        Some(("lobby", _)) => {
+            "an address is none, or a host: a host is a name or an address, with a port or without"
+        }
+        Some(("player", _)) => {
+            "an address is none: that of a page begins with http:// or https://, and has no # and no space"
+        }
+        Some(("keep", _)) => {
+            "an address is none, a tag's value has a control character, or --lobby stands without --drop"
+        }
+        Some(("export", _)) => "--pgn and --csv cannot be used with one another",
+        Some(("live", _)) => "an address is none, or a tag's value has a control character",
+        Some(("start", _)) => "an address, a board or a game is none",
+        Some(("results", _)) => { "an address is none, or neither --archive nor --server is given" }
+        Some(("trf", _)) => {
+            "an address, a number or a round's files are none, or neither --archive nor --server is given"
+        }
+        _ => "a word is missing",
+    }
+}

@@ -1,0 +1,421 @@
+//! The word that opens the games of a round.
+use crate::asked::Starting;
+use crate::board::{Became, Board, boards_of};
+use crate::checks::{check_players, check_times};
+use crate::files::{check_notes, pairings_of};
+use crate::lobby::LobbyLink;
+use crate::round_file::RoundFile;
+use crate::said::take_words;
+use crate::token::token_of;
+use anyhow::{Context, Error, Result};
+use command_lines::{tell, unix_time};
+use jiff::Timestamp;
+use lobby_players::players_of;
+use night_rounds::Pairing;
+use std::alloc::Global;
+use std::fs::File;
+use std::net::{Net, SocketAddr, TcpStream};
+use std::random::RandomSource;
+use std::rt::{Clock, Files};
+use std::thread;
+use std::time::Duration;
+
+// How often it is looked for the lobby, and for boards whose start has come: the milliseconds between.
+const PAUSE: u64 = 500;
+
+/// The lobby, and an arbiter's token.
+#[derive(Clone, Copy)]
+struct Arbiter<'a> {
+    lobby: SocketAddr,
+    token: &'a str,
+}
+
+/// What became of the boards of a round.
+#[derive(Drop)]
+struct Rounds<'a> {
+    arbiter: Arbiter<'a>,
+    file: RoundFile,
+    // The boards, by their numbers, of which the arbiter is asked.
+    asks: Vec<u32>,
+    // Those that have their games and were told.
+    done: Vec<u32>,
+    // Whether nobody could be told.
+    is_unheard: bool,
+    // Whether the lobby takes the token for no arbiter's.
+    is_barred: bool,
+}
+
+// The moment, in milliseconds from 1970 on.
+fn moment<R: Clock>(rt: &R) -> Result<i64> {
+    match unix_time(rt)? {
+        Some(now) => Ok(i64::try_from(now).unwrap_or(i64::MAX)),
+        None => anyhow::bail!("the system's clock shows a time before 1970"),
+    }
+}
+
+impl<'a> Rounds<'a> {
+    // Whether it cannot go on.
+    fn has_failed(&self) -> bool {
+        self.is_unheard || self.is_barred || self.file.has_failed()
+    }
+
+    // Tells that a board has its game.
+    fn tell_game<R: Print>(&mut self, rt: &R, board: &Board, game: u32) -> Result<()> {
+        let number = board.pairing.board;
+        let (white, black) = (board.pairing.white.as_str(), board.game.black.as_str());
+        println!(rt; "board {number}: game {game}, {white} against {black}")?;
+        self.done.push(number)?;
+        Ok(())
+    }
+
+    // Asks the arbiter about a board.
+    fn tell_question<R: Eprint>(&mut self, rt: &R, board: &Board) -> Result<()> {
+        let question = board.question(&self.file)?;
+        tell(rt, question.as_str())?;
+        self.asks.push(board.pairing.board)?;
+        Ok(())
+    }
+
+    // Tells what became of a board.
+    fn tell<R: Print + Eprint>(&mut self, rt: &R, board: &Board, became: Became) -> Result<()> {
+        self.is_unheard = true;
+        match became {
+            Became::Has(game) => self.tell_game(rt, board, game)?,
+            Became::Asks => self.tell_question(rt, board)?,
+        }
+        self.is_unheard = false;
+        Ok(())
+    }
+
+    // Whether nothing is to be done about a board now.
+    fn rests(&self, board: &Board, now: i64) -> bool {
+        let number = board.pairing.board;
+        let is_late = match board.game.start {
+            Some(start) => start <= now,
+            None => true,
+        };
+        !is_late || self.asks.contains(&number) || self.done.contains(&number)
+    }
+
+    // Connects to the lobby as the arbiter. Where the token is no arbiter's, it cannot go on.
+    fn link<'b, R>(&mut self, rt: &'b R) -> Result<LobbyLink<'b, R>>
+    where
+        R: Net<Stream = TcpStream> + RandomSource + AllocGlobal + Clock + Clone + Drop,
+    {
+        let lobby = self.arbiter.lobby;
+        let mut link = LobbyLink::open(rt, lobby)?;
+        if !link.log_in(self.arbiter.token)? {
+            self.is_barred = true;
+            anyhow::bail!("the lobby at {lobby} knows no arbiter with this token");
+        }
+        Ok(link)
+    }
+
+    // Goes on with a board over a connection.
+    fn go_on_over<R>(&mut self, rt: &R, link: &mut LobbyLink<'_, R>, board: &Board) -> Result<()>
+    where
+        R: Net<Stream = TcpStream>
+            + RandomSource
+            + AllocGlobal
+            + Clock
+            + Clone
+            + Drop
+            + Print
+            + Eprint,
+    {
+        let (number, lobby) = (board.pairing.board, self.arbiter.lobby);
+        let became = board
+            .go_on(link, &mut self.file)
+            .context(format_args!("board {number}, by the lobby at {lobby}"))?;
+        self.tell(rt, board, became)
+    }
+
+    // Goes on with a board over a connection, which is made where there is none, and is given up where it fails.
+    fn go_on_with<'b, R>(
+        &mut self,
+        rt: &'b R,
+        link: &mut Option<LobbyLink<'b, R>>,
+        board: &Board,
+    ) -> Result<()>
+    where
+        R: Net<Stream = TcpStream>
+            + RandomSource
+            + AllocGlobal
+            + Clock
+            + Clone
+            + Drop
+            + Print
+            + Eprint,
+    {
+        let mut held = match link.take() {
+            Some(held) => held,
+            None => self.link(rt)?,
+        };
+        self.go_on_over(rt, &mut held, board)?;
+        *link = Some(held);
+        Ok(())
+    }
+
+    // The same, where a failure after which boards may be gone on with is kept, if it is the first.
+    fn go_on_at<'b, R>(
+        &mut self,
+        rt: &'b R,
+        link: &mut Option<LobbyLink<'b, R>>,
+        board: &Board,
+        first: &mut Result<()>,
+    ) -> Result<()>
+    where
+        R: Net<Stream = TcpStream>
+            + RandomSource
+            + AllocGlobal
+            + Clock
+            + Clone
+            + Drop
+            + Print
+            + Eprint,
+    {
+        let done = self.go_on_with(rt, link, board);
+        if self.has_failed() {
+            return done;
+        }
+        if first.is_ok() {
+            *first = done;
+        }
+        Ok(())
+    }
+
+    // Goes on with each board whose start has come. It tells the first of the failures, after which a board may be gone
+    // on with again.
+    fn go_on<R>(&mut self, rt: &R, boards: &[Board]) -> Result<()>
+    where
+        R: Net<Stream = TcpStream>
+            + RandomSource
+            + AllocGlobal
+            + Clock
+            + Clone
+            + Drop
+            + Print
+            + Eprint,
+    {
+        let now = moment(rt)?;
+        let mut link = None;
+        let mut first = Ok(());
+        for board in boards {
+            if !self.rests(board, now) {
+                self.go_on_at(rt, &mut link, board, &mut first)?;
+            }
+        }
+        first
+    }
+}
+
+// Tells a failure after which it is tried again, unless it was told last.
+fn tell_failure<R: AllocGlobal + Eprint>(rt: &R, told: &mut String, error: Error) -> Result<()> {
+    let text = format!(in rt.alloc(); "{error:#}")?;
+    if text != *told {
+        tell(rt, format_args!("{text}; it is tried again"))?;
+        *told = text;
+    }
+    Ok(())
+}
+
+// Goes once round the boards. Where the lobby or its server is gone it is tried again.
+fn go_once<R>(rt: &R, rounds: &mut Rounds<'_>, boards: &[Board], told: &mut String) -> Result<()>
+where
+    R: Net<Stream = TcpStream> + RandomSource + AllocGlobal + Clock + Clone + Drop + Print + Eprint,
+{
+    match rounds.go_on(rt, boards) {
+        Ok(()) => {
+            told.clear();
+            Ok(())
+        }
+        Err(error) if rounds.has_failed() => Err(error),
+        Err(error) => tell_failure(rt, told, error),
+    }
+}
+
+// Tells that a board waits for its start.
+fn tell_wait<R: Eprint>(rt: &R, number: u32, start: i64) -> Result<()> {
+    let start = Timestamp::from_millisecond(start)?;
+    tell(rt, format_args!("board {number} waits until {start}"))?;
+    Ok(())
+}
+
+// Tells which boards wait for their starts.
+fn tell_waits<R: Eprint + Clock>(rt: &R, boards: &[Board]) -> Result<()> {
+    // (that the clock is wrong is told later, each time that it is tried)
+    let now = moment(rt).unwrap_or(i64::MAX);
+    for board in boards {
+        if let Some(start) = board.game.start
+            && start > now
+        {
+            tell_wait(rt, board.pairing.board, start)?;
+        }
+    }
+    Ok(())
+}
+
+// Goes round the boards until each has its game or is the arbiter's.
+fn go_round<R>(rt: &R, rounds: &mut Rounds<'_>, boards: &[Board]) -> Result<()>
+where
+    R: Net<Stream = TcpStream> + RandomSource + AllocGlobal + Clock + Clone + Drop + Print + Eprint,
+{
+    let mut told = String::new(rt.alloc());
+    for _ in 0..u64::MAX {
+        go_once(rt, rounds, boards, &mut told)?;
+        if rounds.asks.len().saturating_add(rounds.done.len()) >= boards.len() {
+            return Ok(());
+        }
+        thread::sleep(rt, Duration::from_millis(PAUSE));
+    }
+    Ok(())
+}
+
+// Whether all players of pairings are in the players' file of this name. It fails at the first row where one is not.
+fn check_in_file<R: Files + AllocGlobal>(
+    rt: &R,
+    file: &str,
+    rows: &str,
+    pairings: &[Pairing],
+) -> Result<()> {
+    let players = players_of(rt, file)?;
+    check_players(players.as_slice(), pairings).context(rows)
+}
+
+// Whether pairings may be opened: by their players, where a file of these is named, and by their times.
+fn check_pairings<R: Files + AllocGlobal>(
+    rt: &R,
+    starting: &Starting<'_>,
+    pairings: &[Pairing],
+) -> Result<()> {
+    let rows = starting.round.pairings;
+    if let Some(file) = starting.players {
+        check_in_file(rt, file, rows, pairings)?;
+    }
+    if starting.is_short {
+        return Ok(());
+    }
+    check_times(pairings).context(rows)
+}
+
+// Puts what the arbiter said to the round's file. It fails where that is of other pairings.
+fn take_said(
+    file: &mut RoundFile,
+    starting: &Starting<'_>,
+    pairings: &[Pairing],
+    boards: &[Board],
+) -> Result<()> {
+    check_notes(starting.round.games, file.notes(), pairings)?;
+    let (takes, afters) = (
+        starting.said.takes.as_slice(),
+        starting.said.afters.as_slice(),
+    );
+    take_words(file, boards, takes, afters)
+}
+
+// The round's file with what the arbiter said.
+fn file_of<R: Files<File = File> + AllocGlobal>(
+    rt: &R,
+    starting: &Starting<'_>,
+    pairings: &[Pairing],
+    boards: &[Board],
+) -> Result<RoundFile> {
+    let mut file = RoundFile::open(rt, starting.round.games)?;
+    take_said(&mut file, starting, pairings, boards)?;
+    Ok(file)
+}
+
+// Nothing has become of boards yet.
+fn rounds_of<'a>(alloc: Global, arbiter: Arbiter<'a>, file: RoundFile) -> Rounds<'a> {
+    Rounds {
+        arbiter,
+        file,
+        asks: Vec::new(alloc),
+        done: Vec::new(alloc),
+        is_unheard: false,
+        is_barred: false,
+    }
+}
+
+// Goes round the boards to the end, and tells how many have their games.
+fn go_through<R>(rt: &R, rounds: &mut Rounds<'_>, boards: &[Board]) -> Result<usize>
+where
+    R: Net<Stream = TcpStream> + RandomSource + AllocGlobal + Clock + Clone + Drop + Print + Eprint,
+{
+    tell_waits(rt, boards)?;
+    go_round(rt, rounds, boards)?;
+    Ok(rounds.done.len())
+}
+
+// Opens the games of boards, and tells how many have theirs.
+fn open_games<R>(
+    rt: &R,
+    starting: &Starting<'_>,
+    file: RoundFile,
+    boards: &[Board],
+) -> Result<usize>
+where
+    R: Files
+        + Net<Stream = TcpStream>
+        + RandomSource
+        + AllocGlobal
+        + Clock
+        + Clone
+        + Drop
+        + Print
+        + Eprint,
+{
+    let token = token_of(rt, starting.token_file)?;
+    let arbiter = Arbiter {
+        lobby: starting.lobby,
+        token: token.as_str(),
+    };
+    let mut rounds = rounds_of(rt.alloc(), arbiter, file);
+    go_through(rt, &mut rounds, boards)
+}
+
+// Tells how many boards have their games. It fails where not all have.
+fn tell_end<R: Print>(rt: &R, boards: usize, games: usize) -> Result<()> {
+    println!(rt; "boards {boards}, games {games}")?;
+    if games < boards {
+        anyhow::bail!("the arbiter is to say, by --take or --after, which games the others have");
+    }
+    Ok(())
+}
+
+// The games of boards are opened, by what the round's file has.
+fn start_boards<R>(rt: &R, starting: &Starting<'_>, pairings: &[Pairing]) -> Result<()>
+where
+    R: Files<File = File>
+        + Net<Stream = TcpStream>
+        + RandomSource
+        + AllocGlobal
+        + Clock
+        + Clone
+        + Drop
+        + Print
+        + Eprint,
+{
+    let boards = boards_of(rt.alloc(), pairings, starting.said.takes.as_slice())?;
+    let file = file_of(rt, starting, pairings, boards.as_slice())?;
+    let games = open_games(rt, starting, file, boards.as_slice())?;
+    tell_end(rt, boards.len(), games)
+}
+
+/// Opens the game of each board at its start, and notes which it is.
+pub fn start<R>(rt: &R, starting: &Starting<'_>) -> Result<()>
+where
+    R: Files<File = File>
+        + Net<Stream = TcpStream>
+        + RandomSource
+        + AllocGlobal
+        + Clock
+        + Clone
+        + Drop
+        + Print
+        + Eprint,
+{
+    let pairings = pairings_of(rt, starting.round.pairings)?;
+    check_pairings(rt, starting, pairings.as_slice())?;
+    start_boards(rt, starting, pairings.as_slice())
+}

@@ -1,0 +1,55 @@
+//! What is asked of the archive.
+use lobby_words::NameForm;
+use std::net::SocketAddr;
+use text_pgn::Heading;
+
+/// Whose games are told, what their PGNs are made with, and how often.
+#[derive(Clone, Copy)]
+pub struct Source<'a> {
+    /// Where the server listens, as it was said: an address (`ServerAddress::named`).
+    pub server: &'a str,
+    pub players: Option<&'a str>,
+    pub log: Option<&'a str>,
+    /// What the tags are to say; of White and Black nothing yet.
+    pub heading: Heading<'a>,
+    /// After how many seconds it is done again.
+    pub every: Option<u32>,
+}
+
+/// What is kept, and where.
+#[derive(Clone, Copy)]
+pub struct Keeping<'a> {
+    pub source: Source<'a>,
+    pub archive: &'a str,
+    pub drops: bool,
+    /// The lobby whose browsers are asked about before a game is dropped.
+    pub lobby: Option<SocketAddr>,
+}
+
+/// Which archive's games are written, and how.
+#[derive(Clone, Copy)]
+pub struct Exporting<'a> {
+    pub archive: &'a str,
+    pub form: Form,
+}
+
+/// The form in which games are written.
+#[derive(Clone, Copy)]
+pub enum Form {
+    /// Their PGNs.
+    Pgn,
+    /// A row for each, as CSV.
+    Csv,
+}
+
+/// What is written where others fetch it.
+#[derive(Clone, Copy)]
+pub struct Living<'a> {
+    pub source: Source<'a>,
+    pub file: &'a str,
+    pub archive: Option<&'a str>,
+    /// The date, where it is given.
+    pub date: Option<&'a str>,
+    /// How full names are told.
+    pub names: NameForm,
+}

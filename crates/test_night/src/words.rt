@@ -1,0 +1,226 @@
+//! The words of the club's command line.
+use clap::error::ErrorKind;
+use club_words::{Word, read_words};
+use lobby_desk::Limits;
+use lobby_serving::Serving;
+use night_boards::Starting;
+use night_keeping::{Form, Keeping, Living, Source};
+use night_outcomes::Reporting;
+use std::alloc::{AllocError, Global};
+use std::process::Abort;
+
+// The words of a command line as the program gets them, its own name first.
+fn words_of(rt: &impl Abort, alloc: Global, line: &str) -> Vec<String> {
+    let mut words = Vec::new(alloc);
+    for word in line.split(' ') {
+        let word = String::from_str(alloc, word).expect(rt, "memory");
+        assert!(rt; words.push(word).is_ok());
+    }
+    words
+}
+
+fn lobby_said(alloc: Global, serving: &Serving<'_>) -> Result<String, AllocError> {
+    let (players, address, page) = (serving.players, serving.address, serving.page);
+    let Limits {
+        waiting,
+        playing,
+        over,
+        ..
+    } = serving.limits;
+    let hosts = serving.hosts.len();
+    format!(in alloc; "lobby {players} {address} {page} {hosts} {waiting} {playing} {over}")
+}
+
+fn source_said(alloc: Global, source: &Source<'_>) -> Result<String, AllocError> {
+    let (server, event, date) = (source.server, source.heading.event, source.heading.date);
+    let every = source.every.unwrap_or(0);
+    format!(in alloc; "{server} {event} {date} {every}")
+}
+
+fn keep_said(alloc: Global, keeping: &Keeping<'_>) -> Result<String, AllocError> {
+    let source = source_said(alloc, &keeping.source)?;
+    let (archive, drops) = (keeping.archive, keeping.drops);
+    let asks = keeping.lobby.is_some();
+    format!(in alloc; "keep {source} {archive} {drops} {asks}")
+}
+
+fn live_said(alloc: Global, living: &Living<'_>) -> Result<String, AllocError> {
+    let source = source_said(alloc, &living.source)?;
+    let (file, archive) = (living.file, living.archive.unwrap_or("-"));
+    format!(in alloc; "live {source} {file} {archive}")
+}
+
+fn start_said(alloc: Global, starting: &Starting<'_>) -> Result<String, AllocError> {
+    let (lobby, token_file, is_short) = (starting.lobby, starting.token_file, starting.is_short);
+    let round = starting.round;
+    let (takes, afters) = (starting.said.takes.len(), starting.said.afters.len());
+    let (pairings, games) = (round.pairings, round.games);
+    format!(in alloc; "start {pairings} {games} {lobby} {token_file} {takes} {afters} {is_short}")
+}
+
+fn report_said(alloc: Global, reporting: &Reporting<'_>) -> Result<String, AllocError> {
+    let (players, name) = (reporting.players, reporting.tournament.name);
+    let (rounds, all) = (
+        reporting.rounds.len(),
+        reporting.tournament.rounds.unwrap_or(0),
+    );
+    format!(in alloc; "trf {players} {name} {rounds} {all}")
+}
+
+// What a word asks for, told in a line.
+fn said_by(alloc: Global, word: &Word<'_>) -> Result<String, AllocError> {
+    match word {
+        Word::Lobby(serving) => lobby_said(alloc, serving),
+        Word::Player(adding) => {
+            let (name, full_name, page) = (adding.name, adding.full_name, adding.page);
+            let is_arbiter = adding.is_arbiter;
+            format!(in alloc; "player {name} {full_name} {page} {is_arbiter}")
+        }
+        Word::Evidence(asked) => {
+            let (game, log) = (asked.game, asked.log);
+            format!(in alloc; "evidence {game} {log}")
+        }
+        Word::Keep(keeping) => keep_said(alloc, keeping),
+        Word::Export(exporting) => {
+            let archive = exporting.archive;
+            let is_csv = matches!(exporting.form, Form::Csv);
+            format!(in alloc; "export {archive} {is_csv}")
+        }
+        Word::Live(living) => live_said(alloc, living),
+        Word::Start(starting) => start_said(alloc, starting),
+        Word::Results(asking) => {
+            let (games, archive) = (asking.round.games, asking.source.archive.unwrap_or("-"));
+            format!(in alloc; "results {games} {archive}")
+        }
+        Word::Report(reporting) => report_said(alloc, reporting),
+    }
+}
+
+// Checks that a command line asks for this, or is refused for it.
+fn check_line(rt: &impl Abort, alloc: Global, line: &str, wanted: Result<&str, ErrorKind>) {
+    let words = words_of(rt, alloc, line);
+    match (read_words(alloc, words.as_slice()), wanted) {
+        (Ok(word), Ok(wanted)) => {
+            let said = said_by(alloc, &word).expect(rt, "memory");
+            assert!(rt; said.as_str() == wanted);
+        }
+        (Err(error), Err(wanted)) => assert!(rt; error.kind() == wanted),
+        _ => assert!(rt; false),
+    }
+}
+
+// Command lines, and what each asks for, or why it is refused.
+static LINES: [(&str, Result<&str, ErrorKind>); 30] = [
+    (
+        "chess-club lobby --players p --server 127.0.0.1:1",
+        Ok("lobby p 127.0.0.1:8080 page 0 4 8 32"),
+    ),
+    (
+        "chess-club lobby --players p --server ./s --port 0 --host a.b --host [::1]:80 --over-most 1",
+        Ok("lobby p 127.0.0.1:0 page 2 4 8 1"),
+    ),
+    (
+        "chess-club player ann --full-name Ann --players p --arbiter",
+        Ok("player ann Ann http://127.0.0.1:8080/ true"),
+    ),
+    ("chess-club evidence --game 7 --log l", Ok("evidence 7 l")),
+    (
+        "chess-club keep --server s/ --archive a --drop --lobby 127.0.0.1:2 --event E --every 5",
+        Ok("keep s/ E ????.??.?? 5 a true true"),
+    ),
+    ("chess-club export --archive a --csv", Ok("export a true")),
+    ("chess-club export --archive a", Ok("export a false")),
+    (
+        "chess-club live --server s/ --file f --date 2026.11.??",
+        Ok("live s/ ? 2026.11.?? 0 f -"),
+    ),
+    (
+        "chess-club start --pairings p --round-file r --lobby 127.0.0.1:2 --token-file t --take 3=17 --short",
+        Ok("start p r 127.0.0.1:2 t 1 0 true"),
+    ),
+    (
+        "chess-club results --pairings p --round-file r --archive a",
+        Ok("results r a"),
+    ),
+    (
+        "chess-club trf --players p --server s/ --rounds a,b --rounds c,d --name N --all-rounds 5",
+        Ok("trf p N 2 5"),
+    ),
+    (
+        "chess-club lobby --players p --server 127.0.0.1",
+        Err(ErrorKind::InvalidValue),
+    ),
+    (
+        "chess-club lobby --players p --server s/ --host a:0",
+        Err(ErrorKind::InvalidValue),
+    ),
+    (
+        "chess-club lobby --players p --server s/ --address here",
+        Err(ErrorKind::InvalidValue),
+    ),
+    (
+        "chess-club lobby --players p --server s/ --proxy here",
+        Err(ErrorKind::InvalidValue),
+    ),
+    (
+        "chess-club player ann --full-name Ann --players p --url http://a/#",
+        Err(ErrorKind::InvalidValue),
+    ),
+    (
+        "chess-club keep --server s/ --archive a --lobby 127.0.0.1:2",
+        Err(ErrorKind::InvalidValue),
+    ),
+    (
+        "chess-club keep --server s/ --archive a --date 2026.13.01",
+        Err(ErrorKind::InvalidValue),
+    ),
+    (
+        "chess-club keep --server s/ --archive a --site a\u{7f}",
+        Err(ErrorKind::InvalidValue),
+    ),
+    (
+        "chess-club export --archive a --csv --pgn",
+        Err(ErrorKind::InvalidValue),
+    ),
+    (
+        "chess-club start --pairings p --round-file r --lobby 127.0.0.1:2 --token-file t --after 0=1",
+        Err(ErrorKind::InvalidValue),
+    ),
+    (
+        "chess-club results --pairings p --round-file r",
+        Err(ErrorKind::InvalidValue),
+    ),
+    (
+        "chess-club trf --players p --archive a --rounds a,b --ends 2026/02/30",
+        Err(ErrorKind::InvalidValue),
+    ),
+    (
+        "chess-club trf --players p --archive a --rounds a",
+        Err(ErrorKind::InvalidValue),
+    ),
+    (
+        "chess-club lobby --players p",
+        Err(ErrorKind::MissingRequiredArgument),
+    ),
+    (
+        "chess-club evidence --game x --log l",
+        Err(ErrorKind::ValueValidation),
+    ),
+    (
+        "chess-club keep --server s/ --archive a --every 0",
+        Err(ErrorKind::ValueValidation),
+    ),
+    (
+        "chess-club serve --players p --server s/",
+        Err(ErrorKind::InvalidSubcommand),
+    ),
+    ("chess-club --version", Err(ErrorKind::DisplayVersion)),
+    ("chess-club trf --help", Err(ErrorKind::DisplayHelp)),
+];
+
+#[test]
+fn reads_each_word_and_no_other(rt: HostRuntime) {
+    for (line, wanted) in &LINES {
+        check_line(&rt, rt.alloc(), *line, *wanted);
+    }
+}
