@@ -34,11 +34,11 @@ pub trait Night {
     /// Whether the archive has a game with the PGN that the table told last of it.
     ghost is_matched: { Self → ℕ → Bool };
 
-    /// Whether nobody looks at a game, by an answer since which nothing else was done.
+    /// Whether a game stays for nobody who looks at it, by an answer since which nothing else was done.
     ghost is_unwatched: { Self → ℕ → Bool };
 
     /// Whether it is settled what comes of a game since it was asked for: the archive has another PGN of it, somebody
-    /// looks at it, or a drop was sent.
+    /// looks at it for whom it stays, or a drop was sent.
     ghost is_settled: { Self → ℕ → Bool };
 
     /// The games of the archive, which are safe.
@@ -91,7 +91,8 @@ pub trait Night {
         ensures unwatched { IsNowhere (is_unwatched self.new) }
         ensures settled { OnOk result (BecomesAt game false (is_settled self.old) (is_settled self.new)) };
 
-    /// Whether nobody looks at a game now. Where that cannot be told, games may not be dropped from now on.
+    /// Whether a game stays now for nobody who looks at it. Where that cannot be told, games may not be dropped from
+    /// now on.
     fn is_left(&mut self, game: u32) -> Result<bool, Self::Fault>
         ensures over { Stays (is_over self.old) (is_over self.new) }
         ensures safe { Stays (is_safe self.old) (is_safe self.new) }
@@ -104,8 +105,8 @@ pub trait Night {
         ensures settled { IfOk result (λ is_left. BecomesAt game (not is_left) (is_settled self.old) (is_settled self.new)) };
 
     /// Sends a drop for a game that is over, which has to be safe: where games are dropped, the archive has just the
-    /// PGN that the table told last of it, and nobody looks at it, as was asked last. It answers whether the table took
-    /// it.
+    /// PGN that the table told last of it, and it stays for nobody who looks at it, as was asked last. It answers
+    /// whether the table took it.
     fn drop_game(&mut self, game: u32) -> Result<bool, Self::Fault>
         requires over { is_over self.now game ≡ true }
         requires safe { is_safe self.now game ≡ true }

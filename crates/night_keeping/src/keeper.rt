@@ -31,9 +31,9 @@ pub const NOTHING: Counts = Counts {
     all: 0,
 };
 
-/// Who tells whether somebody looks at a game.
+/// Who tells whether a game stays for somebody who looks at it.
 pub trait Onlookers {
-    /// Whether nobody does.
+    /// Whether it does for nobody.
     fn are_gone(&mut self, game: u32) -> Result<bool>;
 }
 
@@ -74,7 +74,7 @@ pub struct Done {
     told: Option<u32>,
     /// Those of which the archive has the PGN that the table told last.
     matched: BTreeSet<u32>,
-    /// The one at which nobody looks, as the lobby answered within the last second.
+    /// The one that stays for nobody who looks at it, as the lobby answered within the last second.
     unwatched: Option<u32>,
     /// Those that have another PGN in the archive, that somebody looks at, or for which a drop was sent.
     settled: BTreeSet<u32>,
@@ -131,7 +131,7 @@ fn note(fault: &mut Option<anyhow::Error>, new: anyhow::Error) {
     }
 }
 
-// The game at which nobody looks, where that is so of this one.
+// The game that stays for nobody who looks at it, where that is so of this one.
 fn left_game(game: u32, is_left: bool) -> Option<u32>
     ensures { (g : ℕ) → is_at g result ≡ (game == g && is_left) }
 {

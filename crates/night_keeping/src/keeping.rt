@@ -32,7 +32,7 @@ where
 {
     fn are_gone(&mut self, game: u32) -> Result<bool> {
         match &mut self.watchers {
-            Some(watchers) => Ok(!watchers.has(self.rt, game)?),
+            Some(watchers) => Ok(!watchers.hold(self.rt, game)?),
             None => Ok(true),
         }
     }
@@ -44,6 +44,7 @@ struct Looking<'a, R> {
     rt: &'a R,
     keeping: &'a Keeping<'a>,
     sources: Sources<'a, R>,
+    watchers: Option<Watchers>,
     // Whether the archive was opened: then it is left alone while no game is over.
     has_looked: bool,
 }
@@ -55,6 +56,7 @@ impl<'a, R: Files + AllocGlobal + Eprint> Looking<'a, R> {
             rt,
             keeping,
             sources: Sources::open(rt, &keeping.source)?,
+            watchers: keeping.lobby.map(|lobby| Watchers::new(rt.alloc(), lobby)),
             has_looked: false,
         })
     }
@@ -79,14 +81,16 @@ impl<R> Looking<'_, R>
 where
     R: Net<Stream = TcpStream> + AllocGlobal + Clock,
 {
-    // Keeps the games of a list that are over, and drops them where that is asked.
-    fn keep_games(
-        &self,
+    // Keeps the games of a list that are over, and drops them where that is asked, and where they stay for nobody who
+    // looks at them. What is known of these goes in and comes back.
+    fn keep_games<'x>(
+        &'x self,
         link: Link,
         opened: Opened,
-        rows: &[Row<'_>],
+        rows: &'x [Row<'x>],
         over: &[u32],
-    ) -> Result<(Counts, Result<()>)>
+        watchers: Option<Watchers>,
+    ) -> (Result<(Counts, Result<()>)>, Option<Watchers>)
         requires { AreAll (λ game. contains game (games_over_in rows.now)) over.now }
     {
         let alloc = self.rt.alloc();
@@ -101,7 +105,7 @@ where
             drops: self.keeping.drops,
             onlookers: Browsers {
                 rt: self.rt,
-                watchers: self.keeping.lobby.map(Watchers::new),
+                watchers,
             },
             done: Done::nothing(alloc),
             counts: NOTHING,
@@ -109,8 +113,9 @@ where
         };
         let done = look(&mut keeper, alloc, over);
         let counted = keeper.end(done);
+        let watchers = keeper.onlookers.watchers.take();
         drop(keeper);
-        counted
+        (counted, watchers)
     }
 }
 
@@ -147,7 +152,13 @@ where
             return Ok((NOTHING, Ok(())));
         };
         let over = self.games_in_order(&opened.archive, rows)?;
-        self.keep_games(link, opened, rows, over.as_slice())
+        let mut watchers = self.watchers.take();
+        if let Some(watchers) = &mut watchers {
+            watchers.forget_others(over.as_slice());
+        }
+        let (counted, watchers) = self.keep_games(link, opened, rows, over.as_slice(), watchers);
+        self.watchers = watchers;
+        counted
     }
 
     // The same of the list as it is now.
