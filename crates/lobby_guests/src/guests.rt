@@ -31,7 +31,8 @@ fn attend<S: Read + Write, K: KeepsLinks>(
 ) -> Result<bool, AllocError>
     ensures { OnOk result (IsServed S.remaining site.now at guest.old guest.new talk.old talk.new) }
 {
-    let has_read = guest.read_in(site, at, piece, coming);
+    let acts = talk.acts(guest.number());
+    let has_read = guest.read_in(acts, site, at, piece, coming);
     let has_heard = guest.hear(talk, at, links, coming)?;
     Ok(has_read | has_heard)
 }
@@ -317,9 +318,15 @@ pub fn first_due<S>(guests: &[Guest<S>], at: u64) -> Option<u64> {
     first
 }
 
-/// Whether so many wait who were told no answer yet that a turn does not attend them all.
-pub fn is_crowded<S>(guests: &[Guest<S>], at: u64) -> bool {
-    guests.iter().filter(|guest| guest.is_due(true, at)).count() > ATTENDED_MOST
+/// Whether so many wait to be heard for the first time that a turn does not attend them all.
+pub fn is_crowded<S>(connections: &[Guest<S>]) -> bool
+    ensures { result ≡ guests.is_crowded connections.now }
+{
+    connections
+        .iter()
+        .filter(|guest| guest.is_unheard())
+        .count()
+        > ATTENDED_MOST
 }
 
 /// Looks after each, where it is time.
