@@ -193,7 +193,7 @@ pub record AreAttended {S : Type 0} (remaining : S → Option (List ℕ)) (site 
 
 -- Something may have come of it, and nothing was ever read.
 abbrev pub is_unheard : {S : Type 0} → Guest S → Bool
-is_unheard guest = guest.can_read && not guest.was_read && not guest.is_lost
+is_unheard guest = guest.can_read && guest.paid_until == 0 && not guest.is_lost
 
 -- Of so many that is so that a turn does not attend them all. So who was read once keeps nobody out.
 abbrev pub is_crowded : {S : Type 0} → List (Guest S) → Bool

@@ -72,11 +72,7 @@ pub struct Guest<S> {
     is_asked: bool,
     /// When its messages were taken that are not answered.
     asked: Asked,
-    /// Whether bytes of it came.
-    was_read: bool,
-    /// Whether it was told an answer.
-    was_told: bool,
-    /// Until when its time is taken by what came of it, and by the answers that it was told.
+    /// Until when its time is taken by what came of it, and by the answers that it was told; 0 before anything was read.
     paid_until: u64,
     /// The same by logins that were refused.
     logins_until: u64,
@@ -131,8 +127,6 @@ impl<S> Guest<S> {
             heard_at: at,
             is_asked: false,
             asked: Asked::new(),
-            was_read: false,
-            was_told: false,
             paid_until: 0,
             logins_until: 0,
         }
@@ -169,18 +163,22 @@ impl<S> Guest<S> {
         self.paid_until.saturating_sub(at) <= AHEAD
     }
 
-    /// Whether it was told no answer yet, or some, and something may have come of it for which its time is not taken.
+    /// Whether nothing of it was read yet, or something was, and something may have come of it for which its time is not
+    /// taken.
     pub fn is_due(&self, is_fresh: bool, at: u64) -> bool
         ensures { result ≡ true → is_in_time at self.now.paid_until ≡ true }
     {
-        self.is_in_time(at) && !self.is_lost && is_fresh != self.was_told && self.has_something()
+        self.is_in_time(at)
+            && !self.is_lost
+            && is_fresh == (self.paid_until == 0)
+            && self.has_something()
     }
 
     /// Whether something may have come of it, and nothing was ever read.
     pub fn is_unheard(&self) -> bool
         ensures { result ≡ is_unheard self.now }
     {
-        self.can_read && !self.was_read && !self.is_lost
+        self.can_read && self.paid_until == 0 && !self.is_lost
     }
 
     /// Whether the time of one that acts for a player is not taken too far ahead by what it was told.
@@ -306,7 +304,6 @@ impl<S> Guest<S> {
         ensures browser { OnOk result (self.new.browser ≡ self.old.browser) }
         ensures stream { OnOk result (self.new.stream ≡ self.old.stream) }
         ensures paid { self.new.paid_until ≡ self.old.paid_until }
-        ensures read { self.new.was_read ≡ self.old.was_read }
     {
         match heard {
             Heard::Opened => match self.number {
@@ -349,7 +346,6 @@ impl<S> Guest<S> {
         ensures asks { OnOk result (self.old.is_lost ≡ false → MaySpeak talk.old.desk self.old.number →
             IsAsked at self.old self.new talk.old talk.new) }
         ensures paid { self.new.paid_until ≡ self.old.paid_until }
-        ensures read { self.new.was_read ≡ self.old.was_read }
     {
         if self.is_lost || !self.may_speak(talk) {
             return Ok(false);
@@ -382,7 +378,6 @@ impl<S> Guest<S> {
     fn take_time(&mut self, at: u64, millis: u64)
         ensures before { IsAsBefore self.old self.new }
         ensures time { self.new.paid_until ≡ taken_until at self.old.paid_until millis }
-        ensures read { self.new.was_read ≡ self.old.was_read }
     {
         self.paid_until = self.paid_until.max(at).saturating_add(millis);
     }
@@ -391,7 +386,6 @@ impl<S> Guest<S> {
     fn pay(&mut self, at: u64, bytes: usize)
         ensures { IsAsBefore self.old self.new }
     {
-        self.was_told = true;
         self.take_time(at, bytes as u64 / BYTES_A_MILLISECOND);
     }
 
@@ -482,10 +476,8 @@ impl<S: Read + Write> Guest<S> {
     // Bytes of it came, for which its time is taken where it acts for nobody.
     fn note_bytes(&mut self, acts: bool, at: u64, count: usize)
         ensures before { IsAsBefore self.old self.new }
-        ensures read { self.new.was_read ≡ true }
         ensures paid { acts ≡ false → self.new.paid_until ≡ taken_until at self.old.paid_until (1 + count / 40) }
     {
-        self.was_read = true;
         self.heard_at = at;
         self.is_asked = false;
         self.has_more = true;

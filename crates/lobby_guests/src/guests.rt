@@ -1,7 +1,7 @@
 //! All browsers that are connected, by the names of their sockets, which grow.
 #![tactic(auto, using(crate::proofs::Each::zipped_none, crate::proofs::Each::zipped_vec))]
 
-ghost use Rattle.std.specs.Prelude.{ℕ, Bool, true, false, ◌≡◌, ◌++◌, ◌∷◌, [], List, Option, OnOk};
+ghost use Rattle.std.specs.Prelude.{ℕ, Bool, true, false, ◌≡◌, ◌++◌, ◌∷◌, [], List, Option, OnOk, length, filter};
 ghost use Rattle.std.specs.List.{AllZip};
 ghost use Rattle.lobby_guests.specs.Counting.{counted_up, refusals_in, CountsLogins};
 ghost use Rattle.lobby_guests.specs.Guests as guests;
@@ -318,15 +318,21 @@ pub fn first_due<S>(guests: &[Guest<S>], at: u64) -> Option<u64> {
     first
 }
 
-/// Whether so many wait to be heard for the first time that a turn does not attend them all.
-pub fn is_crowded<S>(connections: &[Guest<S>]) -> bool
-    ensures { result ≡ guests.is_crowded connections.now }
+// How many of which nothing was read yet may have sent something.
+fn count_unheard<S>(connections: &[Guest<S>]) -> usize
+    ensures { result ≡ length (filter guests.is_unheard connections.now) }
 {
     connections
         .iter()
         .filter(|guest| guest.is_unheard())
         .count()
-        > ATTENDED_MOST
+}
+
+/// Whether so many wait to be heard for the first time that a turn does not attend them all.
+pub fn is_crowded<S>(connections: &[Guest<S>]) -> bool
+    ensures { result ≡ guests.is_crowded connections.now }
+{
+    count_unheard(connections) > ATTENDED_MOST
 }
 
 /// Looks after each, where it is time.
