@@ -9,6 +9,7 @@ use night_boards::{Shown, show_game};
 use night_links::Link;
 use night_rounds::{Note, Pairing, Seats, game_in, last_of};
 use player_name::Name;
+use server_answers::{Ending, result_text};
 use sockets::ServerAddress;
 use std::alloc::{AllocError, Global};
 use std::net::{Net, TcpStream};
@@ -256,11 +257,10 @@ fn others_text(
 }
 
 // The article, empty where there is none.
-fn article_of(alloc: Global, article: String) -> String {
-    if article.as_str() == "-" {
-        String::new(alloc)
-    } else {
-        article
+fn article_of(ending: Option<Ending>) -> &'static str {
+    match ending {
+        Some(ending) => ending.article.as_str(),
+        None => "",
     }
 }
 
@@ -288,12 +288,12 @@ fn others_on_table(
 }
 
 // What came of a game of the table.
-fn ended_of(alloc: Global, shown: Shown) -> Ended {
-    Ended {
-        result: shown.result,
-        article: article_of(alloc, shown.article),
+fn ended_of(alloc: Global, shown: Shown) -> Result<Ended, AllocError> {
+    Ok(Ended {
+        result: String::from_str(alloc, result_text(shown.ending))?,
+        article: String::from_str(alloc, article_of(shown.ending))?,
         is_played: shown.plies >= 2,
-    }
+    })
 }
 
 // What was found of a game of the table.
@@ -306,7 +306,7 @@ fn found_by(
 ) -> Result<Found, AllocError> {
     match others_on_table(alloc, white, black, game, shown.seats)? {
         Some(why) => Ok(Found::Others(why)),
-        None => Ok(Found::Ended(ended_of(alloc, shown))),
+        None => Ok(Found::Ended(ended_of(alloc, shown)?)),
     }
 }
 
