@@ -65,7 +65,7 @@ pub fn look<T: Table>(alloc: Global, table: &mut T, settles: bool) -> Result<Vec
 }
 
 /// How a game stands: who sits in it, how many moves were made, and how it ended.
-#[derive(Clone, Copy)]
+#[derive(Drop)]
 pub struct Shown {
     pub seats: Seats,
     pub plies: u32,

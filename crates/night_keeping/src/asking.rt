@@ -43,22 +43,30 @@ fn told(alloc: Global, link: &mut Link, game: u32) -> Result<Option<String>> {
     }
 }
 
-// How a game stands, as this answer tells.
-fn shown_by(game: u32, first: &str) -> Result<Option<Shown>> {
-    if let Some(Refusal::NoGame) = refusal_of(first) {
-        return Ok(None);
-    }
-    match shown_of(first) {
-        Some(shown) => Ok(Some(shown)),
-        None => Err(not_done("show", game, first)),
-    }
+// The clocks that the log knows, and beside it how the game stands, where the server tells it.
+fn clocks_beside(
+    alloc: Global,
+    known: &Knowledge<'_>,
+    row: &Row,
+    asked: Option<Shown>,
+) -> Result<Vec<Option<u64>>> {
+    Ok(clocks(alloc, known.entries, &asked, row.game, row.ply)?)
 }
 
-// How a game stands now; none where the game has left the table since.
-fn shown(alloc: Global, link: &mut Link, game: u32) -> Result<Option<Shown>> {
-    let line = format!(in alloc; "show {game}")?;
-    let answer = link.ask(line.as_str())?;
-    shown_by(game, answer.first.as_str())
+// The same by this answer of the server; the log's alone where the game has left the table since.
+fn clocks_told(
+    alloc: Global,
+    known: &Knowledge<'_>,
+    row: &Row,
+    first: &str,
+) -> Result<Vec<Option<u64>>> {
+    if let Some(Refusal::NoGame) = refusal_of(first) {
+        return clocks_beside(alloc, known, row, None);
+    }
+    match shown_of(first) {
+        Some(shown) => clocks_beside(alloc, known, row, Some(shown)),
+        None => Err(not_done("show", row.game, first)),
+    }
 }
 
 // The clocks that the log knows. Where it has none behind the last move, whose answer was lost or is still to come, the
@@ -69,13 +77,15 @@ fn clocks_of(
     known: &Knowledge<'_>,
     row: &Row,
 ) -> Result<Vec<Option<u64>>> {
-    let (game, ply) = (row.game, row.ply);
-    let logged = clocks(alloc, known.entries, &None, game, ply)?;
+    let logged = clocks_beside(alloc, known, row, None)?;
     if !known.is_logged || !matches!(logged.last(), Some(None)) {
         return Ok(logged);
     }
-    let asked = shown(alloc, link, game)?;
-    Ok(clocks(alloc, known.entries, &asked, game, ply)?)
+    let game = row.game;
+    let line = format!(in alloc; "show {game}")?;
+    let answer = link.ask(line.as_str())?;
+    // (the prover takes no type with a name in it that comes out of a call by `?`)
+    clocks_told(alloc, known, row, answer.first.as_str())
 }
 
 /// Asks for the PGN of a game, and makes it as the archive has it, with the clocks that the log knows, and where it is

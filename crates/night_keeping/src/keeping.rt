@@ -13,8 +13,8 @@ use anyhow::Result;
 use night_archive::{Archive, Hold, Opened, look, open_archive};
 use night_files::DiskFile;
 use night_links::{Link, Watchers};
-use server_answers::Row;
 use night_log::in_order;
+use server_answers::Row;
 use std::alloc::Global;
 use std::fs::File;
 use std::net::{Net, TcpStream};
@@ -139,7 +139,8 @@ where
 
 // Whether the log is asked about games: one is over, and was not kept.
 fn is_asked(rows: &[Row], archive: &Archive<DiskFile>) -> bool {
-    rows.iter().any(|row| row.result.is_some() && !archive.has(row.game))
+    rows.iter()
+        .any(|row| row.result.is_some() && !archive.has(row.game))
 }
 
 impl<R> Looking<'_, R>
