@@ -96,7 +96,7 @@ impl Board {
     fn pair<T: Table>(&self, lobby: &mut T, file: &mut RoundFile) -> Result<()> {
         let (white, black) = (self.pairing.white.as_str(), self.game.black.as_str());
         let line = pairing_of(self.alloc, white, black, self.game.times)?;
-        let answer = lobby.ask(line.as_str(), "ok pair all ")?;
+        let answer = lobby.ask(line.as_str())?;
         let game = paired_in(white, answer.first.as_str())?;
         file.put(self.note(Stage::Joined(game)))
     }
@@ -106,7 +106,7 @@ impl Board {
         look(self.alloc, lobby, false)?;
         let black = self.game.black.as_str();
         let line = format!(in self.alloc; "as {black} join {game}")?;
-        let answer = lobby.ask(line.as_str(), "ok join all ")?;
+        let answer = lobby.ask(line.as_str())?;
         let first = answer.first.as_str();
         if !first.starts_with("ok ") {
             anyhow::bail!("the lobby does not have {black} join game {game}: {first}");

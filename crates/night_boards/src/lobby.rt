@@ -139,7 +139,7 @@ where
     /// Whether a token is an arbiter's: what is asked from now on is asked by that arbiter.
     pub fn log_in(&mut self, token: &str) -> Result<bool> {
         let line = format!(in self.rt.alloc(); "login {token}")?;
-        let answer = self.ask(line.as_str(), "ok login all ")?;
+        let answer = self.ask(line.as_str())?;
         let first = answer.first.as_str();
         if first.starts_with("no 32 ") {
             return Ok(false);
@@ -159,7 +159,7 @@ where
     R: Net<Stream = TcpStream> + RandomSource + AllocGlobal + Clock + Clone + Drop,
 {
     // (a message has all lines of an answer; one that came too fast is said again)
-    fn ask(&mut self, line: &str, _front: &str) -> Result<Answer> {
+    fn ask(&mut self, line: &str) -> Result<Answer> {
         for _ in 0..TRIES {
             let answer = self.say_and_hear(line)?;
             if !answer.first.starts_with("no 34 ") {

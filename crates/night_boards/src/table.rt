@@ -1,26 +1,21 @@
 //! What is told of the table.
 use anyhow::Result;
-use night_links::{Answer, Link, refused, row_of};
+use night_links::{Answer, Link, refused};
 use night_rounds::{Row, Seats};
-use player_name::Name;
+use server_answers::{Ending, Refusal, list_head_of, pgn_head_of, refusal_of, row_of, shown_of};
 use std::alloc::{AllocError, Global};
 use text_parts::parts;
 
 /// Who is asked of the table: the server, or the lobby before it.
 pub trait Table {
-    /// The answer to a line. Where it begins with `front`, lines follow, and a number behind that says how many.
-    fn ask(&mut self, line: &str, front: &str) -> Result<Answer>;
+    /// The answer to a line.
+    fn ask(&mut self, line: &str) -> Result<Answer>;
 }
 
 impl Table for Link {
-    fn ask(&mut self, line: &str, front: &str) -> Result<Answer> {
-        Link::ask(self, line, front)
+    fn ask(&mut self, line: &str) -> Result<Answer> {
+        Link::ask(self, line)
     }
-}
-
-// Who sits in a seat that is told as a name or `-`.
-fn seat_of(text: &str) -> Option<Name> {
-    Name::try_new(text)
 }
 
 // The game of a line of the list.
@@ -28,8 +23,8 @@ fn row_in(line: &str) -> Result<Row> {
     match row_of(line) {
         Some(row) => Ok(Row {
             game: row.game,
-            white: seat_of(row.white),
-            black: seat_of(row.black),
+            white: row.seats.white,
+            black: row.seats.black,
         }),
         None => anyhow::bail!("the list has a row of another form: {line:?}"),
     }
@@ -53,8 +48,8 @@ fn rows_in(alloc: Global, list: &str) -> Result<Vec<Row>> {
 }
 
 fn list<T: Table>(alloc: Global, table: &mut T) -> Result<Vec<Row>> {
-    let answer = table.ask("list", "ok list ")?;
-    if !answer.first.starts_with("ok list ") {
+    let answer = table.ask("list")?;
+    if list_head_of(answer.first.as_str()).is_none() {
         return Err(refused("list", answer.first.as_str()));
     }
     rows_in(alloc, answer.behind.as_str())
@@ -69,71 +64,29 @@ pub fn look<T: Table>(alloc: Global, table: &mut T, settles: bool) -> Result<Vec
     list(alloc, table)
 }
 
-/// How a game stands: who sits in it, how many moves were made, the result and the article.
+/// How a game stands: who sits in it, how many moves were made, and how it ended.
 #[derive(Drop)]
 pub struct Shown {
     pub seats: Seats,
     pub plies: u32,
-    pub result: String,
-    pub article: String,
-}
-
-// The same, as the fields of an answer to `show` tell it.
-#[derive(Clone, Copy)]
-struct ShownFields<'a> {
-    seats: Seats,
-    plies: u32,
-    result: &'a str,
-    article: &'a str,
-}
-
-// What these fields tell; none where they have another form.
-fn shown_by<'a>(fields: &[&'a str]) -> Option<ShownFields<'a>> {
-    let [
-        "ok",
-        "show",
-        _,
-        white,
-        black,
-        plies,
-        _,
-        _,
-        _,
-        _,
-        result,
-        article,
-    ] = fields
-    else {
-        return None;
-    };
-    Some(ShownFields {
-        seats: Seats {
-            white: seat_of(white),
-            black: seat_of(black),
-        },
-        plies: plies.parse::<u32>().ok()?,
-        result: *result,
-        article: *article,
-    })
-}
-
-fn shown_of(alloc: Global, fields: ShownFields<'_>) -> Result<Shown, AllocError> {
-    Ok(Shown {
-        seats: fields.seats,
-        plies: fields.plies,
-        result: String::from_str(alloc, fields.result)?,
-        article: String::from_str(alloc, fields.article)?,
-    })
+    /// None while it goes on.
+    pub ending: Option<Ending>,
 }
 
 // How a game stands by the answer to a line that asks for it; none where it is not on the table.
-fn shown_in(alloc: Global, line: &str, first: &str) -> Result<Option<Shown>> {
-    if first.starts_with("no 3 ") {
+fn shown_in(line: &str, first: &str) -> Result<Option<Shown>> {
+    if let Some(Refusal::NoGame) = refusal_of(first) {
         return Ok(None);
     }
-    let fields = parts(alloc, first, ' ')?;
-    match shown_by(fields.as_slice()) {
-        Some(fields) => Ok(Some(shown_of(alloc, fields)?)),
+    match shown_of(first) {
+        Some(shown) => Ok(Some(Shown {
+            seats: Seats {
+                white: shown.seats.white,
+                black: shown.seats.black,
+            },
+            plies: shown.ply,
+            ending: shown.ending,
+        })),
         None => Err(refused(line, first)),
     }
 }
@@ -141,8 +94,8 @@ fn shown_in(alloc: Global, line: &str, first: &str) -> Result<Option<Shown>> {
 /// How a game stands; none where it is not on the table.
 pub fn show_game<T: Table>(alloc: Global, table: &mut T, game: u32) -> Result<Option<Shown>> {
     let line = format!(in alloc; "show {game}")?;
-    let answer = table.ask(line.as_str(), "ok show all ")?;
-    shown_in(alloc, line.as_str(), answer.first.as_str())
+    let answer = table.ask(line.as_str())?;
+    shown_in(line.as_str(), answer.first.as_str())
 }
 
 // Whether a line of a PGN is the tag of these times.
@@ -164,18 +117,12 @@ fn tells_times(alloc: Global, pgn: &str, times: &str) -> Result<bool, AllocError
     Ok(has_tag && !has_position)
 }
 
-// The same of the answer to a line that asks for the PGN, which begins with `front` where there is one.
-fn has_times_in(
-    alloc: Global,
-    line: &str,
-    front: &str,
-    answer: &Answer,
-    times: &str,
-) -> Result<bool> {
+// The same of the answer to a line that asks for the PGN.
+fn has_times_in(alloc: Global, line: &str, answer: &Answer, times: &str) -> Result<bool> {
     let first = answer.first.as_str();
-    if first.starts_with("no 3 ") {
+    if let Some(Refusal::NoGame) = refusal_of(first) {
         Ok(false)
-    } else if first.starts_with(front) {
+    } else if pgn_head_of(first).is_some() {
         Ok(tells_times(alloc, answer.behind.as_str(), times)?)
     } else {
         Err(refused(line, first))
@@ -186,7 +133,6 @@ fn has_times_in(
 /// has left the table has not.
 pub fn has_times<T: Table>(alloc: Global, table: &mut T, game: u32, times: &str) -> Result<bool> {
     let line = format!(in alloc; "pgn {game}")?;
-    let front = format!(in alloc; "ok pgn {game} ")?;
-    let answer = table.ask(line.as_str(), front.as_str())?;
-    has_times_in(alloc, line.as_str(), front.as_str(), &answer, times)
+    let answer = table.ask(line.as_str())?;
+    has_times_in(alloc, line.as_str(), &answer, times)
 }

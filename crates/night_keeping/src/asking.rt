@@ -2,8 +2,9 @@
 use anyhow::{Context, Error, Result, anyhow};
 use lobby_players::full_name;
 use lobby_words::Player;
-use night_links::{Answer, Link, Row};
-use night_log::{LogEntry, Shown, clocks, shown_of};
+use night_links::{Answer, Link};
+use night_log::{LogEntry, clocks};
+use server_answers::{Refusal, Row, Shown, pgn_head_of, refusal_of, seat_text, shown_of};
 use std::alloc::Global;
 use text_pgn::{Heading, archived};
 
@@ -21,8 +22,7 @@ pub struct Knowledge<'a> {
 // The server's answer to `pgn`.
 fn answer_of(alloc: Global, link: &mut Link, game: u32) -> Result<Answer> {
     let line = format!(in alloc; "pgn {game}")?;
-    let front = format!(in alloc; "ok pgn {game} ")?;
-    link.ask(line.as_str(), front.as_str())
+    link.ask(line.as_str())
 }
 
 // What is wrong where the server does not do this with a game, but gives that answer.
@@ -33,29 +33,40 @@ fn not_done(verb: &str, game: u32, first: &str) -> Error {
 // The PGN of a game as the server tells it; none where the game has left the table since.
 fn told(alloc: Global, link: &mut Link, game: u32) -> Result<Option<String>> {
     let answer = answer_of(alloc, link, game)?;
-    if !answer.behind.is_empty() {
-        Ok(Some(answer.behind))
-    } else if answer.first.starts_with("no 3 ") {
+    let first = answer.first.as_str();
+    if let Some(Refusal::NoGame) = refusal_of(first) {
         Ok(None)
+    } else if pgn_head_of(first).is_some() {
+        Ok(Some(answer.behind))
     } else {
-        Err(not_done("tell", game, answer.first.as_str()))
+        Err(not_done("tell", game, first))
     }
 }
 
-// How a game stands, as this answer tells.
-fn shown_by(game: u32, first: &str) -> Result<Option<Shown>> {
-    if first.starts_with("ok show ") || first.starts_with("no 3 ") {
-        Ok(shown_of(first))
-    } else {
-        Err(not_done("show", game, first))
-    }
+// The clocks that the log knows, and beside it how the game stands, where the server tells it.
+fn clocks_beside(
+    alloc: Global,
+    known: &Knowledge<'_>,
+    row: &Row,
+    asked: Option<Shown>,
+) -> Result<Vec<Option<u64>>> {
+    Ok(clocks(alloc, known.entries, &asked, row.game, row.ply)?)
 }
 
-// How a game stands now; none where the game has left the table since.
-fn shown(alloc: Global, link: &mut Link, game: u32) -> Result<Option<Shown>> {
-    let line = format!(in alloc; "show {game}")?;
-    let answer = link.ask(line.as_str(), "ok show ")?;
-    shown_by(game, answer.first.as_str())
+// The same by this answer of the server; the log's alone where the game has left the table since.
+fn clocks_told(
+    alloc: Global,
+    known: &Knowledge<'_>,
+    row: &Row,
+    first: &str,
+) -> Result<Vec<Option<u64>>> {
+    if let Some(Refusal::NoGame) = refusal_of(first) {
+        return clocks_beside(alloc, known, row, None);
+    }
+    match shown_of(first) {
+        Some(shown) => clocks_beside(alloc, known, row, Some(shown)),
+        None => Err(not_done("show", row.game, first)),
+    }
 }
 
 // The clocks that the log knows. Where it has none behind the last move, whose answer was lost or is still to come, the
@@ -64,15 +75,17 @@ fn clocks_of(
     alloc: Global,
     link: &mut Link,
     known: &Knowledge<'_>,
-    row: Row<'_>,
+    row: &Row,
 ) -> Result<Vec<Option<u64>>> {
-    let Row { game, ply, .. } = row;
-    let logged = clocks(alloc, known.entries, None, game, ply)?;
+    let logged = clocks_beside(alloc, known, row, None)?;
     if !known.is_logged || !matches!(logged.last(), Some(None)) {
         return Ok(logged);
     }
-    let asked = shown(alloc, link, game)?;
-    Ok(clocks(alloc, known.entries, asked, game, ply)?)
+    let game = row.game;
+    let line = format!(in alloc; "show {game}")?;
+    let answer = link.ask(line.as_str())?;
+    // (the prover takes no type with a name in it that comes out of a call by `?`)
+    clocks_told(alloc, known, row, answer.first.as_str())
 }
 
 /// Asks for the PGN of a game, and makes it as the archive has it, with the clocks that the log knows, and where it is
@@ -81,15 +94,15 @@ pub fn pgn_of(
     alloc: Global,
     link: &mut Link,
     known: &Knowledge<'_>,
-    row: Row<'_>,
+    row: &Row,
 ) -> Result<Option<Vec<u8>>> {
     let game = row.game;
     let Some(told) = told(alloc, link, game)? else {
         return Ok(None);
     };
     let heading = Heading {
-        white: full_name(known.players, row.white),
-        black: full_name(known.players, row.black),
+        white: full_name(known.players, seat_text(&row.seats.white)),
+        black: full_name(known.players, seat_text(&row.seats.black)),
         ..known.heading
     };
     let clocks = clocks_of(alloc, link, known, row)?;

@@ -10,8 +10,9 @@ use anyhow::{Context, Result, anyhow, bail};
 use night_archive::{Archive, Night};
 use night_files::DiskFile;
 use night_games::{Kept, games_kept, has_game, push_ended};
-use night_links::{Link, Row};
+use night_links::Link;
 use night_log::{EndedGame, first_half, is_opened_for};
+use server_answers::{Row, seat_text};
 use std::alloc::{AllocError, Global};
 use std::collections::BTreeSet;
 use text_pgn::with_tag;
@@ -48,7 +49,7 @@ pub struct Keeper<'a, O> {
     pub kept: Vec<Kept>,
     pub known: Knowledge<'a>,
     /// The games of the table.
-    pub rows: &'a [Row<'a>],
+    pub rows: &'a [Row],
     /// Whether games are dropped still.
     pub drops: bool,
     pub onlookers: O,
@@ -157,18 +158,18 @@ fn is_kept_as(
 }
 
 // The row of a game.
-fn row_of<'a>(rows: &[Row<'a>], game: u32) -> Result<Row<'a>> {
+fn row_of(rows: &[Row], game: u32) -> Result<&Row> {
     for row in rows {
         if row.game == game {
-            return Ok(*row);
+            return Ok(row);
         }
     }
     bail!("the server's list has no game {game}")
 }
 
 // Whether the server drops a game, asked under the name of a player who has a seat in it.
-fn is_dropped(alloc: Global, link: &mut Link, row: Row<'_>) -> Result<bool> {
-    let white = row.white;
+fn is_dropped(alloc: Global, link: &mut Link, row: &Row) -> Result<bool> {
+    let white = seat_text(&row.seats.white);
     let game = row.game;
     let name = format!(in alloc; "name {white}")?;
     let drop = format!(in alloc; "drop {game}")?;
@@ -189,7 +190,7 @@ impl<O> Keeper<'_, O> {
     fn half_of(&self, game: u32, pgn: &str) -> Result<Option<u32>> {
         let alloc = self.alloc;
         let entries = self.known.entries;
-        let white = row_of(self.rows, game)?.white;
+        let white = seat_text(&row_of(self.rows, game)?.seats.white);
         if !is_opened_for(entries, game, white) {
             return Ok(None);
         }

@@ -12,8 +12,9 @@ use crate::telling::{Work, go_on};
 use anyhow::Result;
 use night_archive::{Archive, Hold, Opened, look, open_archive};
 use night_files::DiskFile;
-use night_links::{Link, Row, Watchers};
+use night_links::{Link, Watchers};
 use night_log::in_order;
+use server_answers::Row;
 use std::alloc::Global;
 use std::fs::File;
 use std::net::{Net, TcpStream};
@@ -66,7 +67,7 @@ impl<R: Files + AllocGlobal> Looking<'_, R> {
     // Those games of a list that are over, a first half before its second one, which is linked with it. Where one of
     // them was not kept the log is read on before: behind the list, so that it has what is told of the games that are
     // over in it.
-    fn games_in_order(&mut self, archive: &Archive<DiskFile>, rows: &[Row<'_>]) -> Result<Vec<u32>>
+    fn games_in_order(&mut self, archive: &Archive<DiskFile>, rows: &[Row]) -> Result<Vec<u32>>
         ensures { IfOk result (λ games. AreAll (λ game. contains game (games_over_in rows.now)) games.items) }
     {
         if is_asked(rows, archive) {
@@ -87,7 +88,7 @@ where
         &'x self,
         link: Link,
         opened: Opened,
-        rows: &'x [Row<'x>],
+        rows: &'x [Row],
         over: &[u32],
         watchers: Option<Watchers>,
     ) -> (Result<(Counts, Result<()>)>, Option<Watchers>)
@@ -124,8 +125,8 @@ where
     R: Files<File = File> + AllocGlobal + Eprint,
 {
     // Opens the archive, with the players as they are now; none where no game is over, and it was opened before.
-    fn open(&mut self, rows: &[Row<'_>]) -> Result<Option<Opened>> {
-        if self.has_looked && !rows.iter().any(|row| row.is_over) {
+    fn open(&mut self, rows: &[Row]) -> Result<Option<Opened>> {
+        if self.has_looked && !rows.iter().any(|row| row.result.is_some()) {
             return Ok(None);
         }
         // (behind the list, so that they are all there who played its games)
@@ -137,8 +138,9 @@ where
 }
 
 // Whether the log is asked about games: one is over, and was not kept.
-fn is_asked(rows: &[Row<'_>], archive: &Archive<DiskFile>) -> bool {
-    rows.iter().any(|row| row.is_over && !archive.has(row.game))
+fn is_asked(rows: &[Row], archive: &Archive<DiskFile>) -> bool {
+    rows.iter()
+        .any(|row| row.result.is_some() && !archive.has(row.game))
 }
 
 impl<R> Looking<'_, R>
@@ -147,7 +149,7 @@ where
 {
     // Keeps the games of a list that are over, and drops them where that is asked. What went wrong though the work went
     // on comes beside the counts.
-    fn look_at(&mut self, link: Link, rows: &[Row<'_>]) -> Result<(Counts, Result<()>)> {
+    fn look_at(&mut self, link: Link, rows: &[Row]) -> Result<(Counts, Result<()>)> {
         let Some(opened) = self.open(rows)? else {
             return Ok((NOTHING, Ok(())));
         };

@@ -9,7 +9,8 @@ use crate::telling::{Work, go_on};
 use anyhow::{Context, Result};
 use night_archive::{game_of, lines_of, pgn_of as pgn_in};
 use night_files::{EVERYBODYS_MODE, new_file};
-use night_links::{Link, Row};
+use night_links::Link;
+use server_answers::Row;
 use std::alloc::{AllocError, Global};
 use std::fs;
 use std::io::{self, Write};
@@ -41,13 +42,13 @@ struct Writer<'a, R> {
 }
 
 // Whether both seats of a game are taken.
-fn is_played(row: Row<'_>) -> bool {
-    row.white != "-" && row.black != "-"
+fn is_played(row: &Row) -> bool {
+    row.seats.white.is_some() && row.seats.black.is_some()
 }
 
 // Whether a game that is on the table still is written as the archive has it: it is over, and was kept.
-fn is_kept(row: Row<'_>, archived: &[Board]) -> bool {
-    row.is_over && has_game(archived, row.game)
+fn is_kept(row: &Row, archived: &[Board]) -> bool {
+    row.result.is_some() && has_game(archived, row.game)
 }
 
 // Whether a PGN has a tag Date with this value.
@@ -149,13 +150,13 @@ impl<R> Writer<'_, R> {
         boards: &mut Vec<Board>,
         alloc: Global,
         link: &mut Link,
-        rows: &[Row<'_>],
+        rows: &[Row],
     ) -> Result<()> {
         let known = self.sources.known();
         for row in rows {
-            if is_played(*row)
-                && !is_kept(*row, self.archived.as_slice())
-                && let Some(pgn) = pgn_of(alloc, link, &known, *row)?
+            if is_played(row)
+                && !is_kept(row, self.archived.as_slice())
+                && let Some(pgn) = pgn_of(alloc, link, &known, row)?
             {
                 let game = row.game;
                 boards.push(Board { game, pgn })?;

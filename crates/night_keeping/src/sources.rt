@@ -4,7 +4,8 @@ use crate::asking::Knowledge;
 use crate::log_reader::LogReader;
 use crate::players::Players;
 use anyhow::{Result, bail};
-use night_links::{Link, Row};
+use night_links::Link;
+use server_answers::Row;
 use sockets::ServerAddress;
 use std::net::{Net, TcpStream};
 use std::rt::Files;
@@ -39,7 +40,7 @@ impl<'a, R: Files + AllocGlobal + Eprint> Sources<'a, R> {
     }
 
     /// The players and the log are read as they are now, where the table has these rows.
-    pub fn renew(&mut self, rt: &R, rows: &[Row<'_>]) -> Result<()> {
+    pub fn renew(&mut self, rt: &R, rows: &[Row]) -> Result<()> {
         self.players.renew()?;
         self.log.read_on(rt, rows)
     }

@@ -1,6 +1,7 @@
 //! A connection to the server.
 use anyhow::{Context, Error, Result, anyhow};
 use either::{Left, Right};
+use server_answers::{lines_behind, list_head_of};
 use sockets::{Connection, ServerAddress};
 use std::alloc::Global;
 use std::io::{self, BufRead, BufReader, ErrorKind, Write};
@@ -23,14 +24,6 @@ pub struct Link {
 pub struct Answer {
     pub first: String,
     pub behind: String,
-}
-
-// How many lines stand behind an answer that begins so; none behind another.
-fn lines_behind(first: &str, front: &str) -> u32 {
-    match first.strip_prefix(front) {
-        Some(count) => count.parse::<u32>().unwrap_or(0),
-        None => 0,
-    }
 }
 
 // What is told of a call of the system that failed.
@@ -113,23 +106,22 @@ impl Link {
             .map_err(told)
     }
 
-    /// The answer to the first line that was said and is not answered yet. Where it begins with `front`, a number
-    /// behind that says how many lines follow.
-    pub fn hear(&mut self, front: &str) -> Result<Answer> {
+    /// The answer to the first line that was said and is not answered yet.
+    pub fn hear(&mut self) -> Result<Answer> {
         let mut first = String::new(self.alloc);
         self.read_line(&mut first)?;
         first.pop();
         let mut behind = String::new(self.alloc);
-        for _ in 0..lines_behind(first.as_str(), front) {
+        for _ in 0..lines_behind(first.as_str()) {
             self.read_line(&mut behind)?;
         }
         Ok(Answer { first, behind })
     }
 
     /// Asks a line.
-    pub fn ask(&mut self, line: &str, front: &str) -> Result<Answer> {
+    pub fn ask(&mut self, line: &str) -> Result<Answer> {
         self.say(line)?;
-        self.hear(front)
+        self.hear()
     }
 
     /// The rows of the server's list, a line each. It fails where the server does not tell them.
@@ -140,8 +132,8 @@ impl Link {
 
     /// The same of a list that was asked for by `say`.
     pub fn hear_list(&mut self) -> Result<String> {
-        let answer = self.hear("ok list ")?;
-        if !answer.first.starts_with("ok list ") {
+        let answer = self.hear()?;
+        if list_head_of(answer.first.as_str()).is_none() {
             return Err(refused("list", answer.first.as_str()));
         }
         Ok(answer.behind)
@@ -149,7 +141,7 @@ impl Link {
 
     /// Asks a line, of which the answer is one line; whether it begins with `ok`.
     pub fn is_done(&mut self, line: &str) -> Result<bool> {
-        let answer = self.ask(line, "ok")?;
+        let answer = self.ask(line)?;
         Ok(answer.first.starts_with("ok"))
     }
 }

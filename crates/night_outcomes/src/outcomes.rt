@@ -5,10 +5,10 @@ use command_lines::tell;
 use lobby_players::full_name;
 use lobby_words::Player;
 use night_archive::{game_of, lines_of, pgn_of};
-use night_boards::{Shown, show_game};
-use night_links::Link;
-use night_rounds::{Note, Pairing, Seats, game_in, last_of};
+use night_links::{Link, refused};
+use night_rounds::{Note, Pairing, game_in, last_of};
 use player_name::Name;
+use server_answers::{Ending, Refusal, Seats, Shown, refusal_of, result_text, shown_of};
 use sockets::ServerAddress;
 use std::alloc::{AllocError, Global};
 use std::net::{Net, TcpStream};
@@ -256,11 +256,10 @@ fn others_text(
 }
 
 // The article, empty where there is none.
-fn article_of(alloc: Global, article: String) -> String {
-    if article.as_str() == "-" {
-        String::new(alloc)
-    } else {
-        article
+fn article_of(ending: Option<Ending>) -> &'static str {
+    match ending {
+        Some(ending) => ending.article.as_str(),
+        None => "",
     }
 }
 
@@ -288,12 +287,12 @@ fn others_on_table(
 }
 
 // What came of a game of the table.
-fn ended_of(alloc: Global, shown: Shown) -> Ended {
-    Ended {
-        result: shown.result,
-        article: article_of(alloc, shown.article),
-        is_played: shown.plies >= 2,
-    }
+fn ended_of(alloc: Global, shown: Shown) -> Result<Ended, AllocError> {
+    Ok(Ended {
+        result: String::from_str(alloc, result_text(shown.ending))?,
+        article: String::from_str(alloc, article_of(shown.ending))?,
+        is_played: shown.ply >= 2,
+    })
 }
 
 // What was found of a game of the table.
@@ -306,7 +305,25 @@ fn found_by(
 ) -> Result<Found, AllocError> {
     match others_on_table(alloc, white, black, game, shown.seats)? {
         Some(why) => Ok(Found::Others(why)),
-        None => Ok(Found::Ended(ended_of(alloc, shown))),
+        None => Ok(Found::Ended(ended_of(alloc, shown)?)),
+    }
+}
+
+// What an answer to `show`, which was asked by this line, tells of a board's game.
+fn found_told(
+    alloc: Global,
+    white: &Name,
+    black: &Name,
+    game: u32,
+    line: &str,
+    first: &str,
+) -> Result<Found> {
+    if let Some(Refusal::NoGame) = refusal_of(first) {
+        return Ok(Found::Nothing);
+    }
+    match shown_of(first) {
+        Some(shown) => Ok(found_by(alloc, white, black, game, shown)?),
+        None => Err(refused(line, first)),
     }
 }
 
@@ -402,20 +419,21 @@ impl<'a> Outcomes<'a> {
         }
     }
 
-    // How a game of the table stands.
-    fn shown(&mut self, game: u32) -> Result<Option<Shown>> {
-        match &mut self.link {
-            Some(link) => show_game(self.alloc, link, game),
-            None => Ok(None),
-        }
-    }
-
     // What the server tells of a board's game.
     fn on_table(&mut self, white: &Name, black: &Name, game: u32) -> Result<Found> {
-        match self.shown(game)? {
-            None => Ok(Found::Nothing),
-            Some(shown) => Ok(found_by(self.alloc, white, black, game, shown)?),
-        }
+        let Some(link) = &mut self.link else {
+            return Ok(Found::Nothing);
+        };
+        let line = format!(in self.alloc; "show {game}")?;
+        let answer = link.ask(line.as_str())?;
+        found_told(
+            self.alloc,
+            white,
+            black,
+            game,
+            line.as_str(),
+            answer.first.as_str(),
+        )
     }
 
     // What is told of a board's game that is not on the table: what the archive told, if it told anything.

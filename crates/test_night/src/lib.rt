@@ -5,6 +5,8 @@
 #[cfg(test)]
 mod acts;
 #[cfg(test)]
+mod answers;
+#[cfg(test)]
 mod archive;
 #[cfg(test)]
 mod beside;
