@@ -2,8 +2,9 @@
 use sector_dev::{
     CrashDevice, Device, DeviceFault, Fate, FileDevice, Got, MemoryDevice, OnceDevice,
 };
-use std::fs;
+use std::alloc::AllocError;
 use std::process::Abort;
+use std::{fs, io};
 
 fn write<D: Device>(rt: &impl Abort, device: &mut D, at: u32, byte: u8) -> Result<(), DeviceFault> {
     assert!(rt; at < device.sectors());
@@ -29,7 +30,8 @@ fn write_two_of_three<D: CrashDevice>(rt: &impl Abort, device: &mut D, byte: u8)
 // The first write that fails where the device is armed is pending.
 #[test]
 fn what_a_crash_leaves(rt: HostRuntime) {
-    let mut device = MemoryDevice::new(rt.alloc(), 3).expect(&rt, "memory");
+    let made: Result<MemoryDevice, AllocError> = MemoryDevice::new(rt.alloc(), 3);
+    let mut device = made.expect(&rt, "memory");
     write_two_of_three(&rt, &mut device, 7);
     device.crash_as(&[Fate::Kept, Fate::Lost, Fate::Unreadable]);
     assert!(rt; read(&rt, &mut device, 0) == Ok((Got::Whole, 7)));
@@ -38,6 +40,8 @@ fn what_a_crash_leaves(rt: HostRuntime) {
     write_two_of_three(&rt, &mut device, 8);
     device.crash(&[false, false, true]);
     assert!(rt; read(&rt, &mut device, 2) == Ok((Got::Whole, 8)));
+    let failures: u64 = device.failure_count();
+    assert!(rt; failures == 2 && device.barrier() == Ok(()));
 }
 
 #[test]
@@ -54,10 +58,12 @@ const PATH: &str = "surface-device";
 
 #[test]
 fn a_file_of_sectors(rt: HostRuntime) {
-    let mut made = FileDevice::create(&rt, PATH, 2).expect(&rt, "a file");
+    let created: io::Result<FileDevice> = FileDevice::create(&rt, PATH, 2);
+    let mut made = created.expect(&rt, "a file");
     assert!(rt; write(&rt, &mut made, 1, 7).is_ok() && made.sync().is_ok());
     drop(made);
-    let mut opened = FileDevice::open(&rt, PATH).expect(&rt, "a file");
+    let found: io::Result<FileDevice> = FileDevice::open(&rt, PATH);
+    let mut opened = found.expect(&rt, "a file");
     assert!(rt; opened.sectors() == 2 && read(&rt, &mut opened, 1) == Ok((Got::Whole, 7)));
     assert!(rt; fs::remove_file(&rt, PATH).is_ok());
 }

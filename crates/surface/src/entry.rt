@@ -1,7 +1,7 @@
 //! `chess_entry`: what players ask for, and what that meets.
 use arrayvec::ArrayString;
 use chess_bits::Colour;
-use chess_entry::{Act, Command, Entry, Limits, Name, Refusal, Text, Verdict};
+use chess_entry::{Act, Command, Entry, Limits, Name, Refusal, Text, Verdict, law_of_follow};
 
 // The acts that have more than a game's number.
 fn new_game(colour: Colour, initial: u32, increment: u32, period: Option<(u32, u32)>) -> Act {
@@ -102,4 +102,5 @@ fn commands_refusals_and_verdicts(rt: HostRuntime) {
     };
     assert!(rt; number(Refusal::WrongPly(5)) == 7 && number(Refusal::Finished) == 24);
     assert!(rt; entered(Verdict::Refuse(Refusal::NoName), limits).is_none());
+    law_of_follow();
 }

@@ -3,6 +3,7 @@ use chess_board::Board;
 use chess_moves::legal;
 use chess_repeat::{History, key};
 use chess_text::coordinate;
+use std::alloc::AllocError;
 use std::process::Abort;
 
 // The board after a legal move.
@@ -14,7 +15,8 @@ fn after(rt: &impl Abort, board: &Board, text: &str) -> Board {
 
 fn push(rt: &impl Abort, history: &mut History, board: &Board) {
     assert!(rt; history.len() < 65_535);
-    assert!(rt; history.push(board).is_ok());
+    let stands: Result<u32, AllocError> = history.push(board);
+    assert!(rt; stands.is_ok());
 }
 
 // 1. e4, and the knights go out and back twice: the target after 1. e4 does not count, as nobody can take on it.
@@ -22,7 +24,8 @@ fn push(rt: &impl Abort, history: &mut History, board: &Board) {
 fn a_position_stands_three_times(rt: HostRuntime) {
     let mut board = after(&rt, &Board::initial(), "e2e4");
     let first: [u8; 34] = key(&board);
-    let mut history = History::new(rt.alloc(), &board).expect(&rt, "memory");
+    let made: Result<History, AllocError> = History::new(rt.alloc(), &board);
+    let mut history = made.expect(&rt, "memory");
     for text in "g8f6 g1f3 f6g8 f3g1 g8f6 g1f3 f6g8 f3g1".split(' ') {
         board = after(&rt, &board, text);
         push(&rt, &mut history, &board);

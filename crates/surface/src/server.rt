@@ -2,8 +2,8 @@
 //! as nothing can call into `chess_server`, a program.
 use crate::store::created;
 use board_session::{BoardFault, board};
-use chess_hub::Hub;
-use chess_sockets::Server;
+use chess_hub::{Hub, HubFault};
+use chess_sockets::{Server, ServerFault, Turned};
 use sector_dev::MemoryDevice;
 
 // Why a loop over one board breaks off.
@@ -29,7 +29,8 @@ fn server_board(rt: HostRuntime) {
 fn a_server(rt: HostRuntime) {
     let store = created(&rt, rt.alloc(), 212).ok().expect(&rt, "a store");
     let hub = Hub::new(rt.alloc(), store);
-    let bound = Server::bind(&rt, rt.alloc(), 0, hub);
-    let mut server: Server<MemoryDevice> = bound.ok().expect(&rt, "a server");
-    assert!(rt; server.port() > 0 && server.turn(1_000).is_ok());
+    let bound: Result<Server<MemoryDevice>, ServerFault> = Server::bind(&rt, rt.alloc(), 0, hub);
+    let mut server = bound.ok().expect(&rt, "a server");
+    let turned: Result<Turned, HubFault> = server.turn(1_000);
+    assert!(rt; server.port() > 0 && turned.is_ok());
 }

@@ -8,7 +8,7 @@ use chess_table::{
     record_entry, refusal_line,
 };
 use rec_codec::{Record, Version, write_record};
-use std::alloc::Global;
+use std::alloc::{AllocError, Global};
 use std::process::Abort;
 
 // Both knights go out and back twice; then each side claims wrongly, White with a move.
@@ -51,7 +51,8 @@ fn answered(rt: &impl Abort, table: &mut Table, command: &Command) -> ArrayStrin
     match judge(table, command) {
         Verdict::Refuse(refusal) => refusal_line(refusal),
         Verdict::Read => {
-            let reply: Reply = answer(table, command).expect(rt, "memory");
+            let answered: Result<Reply, AllocError> = answer(table, command);
+            let reply = answered.expect(rt, "memory");
             assert!(rt; reply.body.is_empty());
             reply.line
         }
@@ -59,7 +60,8 @@ fn answered(rt: &impl Abort, table: &mut Table, command: &Command) -> ArrayStrin
             let line = act_line(table, command, &entry);
             assert!(rt; record_entry(&entry_record(&entry)).is_some());
             assert!(rt; table.entries() < u64::MAX);
-            assert!(rt; enter(table, entry).is_ok());
+            let entered: Result<(), AllocError> = enter(table, entry);
+            assert!(rt; entered.is_ok());
             line
         }
     }
@@ -80,7 +82,8 @@ fn check_players(rt: &impl Abort, game: &Game) {
 // Its start, its times, and what each side held as the turn began.
 fn check_times(rt: &impl Abort, game: &Game) {
     let times: Times = game.times();
-    assert!(rt; times.initial == 300 && times.increment == 0);
+    let period: Option<(u32, u32)> = times.period;
+    assert!(rt; times.initial == 300 && times.increment == 0 && period.is_none());
     let held: [u32; 2] = [game.held(Colour::White), game.held(Colour::Black)];
     assert!(rt; held == [416_000, 420_000] && game.start().fullmove() == 1);
 }
@@ -146,7 +149,8 @@ fn a_table_and_its_records(rt: HostRuntime) {
     }
     check_game(&rt, &table);
     widen(&rt, &mut table);
-    let records: Vec<Record> = table.to_records().expect(&rt, "memory");
+    let written: Result<Vec<Record>, AllocError> = table.to_records();
+    let records = written.expect(&rt, "memory");
     check_records(&rt, &records);
     let made: Result<Table, TableFault> = Table::from_records(rt.alloc(), limits, &records, &[]);
     check_game(&rt, &made.ok().expect(&rt, "a table"));

@@ -3,7 +3,7 @@ use arrayvec::ArrayString;
 use chess_board::{BadBoard, Board, Move};
 use chess_end::{Article, Ending, GameResult};
 use chess_text::{FenError, GameText, coordinate, fen_read, fen_write, is_playable, pgn};
-use std::alloc::Global;
+use std::alloc::{AllocError, Global};
 use std::process::Abort;
 
 // Each but the last has faults of later kinds too, as it has no kings. `perft` tells both faults of a target alike, and
@@ -55,8 +55,8 @@ fn named(rt: &impl Abort, text: &str) -> Move {
 
 fn check_pgn(rt: &impl Abort, alloc: Global, game: &GameText<'_>) {
     assert!(rt; is_playable(&game.start, game.moves));
-    let text: String = pgn(alloc, game).expect(rt, "memory");
-    assert!(rt; text.as_str() == GAME);
+    let text: Result<String, AllocError> = pgn(alloc, game);
+    assert!(rt; text.expect(rt, "memory").as_str() == GAME);
 }
 
 #[test]
