@@ -1,5 +1,5 @@
 -- What happens at a browser's connection.
-use Rattle.std.specs.Prelude.{ℕ, ◌≡◌, ◌≤◌, ◌<◌, ◌+◌, ◌-◌, ◌^◌, ◌⊎◌, ◌&&◌, ◌==◌, nat_le, nat_lt, min, max, codes, Bool, true, false, not, is_some, List, [], ◌∷◌, Option, None, Some, Result, length, take, filter}
+use Rattle.std.specs.Prelude.{ℕ, ◌≡◌, ◌≤◌, ◌<◌, ◌-◌, ◌⊎◌, ◌&&◌, ◌==◌, nat_le, nat_lt, codes, Bool, true, false, not, is_some, List, [], ◌∷◌, Option, None, Some, Result, length, take, filter}
 use Rattle.std.specs.List.{AllZip, starts_with}
 use Rattle.std.specs.Io.KnownBytes.{Consumes, Appends}
 use Rattle.std.specs.String.{string_bytes}
@@ -78,15 +78,6 @@ pub record IsAttended {S : Type 0} (remaining : S → Option (List ℕ)) (site :
   pub reads : IsRead remaining site old read
   pub hears : IsHeard at read new talk after
 
--- whether it acts for a player
-abbrev pub acts_at : Desk → Option ℕ → Bool
-acts_at desk None = false
-acts_at desk (Some c) = acts desk c
-
--- Until when the time of a connection is taken, once so many milliseconds more of it are taken at a moment.
-abbrev pub taken_until : ℕ → ℕ → ℕ → ℕ
-taken_until at until millis = min (max until at + millis) (2 ^ 64 - 1)
-
 -- Where it is not lost then and the desk takes what comes next of it, it is asked for that at once: what is whole of it
 -- is not left to a later turn.
 pub record IsServed {S : Type 0} (remaining : S → Option (List ℕ)) (site : Site) (at : ℕ) (old new : Guest S)
@@ -110,6 +101,11 @@ InTurn {A = A} {B = B} does (one ∷ ones) after old new =
     (next : A) × (rest : List A) × (between : B) × (after ≡ next ∷ rest)
     × does one next old between × InTurn does ones rest between new
 
+-- whether it acts for a player
+abbrev pub acts_at : Desk → Option ℕ → Bool
+acts_at desk None = false
+acts_at desk (Some c) = acts desk c
+
 -- whether the time of one that acts for a player is not taken too far ahead, 10 seconds, by what it was told
 abbrev pub has_time : ℕ → ℕ → Bool
 has_time at until = nat_le (until - at) 10000
@@ -122,10 +118,6 @@ IsServedIf false remaining site at old new talk after = (new ≡ old) × (after 
 abbrev pub IsPlayersTurn : {S : Type 0} → (S → Option (List ℕ)) → Site → ℕ → Guest S → Guest S → Talk → Talk → Type 0
 IsPlayersTurn remaining site at old new talk after =
     IsServedIf (acts_at talk.desk old.number && has_time at old.paid_until) remaining site at old new talk after
-
--- the same of one that acts for nobody, one second
-abbrev pub is_in_time : ℕ → ℕ → Bool
-is_in_time at until = nat_le (until - at) 1000
 
 -- Who else is attended: who has no socket yet; and who has one and acts for nobody.
 abbrev pub is_other : Others → Desk → Option ℕ → Bool
@@ -159,7 +151,6 @@ pub record IsCalled {S : Type 0} (others : Others) (remaining : S → Option (Li
     (room after : Room) : Type 0 where
   pub other : is_other others room.talk.desk old.number ≡ true
   pub may : may_call others room.talk.desk ≡ true
-  pub in_time : is_in_time at old.paid_until ≡ true
   pub served : IsServed remaining site at old new room.talk after.talk
   pub takes : after.left < room.left
 
@@ -190,14 +181,6 @@ pub record AreAttended {S : Type 0} (remaining : S → Option (List ℕ)) (site 
   pub last : Room
   pub strangers : InTurn (IsOthersTurn Strangers remaining site at) third new (full_room asked.talk) last
   pub after_is : after ≡ last.talk
-
--- Something may have come of it, and nothing was ever read.
-abbrev pub is_unheard : {S : Type 0} → Guest S → Bool
-is_unheard guest = guest.can_read && guest.paid_until == 0 && not guest.is_lost
-
--- Of so many that is so that a turn does not attend them all. So who was read once keeps nobody out.
-abbrev pub is_crowded : {S : Type 0} → List (Guest S) → Bool
-is_crowded guests = nat_lt others_most (length (filter is_unheard guests))
 
 -- ---- what goes
 

@@ -1,9 +1,8 @@
 //! A browser's connection: its socket, what it says, and what it is told.
-ghost use Rattle.std.specs.Prelude.{ℕ, ◌≡◌, ◌<◌, ◌≤◌, ◌+◌, ◌/◌, ◌↔◌, None, Some, true, false, IsTrue, OnOk};
+ghost use Rattle.std.specs.Prelude.{ℕ, ◌≡◌, ◌↔◌, None, Some, true, false, IsTrue, OnOk};
 ghost use Rattle.lobby_desk.specs.Who.{IsReady, at_table};
-ghost use Rattle.lobby_guests.specs.Guests.{has_time, is_in_time, is_unheard, taken_until, refuses_login, is_beyond, IsNewGuest, IsAsBefore, IsRead, IsHeardAs, IsHeard, IsAsked, MaySpeak, IsSaid, IsTold, AreTold, IsWritten, IsLookedAfter};
+ghost use Rattle.lobby_guests.specs.Guests.{has_time, refuses_login, is_beyond, IsNewGuest, IsAsBefore, IsRead, IsHeardAs, IsHeard, IsAsked, MaySpeak, IsSaid, IsTold, AreTold, IsWritten, IsLookedAfter};
 ghost use Rattle.lobby_guests.specs.Counting.{counted_up, one_if, refuses, refusals_of};
-ghost use Rattle.lobby_web.specs.Browsing.{WantsBytes};
 ghost use Rattle.lobby_guests.specs.Seating.{role_of, player_of, place_of, Yields};
 
 use crate::counts::{Asked, Coming};
@@ -35,13 +34,6 @@ const AHEAD: u64 = 1_000;
 /// The same for one that acts for a player.
 const AHEAD_OF_PLAYERS: u64 = 10_000;
 
-/// So many bytes that come of one which acts for nobody take a millisecond of its time, whatever they are, beside one
-/// for each time that it is read: a page's load has some 30 requests of 700 bytes, and takes half a second.
-const COME_A_MILLISECOND: u64 = 40;
-
-/// So many bytes of one that acts for nobody are read in a turn at most: more than the head of a browser's request has.
-const ROOM_OF_OTHERS: usize = 1_024;
-
 /// A login that is refused takes so many milliseconds of a connection's time for that, and where so many are taken
 /// already it is one too many: five at once, and five a minute.
 const A_REFUSED_LOGIN: u64 = 12_000;
@@ -72,7 +64,7 @@ pub struct Guest<S> {
     is_asked: bool,
     /// When its messages were taken that are not answered.
     asked: Asked,
-    /// Until when its time is taken by what came of it, and by the answers that it was told; 0 before anything was read.
+    /// Until when its time is taken by the answers that it was told.
     paid_until: u64,
     /// The same by logins that were refused.
     logins_until: u64,
@@ -83,15 +75,6 @@ fn is_among(connections: &[u64], number: u64) -> bool
     ensures { result ≡ at_table connections.now number }
 {
     connections.iter().any(|one| *one == number)
-}
-
-// So many bytes of one are read in a turn at most that acts for a player, or for nobody.
-fn room_of(acts: bool) -> usize
-    ensures some { 0 < result }
-    ensures within { result ≤ PIECE_ROOM }
-    ensures few { acts ≡ false → result ≡ ROOM_OF_OTHERS }
-{
-    if acts { PIECE_ROOM } else { ROOM_OF_OTHERS }
 }
 
 // Whether an answer refuses a login.
@@ -151,34 +134,11 @@ impl<S> Guest<S> {
         self.key
     }
 
-    // Whether something may have come of it that was not read, or not heard.
-    fn has_something(&self) -> bool {
-        self.has_more || self.can_read && self.browser.wants_read()
-    }
-
-    // Whether the time of one that acts for nobody is not taken too far ahead.
-    fn is_in_time(&self, at: u64) -> bool
-        ensures { result ≡ is_in_time at self.now.paid_until }
-    {
-        self.paid_until.saturating_sub(at) <= AHEAD
-    }
-
-    /// Whether nothing of it was read yet, or something was, and something may have come of it for which its time is not
-    /// taken.
-    pub fn is_due(&self, is_fresh: bool, at: u64) -> bool
-        ensures { result ≡ true → is_in_time at self.now.paid_until ≡ true }
-    {
-        self.is_in_time(at)
-            && !self.is_lost
-            && is_fresh == (self.paid_until == 0)
-            && self.has_something()
-    }
-
-    /// Whether something may have come of it, and nothing was ever read.
-    pub fn is_unheard(&self) -> bool
-        ensures { result ≡ is_unheard self.now }
-    {
-        self.can_read && self.paid_until == 0 && !self.is_lost
+    /// Whether it was told no answer yet, or some, and something may have come of it for which its time is not taken.
+    pub fn is_due(&self, is_fresh: bool, at: u64) -> bool {
+        let wants = self.has_more || self.can_read && self.browser.wants_read();
+        let may = !self.is_lost && self.paid_until <= at.saturating_add(AHEAD);
+        wants && may && is_fresh == (self.paid_until == 0)
     }
 
     /// Whether the time of one that acts for a player is not taken too far ahead by what it was told.
@@ -188,8 +148,7 @@ impl<S> Guest<S> {
         self.paid_until.saturating_sub(at) <= AHEAD_OF_PLAYERS
     }
 
-    /// The moment from which on what comes next of it is taken, where something may have and its time is taken so far
-    /// ahead.
+    /// The moment from which on its next message is taken, where it may have one and its time is taken so far ahead.
     pub fn due_at(&self, at: u64) -> Option<u64> {
         let ahead = if self.has_time(at) {
             AHEAD
@@ -197,7 +156,7 @@ impl<S> Guest<S> {
             AHEAD_OF_PLAYERS
         };
         let moment = self.paid_until.saturating_sub(ahead);
-        if moment > at && self.has_something() {
+        if self.has_more && moment > at {
             Some(moment)
         } else {
             None
@@ -303,7 +262,6 @@ impl<S> Guest<S> {
         ensures told { OnOk result (IsHeardAs (Some heard.now) at self.old.number self.new.number talk.old talk.new) }
         ensures browser { OnOk result (self.new.browser ≡ self.old.browser) }
         ensures stream { OnOk result (self.new.stream ≡ self.old.stream) }
-        ensures paid { self.new.paid_until ≡ self.old.paid_until }
     {
         match heard {
             Heard::Opened => match self.number {
@@ -334,7 +292,7 @@ impl<S> Guest<S> {
     }
 
     /// What came next of it is said to the desk: that its socket is open, or a message, once the one before it is
-    /// answered. It tells whether there was any, or more may be read that could not be before.
+    /// answered. It tells whether there was any.
     pub(crate) fn hear<K: KeepsLinks>(
         &mut self,
         talk: &mut Talk,
@@ -345,17 +303,14 @@ impl<S> Guest<S> {
         ensures heard { OnOk result (IsHeard at self.old self.new talk.old talk.new) }
         ensures asks { OnOk result (self.old.is_lost ≡ false → MaySpeak talk.old.desk self.old.number →
             IsAsked at self.old self.new talk.old talk.new) }
-        ensures paid { self.new.paid_until ≡ self.old.paid_until }
     {
         if self.is_lost || !self.may_speak(talk) {
             return Ok(false);
         }
         match self.browser.next() {
             None => {
-                // (what waits in its socket may be read now)
-                let may_more = self.has_more && self.can_read;
                 self.has_more = false;
-                Ok(may_more)
+                Ok(false)
             }
             Some(heard) => self.speak(&heard, talk, at, links, coming),
         }
@@ -374,19 +329,12 @@ impl<S> Guest<S> {
         }
     }
 
-    // So many milliseconds more of its time are taken.
-    fn take_time(&mut self, at: u64, millis: u64)
-        ensures before { IsAsBefore self.old self.new }
-        ensures time { self.new.paid_until ≡ taken_until at self.old.paid_until millis }
-    {
-        self.paid_until = self.paid_until.max(at).saturating_add(millis);
-    }
-
     // Its time is taken by an answer of so many bytes.
     fn pay(&mut self, at: u64, bytes: usize)
         ensures { IsAsBefore self.old self.new }
     {
-        self.take_time(at, bytes as u64 / BYTES_A_MILLISECOND);
+        let from = self.paid_until.max(at);
+        self.paid_until = from.saturating_add(bytes as u64 / BYTES_A_MILLISECOND);
     }
 
     // A login of it was refused, if this answer says so. It is to be closed where there were too many.
@@ -463,33 +411,9 @@ impl<S> Guest<S> {
 }
 
 impl<S: Read + Write> Guest<S> {
-    // Whether bytes of it are read. Of one that acts for nobody none are while something of it may wait to be heard: so
-    // in no turn more of it is heard than came in that turn, and what began before.
-    fn is_to_read(&self, acts: bool) -> bool
-        ensures wanted { result ≡ true → WantsBytes self.now.browser.stage }
-        ensures heard { result ≡ true → acts ≡ false → self.now.has_more ≡ false }
-    {
-        let may = self.can_read && !self.is_lost && (acts || !self.has_more);
-        may && self.browser.wants_read()
-    }
-
-    // Bytes of it came, for which its time is taken where it acts for nobody.
-    fn note_bytes(&mut self, acts: bool, at: u64, count: usize)
-        ensures before { IsAsBefore self.old self.new }
-        ensures paid { acts ≡ false → self.new.paid_until ≡ taken_until at self.old.paid_until (1 + count / 40) }
-    {
-        self.heard_at = at;
-        self.is_asked = false;
-        self.has_more = true;
-        if !acts {
-            self.take_time(at, 1 + count as u64 / COME_A_MILLISECOND);
-        }
-    }
-
-    /// Reads a piece, if bytes are wanted, of one that acts for a player or for nobody. It tells whether anything came.
+    /// Reads a piece, if bytes are wanted. It tells whether anything came.
     pub(crate) fn read_in(
         &mut self,
-        acts: bool,
         site: &Site,
         at: u64,
         piece: &mut [u8; PIECE_ROOM],
@@ -497,10 +421,9 @@ impl<S: Read + Write> Guest<S> {
     ) -> bool
         ensures { IsRead S.remaining site.now self.old self.new }
     {
-        if !self.is_to_read(acts) {
+        if !self.can_read || self.is_lost || !self.browser.wants_read() {
             return false;
         }
-        let piece = &mut piece[..room_of(acts)];
         match read_piece(&mut self.stream, piece) {
             Came::Nothing => {
                 self.can_read = false;
@@ -511,7 +434,9 @@ impl<S: Read + Write> Guest<S> {
                 coming.take(&piece[..count]);
                 self.browser.take(site, &piece[..count]);
                 self.origin = self.origin.told(self.browser.forwarded());
-                self.note_bytes(acts, at, count);
+                self.heard_at = at;
+                self.is_asked = false;
+                self.has_more = true;
                 true
             }
             Came::End => {

@@ -1,7 +1,7 @@
 //! All browsers that are connected, by the names of their sockets, which grow.
 #![tactic(auto, using(crate::proofs::Each::zipped_none, crate::proofs::Each::zipped_vec))]
 
-ghost use Rattle.std.specs.Prelude.{ℕ, Bool, true, false, ◌≡◌, ◌++◌, ◌∷◌, [], List, Option, OnOk, length, filter};
+ghost use Rattle.std.specs.Prelude.{ℕ, Bool, true, false, ◌≡◌, ◌++◌, ◌∷◌, [], List, Option, OnOk};
 ghost use Rattle.std.specs.List.{AllZip};
 ghost use Rattle.lobby_guests.specs.Counting.{counted_up, refusals_in, CountsLogins};
 ghost use Rattle.lobby_guests.specs.Guests as guests;
@@ -31,8 +31,7 @@ fn attend<S: Read + Write, K: KeepsLinks>(
 ) -> Result<bool, AllocError>
     ensures { OnOk result (IsServed S.remaining site.now at guest.old guest.new talk.old talk.new) }
 {
-    let acts = talk.acts(guest.number());
-    let has_read = guest.read_in(acts, site, at, piece, coming);
+    let has_read = guest.read_in(site, at, piece, coming);
     let has_heard = guest.hear(talk, at, links, coming)?;
     Ok(has_read | has_heard)
 }
@@ -318,21 +317,9 @@ pub fn first_due<S>(guests: &[Guest<S>], at: u64) -> Option<u64> {
     first
 }
 
-// How many of which nothing was read yet may have sent something.
-fn count_unheard<S>(connections: &[Guest<S>]) -> usize
-    ensures { result ≡ length (filter guests.is_unheard connections.now) }
-{
-    connections
-        .iter()
-        .filter(|guest| guest.is_unheard())
-        .count()
-}
-
-/// Whether so many wait to be heard for the first time that a turn does not attend them all.
-pub fn is_crowded<S>(connections: &[Guest<S>]) -> bool
-    ensures { result ≡ guests.is_crowded connections.now }
-{
-    count_unheard(connections) > ATTENDED_MOST
+/// Whether so many wait who were told no answer yet that a turn does not attend them all.
+pub fn is_crowded<S>(guests: &[Guest<S>], at: u64) -> bool {
+    guests.iter().filter(|guest| guest.is_due(true, at)).count() > ATTENDED_MOST
 }
 
 /// Looks after each, where it is time.

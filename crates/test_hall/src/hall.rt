@@ -21,7 +21,6 @@ use std::{io, mem};
 struct Peer {
     gives: &'static [u8],
     reads: usize,
-    read: usize,
     takes: usize,
     is_full: bool,
     written: Vec<u8>,
@@ -32,7 +31,6 @@ impl Peer {
         Peer {
             gives,
             reads: 0,
-            read: 0,
             takes,
             is_full: false,
             written: Vec::new(alloc),
@@ -56,33 +54,8 @@ const END: &[u8] = b"END";
 
 const RESET: &[u8] = b"RESET";
 
-// What a peer gives that has always more: requests of 512 bytes each, as many as are taken.
-const MANY: &[u8] = b"MANY";
-
-const FRONT: &[u8] = b"GET /none HTTP/1.1\r\nHost: a:1\r\nX: ";
-
-// The byte at this place of such requests.
-fn byte_of_many(at: usize) -> u8 {
-    let place = at % 512;
-    match FRONT.get(place) {
-        Some(byte) => *byte,
-        None => match place {
-            508 | 510 => b'\r',
-            509 | 511 => b'\n',
-            _ => b'a',
-        },
-    }
-}
-
 impl Read for Peer {
     fn read(&mut self, buf: &mut [u8]) -> io::Result<usize> {
-        if self.gives == MANY {
-            for byte in buf.iter_mut() {
-                *byte = byte_of_many(self.read);
-                self.read = self.read.saturating_add(1);
-            }
-            return Ok(buf.len());
-        }
         let given = self.given();
         self.reads = self.reads.saturating_add(1);
         if given.is_empty() {
@@ -546,9 +519,8 @@ fn an_act_counts_only_under_its_name(rt: &impl Abort, lab: &mut Lab) {
     }
 }
 
-// (what has nothing to be heard is read twice in the turn in which it is read first)
 const ASKS: &[u8] =
-    b"GET /live.pgn HTTP/1.1\r\nHost: a:1\r\n\r\n~~~GET /live.pgn HTTP/1.1\r\nHost: a:1\r\n\r\n~~GET /live.pgn HTTP/1.1\r\nHost: a:1\r\n\r\n";
+    b"GET /live.pgn HTTP/1.1\r\nHost: a:1\r\n\r\n~~GET /live.pgn HTTP/1.1\r\nHost: a:1\r\n\r\n~~GET /live.pgn HTTP/1.1\r\nHost: a:1\r\n\r\n";
 
 fn a_file_changes_between_turns(rt: &impl Abort, lab: &mut Lab) {
     lab.begin(rt, &(ASKS, b"", How::Plainly));
@@ -730,70 +702,6 @@ fn players_come_before_strangers(rt: &impl Abort, lab: &mut Lab) {
     assert!(rt; lab.is_asked(b"name ann\nopen white 300 2\nfen 1\nshow 1\nfen 1\nfen 3\nfen 2\n"));
 }
 
-// So many bytes were read of the first browser.
-fn is_read(lab: &Lab, count: usize) -> bool {
-    match lab.hall.guest_stream() {
-        Some(peer) => peer.read == count,
-        None => false,
-    }
-}
-
-// Of who acts for nobody 1,024 bytes are read in a turn, and twice as many in its first, each time for 26 ms of its
-// time, which runs one second ahead.
-fn what_comes_of_strangers_is_paid(rt: &impl Abort, lab: &mut Lab) {
-    lab.begin(rt, &(MANY, b"", How::Plainly));
-    for (turns, at, count) in [(1, 0, 2), (3, 0, 5), (60, 0, 39), (60, 26, 40), (1, 52, 41)] {
-        for _ in 0..turns {
-            lab.turn_alone(rt, at);
-            lab.hall.wake(2);
-        }
-        assert!(rt; is_read(lab, count * 1_024));
-    }
-}
-
-// In how many turns a game is opened, where so many strangers beside have always more to say.
-fn turns_to_open(rt: &impl Abort, lab: &mut Lab, count: usize) -> u64 {
-    lab.begin(rt, &(OPENER, b"", How::Plainly));
-    let mut at = 0;
-    for _ in 0..90 {
-        if lab.is_asked(b"name ann\nopen white 300 2\n") {
-            return at;
-        }
-        if at == 4 {
-            for i in 0..count {
-                let peer = Peer::new(lab.alloc, MANY, 1_000);
-                lab.hall.admit(peer, i.saturating_add(3), NEAR, at);
-            }
-        }
-        lab.turn_alone(rt, at);
-        lab.hall.wake(2);
-        at = at.saturating_add(1);
-    }
-    0
-}
-
-fn a_move_goes_out_beside_requests_without_end(rt: &impl Abort, lab: &mut Lab) {
-    let alone = turns_to_open(rt, lab, 0);
-    assert!(rt; alone > 5 && turns_to_open(rt, lab, 20) == alone);
-}
-
-// Who sent a byte, and was read, keeps nobody out, though it was told nothing.
-fn who_was_read_keeps_nobody_out(rt: &impl Abort, lab: &mut Lab) {
-    lab.begin(rt, &(b"G~E~T", b"", How::Plainly));
-    for key in 3..23 {
-        lab.hall
-            .admit(Peer::new(lab.alloc, b"G~E~T", 1_000), key, NEAR, 0);
-    }
-    assert!(rt; lab.hall.is_crowded());
-    lab.turn_alone(rt, 0);
-    assert!(rt; !lab.hall.is_crowded());
-    for key in 2..23 {
-        lab.hall.wake(key);
-    }
-    lab.turn_alone(rt, 0);
-    assert!(rt; !lab.hall.is_crowded() && lab.hall.len() == 21);
-}
-
 #[test]
 fn halls(rt: HostRuntime) {
     let alloc = rt.alloc();
@@ -823,8 +731,5 @@ fn halls(rt: HostRuntime) {
     who_has_another_link_acts_no_more(&rt, &mut lab);
     that_entries_are_paused_is_kept_before_the_log_is_told(&rt, &mut lab);
     players_come_before_strangers(&rt, &mut lab);
-    what_comes_of_strangers_is_paid(&rt, &mut lab);
-    a_move_goes_out_beside_requests_without_end(&rt, &mut lab);
-    who_was_read_keeps_nobody_out(&rt, &mut lab);
     drop(lab);
 }
