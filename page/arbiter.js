@@ -15,6 +15,7 @@ import {
 } from './words.js';
 
 const MOST = 12;                     // games on a page: each that runs is watched
+const OWN_HOSTS = ['localhost', '127.0.0.1', '[::1]']; // of which nothing leaves the machine
 const ASKS_WHO = 10000;
 const ASKS_TABLE = 4000;             // nobody tells of games that were opened or taken off past the lobby
 const STOPPED = t`New games are stopped: no player opens one, and who tries is told so. Games that wait can still be
@@ -54,6 +55,7 @@ export class ArbiterView {
     }
     byId('arbiter-back').addEventListener('click', () => this.page(-1));
     byId('arbiter-on').addEventListener('click', () => this.page(1));
+    byId('unencrypted').hidden = location.protocol === 'https:' || OWN_HOSTS.includes(location.hostname);
     byId('entries').addEventListener('click', () => this.entries(this.arePaused ? 'resume' : 'pause'));
     for (const id of ['pair-by-hand', 'players-and-links']) {
       byId(id).addEventListener('toggle', (event) => event.target.open && this.app.askPlayers());

@@ -61,6 +61,8 @@ export const WORDS = {
     + 'beiden neu an.',
   '{0}’s clock has run out: call the flag.': 'Die Uhr von {0} ist abgelaufen: reklamiere die Zeit.',
   'move {0}, {1} to move': 'Zug {0}, {1} am Zug',
+  'This page is not encrypted: whoever is in its network can read links.':
+    'Diese Seite ist nicht verschlüsselt: Wer in ihrem Netz ist, kann Links mitlesen.',
   ['New games are stopped: no player opens one, and who tries is told so. Games that wait can still be joined, and '
     + 'arbiters pair on.']:
     'Neue Partien sind gesperrt: kein Spieler eröffnet eine, und wer es versucht, erfährt es. Wartenden Partien kann '

@@ -58,6 +58,8 @@ export const WORDS = {
     + 'que ambos hagan su primera jugada, o registra un abandono, que también la termina, y vuelve a emparejarlos.',
   '{0}’s clock has run out: call the flag.': 'Se ha agotado el tiempo de {0}: reclama la caída de bandera.',
   'move {0}, {1} to move': 'jugada {0}, juegan {1}',
+  'This page is not encrypted: whoever is in its network can read links.':
+    'Esta página no está cifrada: quien esté en su red puede leer los enlaces.',
   ['New games are stopped: no player opens one, and who tries is told so. Games that wait can still be joined, and '
     + 'arbiters pair on.']:
     'Las partidas nuevas están suspendidas: ningún jugador puede abrir una, y a quien lo intenta se le avisa. Aún es '

@@ -63,6 +63,8 @@ export const WORDS = {
     + 'nouveau les deux joueurs.',
   '{0}’s clock has run out: call the flag.': 'Le temps des {0} est écoulé : réclamez la chute du drapeau.',
   'move {0}, {1} to move': 'coup {0}, trait aux {1}',
+  'This page is not encrypted: whoever is in its network can read links.':
+    'Cette page n’est pas chiffrée : toute personne de son réseau peut lire les liens.',
   ['New games are stopped: no player opens one, and who tries is told so. Games that wait can still be joined, and '
     + 'arbiters pair on.']:
     'Les nouvelles parties sont bloquées : aucun joueur ne peut en ouvrir, et celui qui essaie en est averti. On '

@@ -60,6 +60,8 @@ export const WORDS = {
     + 'i due.',
   '{0}’s clock has run out: call the flag.': 'Il tempo del {0} è scaduto: reclama la caduta della bandierina.',
   'move {0}, {1} to move': 'mossa {0}, muove il {1}',
+  'This page is not encrypted: whoever is in its network can read links.':
+    'Questa pagina non è cifrata: chi è nella sua rete può leggere i link.',
   ['New games are stopped: no player opens one, and who tries is told so. Games that wait can still be joined, and '
     + 'arbiters pair on.']:
     'Le nuove partite sono bloccate: nessun giocatore può aprirne, e chi ci prova ne è avvisato. Alle partite in '

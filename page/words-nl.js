@@ -60,6 +60,8 @@ export const WORDS = {
     + 'deel de twee opnieuw in.',
   '{0}’s clock has run out: call the flag.': 'De tijd van {0} is op: claim de vlag.',
   'move {0}, {1} to move': 'zet {0}, {1} aan zet',
+  'This page is not encrypted: whoever is in its network can read links.':
+    'Deze pagina is niet versleuteld: wie in haar netwerk is, kan links meelezen.',
   ['New games are stopped: no player opens one, and who tries is told so. Games that wait can still be joined, and '
     + 'arbiters pair on.']:
     'Nieuwe partijen zijn stopgezet: geen speler kan er een openen, en wie het probeert, krijgt dat te horen. Aan '

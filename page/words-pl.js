@@ -59,6 +59,8 @@ export const WORDS = {
     + 'obie strony o pierwsze posunięcie albo wpisz poddanie partii, które też ją kończy, i skojarz tę parę na nowo.',
   '{0}’s clock has run out: call the flag.': '{0}: czas się skończył – zgłoś opadnięcie chorągiewki.',
   'move {0}, {1} to move': 'posunięcie {0}, {1} na posunięciu',
+  'This page is not encrypted: whoever is in its network can read links.':
+    'Ta strona nie jest szyfrowana: kto jest w jej sieci, może odczytać linki.',
   ['New games are stopped: no player opens one, and who tries is told so. Games that wait can still be joined, and '
     + 'arbiters pair on.']:
     'Nowe partie są wstrzymane: żaden gracz nie może ich otwierać, a kto próbuje, dowiaduje się o tym. Do '

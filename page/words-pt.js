@@ -59,6 +59,8 @@ export const WORDS = {
     + 'emparceire os dois de novo.',
   '{0}’s clock has run out: call the flag.': 'O tempo das {0} acabou: reclame a queda da seta.',
   'move {0}, {1} to move': 'lance {0}, {1} jogam',
+  'This page is not encrypted: whoever is in its network can read links.':
+    'Esta página não é criptografada: quem estiver na rede pode ler os links.',
   ['New games are stopped: no player opens one, and who tries is told so. Games that wait can still be joined, and '
     + 'arbiters pair on.']:
     'Novas partidas estão suspensas: nenhum jogador pode abrir uma, e quem tenta é avisado. Ainda é possível entrar '

@@ -467,7 +467,7 @@ def room_for_all(hall):
 
 
 def read_by_all(hall):
-    """Coordinates of 4.5 to 1 on every board, all texts too, light and dark; what has the keys shows it; all has a name."""
+    """Coordinates of 4.5 to 1 on every board, all texts too, light and dark; what has the keys shows it."""
     number, ann, bob, _ = hall.begin(minutes='20')
     ann.run('localStorage.setItem("ask-first", "on")')
     for board in ('wood', 'green', 'blue'):
@@ -585,8 +585,8 @@ def in_german(hall):
 
 
 def in_every_language(hall):
-    """The words of one language alone are loaded, all is said in them, and they fit on every screen. A move is typed with
-    its letters or with the English ones, and asked about where these mean two."""
+    """The words of one language alone are loaded, all is said in them, and they fit on every screen. A move is typed
+    with its letters or with the English ones, and asked about where these mean two."""
     hall.sit()
     hall.open(minutes='20', fen=ROOK_AND_KING)
     ann, sue = hall.ann, hall.sue

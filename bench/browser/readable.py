@@ -9,7 +9,8 @@ PALE = LIGHT + '''const pale = [];
   for (const e of document.querySelectorAll('.top *, .banners *, main *, dialog[open] *')) {
     const own = [...e.childNodes].some((n) => n.nodeType === 3 && n.data.trim());
     if (!own || !e.getClientRects().length || e.closest('.board, .unseen, :disabled')) continue;
-    let back = e; while (back && /rgba\\(.*, 0\\)/.test(getComputedStyle(back).backgroundColor)) back = back.parentElement;
+    let back = e;
+    while (back && /rgba\\(.*, 0\\)/.test(getComputedStyle(back).backgroundColor)) back = back.parentElement;
     const style = getComputedStyle(e), size = parseFloat(style.fontSize);
     const found = ratio(style.color, getComputedStyle(back || document.body).backgroundColor);
     if (found < (size >= 24 || size >= 18.6 && style.fontWeight >= 700 ? 3 : 4.5))

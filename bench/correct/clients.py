@@ -1,16 +1,15 @@
 #!/usr/bin/env python3
-"""Clients of a server that `serve` started on a journal of limits 4 and 60 without games: clients.py PORT. Each part opens
-connections of its own and compares what it is sent. Prints what differs; the exit status is 0 where nothing does. With the
-word `silent` behind PORT only 64 clients come, that say nothing for a minute. bench/correct/words runs both."""
-import os
+"""Clients of a server that `serve` started on a journal of limits 4 and 60 without games: clients.py PORT. Each part
+opens connections of its own and compares what it is sent. Prints what differs; the exit status is 0 where nothing does.
+With the word `silent` behind PORT only 64 clients come, that say nothing for a minute. bench/correct/words runs
+both."""
 import socket
 import struct
 import sys
 import time
 
-sys.path.insert(0, os.path.dirname(os.path.dirname(os.path.realpath(__file__))))
-from lib.checks import Checks  # noqa: E402
-from lib.server import Session  # noqa: E402
+from lib.checks import Checks
+from lib.server import Session
 
 PORT = int(sys.argv[1])
 checks = Checks()
@@ -90,7 +89,7 @@ def long_line():
 
 
 def slow_reader():
-    """One that asks for far more than a socket holds and takes nothing; then it takes all. Others are not kept waiting."""
+    """One that asks for far more than a socket holds and takes nothing; then it takes all. Others do not wait."""
     ann, bob, game = play("ann", "bob", [("e4", "e4"), ("e5", "e5")])
     slow = connect().socket
     slow.setsockopt(socket.SOL_SOCKET, socket.SO_RCVBUF, 4096)

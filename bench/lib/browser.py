@@ -18,7 +18,8 @@ SPY = '''new MutationObserver((_, watch) => {
   if (document.body) { window.hashAtBody = location.hash; watch.disconnect(); } }).observe(document, {childList: true,
   subtree: true});
 window.sentLines = []; window.breaches = []; window.tries = []; window.tables = 0;
-window.WebSocket = class extends WebSocket { constructor(...words) { super(...words); tries.push(performance.now()); } };
+window.WebSocket = class extends WebSocket {
+  constructor(...words) { super(...words); tries.push(performance.now()); } };
  window.spied = WebSocket.prototype.send;
 WebSocket.prototype.send = function (line) {
   if (window.lastSocket !== this) this.addEventListener('message', (event) => {
@@ -36,8 +37,8 @@ def each_reads(people, css, part, patience=PATIENCE):
 class Person:
     def __init__(self, name, folder, checked):
         self.name, self.checked = name, checked
-        self.driver = chromium(os.path.join(folder, 'profile-' + name), '--hide-scrollbars', '--disable-renderer-backgrounding',
-                               '--disable-background-timer-throttling')
+        self.driver = chromium(os.path.join(folder, 'profile-' + name), '--hide-scrollbars',
+                               '--disable-renderer-backgrounding', '--disable-background-timer-throttling')
         self.cdp('Page.addScriptToEvaluateOnNewDocument', source=SPY)
         self.screen(1280, 800)
 

@@ -19,7 +19,7 @@ def take_selenium(packages='chromium chromium-driver python3-selenium'):
 
 
 def chromium(profile, *words):
-    """A browser with a profile in this folder. CHROMIUM, CHROMEDRIVER and CHROMIUM_WORDS name others, and more words."""
+    """A browser with a profile in this folder. CHROMIUM, CHROMEDRIVER and CHROMIUM_WORDS say others."""
     from selenium import webdriver
     from selenium.webdriver.chrome.options import Options
     from selenium.webdriver.chrome.service import Service

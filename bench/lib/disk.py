@@ -6,8 +6,7 @@ of a block and each flush of the device comes to this process, in its order: the
 has to stand before it was answered. All are logged, and one can be made to fail.
 
 All mounts are made in a name space of mounts of the bench's own, and loop devices clear themselves: when the processes
-of the bench end, however they do, nothing is left.
-"""
+of the bench end, however they do, nothing is left. """
 
 import bisect
 import ctypes
@@ -20,6 +19,8 @@ import struct
 import subprocess
 import sys
 import time
+
+from lib.program import Closing
 
 SECTOR = 512
 LIBC = ctypes.CDLL(None, use_errno=True)
@@ -137,7 +138,7 @@ def attach(path, direct=False):
         os.close(file)
 
 
-class Mounted:
+class Mounted(Closing):
     """The file system of an image's file (or of a disk's), mounted on a folder; `journal` is a file in it."""
 
     def __init__(self, path, folder, options='', direct=False):
@@ -164,12 +165,6 @@ class Mounted:
             return False
         except OSError:
             return True
-
-    def __enter__(self):
-        return self
-
-    def __exit__(self, *_):
-        self.close()
 
 
 class Attached(Mounted):

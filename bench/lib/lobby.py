@@ -5,12 +5,13 @@ import hashlib
 import os
 import queue
 import signal
+import socket
 import subprocess
 import threading
 import time
 
 from lib.net import Door, connect, cut
-from lib.program import PAGE, Wrong, end, path_of, put
+from lib.program import PAGE, Closing, Wrong, end, path_of, put
 from lib.server import Server
 from lib.web import TEXT, token_of
 
@@ -37,13 +38,17 @@ def put_players(path, rows):
     put(path, ''.join('%s %s %s %s\n' % (name, role, sum_of(token), full) for name, role, token, full in rows))
 
 
-class Lobby:
+class Lobby(Closing):
     """`chess-club lobby` over a players' file, before a server at a port, at a port of its own that it keeps. It may be
     killed and begun again, also before another server."""
 
     def __init__(self, club, server_port, *words, errors=subprocess.DEVNULL, port=0, program=None):
         self.club, self.server_port, self.words, self.errors, self.port = club, server_port, words, errors, port
         self.program = program or path_of('chess_club')
+        if not port and '0.0.0.0' in words:
+            # (at all addresses the lobby prints those of --host, which have not its port)
+            with socket.create_server(('', 0)) as door:
+                self.port = door.getsockname()[1]
         self.start()
 
     def start(self):
@@ -68,20 +73,15 @@ class Lobby:
     def kill(self):
         end(self.process)
 
-    def __enter__(self):
-        return self
-
-    def __exit__(self, *_):
-        self.kill()
+    close = kill
 
 
 class Relay:
     """Passes lines on between the lobby and the server, as long as it is not told otherwise:
 
-    lose     the next act reaches the server, and the connection breaks before its answer
-    drop     the connection breaks before the next act reaches the server
-    behind   the next act is answered, and the connection breaks before it is answered how the game stands then
-    """
+    lose     the next act reaches the server, and the connection breaks before its answer drop     the connection breaks
+    before the next act reaches the server behind   the next act is answered, and the connection breaks before it is
+    answered how the game stands then """
 
     def __init__(self, server):
         self.server, self.fault, self.delay = server, None, 0
@@ -159,16 +159,13 @@ class Relay:
 
 class Programs(Lobby):
     """Server and lobby, and a relay between the two where `has_relay`, over the players of these rows, or over the
-    `club.players` that is in the folder. The lobby keeps a log, without which nobody is an arbiter, where `has_log`. Words
-    of `control` bring about what goes wrong, those of Relay and these:
+    `club.players` that is in the folder. The lobby keeps a log, without which nobody is an arbiter, where `has_log`.
+    Words of `control` bring about what goes wrong, those of Relay and these:
 
-    gone     the server is killed
-    here     it is started again, over its journal
-    slow MS  each answer of the server comes MS milliseconds late
-    silent   the lobby stands still, and its connections stay open
-    beside WHITE BLACK   a game is opened and joined on the server, past the lobby
-    off G    a game that is over is taken off the table there, as by who keeps games
-    """
+    gone     the server is killed here     it is started again, over its journal slow MS  each answer of the server
+    comes MS milliseconds late silent   the lobby stands still, and its connections stay open beside WHITE BLACK   a
+    game is opened and joined on the server, past the lobby off G    a game that is over is taken off the table there,
+    as by who keeps games """
 
     def __init__(self, folder, rows=None, *words, has_relay=False, has_log=True, games=1024, plies=600, **how):
         self.folder, club = folder, os.path.join(folder, 'club.players')
@@ -205,13 +202,14 @@ class Programs(Lobby):
                 past.by(past.say('show ' + words[0]).split()[3], 'drop ' + words[0])
 
     def end_games(self):
-        """Past the lobby the games that go on are resigned, and those that wait and all but the last twelve that are over
-        are taken off."""
+        """Past the lobby the games that go on are resigned, and those that wait and all but the last twelve that are
+        over are taken off."""
         with self.server.session() as past:
             rows = past.rows()
             for number, white, black, _, result in rows:
                 if result == '*':
-                    past.by(black if white == '-' else white, ('drop ' if '-' in (white, black) else 'resign ') + number)
+                    past.by(black if white == '-' else white, ('drop ' if '-' in (white, black) else 'resign ')
+                            + number)
             for number, white, _, _, _ in [row for row in rows if row[4] != '*'][:-12]:
                 past.by(white, 'drop ' + number)
 
@@ -231,15 +229,14 @@ class Programs(Lobby):
             self.relay.hang_up()
         self.server.kill()
 
-    def __exit__(self, *_):
-        self.stop()
+    close = stop
 
 
 # ------------------------------------------------------------------- ways that kill at a line
 
 class Tap:
-    """A way to the server that kills a process, `run`, at a line, the one of this number or the first with this front: before
-    it goes out, before its answer comes, right after, or behind a call once it has gone out (untaken)."""
+    """A way to the server that kills a process, `run`, at a line, the one of this number or the first with this front:
+    before it goes out, before its answer comes, right after, or behind a call once it has gone out (untaken)."""
 
     def __init__(self, port, line, when, call=None):
         self.to, self.line, self.when, self.call = port, line, when, call
@@ -317,7 +314,13 @@ class LobbyTap(Tap):
 
     def pass_on(self, lines, near, far, answers):
         def head(file):
-            return b''.join(iter(file.readline, b'\r\n')) + b'\r\n'
+            rows = []
+            while rows[-1:] != [b'\r\n']:
+                rows.append(file.readline())
+                # (who is killed, or turned away, ends here)
+                if not rows[-1]:
+                    raise OSError
+            return b''.join(rows)
 
         # (a lobby takes its own address alone)
         own, its = (b'127.0.0.1:%d' % port for port in (self.port, self.to))
@@ -336,7 +339,8 @@ class LobbyTap(Tap):
             is_on = True
             while is_on:
                 kind, payload, whole = read_frame(answers)
-                is_on = self.told(near, whole, self.is_here and kind == TEXT and payload.startswith((b'ok ', b'no ', b'lost')))
+                is_on = self.told(near, whole, self.is_here and kind == TEXT
+                                  and payload.startswith((b'ok ', b'no ', b'lost')))
             cut(near)
 
 

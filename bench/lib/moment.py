@@ -1,9 +1,10 @@
-"""Runs the program under test at a moment that is chosen: for bench/correct/hostile-lines and bench/correct/hostile-images.
+"""Runs the program under test at a moment that is chosen: for bench/correct/hostile-lines and
+bench/correct/hostile-images.
 
-`run` takes its moments from the system's clocks: that of the date at its start, and the steady one from there on. A shim
-before the C library's `clock_gettime` gives the first another value, and stops both for a whole run; the program itself is
-the one that is served. So each answer, the times of `show` and fallen flags among them, can be told to the last byte.
-"""
+`run` takes its moments from the system's clocks: that of the date at its start, and the steady one from there on. A
+shim before the C library's `clock_gettime` gives the first another value, and stops both for a whole run; the program
+itself is the one that is served. So each answer, the times of `show` and fallen flags among them, can be told to the
+last byte. """
 
 import fcntl
 import os

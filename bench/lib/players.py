@@ -1,8 +1,7 @@
 """The program on a journal, and players of a served table: for bench/crash/powercut and bench/crash/failed-sync.
 
 The players play random games, and each answer is compared with the plain model's. For each act that was answered they
-call `note`.
-"""
+call `note`. """
 
 import collections
 import hashlib
@@ -63,7 +62,8 @@ class Chess:
 
     def work(self, word, *more, given=''):
         """The status, what it wrote, and its fault or all that it told."""
-        done = run('chess_server', word, '--journal', self.journal, *map(str, more), input=given, timeout=PATIENCE, **self.how)
+        done = run('chess_server', word, '--journal', self.journal, *map(str, more), input=given, timeout=PATIENCE,
+                   **self.how)
         return done.returncode, done.stdout, fault_of(done.stderr) or done.stderr.strip()
 
     def limits(self, word, limits):

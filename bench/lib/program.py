@@ -28,8 +28,8 @@ class Wrong(Exception):
 
 @functools.lru_cache(None)
 def path_of(name):
-    """A program: that which the variable of its name in capitals names, or this repository's, which is built where it has
-    to be."""
+    """A program: that which the variable of its name in capitals names, or this repository's, which is built where it
+    has to be."""
     given = os.environ.get(name.upper())
     if given:
         return os.path.realpath(os.path.join(BEGUN_IN, given))
@@ -41,8 +41,7 @@ def path_of(name):
 
 
 def take_programs(folder):
-    """The programs under test are those of this folder, by the names that tools/build gives, or those of an archive of
-    tools/release."""
+    """The programs under test are this folder's, by the names of tools/build or of an archive of tools/release."""
     for name in ('chess_server', 'chess_club'):
         found = [path for path in (os.path.join(folder, name), os.path.join(folder, 'tools', name),
                                    os.path.join(folder, name.replace('_', '-'))) if os.path.isfile(path)]
@@ -53,8 +52,8 @@ def take_programs(folder):
 
 
 def words_of(text, *options):
-    """The words of a bench, whose text is this: `--programs FOLDER`, whose programs are taken; and the options, each its
-    name and what argparse is to know of it."""
+    """The words of a bench, whose text is this: `--programs FOLDER`, whose programs are taken; and the options, each
+    its name and what argparse is to know of it."""
     words = argparse.ArgumentParser(description=text, formatter_class=argparse.RawDescriptionHelpFormatter)
     words.add_argument('--programs', metavar='FOLDER')
     for name, how in options:
@@ -66,8 +65,10 @@ def words_of(text, *options):
 
 
 def counted(text, count):
-    """The words of a bench that tries so many things, from a seed on, in so many processes: COUNT, SEED and `--jobs J`."""
-    return words_of(text, ('count', {'nargs': '?', 'type': int, 'default': count}), ('seed', {'nargs': '?', 'type': int, 'default': 1}),
+    """The words of a bench that tries so many things, from a seed on, in so many processes: COUNT, SEED and `--jobs
+    J`."""
+    return words_of(text, ('count', {'nargs': '?', 'type': int, 'default': count}),
+                    ('seed', {'nargs': '?', 'type': int, 'default': 1}),
                     ('--jobs', {'type': int, 'default': max(1, (os.cpu_count() or 1) - 1)}))
 
 
@@ -100,10 +101,10 @@ def end(process):
 
 
 def within(process, seconds=None, errors=False):
-    """The status of a program that ends within so many seconds, none where it was killed then; and what it wrote until then,
-    or with `errors` what it told."""
+    """The status of a program that ends within so many seconds, none where it was killed then; and what it wrote until
+    then, or with `errors` what it told."""
     try:
-        said, status = process.communicate(timeout=seconds), process.returncode
+        said, status = process.communicate(timeout=seconds or PATIENCE), process.returncode
     except subprocess.TimeoutExpired:
         process.kill()
         said, status = process.communicate(), None
@@ -114,6 +115,13 @@ def fault_of(error):
     """The fault that standard error tells of, as `fault NAME`, if any."""
     told = re.findall('^fault .*', error, re.MULTILINE)
     return told[-1] if told else ''
+
+
+def instructions(words, given):
+    """The instructions of a program on a text, as callgrind counts them."""
+    words = ['valgrind', '--tool=callgrind', '--callgrind-out-file=/dev/null', *words]
+    done = subprocess.run(words, input=given, capture_output=True, text=True, check=True)
+    return int(next(line.split()[-1] for line in done.stderr.splitlines() if 'Collected' in line))
 
 
 def used(pid):
@@ -168,12 +176,22 @@ def stop(why):
     sys.exit('%s: %s' % (NAME, why))
 
 
+class Closing:
+    """What is closed behind a `with`."""
+
+    def __enter__(self):
+        return self
+
+    def __exit__(self, *_):
+        self.close()
+
+
 @contextlib.contextmanager
 def work_folder(name, where=None):
-    """A folder for a bench's files, in memory where that can be, since each accepted line is synced. What is Wrong ends the
-    bench."""
+    """A folder for a bench's files, in memory where that can be, since each act is synced. What is Wrong ends it."""
     memory_files = '/dev/shm' if os.access('/dev/shm', os.W_OK) else None
-    with tempfile.TemporaryDirectory(prefix=name + '-', dir=where or memory_files, ignore_cleanup_errors=True) as folder:
+    with tempfile.TemporaryDirectory(prefix=name + '-', dir=where or memory_files,
+                                     ignore_cleanup_errors=True) as folder:
         try:
             yield folder
         except Wrong as why:

@@ -1,10 +1,10 @@
-"""A game's server and its journal: words on a journal, `run` line by line, `serve`, and sessions with a port or a socket."""
+"""A game's server and its journal: words on a journal, `run` line by line, `serve`, and sessions with it."""
 
 import subprocess
 import time
 
 from lib.net import connect, to_end
-from lib.program import PATIENCE, Wrong, begin, end, fault_of, memory, run, used
+from lib.program import PATIENCE, Closing, Wrong, begin, end, fault_of, memory, run, used
 
 # `serve` goes on so many turns, which is for ever.
 FOR_EVER = ('--turns', '4294967295')
@@ -55,7 +55,8 @@ class Running:
     """`run` on a journal, which is sent line after line."""
 
     def __init__(self, journal, **how):
-        self.program = begin('chess_server', 'run', '--journal', journal, stdin=subprocess.PIPE, stderr=subprocess.PIPE, **how)
+        self.program = begin('chess_server', 'run', '--journal', journal, stdin=subprocess.PIPE, stderr=subprocess.PIPE,
+                             **how)
 
     def ask(self, line):
         """The first line of the answer; empty where it has ended."""
@@ -79,7 +80,7 @@ class Running:
 
 # ------------------------------------------------------------------- sessions
 
-class Session:
+class Session(Closing):
     """A client of a server, by blocking calls."""
 
     def __init__(self, to, timeout=None, name=None):
@@ -89,12 +90,6 @@ class Session:
 
     def connect(self, to, timeout=None):
         self.socket, self.rest = connect(to, timeout), bytearray()
-
-    def __enter__(self):
-        return self
-
-    def __exit__(self, *_):
-        self.close()
 
     def close(self):
         self.socket.close()
@@ -171,10 +166,10 @@ class Session:
 
 # ------------------------------------------------------------------- a server
 
-class Server:
-    """`serve` over a journal, which is made where `games` are told. It is reached by a port of its own that it keeps, or by
-    the socket that its words name; `said` is its first line. It may be killed and begun again. `line` is a session of the
-    bench's own with it."""
+class Server(Closing):
+    """`serve` over a journal, which is made where `games` are told. It is reached by a port of its own that it keeps,
+    or by the socket that its words name; `said` is its first line. It may be killed and begun again. `line` is a
+    session of the bench's own with it."""
 
     def __init__(self, journal, *words, games=0, plies=60, **how):
         self.journal, self.words, self.how = journal, words, how
@@ -208,11 +203,7 @@ class Server:
             self.own = None
         end(self.process)
 
-    def __enter__(self):
-        return self
-
-    def __exit__(self, *_):
-        self.kill()
+    close = kill
 
     def session(self, timeout=None, name=None):
         if self.to is None:

@@ -7,18 +7,17 @@ import subprocess
 import sys
 import time
 
-sys.path.insert(0, os.path.dirname(os.path.dirname(os.path.realpath(__file__))))
-from lib.net import connect  # noqa: E402
-from lib.server import Session  # noqa: E402
-from lib.web import TEXT, Guest, frame, handshake, token_of  # noqa: E402
+from lib.net import connect
+from lib.server import Session
+from lib.web import TEXT, Guest, frame, handshake, token_of
 
 # (messages that a connection may say in a second, and at once)
 RATE, BURST = 20, 18
 
 
 class Stranger:
-    """A connection that asks one line again and again, as fast as it is answered and a connection may; `burst` lines at once.
-    What it is told it counts and throws away."""
+    """A connection that asks one line again and again, as fast as it is answered and a connection may; `burst` lines at
+    once. What it is told it counts and throws away."""
 
     def __init__(self, port, line, burst):
         self.asked, self.burst = frame(TEXT, line.encode()) * burst, burst
@@ -110,8 +109,8 @@ class Crowd:
     """A crowd in a process of its own."""
 
     def __init__(self, port, line, count, burst=1):
-        self.process = subprocess.Popen([sys.executable, os.path.realpath(__file__), str(port), line, str(count), str(burst)],
-                                        stdin=subprocess.PIPE, stdout=subprocess.PIPE, text=True)
+        self.process = subprocess.Popen([sys.executable, os.path.realpath(__file__), str(port), line, str(count),
+                                         str(burst)], stdin=subprocess.PIPE, stdout=subprocess.PIPE, text=True)
         self.count = int(self.process.stdout.readline().split()[1])
 
     def end(self):

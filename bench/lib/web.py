@@ -1,5 +1,6 @@
-"""What benches say to a lobby over HTTP and its WebSocket: by blocking calls (Line, and Guest, who hears answers alone), as a
-player who comes back (Seat), in an asyncio program (Browser), one request (fetch), and the figures of /health."""
+"""What benches say to a lobby over HTTP and its WebSocket: by blocking calls (Line, and Guest, who hears answers
+alone), as a player who comes back (Seat), in an asyncio program (Browser), one request (fetch), and the figures of
+/health."""
 
 import asyncio
 import base64
@@ -122,8 +123,8 @@ class Guest(Line):
 
 
 class Seat:
-    """A player's connection to a lobby, by blocking calls, who comes back where it is gone. With a name it has the token
-    `token_of(NAME)`. `port_of` answers the lobby's port."""
+    """A player's connection to a lobby, by blocking calls, who comes back where it is gone. With a name it has the
+    token `token_of(NAME)`. `port_of` answers the lobby's port."""
 
     patience, timeout = 60, 5       # seconds: for coming back, and for one message
     stays = False                   # whether it waits for its answer also where the lobby loses the server
@@ -176,7 +177,8 @@ class Seat:
 
 class Browser(asyncio.Protocol):
     """One browser's connection in an asyncio program. `opened` is done at the lobby's first message; answers stand in a
-    queue, behind them None once the connection is gone; `told` and `server` are called with notices, where they are set."""
+    queue, behind them None once the connection is gone; `told` and `server` are called with notices, where they are
+    set."""
 
     def __init__(self, host):
         self.host, self.data, self.is_open = host, bytearray(), False
@@ -264,8 +266,8 @@ LABEL = re.compile(r'([a-zA-Z_][a-zA-Z0-9_]*)="((?:[^"\\\n]|\\["\\n])*)"(?:,|$)'
 
 def figures(text):
     """The samples of a text in Prometheus' format, by name and labels, and the kinds of the figures. What breaks the
-    description raises ValueError: each figure has one HELP and one TYPE in front of its samples, which stand together; each
-    sample is a figure's, or of a histogram one of its `_bucket`, `_sum` and `_count`; no two are the same."""
+    description raises ValueError: each figure has one HELP and one TYPE in front of its samples, which stand together;
+    each sample is a figure's, or of a histogram one of its `_bucket`, `_sum` and `_count`; no two are the same."""
     if not text.endswith('\n'):
         raise ValueError('the last line has no end')
     samples, kinds, helped, current = {}, {}, set(), None
@@ -285,7 +287,8 @@ def figures(text):
             if not found:
                 raise ValueError(row)
             name, labels, value = found.groups()
-            own = [current + end for end in ('_bucket', '_sum', '_count')] if kinds[current] == 'histogram' else [current]
+            own = [current + end for end in ('_bucket', '_sum', '_count')] if kinds[current] == 'histogram' else [
+                current]
             if name not in own:
                 raise ValueError(row)
             pairs = tuple(LABEL.findall(labels or ''))

@@ -1,5 +1,5 @@
-"""What players of a league's night do at their boards: games of all ends, as plans for two players who know only what the
-lobby tells them."""
+"""What players of a league's night do at their boards: games of all ends, as plans for two players who know only what
+the lobby tells them."""
 import random
 
 from lib.model.known_games import DEAD, MATES, STALEMATE
@@ -11,13 +11,14 @@ SHORT_TIMES = ('1', '2', '8', '10+1', '12', '5+3', '255/9:1')
 # How often a plan is taken, in parts.
 WEIGHTS = {
     'mate': 4, 'stalemate': 1, 'dead': 1, 'three': 2, 'three by a move': 1, 'five': 1, 'fifty': 1, 'seventy-five': 1,
-    'wrong claim': 1, 'wrong claim by a move': 1, 'resign': 5, 'resign at once': 1, 'agree': 4, 'flag': 2, 'late': 2, 'random': 4,
+    'wrong claim': 1, 'wrong claim by a move': 1, 'resign': 5, 'resign at once': 1, 'agree': 4, 'flag': 2, 'late': 2,
+    'random': 4,
 }
 
 
 def quiet_game(plies, seed):
-    """The texts of a game in which after the first four moves no pawn moves and nothing is taken, and no position stands
-    five times; with 150 such moves it ends by itself."""
+    """The texts of a game in which after the first four moves no pawn moves and nothing is taken, and no position
+    stands five times; with 150 such moves it ends by itself."""
     dice, line, texts = random.Random(seed), [INITIAL], []
     opening = 'e4 e5 d3 d6'.split()
     while len(texts) < len(opening) + plies:
@@ -65,7 +66,8 @@ class Plan:
 
     def own_texts(self, quiet):
         known = {'mate': MATES[self.dice.choice(list(MATES))], 'stalemate': STALEMATE, 'dead': DEAD,
-                 'three': KNIGHTS + ' ' + KNIGHTS, 'three by a move': KNIGHTS + ' ' + KNIGHTS, 'five': ' '.join([KNIGHTS] * 4)}
+                 'three': KNIGHTS + ' ' + KNIGHTS, 'three by a move': KNIGHTS + ' ' + KNIGHTS,
+                 'five': ' '.join([KNIGHTS] * 4)}
         if self.kind in ('fifty', 'seventy-five'):
             return quiet[:104] if self.kind == 'fifty' else quiet
         return known[self.kind].split() if self.kind in known else None

@@ -14,7 +14,7 @@ def fresh(whole, path):
 
 
 def raw(file, commits, records):
-    """The seconds that commits of so many records take at least: the sectors of the records, a sync, the header, a sync."""
+    """The seconds that commits of so many records take at least: their sectors, a sync, the header, a sync."""
     sector, at = b'\x01' * 512, 2
     start = time.perf_counter()
     for commit in range(commits):

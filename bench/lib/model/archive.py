@@ -15,7 +15,7 @@ def tag_told(line, heading):
 
 
 def tokens_told(tokens, clocks):
-    """The tokens of moves with what the clocks showed behind them, and the number of a move of Black's behind that again."""
+    """The tokens of moves with what the clocks showed behind them, and the number of Black's move behind that."""
     told, number, clocks = [], None, iter(clocks)
     for token in tokens:
         is_move = token[0].isalpha()

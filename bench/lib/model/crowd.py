@@ -1,6 +1,7 @@
 #!/usr/bin/env python3
-"""The crowd in the part `sockets` of `test_player`'s stored run: `crowd.py stdin` prints what its clients do, `crowd.py stdout`
-what they are sent, as `docs/client/PROTOCOL.md` says it of a table without games. Both stand behind the rest of that part."""
+"""The crowd in the part `sockets` of `test_player`'s stored run: `crowd.py stdin` prints what its clients do, `crowd.py
+stdout` what they are sent, as `docs/client/PROTOCOL.md` says it of a table without games. Both stand behind the rest of
+that part."""
 import string
 import sys
 

@@ -1,6 +1,6 @@
 #!/usr/bin/env python3
-"""What `chess-club export` writes, by docs/use/NIGHT.md: export.py export --archive FILE prints the PGNs of an archive's games ("Keeping
-games", "Adjourned games"). Of its other words, and of `--csv`, there is no model."""
+"""What `chess-club export` writes, by docs/use/NIGHT.md: export.py export --archive FILE prints the PGNs of an
+archive's games ("Keeping games", "Adjourned games"). Of its other words, and of `--csv`, there is no model."""
 
 import argparse
 import sys
@@ -12,8 +12,8 @@ MOST_BEHIND = 4194304
 
 
 def games_of(path):
-    """The games of an archive, with what stands behind its lines: a line that lacks its line feed alone is a game's, and the
-    beginning of one is none."""
+    """The games of an archive, with what stands behind its lines: a line that lacks its line feed alone is a game's,
+    and the beginning of one is none."""
     lines, behind = lines_behind(path)
     games = [game_in(line) for line in lines]
     if behind:
@@ -43,8 +43,8 @@ def with_tag(pgn, name, value):
 
 
 def exported(games):
-    """The PGNs of an archive's games, in the order in which they were kept. Of several games that go on with one the last that
-    was kept is told."""
+    """The PGNs of an archive's games, in the order in which they were kept. Of several games that go on with one the
+    last that was kept is told."""
     second = {}
     for game, pgn in games:
         tags, _, _ = games_in(pgn)[0]

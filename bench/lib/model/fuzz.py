@@ -1,15 +1,14 @@
 #!/usr/bin/env python3
 """fuzz.py SEED N GAMES PLIES [FILE] [--bytes]
 
-Writes N random but telling command lines `MOMENT WHO LINE` to FILE (by default
-fuzz-SEED-N-GAMES-PLIES.in beside this program) and the model's answers to
-FILE.answers; a summary of what came goes to standard error.
+Writes N random but telling command lines `MOMENT WHO LINE` to FILE (by default fuzz-SEED-N-GAMES-PLIES.in beside this
+program) and the model's answers to FILE.answers; a summary of what came goes to standard error.
 
-With --bytes some lines hold bytes over 127, byte 0 and carriage returns (also
-at the end); without it every byte of a line is 1 to 127, none of them 10 or 13.
-"""
+With --bytes some lines hold bytes over 127, byte 0 and carriage returns (also at the end); without it every byte of a
+line is 1 to 127, none of them 10 or 13. """
 
 import random
+import re
 import sys
 from collections import Counter
 from lib.model.rules import *
@@ -18,126 +17,78 @@ TOP_MOMENTS = [4611686018427387904, 4611686018427387904, 9223372036854775807,
                9223372036854775808, 18446744073709551615]
 PLAYERS = ['ann', 'bob', 'cat', 'D_4', 'sixteen_letters_']
 
-STARTS = [
-    # mate, stalemate, dead material and counters near; rows
-    '7k/8/6K1/8/8/8/8/R7 w - - {h} 90',
-    '7k/8/8/5Q2/8/8/8/K7 w - - {h} 1',
-    '7k/8/8/8/8/8/1p6/K7 w - - {h} 1',
-    '7k/8/8/8/8/8/Q7/K7 w - - {h} 1',
-    '1r5k/P7/6K1/8/8/8/8/8 w - - {h} 1',
-    '8/8/8/K1pP3r/8/8/8/7k w - c6 0 1',
-    '8/8/8/K1pP4/8/8/8/7k w - c6 0 1',
-    '8/8/3k4/2pP4/8/8/8/K7 w - c6 0 5',
-    '4k3/8/8/8/8/8/1r6/R3K3 w Q - {h} 1',
-    '4k3/8/8/8/1b6/2N5/8/4K1N1 w - - {h} 1',
-    '4k3/8/8/8/3p4/8/4P3/4K3 w - - {h} 1',
-    '4k3/8/8/8/8/8/4P3/4K3 b - - {h} 12',
-    '1k6/8/8/8/4Q2Q/8/8/K6Q w - - {h} 1',
-    'k7/8/8/3N1N2/2N3N1/8/2N3N1/K2N1N2 w - - {h} 1',
-    'r3k2r/p1ppqpb1/bn2pnp1/3PN3/1p2P3/2N2Q1p/PPPBBPPP/R3K2R w KQkq - 0 1',
-    'r3k2r/8/8/8/8/8/8/R3K2R w KQkq - {h} 1',
-    'r3k2r/8/8/8/8/8/8/R3K2R b KQkq - {h} 7',
-    'r3k2r/8/8/8/1b6/8/6n1/R3K2R w KQkq - {h} 1',
-    'r3k2r/6P1/8/8/8/8/1p6/R3K2R w KQkq - {h} 30',
-    'r3k2r/1P4P1/8/8/8/8/1p4p1/R3K2R b KQkq - {h} 30',
-    '8/2p5/3p4/KP5r/1R3p1k/8/4P1P1/8 w - - {h} 1',
-    'rnbq1k1r/pp1Pbppp/2p5/8/2B5/8/PPP1NnPP/RNBQK2R w KQ - 1 8',
-    '4kb2/8/8/8/8/8/7p/2B1K3 w - - 0 1',
-    '4k3/8/8/8/8/8/3p4/2B1K3 w - - {h} 1',
-    '4k3/8/2n5/3P4/8/8/8/4K3 w - - {h} 1',
-    '2b1k3/8/8/8/8/8/3p4/2B1K3 w - - {h} 1',
-    '5b1k/8/8/8/8/6p1/7B/7K w - - {h} 40',
-    '2b4k/8/8/8/8/6p1/7B/7K w - - {h} 40',
-    'k7/1p6/8/8/8/8/6P1/K7 w - - {h} 9999',
-    '1kn5/1P6/K7/8/8/8/8/8 w - - {h} 9998',
-    '3qk3/8/8/8/8/8/8/3QK3 w - - {h} 60',
-    '6k1/5ppp/8/8/8/8/5PPP/R5K1 w - - {h} 20',
-    'k7/8/1K6/8/8/8/7Q/8 w - - {h} 3',
-    'k7/2Q5/8/8/8/8/8/K7 w - - {h} 3',
-    '8/8/8/8/8/5k2/7p/7K b - - {h} 3',
-    '8/PPPPPPPP/8/k7/7K/8/pppppppp/8 w - - {h} 1',
-    'rnbqkbnr/pppppppp/8/8/4P3/8/PPPP1PPP/RNBQKBNR b KQkq e3 0 1',
-    'rnbqkbnr/ppp1pppp/8/8/3pP3/8/PPPP1PPP/RNBQKBNR b KQkq e3 0 3',
-    'rnbqkbnr/ppp1pppp/8/8/3pP3/8/PPPP1PPP/RNBQKBNR b KQkq - 0 3',
-    '4k3/8/8/1pPp4/8/8/8/4K3 w - b6 0 3',
-    '4k3/8/8/1PpP4/8/8/8/4K3 w - c6 0 3',
-    '4k3/8/8/8/1pPp4/8/8/4K3 b - c3 0 3',
-    '4r1k1/8/8/3pP3/8/8/8/4K3 w - d6 0 3',
-    '3k4/8/8/8/3pP3/8/8/3RK3 b - e3 0 3',
-    '4kr2/8/8/8/8/8/8/R3K2R w KQ - {h} 1', '4k1r1/8/8/8/8/8/8/R3K2R w KQ - {h} 1',
-    '3rk3/8/8/8/8/8/8/R3K2R w KQ - {h} 1', '2r1k3/8/8/8/8/8/8/R3K2R w KQ - {h} 1',
-    '1r2k3/8/8/8/8/8/8/R3K2R w KQ - {h} 1', 'r3k2r/8/8/8/8/8/8/4KR2 b kq - {h} 1',
-    'r3k2r/8/8/8/8/8/8/3RK3 b kq - {h} 1', 'r3k2r/8/8/8/8/8/8/1R2K1R1 b kq - {h} 1',
-    'r3k2r/8/8/4R3/8/8/8/4K3 b kq - {h} 1', 'rn2k1nr/8/8/8/8/8/8/RN2K1NR w KQkq - {h} 1',
-    INITIAL_FEN, INITIAL_FEN.replace('0 1', '{h} 1'),
-    INITIAL_FEN.replace(' w ', ' b '), INITIAL_FEN.replace('KQkq', 'Kq'),
-    INITIAL_FEN.replace('KQkq', '-'),
-]
 
-# Openings with the moves (and claims) to follow, for what random play misses.
-CYCLE = 'Nf3 Nf6 Ng1 Ng8 '
-SCRIPTS = [
-    (None, CYCLE * 5),
-    (None, 'e4 ' + 'Nf6 Nf3 Ng8 Ng1 ' * 5),
-    (INITIAL_FEN.replace('0 1', '134 1'), CYCLE * 4),    # fifth occurrence at 150
-    (INITIAL_FEN.replace('0 1', '135 1'), CYCLE * 4),
-    (INITIAL_FEN.replace('0 1', '92 1'), CYCLE * 3),     # third occurrence at 100
-    ('4k3/8/8/8/3p4/8/4P3/4K3 w - - 0 1', 'e4 ' + 'Ke7 Ke2 Ke8 Ke1 ' * 6),
-    ('4k3/8/8/8/3p4/8/4P3/4K3 w - - 0 1',
-     'e4 ' + 'Ke7 Ke2 Ke8 Ke1 ' * 2 + 'claim three'),
-    ('4k3/8/8/8/3p4/8/4P3/4K3 w - - 0 1',
-     'e4 ' + 'Ke7 Ke2 Ke8 Ke1 ' * 3 + 'claim three'),
-    (None, 'e4 ' + 'Nf6 Nf3 Ng8 Ng1 ' * 2 + 'claim three'),
-    ('4k3/8/8/1pPp4/8/8/8/4K3 w - b6 0 3', 'Kd2 Kd7 Ke1 Ke8 ' * 2 + 'claim three'),
-    ('8/8/8/K1pP3r/8/8/8/7k w - c6 0 1', 'Ka4 Kg1 Ka5 Kh1 ' * 2 + 'claim three'),
-    ('r3k2r/8/8/8/8/8/8/R3K2R w KQkq - 0 1', 'Ra2 Ra7 Ra1 Ra8 ' * 2 + 'claim three'),
-    ('r3k2r/8/8/8/8/8/8/R3K2R w KQkq - 0 1', 'Ra2 Ra7 Ra1 Ra8 ' * 3 + 'claim three'),
-    ('4k3/8/8/1pPp4/8/8/8/4K3 w - b6 0 3', 'Kd2 Kd7 Ke1 Ke8 ' * 6),
-    ('4k3/8/8/1pPp4/8/8/8/4K3 w - - 0 3', 'Kd2 Kd7 Ke1 Ke8 ' * 6),
-    ('8/8/8/K1pP3r/8/8/8/7k w - c6 0 1', 'Ka4 Kg1 Ka5 Kh1 ' * 6),
-    ('4r1k1/8/8/3pP3/8/8/8/4K3 w - d6 0 3', 'Kd2 Kh8 Ke1 Kg8 ' * 6),
-    ('r3k2r/8/8/8/8/8/8/R3K2R w KQkq - 0 1', 'Ra2 Ra7 Ra1 Ra8 ' * 6),
-    ('r3k2r/8/8/8/8/8/8/R3K2R w KQkq - 0 1', 'Rg1 Rg8 Rh1 Rh8 ' * 6),
-    ('r3k2r/8/8/8/8/8/8/R3K2R w KQkq - 0 1', 'Kf1 Kf8 Ke1 Ke8 ' * 6),
-    ('r3k2r/8/8/8/8/8/8/R3K2R w Qk - 0 1', 'Ke2 Rb8 Ke1 Ra8 Kf2 Ke7 Ke1 Ke8 ' * 5),
-    ('r3k2r/8/8/8/8/8/8/R3K2R w KQkq - 0 1', 'Ke2 O-O-O'),
-    ('r3k2r/8/8/8/8/8/8/R3K2R w KQkq - 0 1', 'Rxa8+ Kd7 O-O'),
-    ('r3k2r/8/8/8/8/8/8/R3K2R b KQkq - 0 1', 'Rxh1+ Kd2 O-O-O+'),
-    ('7k/8/6K1/8/8/8/8/R7 w - - 149 90', 'Ra8'),
-    ('7k/8/6K1/8/8/8/8/R7 w - - 149 90', 'claim fifty Ra8'),
-    ('7k/8/6K1/8/8/8/8/R7 w - - 99 90', 'claim fifty Ra8'),
-    ('7k/8/6K1/8/8/8/8/R7 w - - 99 90', 'claim three Ra8'),
-    ('7k/8/6K1/8/8/8/8/R7 w - - 98 90', 'claim fifty Ra8'),
-    ('7k/8/6K1/8/8/8/8/R7 w - - 100 90', 'claim fifty'),
-    ('7k/8/6K1/8/8/8/8/R7 w - - 99 90', 'claim fifty'),
-    ('7k/8/8/5Q2/8/8/8/K7 w - - 149 1', 'Qf7'),
-    ('7k/8/8/5Q2/8/8/8/K7 w - - 99 1', 'claim fifty Qf7'),
-    ('7k/8/8/5Q2/8/8/8/K7 w - - 99 1', 'claim three Qf7'),
-    ('4k3/8/8/8/8/8/4P3/4K3 w - - 149 80', 'e4 Kd7'),
-    ('4k3/8/8/8/8/8/4P3/4K3 w - - 148 80', 'Kf2 Kd7'),
-    ('7k/8/6K1/3p4/8/8/B7/8 w - - 0 1', 'Bxd5'),         # stalemate and dead
-    ('7k/8/6K1/3p4/8/8/B7/8 w - - 99 1', 'claim three Bxd5'),
-    ('4k3/8/8/8/8/4p3/3B4/2B1K1B1 w - - 0 1', 'Bdxe3'),
-    ('4k3/8/8/8/8/4p3/3B4/2B1KB2 w - - 0 1', 'Bxe3'),
-    ('8/k2P4/8/8/8/2B5/8/K7 w - - 0 1', 'd8=B'),
-    ('8/k1P5/8/8/8/2B5/8/K7 w - - 0 1', 'c8=B'),
-    ('8/k1P5/8/8/8/8/8/K7 w - - 0 1', 'c8=N+'),
-    ('8/k1P5/8/8/8/n7/8/K7 w - - 0 1', 'c8=N+'),
-    ('b3k3/8/8/8/8/8/6p1/B3K3 b - - 0 1', 'g1=B'),
-    ('b3k3/8/8/8/8/8/5p2/B4K2 w - - 0 1', 'Kxf2'),
-    ('B3k3/8/8/8/8/8/5p2/b4K2 w - - 0 1', 'Kxf2'),
-    ('b3k3/8/8/8/8/8/5p2/5K1B w - - 0 1', 'Kxf2'),
-    ('n3k3/8/8/8/8/8/5p2/B4K2 w - - 0 1', 'Kxf2'),
-    ('n3k3/8/8/8/8/8/5p2/N4K2 w - - 0 1', 'Kxf2'),
-    ('k7/8/1K6/1P6/8/8/8/8 b - - 0 1', 'Kb8 Ka6 Ka8 b6 Kb8 b7 Kc7'),
-    ('k7/8/KP6/8/8/8/8/8 w - - 0 1', 'b7+ Kb8 Kb6'),
-    (None, 'f3 e5 g4 claim_fifty_Qh4'),
-    (None, 'f3 e5 g4 Qh4'),
-    (None, 'e4 e5 Bc4 Nc6 Qh5 Nf6 Qxf7'),
-    (None, 'e4 c5 e5 d5 exd6 Qxd6'),
-    (None, 'e4 e5 Nf3 Nc6 Bc4 Bc5 O-O Nf6 d3 O-O'),
-    (None, 'd4 d5 Nc3 Nc6 Bf4 Bf5 Qd2 Qd7 O-O-O O-O-O'),
-]
+def rows_of(text):
+    """The parts of a text between semicolons, in which `(A B)*3` stands for `A B A B A B`."""
+    text = re.sub(r'\(([^()]*)\)\*(\d+)', lambda found: ' '.join([found[1]] * int(found[2])), text)
+    return [row.strip() for row in text.split(';')]
+
+
+# Starts where mate, stalemate, dead material, captures in passing and castling are near, and rows; {h} is for the moves
+# since a capture.
+STARTS = rows_of("""
+7k/8/6K1/8/8/8/8/R7 w - - {h} 90; 7k/8/8/5Q2/8/8/8/K7 w - - {h} 1; 7k/8/8/8/8/8/1p6/K7 w - - {h} 1;
+7k/8/8/8/8/8/Q7/K7 w - - {h} 1; 1r5k/P7/6K1/8/8/8/8/8 w - - {h} 1; 8/8/8/K1pP3r/8/8/8/7k w - c6 0 1;
+8/8/8/K1pP4/8/8/8/7k w - c6 0 1; 8/8/3k4/2pP4/8/8/8/K7 w - c6 0 5; 4k3/8/8/8/8/8/1r6/R3K3 w Q - {h} 1;
+4k3/8/8/8/1b6/2N5/8/4K1N1 w - - {h} 1; 4k3/8/8/8/3p4/8/4P3/4K3 w - - {h} 1; 4k3/8/8/8/8/8/4P3/4K3 b - - {h} 12;
+1k6/8/8/8/4Q2Q/8/8/K6Q w - - {h} 1; k7/8/8/3N1N2/2N3N1/8/2N3N1/K2N1N2 w - - {h} 1;
+r3k2r/p1ppqpb1/bn2pnp1/3PN3/1p2P3/2N2Q1p/PPPBBPPP/R3K2R w KQkq - 0 1; r3k2r/8/8/8/8/8/8/R3K2R w KQkq - {h} 1;
+r3k2r/8/8/8/8/8/8/R3K2R b KQkq - {h} 7; r3k2r/8/8/8/1b6/8/6n1/R3K2R w KQkq - {h} 1;
+r3k2r/6P1/8/8/8/8/1p6/R3K2R w KQkq - {h} 30; r3k2r/1P4P1/8/8/8/8/1p4p1/R3K2R b KQkq - {h} 30;
+8/2p5/3p4/KP5r/1R3p1k/8/4P1P1/8 w - - {h} 1; rnbq1k1r/pp1Pbppp/2p5/8/2B5/8/PPP1NnPP/RNBQK2R w KQ - 1 8;
+4kb2/8/8/8/8/8/7p/2B1K3 w - - 0 1; 4k3/8/8/8/8/8/3p4/2B1K3 w - - {h} 1; 4k3/8/2n5/3P4/8/8/8/4K3 w - - {h} 1;
+2b1k3/8/8/8/8/8/3p4/2B1K3 w - - {h} 1; 5b1k/8/8/8/8/6p1/7B/7K w - - {h} 40; 2b4k/8/8/8/8/6p1/7B/7K w - - {h} 40;
+k7/1p6/8/8/8/8/6P1/K7 w - - {h} 9999; 1kn5/1P6/K7/8/8/8/8/8 w - - {h} 9998; 3qk3/8/8/8/8/8/8/3QK3 w - - {h} 60;
+6k1/5ppp/8/8/8/8/5PPP/R5K1 w - - {h} 20; k7/8/1K6/8/8/8/7Q/8 w - - {h} 3; k7/2Q5/8/8/8/8/8/K7 w - - {h} 3;
+8/8/8/8/8/5k2/7p/7K b - - {h} 3; 8/PPPPPPPP/8/k7/7K/8/pppppppp/8 w - - {h} 1;
+rnbqkbnr/pppppppp/8/8/4P3/8/PPPP1PPP/RNBQKBNR b KQkq e3 0 1;
+rnbqkbnr/ppp1pppp/8/8/3pP3/8/PPPP1PPP/RNBQKBNR b KQkq e3 0 3;
+rnbqkbnr/ppp1pppp/8/8/3pP3/8/PPPP1PPP/RNBQKBNR b KQkq - 0 3; 4k3/8/8/1pPp4/8/8/8/4K3 w - b6 0 3;
+4k3/8/8/1PpP4/8/8/8/4K3 w - c6 0 3; 4k3/8/8/8/1pPp4/8/8/4K3 b - c3 0 3; 4r1k1/8/8/3pP3/8/8/8/4K3 w - d6 0 3;
+3k4/8/8/8/3pP3/8/8/3RK3 b - e3 0 3; 4kr2/8/8/8/8/8/8/R3K2R w KQ - {h} 1; 4k1r1/8/8/8/8/8/8/R3K2R w KQ - {h} 1;
+3rk3/8/8/8/8/8/8/R3K2R w KQ - {h} 1; 2r1k3/8/8/8/8/8/8/R3K2R w KQ - {h} 1; 1r2k3/8/8/8/8/8/8/R3K2R w KQ - {h} 1;
+r3k2r/8/8/8/8/8/8/4KR2 b kq - {h} 1; r3k2r/8/8/8/8/8/8/3RK3 b kq - {h} 1; r3k2r/8/8/8/8/8/8/1R2K1R1 b kq - {h} 1;
+r3k2r/8/8/4R3/8/8/8/4K3 b kq - {h} 1; rn2k1nr/8/8/8/8/8/8/RN2K1NR w KQkq - {h} 1;
+rnbqkbnr/pppppppp/8/8/8/8/PPPPPPPP/RNBQKBNR w KQkq - 0 1; rnbqkbnr/pppppppp/8/8/8/8/PPPPPPPP/RNBQKBNR w KQkq - {h} 1;
+rnbqkbnr/pppppppp/8/8/8/8/PPPPPPPP/RNBQKBNR b KQkq - 0 1; rnbqkbnr/pppppppp/8/8/8/8/PPPPPPPP/RNBQKBNR w Kq - 0 1;
+rnbqkbnr/pppppppp/8/8/8/8/PPPPPPPP/RNBQKBNR w - - 0 1""")
+
+# Openings with the moves (and claims) to follow, for what random play misses: by the last of some of them a position
+# comes for the third or fifth time just as 100 or 150 moves are made.
+SCRIPTS = [(None if fen == "-" else fen, script) for fen, script in (row.split(" | ") for row in rows_of("""
+- | (Nf3 Nf6 Ng1 Ng8)*5; - | e4 (Nf6 Nf3 Ng8 Ng1)*5;
+rnbqkbnr/pppppppp/8/8/8/8/PPPPPPPP/RNBQKBNR w KQkq - 134 1 | (Nf3 Nf6 Ng1 Ng8)*4;
+rnbqkbnr/pppppppp/8/8/8/8/PPPPPPPP/RNBQKBNR w KQkq - 135 1 | (Nf3 Nf6 Ng1 Ng8)*4;
+rnbqkbnr/pppppppp/8/8/8/8/PPPPPPPP/RNBQKBNR w KQkq - 92 1 | (Nf3 Nf6 Ng1 Ng8)*3;
+4k3/8/8/8/3p4/8/4P3/4K3 w - - 0 1 | e4 (Ke7 Ke2 Ke8 Ke1)*6;
+4k3/8/8/8/3p4/8/4P3/4K3 w - - 0 1 | e4 (Ke7 Ke2 Ke8 Ke1)*2 claim three;
+4k3/8/8/8/3p4/8/4P3/4K3 w - - 0 1 | e4 (Ke7 Ke2 Ke8 Ke1)*3 claim three; - | e4 (Nf6 Nf3 Ng8 Ng1)*2 claim three;
+4k3/8/8/1pPp4/8/8/8/4K3 w - b6 0 3 | (Kd2 Kd7 Ke1 Ke8)*2 claim three;
+8/8/8/K1pP3r/8/8/8/7k w - c6 0 1 | (Ka4 Kg1 Ka5 Kh1)*2 claim three;
+r3k2r/8/8/8/8/8/8/R3K2R w KQkq - 0 1 | (Ra2 Ra7 Ra1 Ra8)*2 claim three;
+r3k2r/8/8/8/8/8/8/R3K2R w KQkq - 0 1 | (Ra2 Ra7 Ra1 Ra8)*3 claim three;
+4k3/8/8/1pPp4/8/8/8/4K3 w - b6 0 3 | (Kd2 Kd7 Ke1 Ke8)*6; 4k3/8/8/1pPp4/8/8/8/4K3 w - - 0 3 | (Kd2 Kd7 Ke1 Ke8)*6;
+8/8/8/K1pP3r/8/8/8/7k w - c6 0 1 | (Ka4 Kg1 Ka5 Kh1)*6; 4r1k1/8/8/3pP3/8/8/8/4K3 w - d6 0 3 | (Kd2 Kh8 Ke1 Kg8)*6;
+r3k2r/8/8/8/8/8/8/R3K2R w KQkq - 0 1 | (Ra2 Ra7 Ra1 Ra8)*6; r3k2r/8/8/8/8/8/8/R3K2R w KQkq - 0 1 | (Rg1 Rg8 Rh1 Rh8)*6;
+r3k2r/8/8/8/8/8/8/R3K2R w KQkq - 0 1 | (Kf1 Kf8 Ke1 Ke8)*6;
+r3k2r/8/8/8/8/8/8/R3K2R w Qk - 0 1 | (Ke2 Rb8 Ke1 Ra8 Kf2 Ke7 Ke1 Ke8)*5;
+r3k2r/8/8/8/8/8/8/R3K2R w KQkq - 0 1 | Ke2 O-O-O; r3k2r/8/8/8/8/8/8/R3K2R w KQkq - 0 1 | Rxa8+ Kd7 O-O;
+r3k2r/8/8/8/8/8/8/R3K2R b KQkq - 0 1 | Rxh1+ Kd2 O-O-O+; 7k/8/6K1/8/8/8/8/R7 w - - 149 90 | Ra8;
+7k/8/6K1/8/8/8/8/R7 w - - 149 90 | claim fifty Ra8; 7k/8/6K1/8/8/8/8/R7 w - - 99 90 | claim fifty Ra8;
+7k/8/6K1/8/8/8/8/R7 w - - 99 90 | claim three Ra8; 7k/8/6K1/8/8/8/8/R7 w - - 98 90 | claim fifty Ra8;
+7k/8/6K1/8/8/8/8/R7 w - - 100 90 | claim fifty; 7k/8/6K1/8/8/8/8/R7 w - - 99 90 | claim fifty;
+7k/8/8/5Q2/8/8/8/K7 w - - 149 1 | Qf7; 7k/8/8/5Q2/8/8/8/K7 w - - 99 1 | claim fifty Qf7;
+7k/8/8/5Q2/8/8/8/K7 w - - 99 1 | claim three Qf7; 4k3/8/8/8/8/8/4P3/4K3 w - - 149 80 | e4 Kd7;
+4k3/8/8/8/8/8/4P3/4K3 w - - 148 80 | Kf2 Kd7; 7k/8/6K1/3p4/8/8/B7/8 w - - 0 1 | Bxd5;
+7k/8/6K1/3p4/8/8/B7/8 w - - 99 1 | claim three Bxd5; 4k3/8/8/8/8/4p3/3B4/2B1K1B1 w - - 0 1 | Bdxe3;
+4k3/8/8/8/8/4p3/3B4/2B1KB2 w - - 0 1 | Bxe3; 8/k2P4/8/8/8/2B5/8/K7 w - - 0 1 | d8=B;
+8/k1P5/8/8/8/2B5/8/K7 w - - 0 1 | c8=B; 8/k1P5/8/8/8/8/8/K7 w - - 0 1 | c8=N+; 8/k1P5/8/8/8/n7/8/K7 w - - 0 1 | c8=N+;
+b3k3/8/8/8/8/8/6p1/B3K3 b - - 0 1 | g1=B; b3k3/8/8/8/8/8/5p2/B4K2 w - - 0 1 | Kxf2;
+B3k3/8/8/8/8/8/5p2/b4K2 w - - 0 1 | Kxf2; b3k3/8/8/8/8/8/5p2/5K1B w - - 0 1 | Kxf2;
+n3k3/8/8/8/8/8/5p2/B4K2 w - - 0 1 | Kxf2; n3k3/8/8/8/8/8/5p2/N4K2 w - - 0 1 | Kxf2;
+k7/8/1K6/1P6/8/8/8/8 b - - 0 1 | Kb8 Ka6 Ka8 b6 Kb8 b7 Kc7; k7/8/KP6/8/8/8/8/8 w - - 0 1 | b7+ Kb8 Kb6;
+- | f3 e5 g4 claim_fifty_Qh4; - | f3 e5 g4 Qh4; - | e4 e5 Bc4 Nc6 Qh5 Nf6 Qxf7; - | e4 c5 e5 d5 exd6 Qxd6;
+- | e4 e5 Nf3 Nc6 Bc4 Bc5 O-O Nf6 d3 O-O; - | d4 d5 Nc3 Nc6 Bf4 Bf5 Qd2 Qd7 O-O-O O-O-O"""))]
 
 BARE = ['7k/8/8/8/8/8/Q7/K7 w - - 0 1', '7k/8/8/8/8/8/Q7/K7 b - - 0 1',
         '7k/8/8/8/8/8/P7/K7 w - - 0 1', '7k/p7/8/8/8/8/8/K7 w - - 0 1',
@@ -232,8 +183,7 @@ class Fuzz:
         self.t = Table(games, plies)
         self.now = self.r.choice([0, 1000, 1700000000000])
         self.habits = {}        # game -> how it is played
-        self.habit = {'style': 'any', 'claims': 0.03, 'offers': 0.02, 'resigns': 0,
-                      'script': []}
+        self.habit = {'style': 'any', 'claims': 0.03, 'offers': 0.02, 'resigns': 0, 'script': []}
         self.focus, self.streak = 0, 0
         self.scripts = []
         self.done = 0
@@ -281,15 +231,13 @@ class Fuzz:
             if fields[0] == 'ok' and fields[1] == 'claim' and 'wrong' in fields:
                 key += ' wrong' + (' move' if len(fields) > 4 else '')
         self.counts[key] += 1
-        if word and word[0] not in READS and fields[0] != 'no' \
-                and len(fields) > 2 and fields[-1].count('.') >= 1:
+        if word and word[0] not in READS and fields[0] != 'no' and len(fields) > 2 and fields[-1].count('.') >= 1:
             self.counts['end ' + fields[-2] + ' ' + fields[-1]] += 1
         if fields[0] == 'ok' and fields[1] == 'move':
             for mark in ('O-O-O', '=', '+', '#', 'x'):
                 if mark in fields[4]:
                     self.counts['san ' + mark] += 1
-            if re.match('[QRBN][a-h1-8]+x?[a-h][1-8]', fields[4]) \
-                    and len(re.sub('[x+#]', '', fields[4])) >= 4:
+            if re.match('[QRBN][a-h1-8]+x?[a-h][1-8]', fields[4]) and len(re.sub('[x+#]', '', fields[4])) >= 4:
                 self.counts['san apart %d' % len(re.sub('[x+#]', '', fields[4]))] += 1
         return answer
 
@@ -306,8 +254,7 @@ class Fuzz:
                     for f in (1, 8):
                         if r.random() < 0.7:
                             men[(f, rank)] = (colour, 'R')
-                rights = ''.join(c for c in 'KQkq' if r.random() < 0.75
-                                 and RIGHTS[c][1] in men)
+                rights = ''.join(c for c in 'KQkq' if r.random() < 0.75 and RIGHTS[c][1] in men)
             else:
                 a, b = r.sample(SQUARES, 2)
                 men[a], men[b] = (WHITE, 'K'), (BLACK, 'K')
@@ -322,8 +269,7 @@ class Fuzz:
                     men[pawn] = (other(side), 'P')
                     target = square_name((f, rank))
                     for g in (f - 1, f + 1):
-                        if on_board((g, rank)) and (g, rank - d) not in men \
-                                and r.random() < 0.7:
+                        if on_board((g, rank)) and (g, rank - d) not in men and r.random() < 0.7:
                             men[(g, rank - d)] = (side, 'P')
             else:
                 free = []
@@ -337,8 +283,7 @@ class Fuzz:
                 continue
             half = r.choice([0, 0, 1, 60, 96, 99, 100, 140, 147, 148, 149, 149])
             full = r.choice([1, 1, 2, 50, 9998, 9999])
-            p = Position(men, side, frozenset(rights),
-                         square_of(target) if target != '-' else None, half, full)
+            p = Position(men, side, frozenset(rights), square_of(target) if target != '-' else None, half, full)
             if valid(p) or r.random() < 0.02:
                 return fen_write(p)
         return INITIAL_FEN
@@ -351,10 +296,8 @@ class Fuzz:
         period = ''
         words = str(initial)
         if r.random() < 0.35:
-            moves = pick(r, [(1, 5), (2, 5), (3, 5), (5, 3), (20, 2), (255, 1),
-                             (0, 0.3), (256, 0.3)])
-            second = pick(r, [(1, 5), (10, 5), (30, 5), (86400, 2), (0, 0.3),
-                              (86401, 0.3)])
+            moves = pick(r, [(1, 5), (2, 5), (3, 5), (5, 3), (20, 2), (255, 1), (0, 0.3), (256, 0.3)])
+            second = pick(r, [(1, 5), (10, 5), (30, 5), (86400, 2), (0, 0.3), (86401, 0.3)])
             words = '%d/%d:%d' % (moves, initial, second)
         start = pick(r, [(None, 6), ('known', 8), ('random', 5), ('bad', 1.2),
                          ('mutated', 0.8), ('script', 8), ('bare', 1)])
@@ -375,8 +318,7 @@ class Fuzz:
             if not self.scripts:            # each comes once before any comes again
                 self.scripts = r.sample(SCRIPTS, len(SCRIPTS))
             fen, script = self.scripts.pop()
-            script = script.replace('claim ', 'claim_').replace('three ', 'three_') \
-                .replace('fifty ', 'fifty_').split()
+            script = script.replace('claim ', 'claim_').replace('three ', 'three_') .replace('fifty ', 'fifty_').split()
             start = fen
             if r.random() < 0.8:
                 words, increment = r.choice(['3600', '300']), 0
@@ -478,23 +420,19 @@ class Fuzz:
                 return coordinate((a, b, None))
             return 'a1a2'
         if kind == 'square':
-            return coordinate((r.choice(SQUARES), r.choice(SQUARES),
-                               r.choice([None, None, 'Q', 'N'])))
+            return coordinate((r.choice(SQUARES), r.choice(SQUARES), r.choice([None, None, 'Q', 'N'])))
         if kind == 'mutated':
             return self.mutate(whole).replace(' ', '_') or '-'
         if kind == 'promotion':
-            return r.choice([bare.split('=')[0], bare + '=Q', bare + '=K',
-                             bare.split('=')[0] + 'Q', coordinate(m) + 'Q',
-                             coordinate(m) + 'k', coordinate(m)[:4],
-                             bare.split('=')[0] + '=q', coordinate(m)[:4] + 'p'])
+            return r.choice([bare.split('=')[0], bare + '=Q', bare + '=K', bare.split('=')[0] + 'Q',
+                             coordinate(m) + 'Q', coordinate(m) + 'k', coordinate(m)[:4], bare.split('=')[0] + '=q',
+                             coordinate(m)[:4] + 'p'])
         if kind == 'case':
-            return r.choice([whole.lower(), whole.upper(), whole.swapcase(),
-                             coordinate(m).upper()])
+            return r.choice([whole.lower(), whole.upper(), whole.swapcase(), coordinate(m).upper()])
         if kind == 'capture':
             return bare.replace('x', '') if 'x' in bare else bare[:1] + 'x' + bare[1:]
-        return r.choice(['0-0', 'O-O', 'O-O-O', '0-0-0', 'e1g1', 'e1c1', 'e8g8',
-                         'e8c8', 'o-o', 'O-O+', 'O-O-O-O', 'e1h1', '--', 'Z0',
-                         'e2e4', 'P', 'Pe4', 'e2-e4', 'Ng1-f3', 'x' * 200])
+        return r.choice(['0-0', 'O-O', 'O-O-O', '0-0-0', 'e1g1', 'e1c1', 'e8g8', 'e8c8', 'o-o', 'O-O+', 'O-O-O-O',
+                         'e1h1', '--', 'Z0', 'e2e4', 'P', 'Pe4', 'e2-e4', 'Ng1-f3', 'x' * 200])
 
     def mutate(self, text):
         r = self.r
@@ -502,8 +440,7 @@ class Fuzz:
         for _ in range(r.choice([1, 1, 1, 2])):
             k = r.randint(0, len(text))
             c = r.choice(marks)
-            text = r.choice([text[:k] + c + text[k:], text[:k] + c + text[k + 1:],
-                             text[:k] + text[k + 1:],
+            text = r.choice([text[:k] + c + text[k:], text[:k] + c + text[k + 1:], text[:k] + text[k + 1:],
                              text[:k] + text[k:k + 1] + text[k:]])
         return text
 
@@ -513,10 +450,8 @@ class Fuzz:
         r = self.r
         game = self.t.games.get(number)
         if game is None:
-            word = r.choice(['join', 'offer', 'accept', 'decline', 'resign',
-                             'flag', 'drop', 'show', 'fen', 'pgn'])
-            line = r.choice(['%s %d' % (word, number), '%s %d' % (word, number),
-                             'move %d 0 e4' % number,
+            word = r.choice(['join', 'offer', 'accept', 'decline', 'resign', 'flag', 'drop', 'show', 'fen', 'pgn'])
+            line = r.choice(['%s %d' % (word, number), '%s %d' % (word, number), 'move %d 0 e4' % number,
                              'claim %d 0 three' % number])
             self.send(self.moment(read=True), r.choice(PLAYERS + [None]), line)
             return
@@ -535,8 +470,7 @@ class Fuzz:
         kind = pick(r, [('join', 12), ('same', 2), ('drop', 1), ('drop4', 1),
                         ('act', 3), ('act4', 1), ('read', 3), ('noname', 0.5)])
         act = r.choice(['offer', 'accept', 'decline', 'resign', 'flag'])
-        line = r.choice(['%s %d' % (act, number), 'move %d 0 e4' % number,
-                         'claim %d 0 fifty' % number])
+        line = r.choice(['%s %d' % (act, number), 'move %d 0 e4' % number, 'claim %d 0 fifty' % number])
         if kind == 'join':
             self.send(self.moment(), stranger, 'join %d' % number)
         elif kind == 'same':
@@ -553,8 +487,7 @@ class Fuzz:
             self.send(self.moment(read=True), None, 'join %d' % number)
         else:
             word = r.choice(['show', 'fen', 'pgn'])
-            self.send(self.moment(read=True), r.choice(PLAYERS + [None]),
-                      '%s %d' % (word, number))
+            self.send(self.moment(read=True), r.choice(PLAYERS + [None]), '%s %d' % (word, number))
 
     def play_over(self, number, f):
         r = self.r
@@ -566,14 +499,12 @@ class Fuzz:
             self.send(self.moment(), r.choice(PLAYERS), 'drop %d' % number)
         elif kind == 'act':
             word = r.choice(['offer', 'accept', 'decline', 'resign', 'flag', 'join'])
-            line = r.choice(['%s %d' % (word, number),
-                             'move %d %d e4' % (number, f.ply),
+            line = r.choice(['%s %d' % (word, number), 'move %d %d e4' % (number, f.ply),
                              'claim %d %d three' % (number, f.ply)])
             self.send(self.moment(), seated, line)
         else:
             word = r.choice(['show', 'show', 'fen', 'pgn'])
-            self.send(self.moment(read=True), r.choice(PLAYERS + [None]),
-                      '%s %d' % (word, number))
+            self.send(self.moment(read=True), r.choice(PLAYERS + [None]), '%s %d' % (word, number))
 
     def play_running(self, number, f):
         r = self.r
@@ -620,14 +551,12 @@ class Fuzz:
             m = self.choose_move(f, habit['style'])
             self.send(at, mover, 'move %d %d %s' % (number, f.ply, self.spell(p, m)))
         elif kind == 'castle':
-            text = r.choice(['O-O', 'O-O-O', 'O-O', 'O-O-O', 'O-O+', 'O-O-O+',
-                             'e1g1', 'e1c1', 'e8g8', 'e8c8'])
+            text = r.choice(['O-O', 'O-O-O', 'O-O', 'O-O-O', 'O-O+', 'O-O-O+', 'e1g1', 'e1c1', 'e8g8', 'e8c8'])
             self.send(at, mover, 'move %d %d %s' % (number, f.ply, text))
         elif kind == 'badtext':
             self.send(at, mover, 'move %d %d %s' % (number, f.ply, self.wrong_text(p)))
         elif kind == 'ply':
-            ply = r.choice([f.ply + 1, max(0, f.ply - 1), 0, self.plies, f.ply + 2,
-                            4294967295])
+            ply = r.choice([f.ply + 1, max(0, f.ply - 1), 0, self.plies, f.ply + 2, 4294967295])
             m = self.choose_move(f, habit['style'])
             self.send(at, either, r.choice([
                 'move %d %d %s' % (number, ply, self.spell(p, m)),
@@ -667,12 +596,10 @@ class Fuzz:
             self.send(at, None, '%s %d' % (word, number))
         else:
             word = pick(r, [('show', 6), ('fen', 3), ('pgn', 2)])
-            self.send(self.moment(read=True), r.choice([either, either, None]),
-                      '%s %d' % (word, number))
+            self.send(self.moment(read=True), r.choice([either, either, None]), '%s %d' % (word, number))
         if r.random() < 0.1 and self.done < self.n:
             self.send(self.moment(read=True), either, 'show %d' % number)
-        if number in self.t.games and self.t.games[number].fields().ending \
-                and r.random() < 0.5:
+        if number in self.t.games and self.t.games[number].fields().ending and r.random() < 0.5:
             self.send(self.moment(read=True), either, 'pgn %d' % number)
 
     def claim(self, number, f, at, mover):
@@ -716,8 +643,7 @@ class Fuzz:
             self.send(self.moment(), r.choice(PLAYERS + [None]), r.choice(BAD_LINES))
             return
         if x < 0.017:
-            line = self.mutate(r.choice(self.inputs).split(' ', 2)[2][:-1])[:255] \
-                if self.inputs else 'list'
+            line = self.mutate(r.choice(self.inputs).split(' ', 2)[2][:-1])[:255] if self.inputs else 'list'
             self.send(self.moment(), r.choice(PLAYERS), line)
             return
         if x < 0.020 and self.with_bytes:
@@ -728,8 +654,7 @@ class Fuzz:
             self.send(self.moment(), r.choice(PLAYERS), line)
             return
         if x >= 0.992:
-            fen = self.mutate(r.choice(STARTS).format(h=149)) if x > 0.997 \
-                else r.choice(BAD_STARTS)
+            fen = self.mutate(r.choice(STARTS).format(h=149)) if x > 0.997 else r.choice(BAD_STARTS)
             self.send(self.moment(), r.choice(PLAYERS), 'open white 60 0 ' + fen)
             return
         if x < 0.022:
@@ -774,8 +699,7 @@ def main(args):
     for key in sorted(fuzz.counts):
         print('%7d  %s' % (fuzz.counts[key], key), file=sys.stderr)
     longest = max([len(game.entries) for game in fuzz.t.games.values()] or [0])
-    print('longest of the games left: %d entries; last number %d'
-          % (longest, fuzz.t.last), file=sys.stderr)
+    print('longest of the games left: %d entries; last number %d' % (longest, fuzz.t.last), file=sys.stderr)
 
 
 if __name__ == '__main__':

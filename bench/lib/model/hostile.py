@@ -1,8 +1,7 @@
 """Random, mutated and valid lines for one table, session by session, and the plain model's answers to them.
 
 Most lines cost the model little: they have no form, or are refused. A few go on with games as fuzz.py does. All lines
-of a session have one moment, since the program's clock stands still in a run (program.py).
-"""
+of a session have one moment, since the program's clock stands still in a run (program.py). """
 
 from lib.model.fuzz import BAD_LINES, BAD_STARTS, PLAYERS, STARTS, Fuzz, pick
 from lib.model.rules import INITIAL_FEN, LAST_MOMENT, Game, Table, texts

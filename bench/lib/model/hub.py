@@ -1,11 +1,11 @@
 #!/usr/bin/env python3
 """hub.py FILE
 
-Plays the lines of the part `hub` of `test_player` (see there) by the rules in words alone, on the plain model of the table:
-what each session of a hub is told, and what `run` writes. Prints what it is to print. Devices and memory are no part of the
-model; of a device that serves so many calls more it knows only that a commit takes five calls, or four where all records fit into
-one sector (here: up to four entries). The last of the lines, and what is to be printed of all, long_run.py writes.
-"""
+Plays the lines of the part `hub` of `test_player` (see there) by the rules in words alone, on the plain model of the
+table: what each session of a hub is told, and what `run` writes. Prints what it is to print. Devices and memory are no
+part of the model; of a device that serves so many calls more it knows only that a commit takes five calls, or four
+where all records fit into one sector (here: up to four entries). The last of the lines, and what is to be printed of
+all, long_run.py writes. """
 
 import sys
 from lib.model.rules import Table, parse
@@ -81,7 +81,7 @@ class Session:
 
 
 def answer_lines(store, at, taken):
-    """The answers to lines `(session, line)` as one batch; names hold for the lines after. Device leaves all as it was."""
+    """The answers to lines `(session, line)` as one batch; names hold from then on. Device changes nothing."""
     names, places, commands, answers = {}, [], [], []
     for session, line in taken:
         name = names.get(id(session), session.name)
@@ -232,7 +232,8 @@ def play(path):
 
 
 def waiting(session):
-    """Bytes fed and not taken, line feeds too; of a line that is too long none. (No carriage returns where it is asked.)"""
+    """Bytes fed and not taken, line feeds too; of a line that is too long none. (No carriage returns where it is
+    asked.)"""
     return sum(len(line) + 1 for line in session.heard) + len(session.rest)
 
 

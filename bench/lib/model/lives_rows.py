@@ -2,11 +2,11 @@
 """The part `lives` of `test_player`'s stored run: `lives_rows.py stdin` prints its plans, `lives_rows.py stdout` what
 came of them.
 
-What came is worked out here by the calls of docs/design/DISK.md, and never taken from the program. An opening syncs and reads
-the two header slots and each sector of the journal; a commit of w sectors, of four entries at most, makes w writes, a
-sync, the header's write and a sync. A batch without an entry makes no call. The call that the device does not serve
-fails and is counted, the first write that fails is pending, and a commit shows after a stop just where its last sync was
-answered, or its header was pending and is kept."""
+What came is worked out here by the calls of docs/design/DISK.md, and never taken from the program. An opening syncs and
+reads the two header slots and each sector of the journal; a commit of w sectors, of four entries at most, makes w
+writes, a sync, the header's write and a sync. A batch without an entry makes no call. The call that the device does not
+serve fails and is counted, the first write that fails is pending, and a commit shows after a stop just where its last
+sync was answered, or its header was pending and is kept."""
 import itertools
 import sys
 
@@ -73,7 +73,7 @@ def play(*plan):
 
 
 def cases():
-    """A batch of five moves that stops at each of its five calls, with each fate of what is pending then, and at none."""
+    """A batch of five moves that stops at each of its five calls, with each fate of what is pending, and at none."""
     for calls, pending in ((7, 1), (8, 2), (9, 2), (10, 1), (11, 1), (None, 0)):
         for fates in itertools.product("lku", repeat=pending):
             yield calls, "".join(fates), [OPENING, MOVES]
@@ -87,8 +87,8 @@ play((None, "", [OPENING, MOVES]), *[(calls, "", []) for calls in range(5)])
 play()
 play((3, "", [OPENING, MOVES[:1]]))
 # The device fails in lives among others: the count rises over these alone. The second is stopped at the sync of its
-# moves, which are lost; the third plays them; the fourth is stopped in its opening; the fifth has a call for each of its
-# opening and no more, which is enough; the sixth is stopped at its first batch's last sync, and the header is kept.
+# moves, which are lost; the third plays them; the fourth is stopped in its opening; the fifth has a call for each of
+# its opening and no more, which is enough; the sixth is stopped at its first batch's last sync, and the header is kept.
 play((None, "", [OPENING]), (6, "lk", [NOTHING, MOVES]), (None, "", [MOVES]), (5, "", [MOVES]), (6, "", [NOTHING]),
      (9, "k", [["1000 bob move 1 5 a6"], MOVES]), (None, "", []))
 # The drill plays the cases.

@@ -1,6 +1,6 @@
-"""A game of thousands of moves: pawns go one square at a time and take one another, each as late as the rule of 75 moves
-lets it, and between these moves the knights go about. (No game has 20,000 moves: with all 16 pawns at their last square
-and all men taken it is over after some 17,700.)"""
+"""A game of thousands of moves: pawns go one square at a time and take one another, each as late as the rule of 75
+moves lets it, and between these moves the knights go about. (No game has 20,000 moves: with all 16 pawns at their last
+square and all men taken it is over after some 17,700.)"""
 from collections import Counter
 
 STEPS = [(a, b) for a in (-2, -1, 1, 2) for b in (-2, -1, 1, 2) if abs(a) != abs(b)]

@@ -1,19 +1,16 @@
 #!/usr/bin/env python3
 """A plain and slow model of the chess game server's table of games.
 
-Written from the rules in words alone, by somebody who had not seen the code or its
-definitions; `bench/correct/differential` compares the two.
-Positions are maps from squares (file, rank) to (colour, kind); a game is the
-list of its entries, and every field of it is read off that whole list.
+Written from the rules in words alone, by somebody who had not seen the code or its definitions;
+`bench/correct/differential` compares the two. Positions are maps from squares (file, rank) to (colour, kind); a game is
+the list of its entries, and every field of it is read off that whole list.
 
     t = Table(games_limit, plies_limit)
     t.command(at, who, line) -> list of answer lines
 
-`at` is an int, `who` a name or None, `line` a str of the bytes before the line
-feed (latin-1: one character a byte).
+`at` is an int, `who` a name or None, `line` a str of the bytes before the line feed (latin-1: one character a byte).
 
-As a program: rules.py GAMES PLIES [FILE]  reads lines `MOMENT WHO LINE`
-(WHO `-` for no name) and prints the answers.
+As a program: rules.py GAMES PLIES [FILE]  reads lines `MOMENT WHO LINE` (WHO `-` for no name) and prints the answers.
 """
 
 import re
@@ -57,8 +54,7 @@ def sign(n):
 
 
 def way(man, a, b):
-    """The squares that must be empty for a man on a to attack b, or None
-    where it never does."""
+    """The squares that must be empty for a man on a to attack b, or None where it never does."""
     colour, kind = man
     df, dr = b[0] - a[0], b[1] - a[1]
     if kind == 'P':
@@ -72,8 +68,7 @@ def way(man, a, b):
     if not (straight and kind in 'RQ' or diagonal and kind in 'BQ'):
         return None
     sf, sr = sign(df), sign(dr)
-    return tuple((a[0] + i * sf, a[1] + i * sr)
-                 for i in range(1, max(abs(df), abs(dr))))
+    return tuple((a[0] + i * sf, a[1] + i * sr) for i in range(1, max(abs(df), abs(dr))))
 
 
 # kept for speed: man -> a -> b -> way(man, a, b), where that isn't None
@@ -134,13 +129,11 @@ class Position:
 
     def whole(self):
         """All six fields, to compare positions field by field."""
-        return (frozenset(self.men.items()), self.side, self.rights,
-                self.target, self.half, self.full)
+        return (frozenset(self.men.items()), self.side, self.rights, self.target, self.half, self.full)
 
 
 class Worked:
-    """What was worked out of a position, whatever its counters; kept for
-    speed alone."""
+    """What was worked out of a position, whatever its counters; kept for speed alone."""
 
     def __init__(self):
         self.legal = self.same = self.texts = None
@@ -233,8 +226,7 @@ def candidates(p):
         if colour != side:
             continue
         d = sign(rook[0] - king[0])
-        between = [(f, king[1]) for f in
-                   range(min(king[0], rook[0]) + 1, max(king[0], rook[0]))]
+        between = [(f, king[1]) for f in range(min(king[0], rook[0]) + 1, max(king[0], rook[0]))]
         if any(sq in men for sq in between):
             continue
         path = [(king[0] + i * d, king[1]) for i in (0, 1, 2)]
@@ -249,8 +241,7 @@ def is_castling(p, m):
 
 
 def is_en_passant(p, m):
-    return (p.men[m[0]][1] == 'P' and m[0][0] != m[1][0]
-            and m[1] not in p.men)
+    return (p.men[m[0]][1] == 'P' and m[0][0] != m[1][0] and m[1] not in p.men)
 
 
 # ------------------------------------------------------------------------ next
@@ -270,9 +261,7 @@ def following(p, m):
         d = sign(b[0] - a[0])
         del men[(8 if d > 0 else 1, a[1])]
         men[(a[0] + d, a[1])] = (colour, 'R')
-    rights = frozenset(right for right in p.rights
-                       if a not in RIGHTS[right][:2]
-                       and b not in RIGHTS[right][:2])
+    rights = frozenset(right for right in p.rights if a not in RIGHTS[right][:2] and b not in RIGHTS[right][:2])
     target = None
     if kind == 'P' and abs(b[1] - a[1]) == 2:
         target = (a[0], (a[1] + b[1]) // 2)
@@ -313,8 +302,7 @@ def same_key(p):
     if known.same is None:
         passing = frozenset()
         if p.target is not None:
-            passing = frozenset(m for m in legal_moves(p)
-                                if is_en_passant(p, m))
+            passing = frozenset(m for m in legal_moves(p) if is_en_passant(p, m))
         known.same = (p.side, p.rights, frozenset(p.men.items()), passing)
     return known.same
 
@@ -388,8 +376,7 @@ def bare_san(p, m):
         if became:
             text += '=' + became
         return text
-    rivals = [n[0] for n in legal_moves(p)
-              if n[1] == b and n[0] != a and p.men[n[0]][1] == kind]
+    rivals = [n[0] for n in legal_moves(p) if n[1] == b and n[0] != a and p.men[n[0]][1] == kind]
     apart = ''
     if rivals:
         if all(sq[0] != a[0] for sq in rivals):
@@ -563,8 +550,7 @@ class Fields:
         self.start = opened.start
         joins = [e for e in entries if e.kind == 'join']
         self.joined = joins[0].at if joins else None
-        self.seats = {opened.colour: opened.who,
-                      other(opened.colour): joins[0].who if joins else None}
+        self.seats = {opened.colour: opened.who, other(opened.colour): joins[0].who if joins else None}
 
         # the line, its moves, and which claims were right
         self.line = [self.start]
@@ -575,8 +561,7 @@ class Fields:
                 if i not in game.judged:
                     game.judged[i] = claim_is_right(self.line, e.fifty, e.move)
                 self.right[i] = game.judged[i]
-            if e.kind == 'move' or (e.kind == 'claim' and e.move is not None
-                                    and not self.right[i]):
+            if e.kind == 'move' or (e.kind == 'claim' and e.move is not None and not self.right[i]):
                 p = self.line[-1]
                 n = (len(self.moves), e.move)
                 if n not in game.known:
@@ -605,8 +590,7 @@ class Fields:
 
         # offers and claims
         runs = self.joined is not None and self.ending is None
-        self.offers = {s: runs and self.offer_stands(entries, s)
-                       for s in (WHITE, BLACK)}
+        self.offers = {s: runs and self.offer_stands(entries, s) for s in (WHITE, BLACK)}
         claims = [i for i, e in enumerate(entries) if e.kind == 'claim']
         last_move = self.moves[-1][0] if self.moves else -1
         self.claimed = runs and any(i > last_move for i in claims)
@@ -618,9 +602,8 @@ class Fields:
         self.held = {s: self.time_held(entries, s) for s in (WHITE, BLACK)}
 
     def offer_stands(self, entries, side):
-        made = [i for i, e in enumerate(entries)
-                if e.kind == 'offer' and e.side == side
-                or e.kind == 'claim' and e.side == side and not self.right[i]]
+        made = [i for i, e in enumerate(entries) if e.kind == 'offer' and e.side == side or e.kind == 'claim'
+                and e.side == side and not self.right[i]]
         if not made:
             return False
         since = made[-1]
@@ -634,12 +617,10 @@ class Fields:
 
     def time_held(self, entries, side):
         o = self.opened
-        own = [k for k, (_, _, mover, _) in enumerate(self.moves)
-               if mover == side]
+        own = [k for k, (_, _, mover, _) in enumerate(self.moves) if mover == side]
         held = 1000 * o.initial
         held += 1000 * o.increment * len(own)
-        held += 120000 * len([i for i, e in enumerate(entries)
-                              if e.kind == 'claim' and e.side != side
+        held += 120000 * len([i for i, e in enumerate(entries) if e.kind == 'claim' and e.side != side
                               and not self.right[i]])
         if o.period is not None and len(own) >= o.period[0]:
             held += 1000 * o.period[1]
@@ -680,9 +661,8 @@ def pgn(f):
     def tag(name, value):
         return '[%s "%s"]' % (name, value)
     o = f.opened
-    lines = [tag('Event', '?'), tag('Site', '?'), tag('Date', '????.??.??'),
-             tag('Round', '?'), tag('White', f.seats[WHITE] or '?'),
-             tag('Black', f.seats[BLACK] or '?'), tag('Result', f.result())]
+    lines = [tag('Event', '?'), tag('Site', '?'), tag('Date', '????.??.??'), tag('Round', '?'),
+             tag('White', f.seats[WHITE] or '?'), tag('Black', f.seats[BLACK] or '?'), tag('Result', f.result())]
     if f.ending:
         lines.append(tag('Article', f.ending[1]))
     if f.start.whole() != INITIAL.whole():
@@ -699,8 +679,7 @@ def pgn(f):
     if o.period is None:
         control = '%d%s' % (o.initial, plus)
     else:
-        control = '%d/%d%s:%d%s' % (o.period[0], o.initial, plus,
-                                    o.period[1], plus)
+        control = '%d/%d%s:%d%s' % (o.period[0], o.initial, plus, o.period[1], plus)
     lines.append(tag('TimeControl', control))
     lines.append('')
 
@@ -767,8 +746,7 @@ def parse(line):
         if word == 'list':
             return word, {}
         if word == 'open':
-            f = {'colour': g[0], 'initial': number(1), 'increment': number(2),
-                 'period': None, 'fen': g[3]}
+            f = {'colour': g[0], 'initial': number(1), 'increment': number(2), 'period': None, 'fen': g[3]}
             numbers = [f['initial'], f['increment']]
         elif word == 'open2':
             word = 'open'
@@ -779,8 +757,7 @@ def parse(line):
             f = {'game': number(0), 'ply': number(1), 'text': g[2]}
             numbers = [f['game'], f['ply']]
         elif word == 'claim':
-            f = {'game': number(0), 'ply': number(1), 'fifty': g[2] == 'fifty',
-                 'text': g[3]}
+            f = {'game': number(0), 'ply': number(1), 'fifty': g[2] == 'fifty', 'text': g[3]}
             numbers = [f['game'], f['ply']]
         else:
             f = {'game': number(0)}
@@ -907,8 +884,7 @@ class Table:
         period = f['period']
         if not (1 <= f['initial'] <= 86400 and 0 <= f['increment'] <= 60):
             raise Refused(18)
-        if period is not None and not (1 <= period[0] <= 255
-                                       and 1 <= period[1] <= 86400):
+        if period is not None and not (1 <= period[0] <= 255 and 1 <= period[1] <= 86400):
             raise Refused(18)
         start = INITIAL
         if f['fen'] is not None:
@@ -920,10 +896,8 @@ class Table:
         if len(self.games) >= self.games_limit or self.last == TOP:
             raise Refused(19)
         number = self.last + 1
-        self.enter(Entry('open', number, at, who=who,
-                         colour=WHITE if f['colour'] == 'white' else BLACK,
-                         initial=f['initial'], increment=f['increment'],
-                         period=period, start=start))
+        self.enter(Entry('open', number, at, who=who, colour=WHITE if f['colour'] == 'white' else BLACK,
+                         initial=f['initial'], increment=f['increment'], period=period, start=start))
         return ['ok open %d' % number]
 
     def join(self, at, who, f):
@@ -940,8 +914,7 @@ class Table:
         g, _ = self.on_move(at, who, f)
         m = self.read(g, f)
         self.enter(Entry('move', f['game'], at, move=m))
-        return ['ok move %d %d %s%s' % (f['game'], g.ply + 1,
-                                        san(g.present, m), self.end(f['game']))]
+        return ['ok move %d %d %s%s' % (f['game'], g.ply + 1, san(g.present, m), self.end(f['game']))]
 
     def offer(self, at, who, f):
         g, side = self.running(at, who, f)
@@ -977,17 +950,14 @@ class Table:
             raise Refused(13)
         m = self.read(g, f) if f['text'] is not None else None
         number = f['game']
-        self.enter(Entry('claim', number, at, side=side, fifty=f['fifty'],
-                         move=m))
+        self.enter(Entry('claim', number, at, side=side, fifty=f['fifty'], move=m))
         after = self.games[number].fields()
         index = len(self.games[number].entries) - 1
         if after.right[index]:
             return ['ok claim %d%s' % (number, self.end(number))]
         if m is None:
             return ['ok claim %d wrong' % number]
-        return ['ok claim %d wrong %d %s%s' % (number, g.ply + 1,
-                                               san(g.present, m),
-                                               self.end(number))]
+        return ['ok claim %d wrong %d %s%s' % (number, g.ply + 1, san(g.present, m), self.end(number))]
 
     def flag(self, at, who, f):
         self.running(at, who, f)

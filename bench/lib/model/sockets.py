@@ -1,11 +1,10 @@
 #!/usr/bin/env python3
 """sockets.py FILE
 
-Plays the lines of the part `sockets` of `test_player` (see there) by the rules in words alone, on the plain model of the table
-and of the sessions of a hub (hub.py): what each client is sent. Prints what it is to print. A turn takes in all that the
-clients have sent, answers, and closes whose connection is over (docs/client/PROTOCOL.md, "Sessions over a socket"); how much of it
-comes in one turn is not told here.
-"""
+Plays the lines of the part `sockets` of `test_player` (see there) by the rules in words alone, on the plain model of
+the table and of the sessions of a hub (hub.py): what each client is sent. Prints what it is to print. A turn takes in
+all that the clients have sent, answers, and closes whose connection is over (docs/client/PROTOCOL.md, "Sessions over a
+socket"); how much of it comes in one turn is not told here. """
 
 import sys
 from lib.model.hub import Hub, Store

@@ -1,9 +1,9 @@
 #!/usr/bin/env python3
 """tables.py FILE
 
-Plays the lines of the part `table` of `test_player` (see there) by the rules in words alone, on the plain model of the table,
-and prints what it is to print. Records are made by images.py, and read by reader.py, both from docs/design/DISK.md.
-"""
+Plays the lines of the part `table` of `test_player` (see there) by the rules in words alone, on the plain model of the
+table, and prints what it is to print. Records are made by images.py, and read by reader.py, both from
+docs/design/DISK.md. """
 
 import sys
 from lib.model.images import entry_record, snapshot_of

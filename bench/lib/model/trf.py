@@ -1,6 +1,6 @@
 #!/usr/bin/env python3
-"""What `chess-club trf` writes, by docs/use/NIGHT.md, "A round": trf.py trf --players FILE --archive FILE --rounds CSV,GAMES .. prints
-the report of a tournament. Of its other words there is no model."""
+"""What `chess-club trf` writes, by docs/use/NIGHT.md, "A round": trf.py trf --players FILE --archive FILE --rounds
+CSV,GAMES .. prints the report of a tournament. Of its other words there is no model."""
 
 import argparse
 import csv
@@ -10,12 +10,13 @@ from lib.night import games_in, place_of, points_of, read_notes, rounds_of, unes
 from lib.program import Wrong
 
 # the lines of the tournament, and which option says what stands there
-OPTIONS = {'012': 'name', '022': 'city', '032': 'federation', '042': 'begins', '052': 'ends', '092': 'kind', '102': 'arbiter',
+OPTIONS = {'012': 'name', '022': 'city', '032': 'federation', '042': 'begins', '052': 'ends', '092': 'kind',
+           '102': 'arbiter',
            '112': 'deputy', '122': 'times'}
 
 
 def players_in(path):
-    """The full names of a players' file by the names (docs/use/CLUB.md, "Players"), of those who are no arbiters, in its order."""
+    """The full names of a players' file by the names (docs/use/CLUB.md, "Players"), of players alone, in its order."""
     with open(path, encoding='utf-8', newline='\n') as file:
         lines = [line for line in file.read().split('\n') if line and not line.startswith('#')]
     rows = [line.split(' ', 3) for line in lines]
@@ -57,8 +58,8 @@ def player_line(number, name, points, place, rounds):
 
 
 def report(told, full, rounds, count):
-    """The lines of a report. `told` is what stands in the lines of the tournament, `count` how many rounds there are to be, if
-    that is told; the others are as of rounds_of."""
+    """The lines of a report. `told` is what stands in the lines of the tournament, `count` how many rounds there are to
+    be, if that is told; the others are as of rounds_of."""
     lines = [f'{number} {text}' for number, text in sorted(told.items())]
     lines += [f'XXR {count}'] if count else []
     points, met = points_of(rounds), rounds_of(full, rounds)

@@ -5,3 +5,4 @@ pub mod Refused
 pub mod Sans
 pub mod Entered
 pub mod Heads
+pub mod Names

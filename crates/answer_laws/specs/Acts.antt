@@ -8,7 +8,8 @@ use Rattle.chess_entry.specs.State.{GameState, position_of, ply_of}
 use Rattle.chess_entry.specs.Story.{stated}
 use Rattle.chess_entry.specs.Outcome.{is_granted, claimed_draw, agreed, resigned, flag_fallen, ending_with}
 use Rattle.chess_answer.specs.Acts.{free_side}
-use Rattle.server_answers.specs.Entered.{Made, Done, Joined, Moved, Offered, Accepted, Declined, Resigned, Claimed, ClaimedWrongly, Fallen, Dropped, entered_in}
+use Rattle.server_answers.specs.Entered.{Made, Done, Joined, Moved, Offered, Accepted, Declined, Resigned, Claimed}
+use Rattle.server_answers.specs.Entered.{ClaimedWrongly, Fallen, Dropped, entered_in}
 use Rattle.answer_laws.specs.Told.{side_as, end_as, ending_as}
 
 -- A move was made: it is told with how many were made with it, its SAN, and how the game ended with it.

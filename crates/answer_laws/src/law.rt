@@ -1,5 +1,5 @@
-//! What is promised of the server's answers and of their readers together.
-ghost use Rattle.std.specs.Prelude.{ℕ, ◌≡◌, ◌<◌, ◌^◌, ◌++◌, ◌∷◌, [], List, Some, codes};
+//! What is promised of the server's answers and of their readers together, and of the lobby's desk and a session.
+ghost use Rattle.std.specs.Prelude.{ℕ, Bool, ◌≡◌, ◌<◌, ◌^◌, ◌++◌, ◌∷◌, [], List, Some, codes};
 ghost use Rattle.rec_codec.specs.declared.record.Event.{Event};
 ghost use Rattle.chess_entry.specs.State.{GameState};
 ghost use Rattle.chess_entry.specs.Bounds.{IsGame};
@@ -15,6 +15,10 @@ ghost use Rattle.server_answers.specs.Games.{shown_in, row_in};
 ghost use Rattle.answer_laws.specs.Told.{shown_as, row_as};
 ghost use Rattle.answer_laws.specs.Refusals.{refusal_as, IsTold};
 ghost use Rattle.answer_laws.specs.Acts.{IsReadAs};
+ghost use Rattle.lobby_words.specs.declared.players.Player.{Player};
+ghost use Rattle.lobby_desk.specs.Who.{View};
+ghost use Rattle.lobby_desk.specs.History.{Step, IsRun};
+ghost use Rattle.answer_laws.specs.Names.{AllEntered};
 
 /// The answer to `show` of every game that the server keeps is read to the game's number, players, moves made, side on
 /// move, what both sides have left, offers and ending.
@@ -49,4 +53,14 @@ pub fn law_of_heads_read()
     ensures list { (count : ℕ) → count < 2 ^ 32 → list_in (list_line_text count) ≡ Some count }
     ensures pgn { (game : GameState) (line body : List ℕ) → IsGame 20000 game → IsPgnReply game line body →
         line_count body < 2 ^ 32 → pgn_in line ≡ Some (record { game = game.number; lines = line_count body }) }
+{}
+
+/// Whatever the lobby's desk has come, said and answered: where the server's session took each line that it has
+/// answered there as `chess_hub` has it, and gave the answers that the desk has, an act whose answer counts is one that
+/// the session asked of the table under the name of the player whose token its connection had shown; of an arbiter's
+/// `as NAME LINE` under NAME; of a `drop` under the name of who waited in the game; and of a pairing its opening under
+/// White's name, and its join under Black's.
+pub fn law_of_entered_names()
+    ensures { (players : List Player) (is_paused : Bool) (steps : List Step) (now : View) →
+        IsRun players is_paused steps now → AllEntered players steps }
 {}

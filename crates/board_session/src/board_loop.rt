@@ -2,7 +2,8 @@
 ghost use Rattle.std.specs.Prelude.{◌≡◌, ℕ, List, IfSome, OnOk, OnErr, IsErrOf};
 ghost use Rattle.chess_board.specs.Position.{IsValid};
 ghost use Rattle.chess_board.specs.Initial.{initial};
-ghost use Rattle.board_session.specs.Run.{IsBoardText, AppendsText, AppendsFront, AnswersTaken, AnswersInPart, BoardIsOfSource};
+ghost use Rattle.board_session.specs.Run.{IsBoardText, AppendsText, AppendsFront, AnswersTaken, AnswersInPart};
+ghost use Rattle.board_session.specs.Run.{BoardIsOfSource};
 
 use crate::answer::answer;
 use chess_board::Board;

@@ -1,5 +1,6 @@
 -- The answers to acts that become entries, on the table before the entry.
-use Rattle.std.specs.Prelude.{ℕ, ◌≡◌, ◌+◌, Bool, true, false, if◌then◌else◌, List, [], ◌∷◌, ◌++◌, Option, Some, None, is_none, codes, decimal}
+use Rattle.std.specs.Prelude.{ℕ, ◌≡◌, ◌+◌, Bool, true, false, if◌then◌else◌, List, [], ◌∷◌, ◌++◌, Option, Some, None}
+use Rattle.std.specs.Prelude.{is_none, codes, decimal}
 use Rattle.std.specs.Option.{ForSome}
 use Rattle.chess_bits.specs.declared.men.Colour.{Colour}
 use Rattle.chess_bits.specs.declared.men.Colour.TheVariants.{White, Black}
@@ -46,7 +47,8 @@ IsWrongClaimLine game (Some m) text = TellsMove game m (ok_text (codes "claim") 
 
 -- a claim, by whether it is correct: a correct one draws at once, and its stated move is not made
 abbrev pub IsClaimLine : Bool → GameState → Bool → Option Move → List ℕ → Type 0
-IsClaimLine true game fifty mv text = text ≡ ok_text (codes "claim") game.number (end_fields (Some (claimed_draw fifty)))
+IsClaimLine true game fifty mv text =
+    text ≡ ok_text (codes "claim") game.number (end_fields (Some (claimed_draw fifty)))
 IsClaimLine false game fifty mv text = IsWrongClaimLine game mv text
 
 -- the answer to an entry of a game that stands on the table

@@ -1,5 +1,6 @@
 -- The answers to reads: a line, and a body of more lines behind it for `pgn` and `list`.
-use Rattle.std.specs.Prelude.{ℕ, ◌≡◌, ◌==◌, ◌*◌, if◌then◌else◌, List, [], ◌∷◌, ◌++◌, length, count_by, Option, Some, None, IsSomeAnd, codes, decimal}
+use Rattle.std.specs.Prelude.{ℕ, ◌≡◌, ◌==◌, ◌*◌, if◌then◌else◌, List, [], ◌∷◌, ◌++◌, length, count_by, Option, Some}
+use Rattle.std.specs.Prelude.{None, IsSomeAnd, codes, decimal}
 use Rattle.std.specs.List.{flat_map}
 use Rattle.chess_bits.specs.declared.men.Colour.{Colour}
 use Rattle.chess_bits.specs.declared.men.Colour.TheVariants.{White, Black}

@@ -1,7 +1,11 @@
 -- The answers to what is refused.
 use Rattle.std.specs.Prelude.{ℕ, List, [], ◌∷◌, codes, decimal}
 use Rattle.chess_entry.specs.declared.refusals.Refusal.{Refusal}
-use Rattle.chess_entry.specs.declared.refusals.Refusal.TheVariants.{BadLine, NoName, NoGame, NotSeated, NotStarted, Over, WrongPly, NotYourMove, BadMove, OfferStands, NoOffer, TooEarly, AlreadyClaimed, FlagUp, Taken, SamePlayer, BadFen, BadTime, TooManyGames, TooLong, NotOver, NoMemory, BadMoment, Finished}
+use Rattle.chess_entry.specs.declared.refusals.Refusal.TheVariants.{BadLine, NoName, NoGame, NotSeated, NotStarted}
+use Rattle.chess_entry.specs.declared.refusals.Refusal.TheVariants.{Over, WrongPly, NotYourMove, BadMove, OfferStands}
+use Rattle.chess_entry.specs.declared.refusals.Refusal.TheVariants.{NoOffer, TooEarly, AlreadyClaimed, FlagUp, Taken}
+use Rattle.chess_entry.specs.declared.refusals.Refusal.TheVariants.{SamePlayer, BadFen, BadTime, TooManyGames, TooLong}
+use Rattle.chess_entry.specs.declared.refusals.Refusal.TheVariants.{NotOver, NoMemory, BadMoment, Finished}
 use Rattle.chess_answer.specs.Fields.{with_fields}
 
 -- the number and the name of a refusal

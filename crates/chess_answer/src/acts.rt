@@ -10,7 +10,8 @@ ghost use Rattle.chess_entry.specs.Follow.{moved};
 ghost use Rattle.chess_entry.specs.Words.{colour_word};
 ghost use Rattle.chess_game.specs.Turn.{IsInTime, IsPlayable};
 ghost use Rattle.chess_answer.specs.Fields.{with_fields, ok_text, end_fields};
-ghost use Rattle.chess_answer.specs.Acts.{named_text, free_side, TellsMove, TellsMade, IsClaimLine, IsGameLine, MayCome};
+ghost use Rattle.chess_answer.specs.Acts.{named_text, free_side, TellsMove, TellsMade, IsClaimLine, IsGameLine};
+ghost use Rattle.chess_answer.specs.Acts.{MayCome};
 
 use crate::fields::{AnswerLine, accepted, begun, push_ending, push_field, push_number_field};
 use chess_bits::Colour;
@@ -113,7 +114,8 @@ pub fn play_answered(game: &mut Game, at: u64, mv: Move) -> Result<AnswerLine, A
 // The answer to a claim, for the position that stands or for the one that a stated move would bring.
 fn claim_line(game: &Game, fifty: bool, mv: Option<Move>) -> AnswerLine
     requires { (m : Move) → mv ≡ Some m → IsPlayable game.now m }
-    ensures { IsClaimLine (is_granted fifty game.now.start (game.now.moves ++ stated mv)) game.now fifty mv result.bytes }
+    ensures { IsClaimLine (is_granted fifty game.now.start
+        (game.now.moves ++ stated mv)) game.now fifty mv result.bytes }
 {
     let mut text = told("claim", game);
     if game.is_granted(fifty, mv) {

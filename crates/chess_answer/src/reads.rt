@@ -6,7 +6,8 @@ ghost use Rattle.chess_notation.specs.Fen.{side_letter};
 ghost use Rattle.chess_text.specs.Game.{IsGameText};
 ghost use Rattle.chess_text.specs.Pgn.{heading, result_text};
 ghost use Rattle.chess_entry.specs.State.{position_of};
-ghost use Rattle.chess_answer.specs.Reads.{time_shown, offer_text, article_or_dash, show_text, IsFenLine, line_count, IsPgnOfGame, IsPgnReply, list_line_text, list_row};
+ghost use Rattle.chess_answer.specs.Reads.{time_shown, offer_text, article_or_dash, show_text, IsFenLine, line_count};
+ghost use Rattle.chess_answer.specs.Reads.{IsPgnOfGame, IsPgnReply, list_line_text, list_row};
 
 use crate::fields::{AnswerLine, accepted, begun, push_field, push_number_field, push_seat};
 use chess_bits::Colour;

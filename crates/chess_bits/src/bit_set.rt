@@ -28,7 +28,8 @@ impl Model for Bits {
 
     ghost use Rattle.chess_bits.specs.declared.bit_set.Bits.TheInside.{Inside};
 
-    ghost inverse_ok = { λ a fits. ap (λ (w : ℕ). let i : Inside = record { word = w } in i) (word_of-bools_of 64 a.word fits) };
+    ghost inverse_ok = { λ a fits. ap (λ (w : ℕ). let i : Inside = record { word = w } in i)
+        (word_of-bools_of 64 a.word fits) };
 }
 
 impl Bits {

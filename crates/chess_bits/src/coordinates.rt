@@ -26,7 +26,8 @@ impl Model for Square {
 
     ghost use Rattle.chess_bits.specs.declared.coordinates.Square.TheInside.{Inside};
 
-    ghost inverse_ok = { λ a _. ap (λ (n : ℕ). let i : Inside = record { number = n } in i) (geometry.number_of-square_at a.number) };
+    ghost inverse_ok = { λ a _. ap (λ (n : ℕ). let i : Inside = record { number = n } in i)
+        (geometry.number_of-square_at a.number) };
 }
 
 impl Square {

@@ -1,4 +1,5 @@
-use Rattle.std.specs.Prelude.{Bool, true, false, ◌&&◌, ◌||◌, ◌==◌, not, nat_le, List, [], ◌∷◌, length, filter, flat_map, Option, Some, None, is_none}
+use Rattle.std.specs.Prelude.{Bool, true, false, ◌&&◌, ◌||◌, ◌==◌, not, nat_le, List, [], ◌∷◌, length, filter, flat_map}
+use Rattle.std.specs.Prelude.{Option, Some, None, is_none}
 use Rattle.std.specs.List.{list_all}
 use Rattle.chess_bits.specs.declared.men.Colour.{Colour}
 use Rattle.chess_bits.specs.declared.men.Colour.TheVariants.{White, Black}
@@ -10,7 +11,8 @@ use Rattle.chess_bits.specs.Attack.{along, forward, pawn_attacks, reaches, attac
 use Rattle.chess_board.specs.declared.castling.Wing.{Wing}
 use Rattle.chess_board.specs.declared.castling.Wing.TheVariants as wing
 use Rattle.chess_board.specs.declared.moves.Move.{Move}
-use Rattle.chess_board.specs.Position.{Position, has_right, man_at, occupied_of, king_home, rook_home, target_rank, count_of, is_attacked, is_in_check}
+use Rattle.chess_board.specs.Position.{Position, has_right, man_at, occupied_of, king_home, rook_home, target_rank}
+use Rattle.chess_board.specs.Position.{count_of, is_attacked, is_in_check}
 use Rattle.chess_board.specs.Next.{next, is_target, castled_king, castled_rook}
 use Rattle.chess_board.specs.Legal.{last_rank, pawn_rank, between}
 

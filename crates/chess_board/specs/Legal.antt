@@ -9,7 +9,8 @@ use Rattle.chess_bits.specs.Attack.{along, forward, pawn_attacks, Reaches, Attac
 use Rattle.chess_board.specs.declared.castling.Wing.{Wing}
 use Rattle.chess_board.specs.declared.castling.Wing.TheVariants as wing
 use Rattle.chess_board.specs.declared.moves.Move.{Move}
-use Rattle.chess_board.specs.Position.{Position, has_right, man_at, occupied_of, home_rank, king_home, IsAttacked, IsInCheck}
+use Rattle.chess_board.specs.Position.{Position, has_right, man_at, occupied_of, home_rank, king_home, IsAttacked}
+use Rattle.chess_board.specs.Position.{IsInCheck}
 use Rattle.chess_board.specs.Next.{next, castled_king, castled_rook}
 
 -- the last rank that a side's pawns reach, and the rank from which they may advance two squares

@@ -2,7 +2,8 @@ use Rattle.chess_board.specs.declared.parts.Parts.{Parts}
 use Rattle.chess_board.specs.declared.parts.BadBoard.{BadBoard}
 use Rattle.chess_board.specs.declared.parts.BadBoard.TheVariants as broken
 use Rattle.chess_board.specs.declared.draft.Draft.{Draft}
-use Rattle.chess_board.specs.Position.{Position, HasKings, HasFewMen, HasPawnsInside, HasNoCheck, HasTrueRights, HasTrueTarget, HasCounters}
+use Rattle.chess_board.specs.Position.{Position, HasKings, HasFewMen, HasPawnsInside, HasNoCheck, HasTrueRights}
+use Rattle.chess_board.specs.Position.{HasTrueTarget, HasCounters}
 use Rattle.chess_board.specs.RightsOf.{rights_of}
 
 -- the position that parts describe, valid or not

@@ -47,7 +47,8 @@ impl Model for Board {
 
     ghost inverse = { inside_of };
 
-    ghost inverse_ok = { λ a sound. ap (λ (f : flags.CastlingRights). let made : Inside = record a { rights = f } in made) (flags_of-rights_of a.rights sound.known) };
+    ghost inverse_ok = { λ a sound. ap (λ (f : flags.CastlingRights).
+        let made : Inside = record a { rights = f } in made) (flags_of-rights_of a.rights sound.known) };
 }
 
 impl Board {

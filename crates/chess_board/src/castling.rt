@@ -1,5 +1,6 @@
 ghost use Rattle.std.specs.Prelude.{⊤, ◌≡◌, ◌<◌, [], ◌∷◌, codes};
-ghost use Rattle.chess_board.specs.Position.{has_right, home_rank as spec_home_rank, king_home as spec_king_home, rook_home as spec_rook_home};
+ghost use Rattle.chess_board.specs.Position.{has_right, home_rank as spec_home_rank, king_home as spec_king_home};
+ghost use Rattle.chess_board.specs.Position.{rook_home as spec_rook_home};
 ghost use Rattle.chess_board.specs.Next.{castled_king as spec_castled_king, castled_rook as spec_castled_rook};
 ghost use Rattle.chess_board.specs.RightsOf.{rights_of, HasKnownFlags};
 
@@ -31,7 +32,8 @@ impl Flags for CastlingRights {
 
     ghost exact = { ⊤ };
 
-    ghost table = { (codes "WHITE_KING", 1) ∷ (codes "WHITE_QUEEN", 2) ∷ (codes "BLACK_KING", 4) ∷ (codes "BLACK_QUEEN", 8) ∷ [] };
+    ghost table = { (codes "WHITE_KING", 1) ∷ (codes "WHITE_QUEEN", 2) ∷ (codes "BLACK_KING", 4)
+        ∷ (codes "BLACK_QUEEN", 8) ∷ [] };
 
     ghost set_of = { λ rights. rights.0 };
 
@@ -59,7 +61,12 @@ impl CastlingRights {
         black_king: bool,
         black_queen: bool,
     ) -> CastlingRights
-        ensures rights { rights_of result ≡ record { white_king = white_king; white_queen = white_queen; black_king = black_king; black_queen = black_queen } }
+        ensures rights { rights_of result ≡ record {
+          white_king = white_king;
+          white_queen = white_queen;
+          black_king = black_king;
+          black_queen = black_queen;
+        } }
         ensures known { HasKnownFlags result }
     {
         CastlingRights(

@@ -20,7 +20,8 @@ TurnsEndInTime clock events =
 
 -- At the start and after each event the times held fit.
 abbrev pub TimesAlwaysFit : ClockState → List ClockEvent → Type 0
-TimesAlwaysFit clock events = (before rest : List ClockEvent) → events ≡ before ++ rest → TimesFit (clock_after clock before)
+TimesAlwaysFit clock events =
+    (before rest : List ClockEvent) → events ≡ before ++ rest → TimesFit (clock_after clock before)
 
 -- Neither side has used more time than it held and was given, so that no subtraction was cut at 0.
 pub record IsWithinTime (clock : ClockState) (events : List ClockEvent) : Type 0 where

@@ -1,7 +1,8 @@
 ghost use Rattle.std.specs.Prelude.{◌≡◌, ◌^◌, ◌<◌, ◌≤◌, ◌↔◌, IsTrue, false, [], ◌∷◌};
 ghost use Rattle.chess_bits.specs.Man.{other};
 ghost use Rattle.chess_clock.specs.TimeControl.{time_control, IsTimeControl, moves_to_go};
-ghost use Rattle.chess_clock.specs.ClockState.{started, time_of, left, HasFallen, clock_after, turn_ended, stopped_at, with_time, IsNotBefore, TimesFit};
+ghost use Rattle.chess_clock.specs.ClockState.{started, time_of, left, HasFallen, clock_after, turn_ended, stopped_at};
+ghost use Rattle.chess_clock.specs.ClockState.{with_time, IsNotBefore, TimesFit};
 
 use crate::events::ClockEvent;
 use crate::side_times::SideTime;

@@ -64,7 +64,8 @@ last_number entries = number_of (last_or None (filter (λ e. is_open e.event) en
 
 -- the games on the table, by rising number
 abbrev pub games_shown : List Entry → List GameState
-games_shown entries = flat_map (λ number. game_shown number (entries_of number entries)) (range_with_len 1 (last_number entries))
+games_shown entries =
+    flat_map (λ number. game_shown number (entries_of number entries)) (range_with_len 1 (last_number entries))
 
 abbrev pub greatest : List ℕ → ℕ
 greatest [] = 0

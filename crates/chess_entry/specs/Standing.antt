@@ -17,7 +17,8 @@ abbrev pub offers_in : Position → List Entry → Colour → Bool
 offers_in start entries side =
     is_running start entries
     && (list_any (λ e. offers_for side e.event) entries
-    && not (list_any (λ e. answers_for start.side (other side) e.event) (after_last (λ e. offers_for side e.event) entries)))
+    && not (list_any (λ e. answers_for start.side (other side) e.event)
+    (after_last (λ e. offers_for side e.event) entries)))
 
 -- A side has claimed in this turn where the game runs and a claim came since the last completed move.
 abbrev pub claimed_in : Position → List Entry → Bool

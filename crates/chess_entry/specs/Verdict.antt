@@ -1,5 +1,6 @@
 -- What a command meets on a table: the first check that applies refuses it; else it is a read, or becomes an entry.
-use Rattle.std.specs.Prelude.{ℕ, ◌≡◌, ◌-◌, ◌+◌, ◌==◌, ◌&&◌, ◌||◌, not, nat_le, nat_lt, Bool, true, false, if◌then◌else◌, List, [], ◌∷◌, ◌++◌, length, max, Option, Some, None, is_some, is_none, nat_eq}
+use Rattle.std.specs.Prelude.{ℕ, ◌≡◌, ◌-◌, ◌+◌, ◌==◌, ◌&&◌, ◌||◌, not, nat_le, nat_lt, Bool, true, false, if◌then◌else◌}
+use Rattle.std.specs.Prelude.{List, [], ◌∷◌, ◌++◌, length, max, Option, Some, None, is_some, is_none, nat_eq}
 use Rattle.std.specs.Cmp.Lexicographic.{pointwise}
 use Rattle.chess_bits.specs.declared.men.Colour.{Colour}
 use Rattle.chess_bits.specs.declared.men.Colour.TheVariants.{White, Black}
@@ -14,7 +15,11 @@ use Rattle.chess_entry.specs.declared.commands.Act.{Act}
 use Rattle.chess_entry.specs.declared.commands.Act.TheVariants as act
 use Rattle.chess_entry.specs.declared.commands.Command.{Command}
 use Rattle.chess_entry.specs.declared.refusals.Refusal.{Refusal}
-use Rattle.chess_entry.specs.declared.refusals.Refusal.TheVariants.{NoName, NoGame, NotSeated, NotStarted, Over, WrongPly, NotYourMove, BadMove, OfferStands, NoOffer, TooEarly, AlreadyClaimed, FlagUp, Taken, SamePlayer, BadFen, BadTime, TooManyGames, TooLong, NotOver, BadMoment, Finished}
+use Rattle.chess_entry.specs.declared.refusals.Refusal.TheVariants.{NoName, NoGame, NotSeated, NotStarted, Over}
+use Rattle.chess_entry.specs.declared.refusals.Refusal.TheVariants.{WrongPly, NotYourMove, BadMove, OfferStands}
+use Rattle.chess_entry.specs.declared.refusals.Refusal.TheVariants.{NoOffer, TooEarly, AlreadyClaimed, FlagUp, Taken}
+use Rattle.chess_entry.specs.declared.refusals.Refusal.TheVariants.{SamePlayer, BadFen, BadTime, TooManyGames, TooLong}
+use Rattle.chess_entry.specs.declared.refusals.Refusal.TheVariants.{NotOver, BadMoment, Finished}
 use Rattle.chess_entry.specs.declared.verdicts.Verdict.{Verdict}
 use Rattle.chess_entry.specs.declared.verdicts.Verdict.TheVariants.{Refuse, Enter, Read}
 use Rattle.chess_entry.specs.State.{GameState, TableState, position_of, ply_of, seat_of, is_joined, is_over, find_game}

@@ -1,5 +1,6 @@
 -- What a board keeps of its text while it changes.
-use Rattle.std.specs.Prelude.{ℕ, ◌≡◌, ◌-◌, ◌≤◌, ◌<◌, ◌++◌, Bool, false, List, length, take, replicate, slice_index, slice_index_or}
+use Rattle.std.specs.Prelude.{ℕ, ◌≡◌, ◌-◌, ◌≤◌, ◌<◌, ◌++◌, Bool, false, List, length, take, replicate, slice_index}
+use Rattle.std.specs.Prelude.{slice_index_or}
 use Rattle.chess_board.specs.Position.{Placement}
 use Rattle.chess_notation.specs.Fen.{rank_of, row_text}
 use Rattle.chess_notation.specs.Letters.{slash}

@@ -3,7 +3,8 @@ ghost use Rattle.arrayvec.specs.ArrayString.{array_string_len};
 ghost use Rattle.chess_bits.specs.Square.{IsOnBoard};
 ghost use Rattle.chess_board.specs.RightsOf.{rights_of};
 ghost use Rattle.chess_notation.specs.Name.{square_name};
-ghost use Rattle.chess_notation.specs.Fen.{rank_of, row_text, run_text, placement_text, side_letter, letter_if, rights_text, target_text, fen_of, IsFenOf, AreLetters};
+ghost use Rattle.chess_notation.specs.Fen.{rank_of, row_text, run_text, placement_text, side_letter, letter_if};
+ghost use Rattle.chess_notation.specs.Fen.{rights_text, target_text, fen_of, IsFenOf, AreLetters};
 
 use crate::letters::letters_of;
 use arrayvec::ArrayString;

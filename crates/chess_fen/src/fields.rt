@@ -4,7 +4,8 @@ ghost use Rattle.chess_bits.specs.Square.{Square};
 ghost use Rattle.chess_board.specs.Position.{Rights};
 ghost use Rattle.chess_board.specs.RightsOf.{rights_of};
 ghost use Rattle.chess_fen.specs.declared.fields.FenError.TheVariants as faults;
-ghost use Rattle.chess_fen.specs.Reading.{IsFenField, FenFields, fields_of, HasFields, TellsSide, TellsRights, TellsTarget, TellsNumber};
+ghost use Rattle.chess_fen.specs.Reading.{IsFenField, FenFields, fields_of, HasFields, TellsSide, TellsRights};
+ghost use Rattle.chess_fen.specs.Reading.{TellsTarget, TellsNumber};
 
 use crate::fen::push_rights;
 use arrayvec::ArrayString;
@@ -81,7 +82,8 @@ fn whole_field(text: &str) -> Result<&str, FenError>
 impl<'a> Fields<'a> {
     /// The six fields of a text, or `Shape` where it has not six.
     pub fn of(text: &'a str) -> Result<Fields<'a>, FenError>
-        ensures split { IfOk result (λ f. HasFields text.entry.now (fields_of f.placement.now f.side.now f.castling.now f.target.now
+        ensures split { IfOk result (λ f. HasFields text.entry.now
+            (fields_of f.placement.now f.side.now f.castling.now f.target.now
             f.halfmove.now f.fullmove.now)) }
         ensures fault { IfErr result (λ fault. fault ≡ faults.Shape) }
         ensures none { IfErr result (λ _. (f : FenFields) → ¬ HasFields text.entry.now f) }

@@ -40,7 +40,8 @@ impl Model for ShownBoard {
 
     ghost view = { λ b. b.board };
 
-    ghost invariant = { λ b. AreLetters b.letters b.board.placement × AreRankTexts b.ranks b.board.placement × (b.shown.bytes ≡ fen_of b.board) };
+    ghost invariant = { λ b. AreLetters b.letters b.board.placement × AreRankTexts b.ranks b.board.placement
+        × (b.shown.bytes ≡ fen_of b.board) };
 }
 
 impl ShownBoard {

@@ -9,7 +9,8 @@ use Rattle.chess_end.specs.declared.ending.Ending.{Ending}
 use Rattle.rec_codec.specs.declared.record.Seat.{Seat as StoredSeat}
 use Rattle.rec_codec.specs.declared.record.Head.{Head}
 use Rattle.chess_entry.specs.State.{SeatState, GameState, ply_of, is_joined, is_over}
-use Rattle.chess_entry.specs.Bounds.{IsScoresheet, ending_by_last, Agrees, IsHeldWithin, IsQuiet, IsWaiting, IsOpenedWith, IsGame}
+use Rattle.chess_entry.specs.Bounds.{IsScoresheet, ending_by_last, Agrees, IsHeldWithin, IsQuiet, IsWaiting}
+use Rattle.chess_entry.specs.Bounds.{IsOpenedWith, IsGame}
 use Rattle.chess_entry.specs.Snapshot.{ending_told, IsHeadOf}
 use Rattle.chess_game.specs.Scoresheet.{ScoresheetState}
 
@@ -36,7 +37,8 @@ pub record MayBeOpened (game : GameState) : Type 0 where
   pub short : ply_of game ≤ 20000
 
 -- the line of some moves, and the ending that the last of them gives
-pub record IsReplayed (first : Position) (made : List Move) (line : ScoresheetState) (by_line : Option Ending) : Type 0 where
+pub record IsReplayed (first : Position) (made : List Move) (line : ScoresheetState)
+    (by_line : Option Ending) : Type 0 where
   pub is_scoresheet : IsScoresheet first made
   pub start : line.start ≡ first
   pub moves : line.moves ≡ made

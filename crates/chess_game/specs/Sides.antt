@@ -22,7 +22,10 @@ offering Black offers sides = record sides { black = record sides.black { offers
 -- The mover's turn is over: the opponent's offer is answered, and who moves next has not claimed.
 abbrev pub turn_over : Sides → Colour → ℕ → Sides
 turn_over sides mover at =
-    record (offering (other mover) false (record sides { clock = clock_after sides.clock (turn_ended sides.clock at) })) {
+    record (offering (other mover) false (record sides {
+      clock = clock_after sides.clock
+          (turn_ended sides.clock at);
+    })) {
       claimed = false;
     }
 

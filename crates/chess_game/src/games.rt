@@ -1,4 +1,5 @@
-ghost use Rattle.std.specs.Prelude.{◌≡◌, ◌≤◌, ◌<◌, ◌++◌, [], ◌∷◌, length, true, false, is_some, IfOk, OnOk, OnErr, IfSome, IfNone};
+ghost use Rattle.std.specs.Prelude.{◌≡◌, ◌≤◌, ◌<◌, ◌++◌, [], ◌∷◌, length, true, false, is_some, IfOk, OnOk, OnErr};
+ghost use Rattle.std.specs.Prelude.{IfSome, IfNone};
 ghost use Rattle.chess_bits.specs.Man.{other};
 ghost use Rattle.chess_clock.specs.TimeControl.{time_control, IsTimeControl};
 ghost use Rattle.chess_entry.specs.State.{position_of, ply_of, seat_of, is_joined, is_over};

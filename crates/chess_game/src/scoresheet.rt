@@ -72,7 +72,8 @@ impl Scoresheet {
     ) -> Result<Option<Replayed>, AllocError>
         requires start { IsStart start.now }
         requires short { length moves.now ≤ 20000 }
-        ensures made { IfOk result (λ told. IfSome told (λ made. IsReplayed start.now moves.now made.line made.by_line)) }
+        ensures made { IfOk result (λ told. IfSome told
+            (λ made. IsReplayed start.now moves.now made.line made.by_line)) }
         ensures none { IfOk result (λ told. IfNone told (¬ IsScoresheet start.now moves.now)) }
     {
         let mut line = Scoresheet::new(alloc, start)?;

@@ -2,7 +2,8 @@ ghost use Rattle.std.specs.Prelude.{◌≡◌, ◌≤◌, [], ◌∷◌, false};
 ghost use Rattle.chess_bits.specs.Man.{other};
 ghost use Rattle.chess_clock.specs.declared.events.ClockEvent.TheVariants.{WrongClaim};
 ghost use Rattle.chess_clock.specs.ClockState.{clock_after, turn_ended, HasFallen, TimesFit};
-ghost use Rattle.chess_game.specs.Sides.{offering, turn_over, stopped, stopped_if, with_wrong_claim, sides_with_player, seat_kept};
+ghost use Rattle.chess_game.specs.Sides.{offering, turn_over, stopped, stopped_if, with_wrong_claim, sides_with_player};
+ghost use Rattle.chess_game.specs.Sides.{seat_kept};
 
 use chess_bits::Colour;
 use chess_clock::Clock;

@@ -3,7 +3,8 @@ use Rattle.std.specs.Prelude.{ℕ, ◌≡◌, ◌++◌, true, false, List, [], �
 use Rattle.text_lines.specs.Heard.{heard_more}
 use Rattle.chess_entry.specs.State.{TableState}
 use Rattle.chess_hub.specs.declared.sessions.Sessions.{Sessions}
-use Rattle.chess_hub.specs.Session.{Said, SessionState, fresh, session_at, Changes, IsUnchanged, due, first_due, given_one}
+use Rattle.chess_hub.specs.Session.{Said, SessionState, fresh, session_at, Changes, IsUnchanged, due, first_due}
+use Rattle.chess_hub.specs.Session.{given_one}
 use Rattle.chess_hub.specs.Turning.{HasTurned}
 use Rattle.chess_hub.specs.Calls.{Call, Connected, Closed, Fed, Turned, Given, is_open, which, given_to}
 use Rattle.chess_hub.specs.Sessions.{Merged, AreMerged, AreAnsweredAfter, session_text}

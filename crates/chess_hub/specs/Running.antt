@@ -1,5 +1,6 @@
 -- What a run is told: one session, each line in a turn of its own.
-use Rattle.std.specs.Prelude.{ℕ, ◌≡◌, ◌≢◌, ◌⊎◌, true, false, Bool, List, [], ◌∷◌, ◌++◌, Option, Some, None, Result, Ok, Err}
+use Rattle.std.specs.Prelude.{ℕ, ◌≡◌, ◌≢◌, ◌⊎◌, true, false, Bool, List, [], ◌∷◌, ◌++◌, Option, Some, None, Result, Ok}
+use Rattle.std.specs.Prelude.{Err}
 use Rattle.std.specs.Io.KnownBytes.{Appends}
 use Rattle.text_lines.specs.Lines.{IsUnfinished}
 use Rattle.text_lines.specs.Heard.{heard}
@@ -69,7 +70,8 @@ pub record Serves {D : Type 0} (state : D → State) (sector_count failures : D 
     (result : Result (Unit {0}) HubFault) : Type 0 where
   pub lasts : IsKept (state old.device) old.header old.compaction old.table
       → TurnLasts result (state old.device) (state new.device) new.header new.compaction old.table new.table
-  pub tried : TurnTried state sector_count failures old.device new.device result old.table new.table old.failed new.failed
+  pub tried : TurnTried state sector_count failures old.device new.device result old.table new.table old.failed
+      new.failed
 
 -- what holds of the commands that a line asks for
 pub record LineAsksFor (at : ℕ) (name : Option (List ℕ)) (line : List ℕ) (P : List Command → Type 0) : Type 0 where

@@ -1,5 +1,6 @@
 -- What a session has sent and is given.
-use Rattle.std.specs.Prelude.{ℕ, ◌≡◌, ◌≢◌, Bool, true, false, ◌&&◌, ◌||◌, not, if◌then◌else◌, List, [], ◌∷◌, ◌++◌, Option, Some, None, map, option_map, string_bytes, codes}
+use Rattle.std.specs.Prelude.{ℕ, ◌≡◌, ◌≢◌, Bool, true, false, ◌&&◌, ◌||◌, not, if◌then◌else◌, List, [], ◌∷◌, ◌++◌}
+use Rattle.std.specs.Prelude.{Option, Some, None, map, option_map, string_bytes, codes}
 use Rattle.text_lines.specs.Lines.{lines_of}
 use Rattle.text_lines.specs.Heard.{Heard, heard}
 use Rattle.slab.specs.Slab.{get, slab_len}

@@ -1,5 +1,6 @@
 -- The text of each session: a definition over lists of calls.
-use Rattle.std.specs.Prelude.{ℕ, ◌≡◌, ◌==◌, ◌&&◌, Bool, true, if◌then◌else◌, List, [], ◌∷◌, ◌++◌, Option, Some, None, map, filter, drop, count_by, ◌↔◌, Contains}
+use Rattle.std.specs.Prelude.{ℕ, ◌≡◌, ◌==◌, ◌&&◌, Bool, true, if◌then◌else◌, List, [], ◌∷◌, ◌++◌, Option, Some, None}
+use Rattle.std.specs.Prelude.{map, filter, drop, count_by, ◌↔◌, Contains}
 use Rattle.std.specs.List.{AllZip, zip}
 use Rattle.std.specs.List.Sorted.{IsStrictlyIncreasing}
 use Rattle.text_lines.specs.Lines.{lines_of, has_long_line}

@@ -80,7 +80,8 @@ IsTurnFault fault Same Refused = ⊥
 
 -- What a turn leaves where the store was kept: a crash at any moment of it means the table from before or that with the
 -- whole batch, and at `Ok` the latter; the store is kept on, unless the device failed.
-pub record TurnLasts {T : Type 0} (result : Result T HubFault) (old new : State) (header : Header) (compaction : Compaction)
+pub record TurnLasts {T : Type 0} (result : Result T HubFault) (old new : State) (header : Header)
+    (compaction : Compaction)
     (before after : TableState) : Type 0 where
   pub any_moment : LeavesOnly old new (MeansEither before after)
   pub kept : OnOk result (IsKept new header compaction after)

@@ -1,12 +1,14 @@
 //! Names, commands, and where answers go.
-ghost use Rattle.std.specs.Prelude.{ℕ, ◌≡◌, ◌≢◌, ◌+◌, ◌<◌, ◌≤◌, List, [], ◌∷◌, ◌++◌, if◌then◌else◌, is_none, Option, Some, None, IsSome, IsSomeAnd, IfSome, IfNone, IfOk, OnOk, length, map, option_map};
+ghost use Rattle.std.specs.Prelude.{ℕ, ◌≡◌, ◌≢◌, ◌+◌, ◌<◌, ◌≤◌, List, [], ◌∷◌, ◌++◌, if◌then◌else◌, is_none, Option};
+ghost use Rattle.std.specs.Prelude.{Some, None, IsSome, IsSomeAnd, IfSome, IfNone, IfOk, OnOk, length, map, option_map};
 ghost use Rattle.std.specs.Vec.{vec_len};
 ghost use Rattle.std.specs.Vec.Iter.{into_iter_items};
 ghost use Rattle.std.specs.Option.{MatchOption};
 ghost use Rattle.std.specs.VecDeque.{deque_len, deque_capacity};
 ghost use Rattle.slab.specs.Slab.{get};
 ghost use Rattle.chess_hub.specs.Session.{said, shown, session_at, IsUnchanged};
-ghost use Rattle.chess_hub.specs.Answers.{is_late, given_name, own_answer, alone, asked, names_after, names_over, name_at, commands_of, AreAnswers};
+ghost use Rattle.chess_hub.specs.Answers.{is_late, given_name, own_answer, alone, asked, names_after, names_over};
+ghost use Rattle.chess_hub.specs.Answers.{name_at, commands_of, AreAnswers};
 ghost use Rattle.chess_hub.specs.Delivery.{Answered, AllAnswered, IsGiven, HasRoom, HaveRoom, AreOpen, asking_count};
 
 use crate::sessions::{Session, Sessions, Sid};

@@ -1,10 +1,12 @@
 //! A hub.
-ghost use Rattle.std.specs.Prelude.{ℕ, ◌≡◌, ◌≤◌, ◌↔◌, true, false, [], Some, None, Err, length, option_map, IsTrue, IsSome, IfSome, IfOk, IfErr, OnOk, OnErr, IsErrOf};
+ghost use Rattle.std.specs.Prelude.{ℕ, ◌≡◌, ◌≤◌, ◌↔◌, true, false, [], Some, None, Err, length, option_map, IsTrue};
+ghost use Rattle.std.specs.Prelude.{IsSome, IfSome, IfOk, IfErr, OnOk, OnErr, IsErrOf};
 ghost use Rattle.text_lines.specs.Heard.{heard_more};
 ghost use Rattle.chess_hub.specs.Answers.{name_at, commands_of};
 ghost use Rattle.chess_hub.specs.Delivery.{HaveRoom, asking_count};
 ghost use Rattle.chess_hub.specs.Turn.{AreTurnLines, turn_lines, waiting_of};
-ghost use Rattle.chess_hub.specs.Session.{said, fresh, session_at, session_count, Changes, IsUnchanged, due, first_due, given_one};
+ghost use Rattle.chess_hub.specs.Session.{said, fresh, session_at, session_count, Changes, IsUnchanged, due, first_due};
+ghost use Rattle.chess_hub.specs.Session.{given_one};
 ghost use Rattle.chess_store.specs.Batch.{AreAnswered};
 ghost use Rattle.chess_hub.specs.Faults.{IsConnectFault, IsFeedFault, refusals_after};
 ghost use Rattle.chess_hub.specs.Storing.{StoreMayBeAsked, StoreRefuses, StoreLasts, StoreTried};

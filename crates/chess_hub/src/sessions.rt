@@ -1,7 +1,9 @@
 //! Sessions, each under its number.
-ghost use Rattle.std.specs.Prelude.{ℕ, ◌≡◌, ◌≢◌, ◌<◌, ◌≤◌, ◌↔◌, true, false, [], Some, None, length, codes, option_map, IsTrue, IsSome, IfSome, IfNone, IfOk, OnOk, OnErr, IsErrOf};
+ghost use Rattle.std.specs.Prelude.{ℕ, ◌≡◌, ◌≢◌, ◌<◌, ◌≤◌, ◌↔◌, true, false, [], Some, None, length, codes, option_map};
+ghost use Rattle.std.specs.Prelude.{IsTrue, IsSome, IfSome, IfNone, IfOk, OnOk, OnErr, IsErrOf};
 ghost use Rattle.text_lines.specs.Heard.{heard_more};
-ghost use Rattle.chess_hub.specs.Session.{said, fresh, shown, session_at, session_count, Changes, IsUnchanged, due, first_due, given_one, is_done};
+ghost use Rattle.chess_hub.specs.Session.{said, fresh, shown, session_at, session_count, Changes, IsUnchanged, due};
+ghost use Rattle.chess_hub.specs.Session.{first_due, given_one, is_done};
 
 use chess_answer::{AnswerLine, Reply};
 use player_name::Name;

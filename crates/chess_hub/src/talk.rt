@@ -6,7 +6,8 @@ ghost use Rattle.chess_hub.specs.Session.{said};
 ghost use Rattle.chess_hub.specs.Answers.{name_at};
 ghost use Rattle.chess_hub.specs.Storing.{StoreMayBeAsked, StoreRefuses};
 ghost use Rattle.chess_hub.specs.Turning.{IsTurnFault};
-ghost use Rattle.chess_hub.specs.Running.{Serves, IsAlone, IsTalking, IsAsking, IsTold, LineAsksFor, asks, kept, stands, standing};
+ghost use Rattle.chess_hub.specs.Running.{Serves, IsAlone, IsTalking, IsAsking, IsTold, LineAsksFor, asks, kept};
+ghost use Rattle.chess_hub.specs.Running.{stands, standing};
 
 use crate::fault::HubFault;
 use crate::hub::Hub;

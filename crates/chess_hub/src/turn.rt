@@ -4,7 +4,8 @@ ghost use Rattle.std.specs.Option.{MatchOption};
 ghost use Rattle.text_lines.specs.Lines.{lines_of};
 ghost use Rattle.std.specs.Vec.{vec_len};
 ghost use Rattle.chess_hub.specs.Delivery.{AreOpen};
-ghost use Rattle.chess_hub.specs.Turn.{AreTurnLines, MoreTurnLines, line_of, lines_at, turn_lines, waiting_of, waiting_in};
+ghost use Rattle.chess_hub.specs.Turn.{AreTurnLines, MoreTurnLines, line_of, lines_at, turn_lines, waiting_of};
+ghost use Rattle.chess_hub.specs.Turn.{waiting_in};
 
 use crate::sessions::{Session, Sessions, Sid};
 use chess_line::{Line, parse};

@@ -68,7 +68,8 @@ fn play(rest: &str) -> Option<Act>
 // What `claim` asks for.
 fn claim(rest: &str) -> Option<Act>
     ensures some { IfSome result (λ act. IsLineAfter (codes "claim") rest.now (lines.Act act)) }
-    ensures every { (act : Act) → IsLineAfter (codes "claim") rest.now (lines.Act act) → IsSomeAnd result (SameAct act) }
+    ensures every { (act : Act) → IsLineAfter (codes "claim") rest.now (lines.Act act)
+        → IsSomeAnd result (SameAct act) }
 {
     let (game, rest) = take_number(rest)?;
     let (ply, rest) = take_number(rest)?;

@@ -1,5 +1,6 @@
 //! The fields of a line.
-ghost use Rattle.std.specs.Prelude.{◌≡◌, ◌≢◌, ◌↔◌, ℕ, List, ◌∷◌, ◌++◌, Bool, Option, Some, None, EachIndex, IsTrue, IfSome, IsSome, IsSomeAnd, option_map, slice_index, length, decimal};
+ghost use Rattle.std.specs.Prelude.{◌≡◌, ◌≢◌, ◌↔◌, ℕ, List, ◌∷◌, ◌++◌, Bool, Option, Some, None, EachIndex, IsTrue};
+ghost use Rattle.std.specs.Prelude.{IfSome, IsSome, IsSomeAnd, option_map, slice_index, length, decimal};
 ghost use Rattle.std.specs.Option.{MatchOption};
 ghost use Rattle.chess_bits.specs.declared.men.Colour.{Colour};
 ghost use Rattle.chess_line.specs.Fields.{IsNumber, IsField, IsRest, claim_word, times_text, AreTimes};
@@ -45,7 +46,8 @@ pub fn take_number(text: &str) -> Option<(u32, &str)>
 /// The initial time in seconds and, in `MOVES/INITIAL:SECOND`, the moves before the second period and its seconds.
 pub fn times_named(text: &str) -> Option<(u32, Option<(u32, u32)>)>
     ensures some { IfSome result (λ t. AreTimes t.0 t.1 × (text.now ≡ times_text t.0 t.1)) }
-    ensures every { (initial : ℕ) (period : Option (ℕ × ℕ)) → AreTimes initial period → text.now ≡ times_text initial period
+    ensures every { (initial : ℕ) (period : Option (ℕ × ℕ)) → AreTimes initial period
+        → text.now ≡ times_text initial period
         → result ≡ Some (initial, period) }
 {
     let Some((moves, rest)) = text.split_once('/') else {

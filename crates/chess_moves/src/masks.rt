@@ -5,7 +5,8 @@ ghost use Rattle.chess_bits.specs.Square.{Square as Geometric, IsOnBoard};
 ghost use Rattle.chess_bits.specs.Table.{meet, union, IsSetOf};
 ghost use Rattle.chess_board.specs.Position.{man_at, IsValid};
 ghost use Rattle.chess_board.specs.Legal.{HoldsColour};
-ghost use Rattle.chess_moves.specs.Masks.{IsSlider, IsLeaper, EndsChecks, KeepsBelow, KeepsLine, HoldsMasksBelow, HoldsMasks};
+ghost use Rattle.chess_moves.specs.Masks.{IsSlider, IsLeaper, EndsChecks, KeepsBelow, KeepsLine, HoldsMasksBelow};
+ghost use Rattle.chess_moves.specs.Masks.{HoldsMasks};
 
 use crate::squares::{men_of, only};
 use crate::watch::{is_single, watch_in};

@@ -1,5 +1,6 @@
 -- The key of a position: 34 bytes that are equal exactly for the same positions.
-use Rattle.std.specs.Prelude.{ℕ, ◌+◌, ◌*◌, Bool, cond, ◌&&◌, if◌then◌else◌, List, [], ◌∷◌, ◌++◌, map, filter, Option, None, Some}
+use Rattle.std.specs.Prelude.{ℕ, ◌+◌, ◌*◌, Bool, cond, ◌&&◌, if◌then◌else◌, List, [], ◌∷◌, ◌++◌, map, filter, Option}
+use Rattle.std.specs.Prelude.{None, Some}
 use Rattle.std.specs.List.{list_any, range_with_len}
 use Rattle.chess_bits.specs.declared.men.Colour.{Colour}
 use Rattle.chess_bits.specs.declared.men.Colour.TheVariants.{White, Black}
@@ -58,7 +59,8 @@ state_byte side rights =
 -- the squares from which a pawn of the side to move attacks a square
 abbrev pub takers : Position → Square → List Square
 takers p t =
-    filter (λ from. holds (is_man (p.side, Pawn)) (man_at p.placement from) && reaches (pawn_attacks p.side) from t) squares
+    filter (λ from. holds (is_man (p.side, Pawn)) (man_at p.placement from)
+    && reaches (pawn_attacks p.side) from t) squares
 
 -- whether one of them can legally take on the target
 abbrev pub is_live : Position → Square → Bool

@@ -69,7 +69,8 @@ impl History {
         ensures pushed { (list : List Position) → IsHistoryOf self.old list →
             OnOk result (IsHistoryOf self.new (list ++ board.now ∷ [])) }
         ensures count { IfOk result (λ n. n ≡ count_in self.new.counts (key_of board.now)) }
-        ensures times { IfOk result (λ n. (list : List Position) → IsHistoryOf self.new list → IsTimes board.now list n) }
+        ensures times { IfOk result (λ n. (list : List Position) → IsHistoryOf self.new list
+            → IsTimes board.now list n) }
         ensures refused { OnErr result (self.new ≡ self.old) }
     {
         let _valid = board.rights();

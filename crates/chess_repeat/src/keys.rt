@@ -7,7 +7,8 @@ ghost use Rattle.chess_board.specs.declared.moves.Move.{Move};
 ghost use Rattle.chess_board.specs.Position.{man_at, IsValid};
 ghost use Rattle.chess_moves.specs.Targets.{plain as plain_move};
 ghost use Rattle.chess_repeat.specs.SamePosition.{IsLegalEnPassant, HasLegalEnPassant, IsSamePosition};
-ghost use Rattle.chess_repeat.specs.Key.{kind_code, man_code, here_code, code_at, men_byte, men_bytes, state_byte, side_bit, target_byte, is_live, key_of};
+ghost use Rattle.chess_repeat.specs.Key.{kind_code, man_code, here_code, code_at, men_byte, men_bytes, state_byte};
+ghost use Rattle.chess_repeat.specs.Key.{side_bit, target_byte, is_live, key_of};
 
 use chess_attacks::pawn;
 use chess_bits::{Colour, Kind, Square};

@@ -1,4 +1,5 @@
-use Rattle.std.specs.Prelude.{ℕ, ◌+◌, ◌==◌, Bool, true, ◌||◌, if◌then◌else◌, List, reverse, Option, Some, None, slice_index, option_and_then, unwrap_or}
+use Rattle.std.specs.Prelude.{ℕ, ◌+◌, ◌==◌, Bool, true, ◌||◌, if◌then◌else◌, List, reverse, Option, Some, None}
+use Rattle.std.specs.Prelude.{slice_index, option_and_then, unwrap_or}
 use Rattle.std.specs.Option.{option_map}
 use Rattle.chess_bits.specs.declared.men.Colour.{Colour}
 use Rattle.chess_bits.specs.declared.men.Kind.{Kind}
@@ -34,7 +35,8 @@ arrived promotion to = record { to = to; promotion = promotion }
 -- the square reached, before `=` and a letter or without them
 unfoldable pub promoted_arrival : List ℕ → ℕ → Option Arrival
 promoted_arrival text skip = option_and_then
-    (λ kind. option_map (arrived (Some kind)) (square_named (slice_index text (skip + 3)) (slice_index text (skip + 2))))
+    (λ kind. option_map (arrived (Some kind)) (square_named (slice_index text (skip + 3))
+    (slice_index text (skip + 2))))
     (piece_named (slice_index text skip))
 
 unfoldable pub plain_arrival : List ℕ → ℕ → Option Arrival

@@ -1,6 +1,6 @@
 //! A chess game server: its words.
 //!
-//! What was read of its words goes to `server_words`, `server_words` and `server_words`; then it tells how it ended.
+//! What was read of its words goes to `server_words`; then it tells how it ended.
 #![tactic(auto)]
 
 use clap::Error;

@@ -4,7 +4,8 @@ use Rattle.text_lines.specs.Lines.{IsUnfinished}
 use Rattle.chess_hub.specs.Session.{SessionState, due}
 use Rattle.chess_sockets.specs.declared.client.Client.{Client}
 use Rattle.chess_sockets.specs.declared.closing.Closing.{Closing}
-use Rattle.chess_sockets.specs.declared.closing.Closing.TheVariants.{Fault, NoMemory, OtherProtocol, Silence, End, Farewell}
+use Rattle.chess_sockets.specs.declared.closing.Closing.TheVariants.{Fault, NoMemory, OtherProtocol, Silence, End}
+use Rattle.chess_sockets.specs.declared.closing.Closing.TheVariants.{Farewell}
 use Rattle.chess_sockets.specs.Incoming.{held}
 use Rattle.chess_sockets.specs.Protocols.{AreOfAnotherProtocol}
 

@@ -1,13 +1,15 @@
 -- What is done for clients one after the other: where what their sessions hear comes from, and where what these are
 -- given goes.
-use Rattle.std.specs.Prelude.{ℕ, ◌≡◌, ◌≢◌, ◌≤◌, ◌+◌, ◌⊎◌, true, false, List, [], ◌∷◌, ◌++◌, Option, Some, None, IsSome, IsSomeAnd, IfSome, length}
+use Rattle.std.specs.Prelude.{ℕ, ◌≡◌, ◌≢◌, ◌≤◌, ◌+◌, ◌⊎◌, true, false, List, [], ◌∷◌, ◌++◌, Option, Some, None, IsSome}
+use Rattle.std.specs.Prelude.{IsSomeAnd, IfSome, length}
 use Rattle.std.specs.Io.KnownBytes.{Consumes}
 use Rattle.text_lines.specs.Lines.{IsUnfinished}
 use Rattle.text_lines.specs.Heard.{heard_more}
 use Rattle.chess_hub.specs.declared.sessions.Sessions.{Sessions}
 use Rattle.chess_hub.specs.Session.{Said, SessionState, session_at, Changes, IsUnchanged, due, first_due, given_one}
 use Rattle.chess_sockets.specs.declared.client.Client.{Client}
-use Rattle.chess_sockets.specs.Clients.{IsSilent, IsLongest, IsHeardAt, IsEndSeen, IsHeldUp, HasWaitedOn, HasSpokenOn, HandsOut, to_go}
+use Rattle.chess_sockets.specs.Clients.{IsSilent, IsLongest, IsHeardAt, IsEndSeen, IsHeldUp, HasWaitedOn, HasSpokenOn}
+use Rattle.chess_sockets.specs.Clients.{HandsOut, to_go}
 use Rattle.chess_sockets.specs.Closings.{WasRefused, IsForeign, IsReason, IsOver}
 use Rattle.chess_sockets.specs.Protocols.{AreOfAnotherProtocol}
 use Rattle.chess_sockets.specs.Portions.{is_dear, IsDearLine, IsPortion, AreMost}

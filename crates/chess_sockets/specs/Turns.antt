@@ -30,7 +30,8 @@ pub record HasReadAlone {S : Type 0} (remaining : S → Option (List ℕ)) (sile
 -- Why clients are not served on, and what is left. Where memory was refused to the hub, the table is as it was; a
 -- store's fault is that of the commands of at most 64 lines, of what the sessions had sent by then, which went to it as
 -- one batch at this moment.
-abbrev pub IsRefusal : {S : Type 0} → (S → Option (List ℕ)) → Option ℕ → HubFault → ℕ → ℕ → Bool → List (Client S) → List (Client S)
+abbrev pub IsRefusal : {S : Type 0} → (S → Option (List ℕ)) → Option ℕ → HubFault → ℕ → ℕ → Bool → List (Client S)
+    → List (Client S)
     → HubState → HubState → Type 0
 IsRefusal remaining silence NoMemory at seq failed clients left old new =
     HasReadAlone remaining silence at clients left old new (λ heard. new.table ≡ old.table)

@@ -1,8 +1,10 @@
 //! A connection and its session.
-ghost use Rattle.std.specs.Prelude.{◌≡◌, ◌≢◌, ◌≤◌, ◌++◌, ◌+◌, ◌-◌, ◌↔◌, ◌⊎◌, true, false, [], Some, None, IsTrue, IfSome, IfOk, OnOk, OnErr};
+ghost use Rattle.std.specs.Prelude.{◌≡◌, ◌≢◌, ◌≤◌, ◌++◌, ◌+◌, ◌-◌, ◌↔◌, ◌⊎◌, true, false, [], Some, None, IsTrue};
+ghost use Rattle.std.specs.Prelude.{IfSome, IfOk, OnOk, OnErr};
 ghost use Rattle.std.specs.Io.KnownBytes.{Keeps};
 ghost use Rattle.chess_hub.specs.Session.{said, session_at, due, Changes};
-ghost use Rattle.chess_sockets.specs.Clients.{standing, IsOpen, OthersStay, IsSilent, IsHeardAt, IsEndSeen, GivesOn, TakesIn, HandsOut, bytes_of, to_go};
+ghost use Rattle.chess_sockets.specs.Clients.{standing, IsOpen, OthersStay, IsSilent, IsHeardAt, IsEndSeen, GivesOn};
+ghost use Rattle.chess_sockets.specs.Clients.{TakesIn, HandsOut, bytes_of, to_go};
 ghost use Rattle.chess_sockets.specs.Closings.{IsSound, IsForeign, IsTrouble, WasRefused};
 ghost use Rattle.text_lines.specs.Lines.{IsUnfinished};
 ghost use Rattle.chess_sockets.specs.Incoming.{held};
@@ -236,9 +238,11 @@ impl<S: Read + Write> Client<S> {
     // for now.
     fn read_more(&mut self, at: u64, piece: &mut [u8; PIECE_ROOM]) -> Came
         requires { IsUnfinished (held self.old.incoming) }
-        ensures takes { Takes (S.remaining self.old.wire.stream) (S.remaining self.new.wire.stream) (held self.old.incoming)
+        ensures takes { Takes (S.remaining self.old.wire.stream) (S.remaining self.new.wire.stream)
+            (held self.old.incoming)
             (held self.new.incoming) }
-        ensures heard { IsHeardAt (S.remaining self.old.wire.stream) (S.remaining self.new.wire.stream) at self.old.heard_at
+        ensures heard { IsHeardAt (S.remaining self.old.wire.stream)
+            (S.remaining self.new.wire.stream) at self.old.heard_at
             self.new.heard_at }
         ensures ended { IsEndSeen (S.remaining self.new.wire.stream) self.old.has_ended self.new.has_ended }
         ensures quiet { self.new.is_quiet ≡ true → (result ≡ Came.Nothing)
@@ -328,7 +332,8 @@ impl<S: Read + Write> Client<S> {
             (standing self.new) s (session_at hub.new.sessions self.old.sid)) }
         ensures longest { room.new.longest ≡ room.old.longest }
         ensures peer { (self.new.sid ≡ self.old.sid) × (waiting self.new.outgoing ≡ waiting self.old.outgoing) }
-        ensures heard { IsHeardAt (S.remaining self.old.wire.stream) (S.remaining self.new.wire.stream) at self.old.heard_at
+        ensures heard { IsHeardAt (S.remaining self.old.wire.stream)
+            (S.remaining self.new.wire.stream) at self.old.heard_at
             self.new.heard_at }
         ensures ended { IsEndSeen (S.remaining self.new.wire.stream) self.old.has_ended self.new.has_ended }
         // Who has sent something is asked for more.

@@ -132,7 +132,8 @@ impl Incoming {
     /// Reads once, without waiting where the reader doesn't wait, and holds back what came.
     pub fn read_from<R: Read>(&mut self, reader: &mut Wire<R>, piece: &mut [u8; PIECE_ROOM]) -> Came
         requires { IsUnfinished (held self.old) }
-        ensures takes { Takes (R.remaining reader.old.stream) (R.remaining reader.new.stream) (held self.old) (held self.new) }
+        ensures takes { Takes (R.remaining reader.old.stream) (R.remaining reader.new.stream) (held self.old)
+            (held self.new) }
         ensures brings { Brings (R.remaining reader.old.stream) (R.remaining reader.new.stream) result }
         ensures end { result ≡ Came.End → IsAtEnd (R.remaining reader.new.stream) }
         ensures nothing { result ≡ Came.Nothing → Keeps (R.remaining reader.old.stream) (R.remaining reader.new.stream)

@@ -48,7 +48,8 @@ fn close_silent<S, D: Device>(client: &mut Client<S>, hub: &mut Hub<D>, reading:
     ensures told { OnTrue result (client.new.closing ≡ Some Closing.Silence) }
     ensures stays { OnFalse result (hub.new.sessions ≡ hub.old.sessions) }
     ensures peer { (client.new.sid ≡ client.old.sid) × (held client.new.incoming ≡ held client.old.incoming)
-        × (waiting client.new.outgoing ≡ waiting client.old.outgoing) × (client.new.wire.stream ≡ client.old.wire.stream)
+        × (waiting client.new.outgoing ≡ waiting client.old.outgoing)
+        × (client.new.wire.stream ≡ client.old.wire.stream)
         × (client.new.heard_at ≡ client.old.heard_at) × (client.new.has_ended ≡ client.old.has_ended)
         × (standing client.new ≡ standing client.old) }
     ensures store { hub.new.store ≡ hub.old.store }

@@ -1,10 +1,12 @@
 //! The server.
-ghost use Rattle.std.specs.Prelude.{◌≡◌, ◌<◌, ◌+◌, ◌↔◌, ◌⊎◌, true, false, [], Some, None, Ok, IsTrue, IsSomeAnd, IfOk, IfErr, OnOk, length};
+ghost use Rattle.std.specs.Prelude.{◌≡◌, ◌<◌, ◌+◌, ◌↔◌, ◌⊎◌, true, false, [], Some, None, Ok, IsTrue, IsSomeAnd, IfOk};
+ghost use Rattle.std.specs.Prelude.{IfErr, OnOk, length};
 ghost use Rattle.std.specs.Bool.{OnTrue, OnFalse};
 ghost use Rattle.chess_store.specs.Kept.{IsStoreKept};
 ghost use Rattle.chess_hub.specs.Faults.{CountsFault, refusals_after};
 ghost use Rattle.chess_hub.specs.Turning.{MayBeAsked, TurnLasts, TurnTried};
-ghost use Rattle.chess_sockets.specs.Serving.{state_of, Welcomes, IsWelcomed, IsAskedFor, HasServed, HasGoneRound, open_in};
+ghost use Rattle.chess_sockets.specs.Serving.{state_of, Welcomes, IsWelcomed, IsAskedFor, HasServed, HasGoneRound};
+ghost use Rattle.chess_sockets.specs.Serving.{open_in};
 ghost use Rattle.chess_sockets.specs.Turns.{EndsServing, IsRefusal, IsTurnRefusal};
 
 use crate::fault::ServerFault;
@@ -220,7 +222,8 @@ impl<D: Device, S: Read + Write + From<Connection> + Drop> Server<D, S> {
         ensures came { OnTrue result (self.new.listener.given ≡ self.old.listener.given + 1) }
         ensures nobody { OnFalse result (self.new.listener.given ≡ self.old.listener.given) }
         ensures stay { OnFalse result (self.new.clients.items ≡ self.old.clients.items) }
-        ensures welcomes { IsWelcomed S.from_gives at self.old.listener.given self.new.listener.given self.old.turned_away
+        ensures welcomes { IsWelcomed S.from_gives at self.old.listener.given self.new.listener.given
+            self.old.turned_away
             self.new.turned_away self.old.clients.items self.new.clients.items
             (state_of self.old.hub.sessions self.old.hub.store.table)
             (state_of self.new.hub.sessions self.new.hub.store.table) }
@@ -283,7 +286,8 @@ impl<D: Device, S: Read + Write + From<Connection> + Drop> Server<D, S> {
         ensures counts { self.new.hub.refusals ≡ refusals_after result self.old.hub.refusals }
         // The store's own fault tells why it refused what lines ask for.
         ensures refused { IfErr result (λ fault. IsTurnRefusal S.from_gives S.remaining self.old.silence
-            self.old.listener.given self.new.listener.given self.old.turned_away self.new.turned_away fault at self.old.hub.store.journal.header.seq self.old.hub.store.failed
+            self.old.listener.given self.new.listener.given self.old.turned_away self.new.turned_away fault at
+            self.old.hub.store.journal.header.seq self.old.hub.store.failed
             self.old.clients.items self.new.clients.items
             (state_of self.old.hub.sessions self.old.hub.store.table)
             (state_of self.new.hub.sessions self.new.hub.store.table)) }
@@ -294,7 +298,8 @@ impl<D: Device, S: Read + Write + From<Connection> + Drop> Server<D, S> {
             (D.failures self.old.hub.store.journal.device) (D.failures self.new.hub.store.journal.device)) }
         // Whoever may wait is asked for, in each turn, and what comes is work.
         ensures asked { IsAskedFor self.old.rested self.old.listener self.new.listener }
-        ensures came { IfOk result (λ turned. turned ≡ Turned.Idle → self.new.listener.given ≡ self.old.listener.given) }
+        ensures came { IfOk result (λ turned. turned ≡ Turned.Idle
+            → self.new.listener.given ≡ self.old.listener.given) }
         // Work is one that came or clients that were there, so where an accept fails and no client is there it is none.
         ensures worked { IfOk result (λ turned. turned ≡ Turned.Worked
             → (self.new.listener.given ≡ self.old.listener.given + 1)
@@ -304,7 +309,8 @@ impl<D: Device, S: Read + Write + From<Connection> + Drop> Server<D, S> {
         // Each session hears what its client's stream gave, and what it is given goes to that stream, whatever the
         // streams are. At most one comes, who is a client or is counted as turned away.
         ensures served { OnOk result (HasGoneRound S.from_gives S.remaining S.contents self.old.silence
-            self.old.listener.given self.new.listener.given self.old.turned_away self.new.turned_away (MayBeAsked self.old.hub.store.failed
+            self.old.listener.given self.new.listener.given self.old.turned_away self.new.turned_away
+            (MayBeAsked self.old.hub.store.failed
             self.old.hub.store.journal.header.seq self.old.hub.store.table.entries) at self.old.clients.items
             self.new.clients.items (state_of self.old.hub.sessions self.old.hub.store.table)
             (state_of self.new.hub.sessions self.new.hub.store.table)) }

@@ -1,5 +1,6 @@
 -- What comes of lives on a device in memory that is made for them, and of the drill.
-use Rattle.std.specs.Prelude.{ℕ, ◌≡◌, ◌⊎◌, ◌==◌, ◌+◌, ⊤, Bool, false, List, [], ◌∷◌, ◌++◌, length, count_by, Result, Ok, Err, IsOk, IfOk, IfErr, MatchResult}
+use Rattle.std.specs.Prelude.{ℕ, ◌≡◌, ◌⊎◌, ◌==◌, ◌+◌, ⊤, Bool, false, List, [], ◌∷◌, ◌++◌, length, count_by, Result, Ok}
+use Rattle.std.specs.Prelude.{Err, IsOk, IfOk, IfErr, MatchResult}
 use Rattle.chess_board.specs.Legal.{EachOf}
 use Rattle.rec_codec.specs.declared.limits.Limits.{Limits}
 use Rattle.rec_codec.specs.Limits.{need}

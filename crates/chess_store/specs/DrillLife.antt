@@ -1,6 +1,7 @@
 -- The lives of the drill: in each a game is opened and five moves are made as one batch, at one of whose device calls
 -- the life stops, with one of the fates for each write that is pending there.
-use Rattle.std.specs.Prelude.{ℕ, zero, suc, ◌≡◌, ◌+◌, ◌-◌, ◌/◌, ◌%◌, ◌^◌, nat_lt, if◌then◌else◌, List, [], ◌∷◌, map, codes, Option, Some, None}
+use Rattle.std.specs.Prelude.{ℕ, zero, suc, ◌≡◌, ◌+◌, ◌-◌, ◌/◌, ◌%◌, ◌^◌, nat_lt, if◌then◌else◌, List, [], ◌∷◌, map}
+use Rattle.std.specs.Prelude.{codes, Option, Some, None}
 use Rattle.chess_bits.specs.declared.men.Colour.TheVariants.{White}
 use Rattle.sector_dev.specs.declared.device.Fate.{Fate}
 use Rattle.sector_dev.specs.declared.device.Fate.TheVariants.{Lost, Kept, Unreadable}

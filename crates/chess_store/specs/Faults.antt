@@ -8,7 +8,8 @@ use Rattle.chess_table.specs.declared.restoring.TableFault.TheVariants as table
 use Rattle.chess_entry.specs.declared.commands.Command.{Command}
 use Rattle.chess_entry.specs.State.{TableState}
 use Rattle.chess_store.specs.declared.fault.StoreFault.{StoreFault}
-use Rattle.chess_store.specs.declared.fault.StoreFault.TheVariants.{Exists, TooSmall, NotOurs, Damaged, Device, NoMemory, Worn, Failed}
+use Rattle.chess_store.specs.declared.fault.StoreFault.TheVariants.{Exists, TooSmall, NotOurs, Damaged, Device}
+use Rattle.chess_store.specs.declared.fault.StoreFault.TheVariants.{NoMemory, Worn, Failed}
 use Rattle.chess_store.specs.Batch.{AreEntered}
 
 -- what a fault of the journal is where nothing is pending

@@ -36,7 +36,8 @@ pub record IsLonger (limits : Limits) (k entries : List Entry) (after : TableSta
   pub table : after ≡ table_of limits (k ++ entries)
 
 abbrev pub LawOfBatches : Type 0
-LawOfBatches = (limits : Limits) (k : List Entry) (commands : List Command) (replies : List Reply) (entries : List Entry)
+LawOfBatches =
+    (limits : Limits) (k : List Entry) (commands : List Command) (replies : List Reply) (entries : List Entry)
     (after : TableState) → IsInRange Two limits → IsLawful limits k
     → IsAnswered (table_of limits k) commands replies entries after → IsLonger limits k entries after
 
@@ -52,7 +53,8 @@ LawOfRaising = (limits raised : Limits) (k : List Entry) → limits.games ≤ ra
 -- What a stop leaves begins with what was acknowledged, and what lives leave begins with what was kept before them.
 pub record NothingIsLost : Type 0 where
   pub stop : (k next : List Entry) (course : Course) → IsLeft k course next → BeginsWith (acknowledged k course) next
-  pub lives : (limits : Limits) (k last : List Entry) (failures after : ℕ) (lives : List Life) (reports : List LifeReport)
+  pub lives : (limits : Limits) (k last : List Entry) (failures after : ℕ) (lives : List Life)
+      (reports : List LifeReport)
       → AreLives limits k failures lives reports last after → BeginsWith k last
 
 abbrev pub LawOfKept : Type 0

@@ -29,7 +29,8 @@ pub record HasFailed (life : Life) (failures after : ℕ) : Type 0 where
   pub risen : HasRisen failures after
 
 -- The opening failed, by the device alone. What was kept is kept.
-pub record IsUnopened (k : List Entry) (failures : ℕ) (life : Life) (report : LifeReport) (next : List Entry) (after : ℕ)
+pub record IsUnopened (k : List Entry) (failures : ℕ) (life : Life) (report : LifeReport) (next : List Entry)
+    (after : ℕ)
     : Type 0 where
   pub failed : HasFailed life failures after
   pub opened : report.opened ≡ None

@@ -1,5 +1,6 @@
 -- What one opened store makes of batches, on tables: what the functions inside say of it.
-use Rattle.std.specs.Prelude.{ℕ, ◌≡◌, ◌⊎◌, ◌≤◌, ◌+◌, ◌^◌, ◌<◌, ◌-◌, min, List, [], ◌∷◌, ◌++◌, length, map, Option, Some, None, IfSome}
+use Rattle.std.specs.Prelude.{ℕ, ◌≡◌, ◌⊎◌, ◌≤◌, ◌+◌, ◌^◌, ◌<◌, ◌-◌, min, List, [], ◌∷◌, ◌++◌, length, map, Option, Some}
+use Rattle.std.specs.Prelude.{None, IfSome}
 use Rattle.sector_dev.specs.Device.{State, HasRisen}
 use Rattle.sector_dev.specs.Image.{Sectors}
 use Rattle.chess_entry.specs.declared.commands.Command.{Command}
@@ -51,7 +52,8 @@ EndsWith (Some fault) failed left failures after = ⊥
 
 -- What came of batches that were submitted to a store that works: the table that it showed last, and what the images
 -- are, where every one was kept.
-pub record IsTallied (before : TableState) (batches : List (List Command)) (submitted : Submitted) (failures : ℕ) (WasKept : Type 0)
+pub record IsTallied (before : TableState) (batches : List (List Command)) (submitted : Submitted) (failures : ℕ)
+    (WasKept : Type 0)
     (now : State) (after : ℕ) : Type 0 where
   pub course : Course
   pub left : List (List Command)

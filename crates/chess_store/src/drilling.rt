@@ -2,7 +2,8 @@
 ghost use Rattle.std.specs.Prelude.{◌≡◌, ◌+◌, ◌-◌, ◌^◌, ◌<◌, ◌≤◌, ◌==◌, cond, min, IfOk, IfErr, map, length};
 ghost use Rattle.player_name.specs.Name.{IsName};
 ghost use Rattle.chess_store.specs.Drill.{IsDrillPlan, IsCase, AreCases, IsTold, IsFaultInMemory};
-ghost use Rattle.chess_store.specs.DrillLife.{asked, played, shown, opening_batch, moves_batch, stop_of, fate_of, fates_of};
+ghost use Rattle.chess_store.specs.DrillLife.{asked, played, shown, opening_batch, moves_batch, stop_of, fate_of};
+ghost use Rattle.chess_store.specs.DrillLife.{fates_of};
 
 use crate::StoreFault;
 use crate::in_memory::lives_in_memory;

@@ -156,9 +156,9 @@ fn show<D: Device>(alloc: Global, device: D, reports: Vec<LifeReport>) -> Lived<
 ///
 /// What is reported of a life is of that life (`told`): the device goes from life to life, each of which has one stop,
 /// its last, and at the stop the device has failed as often as is reported. Where an opening is told as failed, the
-/// life names calls, and since the stop before it the device has failed, with nothing written, and with no more of those
-/// calls gone than an opening takes that goes well: a sync, a read of each header slot, and one of each sector that
-/// the header names (of a journal of version 1, one for each record).
+/// life names calls, and since the stop before it the device has failed, with nothing written, and with no more of
+/// those calls gone than an opening takes that goes well: a sync, a read of each header slot, and one of each sector
+/// that the header names (of a journal of version 1, one for each record).
 pub fn lives<D: CrashDevice>(alloc: Global, device: D, plan: &Plan) -> Lived<D>
     requires { AreSubmittable plan.now.lives.items }
     ensures reported { (limits : Limits) (k : List Entry) → IsBegun limits k (D.state device)

@@ -40,7 +40,7 @@ use Rattle.chess_entry.specs.Verdict.{Check, refuse, first_of, has_offer, in_gam
 use Rattle.chess_entry.specs.Bounds.{AreDifferent}
 use Rattle.chess_entry.specs.Table.{IsTable, IsOnTable, IsEnteredOn}
 use Rattle.chess_entry.proofs.Entering.{passed, find_game-number}
-use Rattle.chess_records.proofs.Promotions.{CanBecome-legal}
+use Rattle.chess_table.proofs.Promotions.{CanBecome-legal}
 use Rattle.chess_table.specs.Witness.{StatesLegal, NamesPlayer, opening_verdict, witness_verdict}
 use Rattle.chess_table.proofs.CheckLemmas.{skipped}
 use Rattle.chess_table.proofs.WhatEnters.{EachOf-found}

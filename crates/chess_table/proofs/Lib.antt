@@ -16,3 +16,9 @@ pub mod Comings
 pub mod AllowedLemmas
 mod StandLemmas
 pub mod StoredLemmas
+pub mod RunLemmas
+pub mod Promotions
+pub mod PartLemmas
+pub mod ReadLemmas
+pub mod GamesLemmas
+pub mod ListLemmas

@@ -8,7 +8,8 @@ use Rattle.chess_entry.specs.declared.commands.Act.TheVariants as act
 use Rattle.chess_entry.specs.declared.verdicts.Verdict.{Verdict}
 use Rattle.chess_entry.specs.State.{GameState, TableState}
 use Rattle.chess_entry.specs.Parsed.{parsed}
-use Rattle.chess_entry.specs.Verdict.{in_seat, move_verdict, offer_verdict, accept_verdict, decline_verdict, resign_verdict, claim_verdict, flag_verdict, drop_verdict, player_verdict}
+use Rattle.chess_entry.specs.Verdict.{in_seat, move_verdict, offer_verdict, accept_verdict, decline_verdict}
+use Rattle.chess_entry.specs.Verdict.{resign_verdict, claim_verdict, flag_verdict, drop_verdict, player_verdict}
 use Rattle.chess_table.specs.declared.judging.Asked.{Asked}
 use Rattle.chess_table.specs.declared.judging.Asked.TheVariants as asked
 
@@ -36,7 +37,8 @@ asked_verdict table at asked.Offer = offer_verdict at
 asked_verdict table at asked.Accept = accept_verdict at
 asked_verdict table at asked.Decline = decline_verdict at
 asked_verdict table at asked.Resign = resign_verdict at
-asked_verdict table at (asked.Claim claimed) = claim_verdict table at claimed.ply claimed.fifty claimed.states claimed.mv
+asked_verdict table at (asked.Claim claimed) =
+    claim_verdict table at claimed.ply claimed.fifty claimed.states claimed.mv
 asked_verdict table at asked.Flag = flag_verdict at
 asked_verdict table at asked.Drop = drop_verdict at
 
@@ -44,7 +46,8 @@ asked_verdict table at asked.Drop = drop_verdict at
 abbrev pub IsAskedBy : Act → Option Move → Asked → Type 0
 IsAskedBy act move asked =
     (table : TableState) (at : ℕ) (name : List ℕ) (start : Option Position)
-    → player_verdict table at name (parsed start move) act ≡ in_seat table name (game_of act) (asked_verdict table at asked)
+    → player_verdict table at name (parsed start move) act
+    ≡ in_seat table name (game_of act) (asked_verdict table at asked)
 
 -- The act is not one that is made in a seat.
 abbrev pub AsksNoSeat : Act → Type 0

@@ -10,3 +10,4 @@ pub mod Asked
 pub mod Witness
 pub mod Entered
 pub mod Stored
+pub mod Part

@@ -12,7 +12,9 @@ use Rattle.chess_entry.specs.declared.refusals.Refusal.TheVariants.{Taken}
 use Rattle.chess_entry.specs.declared.verdicts.Verdict.{Verdict}
 use Rattle.chess_entry.specs.declared.verdicts.Verdict.TheVariants.{Refuse, Enter, Read}
 use Rattle.chess_entry.specs.State.{GameState, TableState, position_of}
-use Rattle.chess_entry.specs.Verdict.{are_times, open_verdict, join_verdict, move_verdict, offer_verdict, accept_verdict, decline_verdict, resign_verdict, claim_verdict, flag_verdict, drop_verdict}
+use Rattle.chess_entry.specs.Verdict.{are_times, open_verdict, join_verdict, move_verdict, offer_verdict}
+use Rattle.chess_entry.specs.Verdict.{accept_verdict, decline_verdict, resign_verdict, claim_verdict, flag_verdict}
+use Rattle.chess_entry.specs.Verdict.{drop_verdict}
 use Rattle.chess_table.specs.Checks.{opening_from}
 
 -- A stated move is legal.

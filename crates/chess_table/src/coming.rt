@@ -6,7 +6,8 @@ ghost use Rattle.player_name.specs.Name.{IsName};
 ghost use Rattle.chess_entry.specs.State.{position_of};
 ghost use Rattle.chess_entry.specs.Verdict.{claim_verdict};
 ghost use Rattle.chess_entry.specs.Table.{IsEnteredOn};
-ghost use Rattle.chess_table.specs.Witness.{StatesLegal, NamesPlayer, is_fallen, Enters, opening_verdict, witness_verdict};
+ghost use Rattle.chess_table.specs.Witness.{StatesLegal, NamesPlayer, is_fallen, Enters, opening_verdict};
+ghost use Rattle.chess_table.specs.Witness.{witness_verdict};
 
 use crate::judging::{
     Claimed, accept_verdict, claim_verdict, decline_verdict, drop_verdict, flag_verdict,

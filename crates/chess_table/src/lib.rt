@@ -2,8 +2,8 @@
 //! `chess_entry` has the rules as definitions, which the contracts cite.
 //!
 //! Modules: `table` has the games, each of them `boxed`; `coming` and `judging` say what a command meets, `entering`
-//! adds an entry, `answers` has the line that answers it; `records` and `restoring` turn entries and whole tables into
-//! records and back, `standing` judges what may be restored.
+//! adds an entry, `answers` has the line that answers it; `records`, `parts` and `restoring` turn entries, games and
+//! whole tables into records and back, `standing` judges what may be restored.
 #![tactic(auto)]
 
 mod answers;
@@ -11,6 +11,7 @@ mod boxed;
 mod coming;
 mod entering;
 mod judging;
+mod parts;
 mod records;
 mod restoring;
 mod standing;

@@ -44,7 +44,8 @@ result_text (Some ending) = score_text ending.result
 abbrev pub roster : Option (List ℕ) → Option (List ℕ) → Option Ending → List Tag
 roster white black ending =
     tag (codes "Event") (codes "?") ∷ tag (codes "Site") (codes "?") ∷ tag (codes "Date") (codes "????.??.??") ∷
-    tag (codes "Round") (codes "?") ∷ tag (codes "White") (player_text white) ∷ tag (codes "Black") (player_text black) ∷
+    tag (codes "Round") (codes "?") ∷ tag (codes "White") (player_text white)
+    ∷ tag (codes "Black") (player_text black) ∷
     tag (codes "Result") (result_text ending) ∷ []
 
 -- the number of an article of the FIDE Laws of Chess
@@ -97,7 +98,8 @@ increment_text (suc n) = codes "+" ++ decimal (suc n)
 abbrev pub time_control_text : ℕ → ℕ → Option (ℕ × ℕ) → List ℕ
 time_control_text initial increment None = decimal initial ++ increment_text increment
 time_control_text initial increment (Some (moves, second)) =
-    decimal moves ++ (codes "/" ++ (decimal initial ++ (increment_text increment ++ (codes ":" ++ (decimal second ++ increment_text increment)))))
+    decimal moves ++ (codes "/" ++ (decimal initial
+    ++ (increment_text increment ++ (codes ":" ++ (decimal second ++ increment_text increment)))))
 
 -- the new text is the old one with these tags
 pub record PutsSetUp (old new : List ℕ) (start : Position) : Type 0 where

@@ -38,7 +38,8 @@ fn push_number(
     is_first: bool,
 ) -> Result<usize, AllocError>
     requires { width ≤ 79 }
-    ensures under_way { (front : List ℕ) (tokens : List (List ℕ)) → IsUnderWay front tokens (string_bytes text.old) width →
+    ensures under_way { (front : List ℕ) (tokens : List (List ℕ))
+        → IsUnderWay front tokens (string_bytes text.old) width →
         IfOk result (λ wide. IsUnderWay front
         (tokens ++ numbers_before board.now.side is_first board.now.fullmove) (string_bytes text.new) wide) }
     ensures width { IfOk result (λ wide. wide ≤ 79) }

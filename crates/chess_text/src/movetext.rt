@@ -13,7 +13,8 @@ pub const WIDEST: usize = 79;
 pub fn separated(width: usize, len: usize) -> (&'static str, usize)
     requires width { width ≤ 79 }
     requires len { len ≤ 79 }
-    ensures under_way { (front : List ℕ) (tokens : List (List ℕ)) (text token : List ℕ) → IsUnderWay front tokens text width →
+    ensures under_way { (front : List ℕ) (tokens : List (List ℕ)) (text token : List ℕ)
+        → IsUnderWay front tokens text width →
         IsToken token → length token ≡ len →
         IsUnderWay front (tokens ++ token ∷ []) (text ++ (result.0.now ++ token)) (result.1 + len) }
     ensures width { result.1 + len ≤ 79 }
@@ -32,7 +33,8 @@ pub fn separated(width: usize, len: usize) -> (&'static str, usize)
 pub fn push_token(text: &mut String, width: usize, token: &str) -> Result<usize, AllocError>
     requires width { width ≤ 79 }
     requires token { IsToken token.now }
-    ensures under_way { (front : List ℕ) (tokens : List (List ℕ)) → IsUnderWay front tokens (string_bytes text.old) width →
+    ensures under_way { (front : List ℕ) (tokens : List (List ℕ))
+        → IsUnderWay front tokens (string_bytes text.old) width →
         IfOk result (λ wide. IsUnderWay front (tokens ++ token.now ∷ []) (string_bytes text.new) wide) }
     ensures width { IfOk result (λ wide. wide ≤ 79) }
 {

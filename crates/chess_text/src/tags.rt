@@ -1,7 +1,8 @@
 ghost use Rattle.std.specs.Prelude.{◌≡◌, ◌++◌, ◌≤◌, ◌+◌, [], ◌∷◌, List, decimal, OnOk, OnErr};
 ghost use Rattle.std.specs.String.{string_bytes};
 ghost use Rattle.arrayvec.specs.ArrayString.{array_string_len};
-ghost use Rattle.chess_text.specs.Pgn.{Tag, tag, tag_text, tags_text, result_text, article_text, article_tags, termination_text, increment_text, time_control_text, PutsSetUp};
+ghost use Rattle.chess_text.specs.Pgn.{Tag, tag, tag_text, tags_text, result_text, article_text, article_tags};
+ghost use Rattle.chess_text.specs.Pgn.{termination_text, increment_text, time_control_text, PutsSetUp};
 
 use arrayvec::ArrayString;
 use chess_board::Board;

@@ -14,7 +14,8 @@ fn words_or_fault<R: Env + AllocGlobal>(
     rt: &R,
     command: &mut Command<'_>,
 ) -> Result<Vec<String>, Error>
-    ensures { IfErr result (λ fault. (kind_of fault ≡ ErrorKind.InvalidValue) ⊎ (kind_of fault ≡ ErrorKind.OutOfMemory)) }
+    ensures { IfErr result (λ fault. (kind_of fault ≡ ErrorKind.InvalidValue)
+        ⊎ (kind_of fault ≡ ErrorKind.OutOfMemory)) }
 {
     match env::args(rt) {
         Ok(args) => Ok(args.collect(rt.alloc())?),
@@ -29,7 +30,8 @@ pub fn words_given<R: Env + AllocGlobal>(
     rt: &R,
     mut command: Command<'_>,
 ) -> Result<Vec<String>, Error>
-    ensures { IfErr result (λ fault. (kind_of fault ≡ ErrorKind.InvalidValue) ⊎ (kind_of fault ≡ ErrorKind.OutOfMemory)) }
+    ensures { IfErr result (λ fault. (kind_of fault ≡ ErrorKind.InvalidValue)
+        ⊎ (kind_of fault ≡ ErrorKind.OutOfMemory)) }
 {
     let words = words_or_fault(rt, &mut command);
     drop(command);

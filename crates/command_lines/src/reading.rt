@@ -18,7 +18,8 @@ pub fn read_or_fault<T: Drop>(
 ) -> Result<T, Error>
     ensures some { IfOk result (λ value. read ≡ Some value) }
     ensures none { OnErr result (read ≡ None) }
-    ensures fault { IfErr result (λ fault. (kind_of fault ≡ ErrorKind.InvalidValue) ⊎ (kind_of fault ≡ ErrorKind.OutOfMemory)) }
+    ensures fault { IfErr result (λ fault. (kind_of fault ≡ ErrorKind.InvalidValue)
+        ⊎ (kind_of fault ≡ ErrorKind.OutOfMemory)) }
 {
     match read {
         Some(value) => Ok(value),
@@ -36,7 +37,8 @@ pub fn read_or_told<T: Drop>(
 ) -> Result<T, Error>
     ensures some { IfOk result (λ value. (told ≡ None) × (read ≡ Some value)) }
     ensures none { OnErr result (IsSome told ⊎ (read ≡ None)) }
-    ensures fault { IfErr result (λ fault. (kind_of fault ≡ ErrorKind.InvalidValue) ⊎ (kind_of fault ≡ ErrorKind.OutOfMemory)) }
+    ensures fault { IfErr result (λ fault. (kind_of fault ≡ ErrorKind.InvalidValue)
+        ⊎ (kind_of fault ≡ ErrorKind.OutOfMemory)) }
 {
     match told {
         Some(told) => Err(command.error(ErrorKind::InvalidValue, told.as_str())?),

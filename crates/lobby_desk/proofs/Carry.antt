@@ -13,13 +13,16 @@ use Rattle.lobby_words.specs.declared.planning.Plan.TheVariants as plans
 use Rattle.lobby_words.specs.declared.planning.Standing.{Standing}
 use Rattle.lobby_words.specs.declared.planning.Identity.{Identity}
 use Rattle.lobby_words.specs.declared.players.Player.{Player}
-use Rattle.lobby_desk.specs.declared.watching.Watch.{Watch}
+use Rattle.lobby_table.specs.declared.watching.Watch.{Watch}
 use Rattle.lobby_words.specs.Words.{as_line, black_name, pair_line, is_link_sort, is_close_sort, is_leave_sort, is_leave_lobby_sort, or_0}
 use Rattle.lobby_words.specs.Plans.{asked, barred, entered_plan, act_plan, named_plan, as_plan, black_plan, white_plan, pair_plan, drop_plan, arbiter_plan, players_plan, order_plan, login_plan, order_of, numbered_plan, plan_of}
-use Rattle.lobby_desk.specs.Lines.{lines_of, act_lines, is_said, name_line, notice_lines}
-use Rattle.lobby_desk.specs.Refusals.{game_named}
-use Rattle.lobby_desk.specs.Events.{MessageValue, ForItself, ForPositions, ForTable, ForGame, ForAct, Owed, Asker, Dropper, Pairer, owed_lines, plan_asker, sort_asker}
-use Rattle.lobby_desk.specs.Watching.{risen}
+use Rattle.lobby_desk.specs.Lines.{lines_of, is_said}
+use Rattle.lobby_table.specs.Sending.{act_lines, name_line, notice_lines}
+use Rattle.lobby_table.specs.Refusals.{game_named}
+use Rattle.lobby_desk.specs.Events.{MessageValue, plan_asker, sort_asker}
+use Rattle.lobby_table.specs.Owed.{ForItself, ForPositions, ForTable, ForGame, ForAct, Owed, Asker, Dropper, Pairer}
+use Rattle.lobby_table.specs.Owed.{owed_lines}
+use Rattle.lobby_table.specs.Watching.{risen}
 use Rattle.lobby_desk.specs.Tellings.{left_game, IsToldOrSent}
 use Rattle.lobby_desk.specs.Who.{name_of, plan_watches, plan_table, IsAnswered}
 use Rattle.lobby_words.specs.Players.{known_name}

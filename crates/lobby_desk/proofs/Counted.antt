@@ -3,12 +3,17 @@ use Rattle.std.proofs.Common.{ℕ, suc, ◌≡◌, ◌+◌, ◌==◌, ◌&&◌, 
 use Rattle.std.specs.Prelude.{if◌then◌else◌}
 use Rattle.std.proofs.lemmas.Bool.{false≢true}
 use Rattle.std.proofs.lemmas.Bool.Decides.{Decides-eqb}
-use Rattle.lobby_words.specs.Answers.{act_game, is_table_act, answer}
+use Rattle.server_answers.proofs.Apart.{refusal_none}
+use Rattle.lobby_words.specs.Answers.{act_game, first_line, is_table_act, answer, is_entered}
 use Rattle.lobby_words.specs.declared.players.Player.{Player}
-use Rattle.lobby_desk.specs.declared.refusals.RefusedActs.{RefusedActs}
-use Rattle.lobby_desk.specs.Events.{DeskInput, Opened, Closed, Said, Hurried, Heard, ServerTurned, Renewed, Linked, ForItself, ForPositions, ForTable, ForGame, ForAct, Owed, Nobody, Naming, Asker, Dropper, Pairer, Followers, Behind}
-use Rattle.lobby_desk.specs.Refusals.{is_act_accepted, is_refusal, game_named, refused_game, count_in, count_of, without, cleared, one_more}
-use Rattle.lobby_desk.specs.Tellings.{Known, is_counted, is_number, refused_heard, refused_next, refused_now}
+use Rattle.lobby_table.specs.declared.refusals.RefusedActs.{RefusedActs}
+use Rattle.lobby_desk.specs.Events.{DeskInput, Opened, Closed, Said, Hurried, Heard, ServerTurned, Renewed, Linked}
+use Rattle.lobby_table.specs.Owed.{ForItself, ForPositions, ForTable, ForGame, ForAct, Owed, Nobody, Naming, Asker}
+use Rattle.lobby_table.specs.Owed.{Dropper, Pairer, Followers, Behind}
+use Rattle.lobby_table.specs.Refusals.{is_of_seated, is_refusal, game_named, refused_game, count_in, count_of}
+use Rattle.lobby_table.specs.Refusals.{without, cleared, one_more}
+use Rattle.lobby_desk.specs.Tellings.{Known, is_counted, refused_heard, refused_next, refused_now}
+use Rattle.lobby_table.specs.Owed.{is_number}
 use Rattle.lobby_desk.specs.History.{Step, known_in, Acted, acted_for, acted_next, acted_now, acted_in, refuses, since, refused_since}
 
 -- ---- what is kept of games
@@ -51,16 +56,10 @@ same_turned a b false e h = e
 -- ---- an answer to an act
 
 -- what is accepted is not refused
-not_refused_at : (b : ℕ) (bs : List ℕ) (t : Bool) → (110 == b) ≡ t → is_act_accepted (b ∷ bs) ≡ true → is_refusal (b ∷ bs) ≡ false
-not_refused_at b bs true e h =
-    absurd (false≢true (subst (λ (c : ℕ). is_act_accepted (c ∷ bs) ≡ true) (sym ((Decides-eqb 110 b).0 e)) h))
-not_refused_at b bs false e h = rw e refl
+not_refused : (now : List ℕ) → is_entered now ≡ true → is_refusal now ≡ false
+not_refused now h = ap is_of_seated (refusal_none (first_line now) h)
 
-not_refused : (now : List ℕ) → is_act_accepted now ≡ true → is_refusal now ≡ false
-not_refused [] h = refl
-not_refused (b ∷ bs) h = not_refused_at b bs (110 == b) refl h
-
-none_refused : (text now : List ℕ) → is_act_accepted now ≡ true → refused_game text now ≡ None
+none_refused : (text now : List ℕ) → is_entered now ≡ true → refused_game text now ≡ None
 none_refused text now h = ap (λ (b : Bool). if b && not (is_table_act text) then game_named text else None) (not_refused now h)
 
 -- one more was refused, or none
@@ -108,7 +107,7 @@ accepted_more None game act acts refused h is =
     is ∙ sym (ap (λ (b : Bool). length (cond b (act ∷ filter (refuses game) acts) (filter (refuses game) acts))) h)
 accepted_more (Some other) game act acts refused h is = accepted_at (game == other) game other act acts refused refl h is
 
-told_at : (t : Bool) (text now : List ℕ) (game : ℕ) (acts : List Acted) (refused : List RefusedActs) → is_act_accepted now ≡ t →
+told_at : (t : Bool) (text now : List ℕ) (game : ℕ) (acts : List Acted) (refused : List RefusedActs) → is_entered now ≡ t →
     count_in game refused ≡ length (filter (refuses game) (since game acts)) →
     count_in game (if t then cleared (act_game now) refused else one_more (refused_game text now) refused)
     ≡ length (filter (refuses game) (if t && is_number game (act_game now) then [] else record { text = text; answer = now } ∷ since game acts))
@@ -132,9 +131,9 @@ heard_counted (Asker c ForItself) now refused acts h = h
 heard_counted (Asker c ForPositions) now refused acts h = h
 heard_counted (Asker c ForTable) now refused acts h = h
 heard_counted (Asker c (ForGame watched)) now refused acts h = h
-heard_counted (Asker c (ForAct by text)) now refused acts h = λ game. told_at (is_act_accepted now) text now game acts refused refl (h game)
+heard_counted (Asker c (ForAct by text)) now refused acts h = λ game. told_at (is_entered now) text now game acts refused refl (h game)
 heard_counted (Dropper c by text) now refused acts h = h
-heard_counted (Pairer c by black text) now refused acts h = λ game. told_at (is_act_accepted now) text now game acts refused refl (h game)
+heard_counted (Pairer c by black text) now refused acts h = λ game. told_at (is_entered now) text now game acts refused refl (h game)
 heard_counted (Followers noticed act is_table) now refused acts h = h
 heard_counted Behind now refused acts h = h
 

@@ -1,12 +1,7 @@
-pub mod Sent
 pub mod Opened
-pub mod Others
 pub mod Lines
 pub mod Carry
 pub mod As
-pub mod Waited
-pub mod PresentNames
-pub mod Watched
 pub mod Steps
 pub mod Runs
 pub mod Counted
@@ -14,3 +9,4 @@ pub mod Logged
 pub mod Paired
 pub mod Named
 pub mod Alike
+pub mod Lost

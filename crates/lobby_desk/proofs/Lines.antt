@@ -12,7 +12,7 @@ use Rattle.std.proofs.lemmas.Str.Parse.{digit_at}
 use Rattle.player_name.specs.Name.{IsName, is_name_byte}
 use Rattle.lobby_words.specs.declared.words.Sort.TheVariants as sorts
 use Rattle.lobby_words.specs.Words.{is_message, is_message_byte, is_digit, are_digits, is_show_word, is_read, sort_of, is_act_word, is_play_word}
-use Rattle.lobby_desk.specs.Lines.{name_line, game_line, join_line}
+use Rattle.lobby_table.specs.Sending.{name_line, game_line, join_line}
 use Rattle.lobby_words.proofs.Numbers.{own}
 
 byte_shown : (c : ℕ) → 32 ≤ c → c ≤ 126 → is_message_byte c ≡ true

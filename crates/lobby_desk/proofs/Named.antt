@@ -17,13 +17,17 @@ use Rattle.lobby_words.specs.Words.{rest_of, as_name, as_line, black_name, pair_
 use Rattle.lobby_words.specs.Naming.{takes_name}
 use Rattle.lobby_words.specs.Plans.{entered_plan, act_plan, named_plan, as_plan, black_plan, white_plan, pair_plan, numbered_plan, plan_of}
 use Rattle.lobby_words.specs.Answers.{is_whole, act_game, answer}
-use Rattle.lobby_desk.specs.Lines.{lines_of, act_lines, join_line, name_line, game_line, is_said, notice_lines}
-use Rattle.lobby_desk.specs.Refusals.{game_named}
-use Rattle.lobby_desk.specs.Events.{DeskInput, Opened, Closed, Said, Hurried, Heard, ServerTurned, Renewed, Linked, MessageValue, ForItself, ForPositions, ForTable, ForGame, ForAct, Owed, Nobody, Naming, Asker, Dropper, Pairer, Followers, Behind, owed_lines, sort_asker, asker, followers_of, follower, asked_after}
+use Rattle.lobby_desk.specs.Lines.{lines_of, is_said}
+use Rattle.lobby_table.specs.Sending.{act_lines, join_line, name_line, game_line, notice_lines}
+use Rattle.lobby_table.specs.Refusals.{game_named}
+use Rattle.lobby_desk.specs.Events.{DeskInput, Opened, Closed, Said, Hurried, Heard, ServerTurned, Renewed, Linked}
+use Rattle.lobby_desk.specs.Events.{MessageValue, sort_asker, asker, followers_of, follower, asked_after}
+use Rattle.lobby_table.specs.Owed.{ForItself, ForPositions, ForTable, ForGame, ForAct, Owed, Nobody, Naming, Asker}
+use Rattle.lobby_table.specs.Owed.{Dropper, Pairer, Followers, Behind, owed_lines}
 use Rattle.lobby_desk.specs.Tellings.{Known, is_counted, misnamed_heard, misnamed_next, owed_answered}
 use Rattle.lobby_desk.specs.Who.{View, IsSaid, IsSentFor, IsSentNext, IsSentHeard, IsDone, IsDropped, IsPaired, name_of}
 use Rattle.lobby_desk.specs.History.{Step, player_in, players_in, says_name, is_act, is_drop, is_pairing, name_behind, name_through, name_in, known_in, HasAsked, PairsNow, HasPaired, IsRun, Sent, sent_under, but_first, unanswered_in, shown_behind, shown_next, shown_in, IsLineIf, IsLineOf, IsNameIf, IsNameOf, IsOfOwed, IsOfNext, IsOfHeard, IsOfName, AllNamed}
-use Rattle.lobby_desk.proofs.Sent.{is_said_same}
+use Rattle.lobby_table.proofs.Sent.{is_said_same}
 use Rattle.lobby_desk.proofs.Lines.{join_line_acts, list_reads, name_names}
 use Rattle.lobby_desk.proofs.As.{as_acts, as_word, plain_word, pair_acts}
 use Rattle.lobby_desk.proofs.Carry.{asked_does, entered_does, dropped_does, arbiter_does, players_does, link_does, login_does, watch_does, line_does}

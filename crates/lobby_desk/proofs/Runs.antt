@@ -1,6 +1,6 @@
 -- What is promised holds of each run.
 use Rattle.std.proofs.Common.{ℕ, ◌≡◌, ◌<◌, ◌+◌, ◌^◌, ◌⊎◌, inl, inr, Bool, true, false, ◌&&◌, ◌||◌, ◌==◌, not, List, [], ◌∷◌, ◌++◌, Option, None, Some, IfSome, codes, refl, sym, ap, ◌∙◌, subst, arith}
-use Rattle.std.specs.Prelude.{if◌then◌else◌}
+use Rattle.std.specs.Prelude.{if◌then◌else◌, option_map}
 use Rattle.std.specs.List.{AllByRecursion}
 use Rattle.std.specs.Str.{bytes_eq}
 use Rattle.std.proofs.lemmas.Bool.{false≢true}
@@ -16,23 +16,30 @@ use Rattle.lobby_words.specs.declared.planning.Standing.{Standing}
 use Rattle.lobby_words.specs.declared.planning.Identity.{Identity}
 use Rattle.lobby_words.specs.declared.players.Player.{Player}
 use Rattle.lobby_words.specs.declared.listing.Seat.{Seat}
-use Rattle.lobby_desk.specs.declared.refusals.RefusedActs.{RefusedActs}
-use Rattle.lobby_desk.specs.declared.pairings.Pairing.{Pairing}
-use Rattle.lobby_desk.specs.declared.watching.Watch.{Watch}
+use Rattle.lobby_table.specs.declared.refusals.RefusedActs.{RefusedActs}
+use Rattle.lobby_table.specs.declared.pairings.Pairing.{Pairing}
+use Rattle.lobby_table.specs.declared.watching.Watch.{Watch}
 use Rattle.lobby_words.specs.Words.{word_of, rest_of, as_name, as_line, black_name, pair_line, is_pair, line_said, is_message, sort_of, is_act_sort, is_as_sort, is_pair_sort, is_drop_sort, is_name_sort, is_login_sort, u32_in, or_0}
 use Rattle.lobby_words.specs.Plans.{asked, barred, entered_plan, act_plan, named_plan, as_plan, black_plan, white_plan, pair_plan, arbiter_plan, order_plan, drop_plan, login_plan, numbered_plan, plan_of}
-use Rattle.lobby_desk.specs.Lines.{lines_of, act_lines, said_after, name_line, game_line, join_line, is_said, notice_lines, IsNamed}
-use Rattle.lobby_words.specs.Answers.{is_accepted, first_line, act_game, answer}
-use Rattle.lobby_desk.specs.Refusals.{game_named}
-use Rattle.lobby_desk.specs.Watching.{watch_if, sit_if}
-use Rattle.lobby_desk.specs.Events.{DeskInput, Opened, Closed, Said, Hurried, Heard, ServerTurned, Renewed, Linked, MessageValue, ForItself, ForPositions, ForTable, ForGame, ForAct, Owed, Nobody, Naming, Asker, Dropper, Pairer, Followers, Behind, owed_last, owed_acted, owed_some, owed_lines, sort_asker, asker, followers_of, follower, Following, is_asked_behind, game_if, asked_after}
+use Rattle.lobby_desk.specs.Lines.{lines_of, said_after, is_said, IsNamed}
+use Rattle.lobby_table.specs.Sending.{act_lines, name_line, game_line, join_line, notice_lines}
+use Rattle.lobby_words.specs.Answers.{is_shown, first_line, act_game, answer}
+use Rattle.lobby_table.specs.Refusals.{game_named}
+use Rattle.lobby_table.specs.Watching.{watch_if, sit_if}
+use Rattle.lobby_desk.specs.Events.{DeskInput, Opened, Closed, Said, Hurried, Heard, ServerTurned, Renewed, Linked}
+use Rattle.lobby_desk.specs.Events.{MessageValue, sort_asker, asker, followers_of, follower, Following}
+use Rattle.lobby_desk.specs.Events.{is_asked_behind, game_if, asked_after}
+use Rattle.lobby_table.specs.Owed.{ForItself, ForPositions, ForTable, ForGame, ForAct, Owed, Nobody, Naming, Asker}
+use Rattle.lobby_table.specs.Owed.{Dropper, Pairer, Followers, Behind, owed_last, owed_acted, owed_some, owed_lines}
 use Rattle.lobby_desk.specs.Tellings.{Known, is_counted, open_now, watch_heard, watch_next, watches_now, table_heard, table_next, table_now, owed_answered, owed_now, known_now, presence, lost, AreToldAll, IsTold}
 use Rattle.lobby_desk.specs.Who.{View, BeginsView, IsSaid, IsHeard, IsDropped, IsPaired, IsSentFor, IsSentNext, IsSentHeard, IsDone, IsRenewed, IsLinked, IsKnown, who_noted, name_of, speaker}
 use Rattle.lobby_words.specs.Players.{known_name, renewed, holder_of}
 use Rattle.lobby_desk.specs.History.{Step, comes, has_come, shown_by, player_said, player_after, players_in, player_in, is_drop, is_pairing, name_as, name_for, name_behind, name_through, name_before, name_in, ActsUnder, ActsRight, NoActs, NoDrops, sort_asks, IsOf, open_in, known_in, IsArbiter, AsksNow, HasAsked, HasPaired, IsDropOf, IsJoinOf, IsNoticeOf, IsRight, AreWhole, AllRight, AllTold, IsRun}
 use Rattle.lobby_words.proofs.Numbers.{number_small}
 use Rattle.lobby_words.proofs.ByName.{named_is}
-use Rattle.lobby_desk.proofs.Sent.{is_said_same}
+use Rattle.lobby_table.proofs.Sent.{is_said_same}
+use Rattle.server_answers.specs.Entered.{Entered, entered_in}
+use Rattle.server_answers.proofs.DoneActs.{entered_only}
 use Rattle.lobby_desk.proofs.Carry.{act_does, as_does, pair_does, arbiter_does, players_does, link_does, OfOrder, Orders, planned_orders}
 use Rattle.lobby_desk.proofs.As.{as_whole, as_acts, pair_whole, pair_acts}
 use Rattle.lobby_desk.proofs.Lines.{show_whole, fen_whole, pgn_whole, join_whole, join_line_acts, list_whole, name_whole, show_reads, fen_reads, pgn_reads, list_reads, name_names}
@@ -491,7 +498,7 @@ watch_alike f g same before (Naming name) watches = refl
 watch_alike f g same before (Asker c ForItself) watches = refl
 watch_alike f g same before (Asker c ForPositions) watches = refl
 watch_alike f g same before (Asker c ForTable) watches = refl
-watch_alike f g same before (Asker c (ForGame game)) watches = ap (λ (b : Bool). watch_if (is_accepted before && b) c game watches) (same c)
+watch_alike f g same before (Asker c (ForGame game)) watches = ap (λ (b : Bool). watch_if (is_shown before && b) c game watches) (same c)
 watch_alike f g same before (Asker c (ForAct by text)) watches = refl
 watch_alike f g same before (Dropper c by text) watches = refl
 watch_alike f g same before (Pairer c by black text) watches = refl
@@ -886,15 +893,12 @@ said_who players old c text lines tells new h d =
     h.who_is d ∙ ap (λ (one : Option Identity). if c == d then one else old.who d) plan
 
 -- the game that an answer names is small
-game_small : (a b : Bool) (x y : List ℕ) → IfSome (if a then u32_in x else (if b then u32_in y else None)) (λ g. g < 2 ^ 32)
-game_small true b x y = number_small x
-game_small false true x y = number_small y
-game_small false false x y = tt
+game_small : (line : List ℕ) (o : Option Entered) → entered_in line ≡ o → IfSome (option_map (λ (e : Entered). e.game) o) (λ g. g < 2 ^ 32)
+game_small line None is = tt
+game_small line (Some entered) is = (entered_only line entered is).1.game
 
 pub act_game_small : (now : List ℕ) → IfSome (act_game now) (λ g. g < 2 ^ 32)
-act_game_small now =
-    let line = first_line now in
-    game_small (bytes_eq (word_of line) (codes "ok")) (bytes_eq (word_of line) (codes "fallen")) (word_of (rest_of (rest_of line))) (word_of (rest_of line))
+act_game_small now = game_small (first_line now) (entered_in (first_line now)) refl
 
 pub after_small : (text : List ℕ) (game : Option ℕ) → IfSome game (λ g. g < 2 ^ 32) → IfSome (asked_after text game) (λ g. g < 2 ^ 32)
 after_small text game small =
@@ -979,9 +983,7 @@ dropped_heard players past line c by text others waits asked lines later h =
         waits = waits;
         name = h.name;
         named = h.named;
-        seated = h.seated;
-        first = h.first;
-        empty = h.empty;
+        alone = h.alone;
         acts = subst (λ (ls : List (List ℕ)). ActsUnder (name_in past) ls h.name) (sym h.lines_are) under.acts;
         of_text = subst (λ (ls : List (List ℕ)). IsOf (text ∷ notice_lines (game_named text)) ls) (sym h.lines_are) under.of_text;
       })));

@@ -1,20 +1,23 @@
 -- What comes in and what goes out.
-use Rattle.std.specs.Prelude.{ℕ, Bool, true, false, not, ◌==◌, if◌then◌else◌, List, [], ◌∷◌, ◌++◌, codes, map, Option, None, Some}
+use Rattle.std.specs.Prelude.{ℕ, Bool, true, false, not, ◌==◌, if◌then◌else◌, List, [], ◌∷◌, ◌++◌, codes, map, Option}
+use Rattle.std.specs.Prelude.{None, Some}
 use Rattle.std.specs.String.{string_bytes}
 use Rattle.lobby_desk.specs.declared.telling.Kind.{Kind}
 use Rattle.lobby_desk.specs.declared.telling.Kind.TheVariants as kinds
 use Rattle.lobby_desk.specs.declared.telling.Message.{Message}
 use Rattle.lobby_words.specs.declared.players.Player.{Player}
-use Rattle.lobby_desk.specs.declared.server_line.Due.{Due}
-use Rattle.lobby_desk.specs.declared.server_line.Due.TheVariants as dues
+use Rattle.lobby_table.specs.declared.server_line.Due.{Due}
+use Rattle.lobby_table.specs.declared.server_line.Due.TheVariants as dues
 use Rattle.lobby_words.specs.declared.planning.Plan.{Plan}
 use Rattle.lobby_words.specs.declared.planning.Plan.TheVariants as plans
 use Rattle.lobby_words.specs.declared.words.Sort.{Sort}
 use Rattle.lobby_words.specs.declared.words.Sort.TheVariants as sorts
 use Rattle.lobby_words.specs.Words.{rest_of, black_name, sort_of, u32_in, or_0}
-use Rattle.lobby_desk.specs.declared.server_line.Notice.{Notice}
-use Rattle.lobby_desk.specs.Refusals.{game_named}
+use Rattle.lobby_table.specs.declared.server_line.Notice.{Notice}
+use Rattle.lobby_table.specs.Refusals.{game_named}
 use Rattle.lobby_words.specs.Answers.{act_game, is_table_act}
+use Rattle.lobby_table.specs.Owed.{ForItself, ForPositions, ForTable, ForGame, ForAct, Owed, Nobody, Asker}
+use Rattle.lobby_table.specs.Owed.{Dropper, Pairer, Followers, Behind}
 
 -- What comes in; of a message that comes too fast nothing is read. The players are these from now on: by themselves, or
 -- for a message that asks for a player's link, and for which this token was made.
@@ -57,69 +60,6 @@ to_one c text = to_one_as c kinds.Whole text
 -- a text for the log
 abbrev pub to_log : List ℕ → MessageValue
 to_log text = record { to = []; kind = kinds.Log; text = text }
-
--- What the server's answer to a message is for: for the message itself, which changes nothing; for the positions of a
--- game, whose `pgn` it is; for the table, and to be told of it from then on; for a game, to watch it; for this act of
--- this player.
-pub data Ask : Type 0 where
-  ForItself : Ask
-  ForPositions : Ask
-  ForTable : Ask
-  ForGame : (game : ℕ) → Ask
-  ForAct : (by : List ℕ) → (text : List ℕ) → Ask
-
--- For whom the server's answer to a line is: for nobody; for the desk, which has said this name; for the connection
--- whose message it answers; for the one whose `drop`, by this arbiter, waits for it; for the one whose pairing, by this
--- arbiter, has its game opened, for this player to join it; for those who are told of a game, with the lines that tell
--- of the act, and whether the table is told; for those who are told of the act right behind which the line went out, if
--- the server accepted it.
-pub data Owed : Type 0 where
-  Nobody : Owed
-  Naming : (name : List ℕ) → Owed
-  Asker : (c : ℕ) → (ask : Ask) → Owed
-  Dropper : (c : ℕ) → (by : List ℕ) → (text : List ℕ) → Owed
-  Pairer : (c : ℕ) → (by : List ℕ) → (black : List ℕ) → (text : List ℕ) → Owed
-  Followers : (game : ℕ) → (act : List ℕ) → (is_table : Bool) → Owed
-  Behind : Owed
-
--- the same, by the desk's own
-abbrev pub owed_of : Due → Owed
-owed_of dues.Own = Nobody
-owed_of (dues.Name name) = Naming name
-owed_of (dues.Reply c) = Asker c ForItself
-owed_of (dues.Positions c) = Asker c ForPositions
-owed_of (dues.Table c) = Asker c ForTable
-owed_of (dues.Act act) = Asker act.from (ForAct act.who (string_bytes act.text))
-owed_of (dues.Drop act) = Dropper act.from act.who (string_bytes act.text)
-owed_of (dues.Pair act black) = Pairer act.from act.who black (string_bytes act.text)
-owed_of (dues.Watch c game) = Asker c (ForGame game)
-owed_of (dues.Notice notice) = Followers notice.game (string_bytes notice.act) notice.is_table
-owed_of dues.Behind = Behind
-
--- of lines that go out together the answer to the last is for somebody
-abbrev pub owed_last : Owed → List (List ℕ) → List Owed
-owed_last who [] = []
-owed_last who (line ∷ []) = who ∷ []
-owed_last who (line ∷ next ∷ lines) = Nobody ∷ owed_last who (next ∷ lines)
-
--- Of the lines of an act, with a `name` line before it or not, the answer to the act is for somebody; that to the
--- `name` line for the desk; and that to `fen`, where `show` and `fen` stand behind it, for those who are told of it.
-abbrev pub owed_acted : Owed → List (List ℕ) → List Owed
-owed_acted who [] = []
-owed_acted who (act ∷ []) = who ∷ []
-owed_acted who (name ∷ act ∷ []) = Naming (rest_of name) ∷ who ∷ []
-owed_acted who (act ∷ show ∷ fen ∷ []) = who ∷ Nobody ∷ Behind ∷ []
-owed_acted who (name ∷ act ∷ show ∷ fen ∷ lines) = Naming (rest_of name) ∷ owed_acted who (act ∷ show ∷ fen ∷ lines)
-
--- for whom the answers to lines are that go out together
-abbrev pub owed_some : Owed → List ℕ → List (List ℕ) → List Owed
-owed_some (Asker c (ForAct by text)) line lines = owed_acted (Asker c (ForAct by text)) (line ∷ lines)
-owed_some (Pairer c by black text) line lines = owed_acted (Pairer c by black text) (line ∷ lines)
-owed_some who line lines = owed_last who (line ∷ lines)
-
-abbrev pub owed_lines : Owed → List (List ℕ) → List Owed
-owed_lines who [] = []
-owed_lines who (line ∷ lines) = owed_some who line lines
 
 -- Whose the answer to a message is: by its sort, the number behind its word, and the name of the player for whom its
 -- connection acts.
@@ -169,7 +109,8 @@ owed_to (Some f) = Followers f.game f.act f.is_table
 -- the same, by the desk's own
 abbrev pub following : Option Notice → Option Following
 following None = None
-following (Some notice) = Some (record { game = notice.game; act = string_bytes notice.act; is_table = notice.is_table })
+following (Some notice) =
+    Some (record { game = notice.game; act = string_bytes notice.act; is_table = notice.is_table })
 
 -- Of the game that the answer to an act names it was asked how it stands right behind the act, where the act names that
 -- very game; else it is asked once the answer is there.
@@ -204,7 +145,8 @@ follower _ answer = Nobody
 -- The act of which those are told for whom the answers behind it are, after an answer, by whose that is: none where the
 -- server refused it, and none once they are told.
 abbrev pub follows_heard : Owed → List ℕ → Option Following → Option Following
-follows_heard (Asker c (ForAct by text)) answer follows = following_of (asked_behind text (act_game answer)) by text answer
+follows_heard (Asker c (ForAct by text)) answer follows =
+    following_of (asked_behind text (act_game answer)) by text answer
 follows_heard Behind answer follows = None
 follows_heard _ answer follows = follows
 

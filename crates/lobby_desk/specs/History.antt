@@ -1,23 +1,29 @@
 -- What is promised of whatever came in and went out.
-use Rattle.std.specs.Prelude.{ℕ, ◌≡◌, ◌⊎◌, Bool, true, false, ◌&&◌, ◌||◌, ◌==◌, not, List, [], ◌∷◌, ◌++◌, codes, length, map, filter, Option, None, Some, if◌then◌else◌}
+use Rattle.std.specs.Prelude.{ℕ, ◌≡◌, ◌⊎◌, Bool, true, false, ◌&&◌, ◌||◌, ◌==◌, not, List, [], ◌∷◌, ◌++◌, codes, length}
+use Rattle.std.specs.Prelude.{map, filter, Option, None, Some, if◌then◌else◌}
 use Rattle.std.specs.List.{AllByRecursion}
 use Rattle.player_name.specs.Name.{IsName}
 use Rattle.lobby_words.specs.declared.words.Sort.{Sort}
 use Rattle.lobby_words.specs.declared.words.Sort.TheVariants as sorts
 use Rattle.lobby_words.specs.declared.planning.Identity.{Identity}
 use Rattle.lobby_words.specs.declared.players.Player.{Player}
-use Rattle.lobby_words.specs.Words.{rest_of, as_name, as_line, line_said, actor, black_name, pair_line, is_message, sort_of, is_act_sort, is_as_sort, is_pair_sort, is_drop_sort, is_name_sort, is_login_sort, is_link_sort, number_or_0}
+use Rattle.lobby_words.specs.Words.{rest_of, as_name, as_line, line_said, actor, black_name, pair_line, is_message}
+use Rattle.lobby_words.specs.Words.{sort_of, is_act_sort, is_as_sort, is_pair_sort, is_drop_sort, is_name_sort}
+use Rattle.lobby_words.specs.Words.{is_login_sort, is_link_sort, number_or_0}
 use Rattle.lobby_words.specs.Players.{holder_of, known_name, renewed, IsRelinked}
-use Rattle.lobby_words.specs.Answers.{IsSeated, IsFirstSeated, has_empty_seat, act_game, answer}
-use Rattle.lobby_desk.specs.Lines.{name_line, game_line, join_line, notice_lines}
-use Rattle.lobby_desk.specs.Events.{DeskInput, Opened, Closed, Said, Heard, ServerTurned, Renewed, Linked, MessageValue, ForAct, Owed, Asker, Dropper, Pairer, Followers, Following, asked_after, told_as}
+use Rattle.lobby_words.specs.Answers.{act_game, answer, is_entered, lone_player}
+use Rattle.lobby_table.specs.Sending.{name_line, game_line, join_line, notice_lines}
+use Rattle.lobby_desk.specs.Events.{DeskInput, Opened, Closed, Said, Heard, ServerTurned, Renewed, Linked, MessageValue}
+use Rattle.lobby_table.specs.Owed.{ForAct, Owed, Asker, Dropper, Pairer, Followers}
+use Rattle.lobby_desk.specs.Events.{Following, asked_after, told_as}
 use Rattle.lobby_words.specs.Naming.{takes_name}
-use Rattle.lobby_desk.specs.Refusals.{is_act_accepted, game_named, refused_game}
+use Rattle.lobby_table.specs.Refusals.{game_named, refused_game}
 use Rattle.lobby_words.specs.declared.listing.Seat.{Seat}
-use Rattle.lobby_desk.specs.declared.pairings.Pairing.{Pairing}
-use Rattle.lobby_desk.specs.Pairings.{game_joined, IsFree, IsOffered}
+use Rattle.lobby_table.specs.declared.pairings.Pairing.{Pairing}
+use Rattle.lobby_table.specs.Pairings.{game_joined, IsFree, IsOffered}
 use Rattle.lobby_desk.specs.Logging.{act_logged, is_of_act, one_if, log_texts}
-use Rattle.lobby_desk.specs.Tellings.{Known, is_counted, known_now, pairings_now, open_now, is_number, IsTold}
+use Rattle.lobby_desk.specs.Tellings.{Known, is_counted, known_now, pairings_now, open_now, IsTold}
+use Rattle.lobby_table.specs.Owed.{is_number}
 use Rattle.lobby_desk.specs.Who.{View, BeginsView, IsStep, speaker, players_now}
 
 -- one event, the lines that went to the server for it, and what connections were told
@@ -33,7 +39,8 @@ shown_by (Some who) before = Some who
 
 abbrev pub player_said : List Player → List ℕ → Option Identity → Option Identity
 player_said players text before =
-    if is_message text && is_login_sort (sort_of text) then shown_by (holder_of players (rest_of text)) before else before
+    if is_message text && is_login_sort (sort_of text) then shown_by
+    (holder_of players (rest_of text)) before else before
 
 abbrev pub player_after : List Player → DeskInput → ℕ → Option Identity → Option Identity
 player_after players (Opened d) c before = if d == c then None else before
@@ -91,7 +98,8 @@ name_in (s ∷ past) = name_through (name_before s.event (name_in past)) s.lines
 -- each act among lines stands under this name
 abbrev pub ActsUnder : Option (List ℕ) → List (List ℕ) → List ℕ → Type 0
 ActsUnder said [] name = Unit {0}
-ActsUnder said (line ∷ lines) name = (is_act line ≡ true → said ≡ Some name) × ActsUnder (name_behind said line) lines name
+ActsUnder said (line ∷ lines) name =
+    (is_act line ≡ true → said ≡ Some name) × ActsUnder (name_behind said line) lines name
 
 abbrev pub NoActs : List (List ℕ) → Type 0
 NoActs lines = AllByRecursion (λ line. is_act line ≡ false) lines
@@ -107,7 +115,8 @@ name_as players is_arbiter text = if is_arbiter then known_name players (as_name
 
 abbrev pub name_for : List Player → Option Identity → List ℕ → Option (List ℕ)
 name_for players None text = None
-name_for players (Some who) text = if is_as text || is_pairing text then name_as players who.is_arbiter text else Some who.name
+name_for players (Some who) text =
+    if is_as text || is_pairing text then name_as players who.is_arbiter text else Some who.name
 
 -- The lines for a message: each act among them stands under this name; where there is none, none is an act.
 abbrev pub ActsRight : Option (List ℕ) → Option (List ℕ) → List (List ℕ) → Type 0
@@ -143,7 +152,20 @@ open_in (s ∷ past) c = open_now s.event c (open_in past c)
 
 -- what is known of the connections and of the server behind a past
 abbrev pub known_in : List Player → List Step → Known
-known_in players [] = record { owed = []; left = 0; begun = []; last = []; watches = []; table = []; seats = []; pairings = []; refused = []; follows = None; misnamed = false }
+known_in players [] =
+    record {
+      owed = [];
+      left = 0;
+      begun = [];
+      last = [];
+      watches = [];
+      table = [];
+      seats = [];
+      pairings = [];
+      refused = [];
+      follows = None;
+      misnamed = false;
+    }
 known_in players (s ∷ past) =
     known_now s.event (speaker (player_in players past) s.event) s.lines (open_in past) (known_in players past)
 
@@ -174,9 +196,7 @@ pub record IsDropOf (players : List Player) (past : List Step) (line : List ℕ)
   pub waits : (known_in players past).owed ≡ Dropper c by text ∷ others
   pub name : List ℕ
   pub named : IsName name
-  pub seated : IsSeated (answer (known_in players past).begun line) (rest_of text) name
-  pub first : IsFirstSeated (answer (known_in players past).begun line) name
-  pub empty : has_empty_seat (answer (known_in players past).begun line) ≡ true
+  pub alone : lone_player (answer (known_in players past).begun line) (rest_of text) ≡ Some name
   pub acts : ActsUnder (name_in past) lines name
   pub of_text : IsOf (text ∷ notice_lines (game_named text)) lines
 
@@ -199,7 +219,8 @@ PairsNow players past _ c black text = ⊥
 
 abbrev pub HasPaired : List Player → List Step → ℕ → List ℕ → List ℕ → Type 0
 HasPaired players [] c black text = ⊥
-HasPaired players (s ∷ past) c black text = PairsNow players past s.event c black text ⊎ HasPaired players past c black text
+HasPaired players (s ∷ past) c black text =
+    PairsNow players past s.event c black text ⊎ HasPaired players past c black text
 
 -- Behind the server's answer to the opening of a pairing, which a connection had said that had shown an arbiter's
 -- token, Black joins the game that this answer names: under the name that the message has for Black, which was a
@@ -231,12 +252,15 @@ has_come (s ∷ past) c = comes s.event c || has_come past c
 -- one whom the message names has its token, which nobody had.
 abbrev pub IsRight : List Player → List Step → DeskInput → List (List ℕ) → Type 0
 IsRight players past (Said c text) lines =
-    ActsRight (name_for (players_in players past) (player_in players past c) text) (name_in past) lines × NoDrops lines × IsOf (asks_of text) lines
+    ActsRight (name_for (players_in players past) (player_in players past c) text) (name_in past) lines
+    × NoDrops lines × IsOf (asks_of text) lines
 IsRight players past (Heard line) lines =
-    (lines ≡ []) ⊎ IsNoticeOf players past line lines ⊎ IsDropOf players past line lines ⊎ IsJoinOf players past line lines
+    (lines ≡ []) ⊎ IsNoticeOf players past line lines ⊎ IsDropOf players past line lines
+    ⊎ IsJoinOf players past line lines
 IsRight players past (Opened c) lines = (lines ≡ []) × (has_come past c ≡ false)
 IsRight players past (Linked c text later token) lines =
-    (lines ≡ []) × IsArbiter (player_in players past c) × (is_message text ≡ true) × (is_link_sort (sort_of text) ≡ true)
+    (lines ≡ []) × IsArbiter (player_in players past c) × (is_message text ≡ true)
+    × (is_link_sort (sort_of text) ≡ true)
     × IsRelinked (rest_of text) token (players_in players past) later
 IsRight players past _ lines = lines ≡ []
 
@@ -252,13 +276,15 @@ AllRight players (s ∷ past) = IsRight players past s.event s.lines × AreWhole
 -- at each step, by what came and went before it
 abbrev pub AllTold : List Player → List Step → Type 0
 AllTold players [] = Unit {0}
-AllTold players (s ∷ past) = IsTold s.event s.lines s.tells (open_in past) (known_in players past) × AllTold players past
+AllTold players (s ∷ past) =
+    IsTold s.event s.lines s.tells (open_in past) (known_in players past) × AllTold players past
 
 -- The lines for an event, under the name that holds before each: none joins a game that is kept for another. A game is
 -- kept for Black from the server's answer to the opening of its pairing until that to its join, or its drop.
 abbrev pub AreFree : List Pairing → Option (List ℕ) → List (List ℕ) → Type 0
 AreFree pairings said [] = Unit {0}
-AreFree pairings said (line ∷ lines) = IsFree pairings said (game_joined line) × AreFree pairings (name_behind said line) lines
+AreFree pairings said (line ∷ lines) =
+    IsFree pairings said (game_joined line) × AreFree pairings (name_behind said line) lines
 
 -- those for a message join no game but one that the server's answers told as waiting
 abbrev pub AreOffered : DeskInput → List Seat → List (List ℕ) → Type 0
@@ -275,7 +301,8 @@ AllPaired players (s ∷ past) =
 abbrev pub IsRun : List Player → Bool → List Step → View → Type 0
 IsRun players is_paused [] now = BeginsView is_paused now
 IsRun players is_paused (s ∷ past) now =
-    (before : View) × IsRun players is_paused past before × IsStep (players_in players past) before s.event s.lines s.tells now
+    (before : View) × IsRun players is_paused past before
+    × IsStep (players_in players past) before s.event s.lines s.tells now
 
 -- an act that the server answered: the message, and the server's whole answer
 pub record Acted : Type 0 where
@@ -304,7 +331,7 @@ acted_in players (s ∷ past) = acted_now s.event (known_in players past) ++ act
 
 -- whether an act was accepted in a game, and whether it was refused there, of who plays in it
 abbrev pub accepts : ℕ → Acted → Bool
-accepts game act = is_act_accepted act.answer && is_number game (act_game act.answer)
+accepts game act = is_entered act.answer && is_number game (act_game act.answer)
 
 abbrev pub refuses : ℕ → Acted → Bool
 refuses game act = is_number game (refused_game act.text act.answer)
@@ -330,9 +357,19 @@ pub record Accepted : Type 0 where
 -- the act that the server accepts by an answer, by whose that is, behind these acts
 abbrev pub accepted_for : List Acted → Owed → List ℕ → List Accepted
 accepted_for acts (Asker c (ForAct by text)) now =
-    one_if (is_act_accepted now) (record { by = by; text = text; answer = now; refused = refused_since (act_game now) acts })
+    one_if (is_entered now) (record {
+      by = by;
+      text = text;
+      answer = now;
+      refused = refused_since (act_game now) acts;
+    })
 accepted_for acts (Pairer c by black text) now =
-    one_if (is_act_accepted now) (record { by = by; text = text; answer = now; refused = refused_since (act_game now) acts })
+    one_if (is_entered now) (record {
+      by = by;
+      text = text;
+      answer = now;
+      refused = refused_since (act_game now) acts;
+    })
 accepted_for acts _ now = []
 
 abbrev pub accepted_next : List Acted → List Owed → List ℕ → List Accepted
@@ -347,15 +384,16 @@ accepted_now acts _ k = []
 -- all its lines: what the server accepted, but the connection broke before the answer came, is not.
 abbrev pub accepted_in : List Player → List Step → List Accepted
 accepted_in players [] = []
-accepted_in players (s ∷ past) = accepted_in players past ++ accepted_now (acted_in players past) s.event (known_in players past)
+accepted_in players (s ∷ past) =
+    accepted_in players past ++ accepted_now (acted_in players past) s.event (known_in players past)
 
 -- What the log is to have of an answer, by whose it is, behind these acts: the act that the server accepts by it; or
 -- how the game of such an act stands, as the answer to `show` says, which stands before that to `fen`.
 abbrev pub entries_for : List Acted → List ℕ → Owed → List ℕ → List (List ℕ)
 entries_for acts before (Asker c (ForAct by text)) now =
-    one_if (is_act_accepted now) (act_logged by text now (refused_since (act_game now) acts))
+    one_if (is_entered now) (act_logged by text now (refused_since (act_game now) acts))
 entries_for acts before (Pairer c by black text) now =
-    one_if (is_act_accepted now) (act_logged by text now (refused_since (act_game now) acts))
+    one_if (is_entered now) (act_logged by text now (refused_since (act_game now) acts))
 entries_for acts before (Followers game act is_table) now = one_if (not (is_of_act before)) before
 entries_for acts before _ now = []
 
@@ -364,12 +402,14 @@ entries_next acts before follows [] now = []
 entries_next acts before follows (o ∷ owed) now = entries_for acts before (told_as follows o) now
 
 abbrev pub entries_now : List Acted → DeskInput → Known → List (List ℕ)
-entries_now acts (Heard line) k = if is_counted k line then entries_next acts k.last k.follows k.owed (answer k.begun line) else []
+entries_now acts (Heard line) k =
+    if is_counted k line then entries_next acts k.last k.follows k.owed (answer k.begun line) else []
 entries_now acts _ k = []
 
 abbrev pub entries_in : List Player → List Step → List (List ℕ)
 entries_in players [] = []
-entries_in players (s ∷ past) = entries_in players past ++ entries_now (acted_in players past) s.event (known_in players past)
+entries_in players (s ∷ past) =
+    entries_in players past ++ entries_now (acted_in players past) s.event (known_in players past)
 
 -- the texts that the log was told, in their order
 abbrev pub logged_in : List Step → List (List ℕ)
@@ -410,7 +450,8 @@ unanswered_now _ k sent = sent
 abbrev pub unanswered_in : List Player → List Step → List Sent
 unanswered_in players [] = []
 unanswered_in players (s ∷ past) =
-    unanswered_now s.event (known_in players past) (unanswered_in players past) ++ sent_under (name_before s.event (name_in past)) s.lines
+    unanswered_now s.event (known_in players past) (unanswered_in players past)
+    ++ sent_under (name_before s.event (name_in past)) s.lines
 
 -- The name that holds at the server behind its answer to a line, as that answer shows: behind `ok name NAME` to
 -- `name NAME` that one, behind another answer to such a line none, and behind any other line the one before.
@@ -430,7 +471,8 @@ shown_now _ k sent shown = shown
 -- the name that holds at the server, as its answers on the connection that stands show; none before it has taken one
 abbrev pub shown_in : List Player → List Step → Option (List ℕ)
 shown_in players [] = None
-shown_in players (s ∷ past) = shown_now s.event (known_in players past) (unanswered_in players past) (shown_in players past)
+shown_in players (s ∷ past) =
+    shown_now s.event (known_in players past) (unanswered_in players past) (shown_in players past)
 
 -- Which line goes for an act of this player's message, and under which name: that is his own message, of `as NAME LINE`
 -- the LINE and that NAME; of a `drop` the name of who waits in its game (`IsDropOf`); and of a pairing, once its game
@@ -465,7 +507,8 @@ pub record IsOfAct (IsLine IsName : List ℕ → Type 0) (sent : List Sent) (sho
 -- The line that opens the game of a pairing stands under White's name.
 abbrev pub IsOfOwed : Owed → List Sent → Option (List ℕ) → Type 0
 IsOfOwed (Asker c (ForAct by text)) sent shown = IsOfAct (IsLineOf text) (IsNameOf by text) sent shown
-IsOfOwed (Pairer c by black text) sent shown = IsOfAct (λ line. line ≡ pair_line text) (λ name. name ≡ as_name text) sent shown
+IsOfOwed (Pairer c by black text) sent shown =
+    IsOfAct (λ line. line ≡ pair_line text) (λ name. name ≡ as_name text) sent shown
 IsOfOwed _ sent shown = Unit {0}
 
 abbrev pub IsOfNext : List Owed → List Sent → Option (List ℕ) → Type 0
@@ -484,4 +527,5 @@ IsOfName _ k sent shown = Unit {0}
 abbrev pub AllNamed : List Player → List Step → Type 0
 AllNamed players [] = Unit {0}
 AllNamed players (s ∷ past) =
-    IsOfName s.event (known_in players past) (unanswered_in players past) (shown_in players past) × AllNamed players past
+    IsOfName s.event (known_in players past) (unanswered_in players past) (shown_in players past)
+    × AllNamed players past

@@ -1,10 +1,7 @@
 pub mod Lines
-pub mod Watching
 pub mod Pace
+pub mod Limits
 pub mod Events
-pub mod Waiting
-pub mod Pairings
-pub mod Refusals
 pub mod Logging
 pub mod Tellings
 pub mod Who

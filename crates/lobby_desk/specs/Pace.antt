@@ -9,7 +9,8 @@ later a b = if nat_lt a b then b else a
 -- and 20 a second. Until when its time is taken after a message at this moment; none where the message comes too fast.
 abbrev pub paced : ℕ → ℕ → Option ℕ
 paced until now =
-    if nat_le (later until now - now) 950 && nat_le (later until now) 18446744073709551565 then Some (later until now + 50) else None
+    if nat_le (later until now - now) 950 && nat_le (later until now) 18446744073709551565 then Some
+    (later until now + 50) else None
 
 -- until when it is taken after a message at this moment, which may come too fast
 abbrev pub or_before : ℕ → Option ℕ → ℕ

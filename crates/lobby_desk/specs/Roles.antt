@@ -1,7 +1,7 @@
 -- What a connection is to the lobby.
 use Rattle.std.specs.Prelude.{ℕ, Bool, ◌||◌}
 use Rattle.lobby_desk.specs.declared.desk.Desk.{Desk}
-use Rattle.lobby_desk.specs.Watching.{at_table, watches_any}
+use Rattle.lobby_table.specs.Watching.{at_table, watches_any}
 pub use Rattle.lobby_desk.specs.Strangers.{acts}
 
 -- It watches a game, or is told of the table.

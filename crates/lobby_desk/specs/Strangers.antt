@@ -3,8 +3,8 @@ use Rattle.std.specs.Prelude.{ℕ, Bool, false, not, List, Option, None, Some, i
 use Rattle.std.specs.List.{list_any}
 use Rattle.lobby_words.specs.declared.planning.Identity.{Identity}
 use Rattle.lobby_desk.specs.declared.desk.Desk.{Desk}
-use Rattle.lobby_desk.specs.Events.{owed_of}
-use Rattle.lobby_desk.specs.Tellings.{waiter}
+use Rattle.lobby_table.specs.Owed.{owed_of}
+use Rattle.lobby_table.specs.Owed.{waiter}
 use Rattle.lobby_desk.specs.Who.{who_of}
 
 -- whether a connection acts for a player

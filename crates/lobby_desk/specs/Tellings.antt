@@ -1,24 +1,31 @@
 -- What connections are told.
-use Rattle.std.specs.Prelude.{ℕ, ◌≡◌, Bool, true, false, ◌&&◌, ◌||◌, ◌==◌, not, List, [], ◌∷◌, ◌++◌, codes, decimal, Option, None, Some, if◌then◌else◌}
+use Rattle.std.specs.Prelude.{ℕ, ◌≡◌, Bool, true, false, ◌&&◌, ◌||◌, ◌==◌, not, List, [], ◌∷◌, ◌++◌, codes, decimal}
+use Rattle.std.specs.Prelude.{Option, None, Some, if◌then◌else◌}
 use Rattle.std.specs.List.{list_any}
 use Rattle.lobby_words.specs.declared.listing.Seat.{Seat}
-use Rattle.lobby_desk.specs.declared.watching.Watch.{Watch}
-use Rattle.lobby_desk.specs.declared.refusals.RefusedActs.{RefusedActs}
-use Rattle.lobby_desk.specs.declared.pairings.Pairing.{Pairing}
+use Rattle.lobby_table.specs.declared.watching.Watch.{Watch}
+use Rattle.lobby_table.specs.declared.refusals.RefusedActs.{RefusedActs}
+use Rattle.lobby_table.specs.declared.pairings.Pairing.{Pairing}
 use Rattle.lobby_desk.specs.declared.telling.Kind.{Kind}
 use Rattle.lobby_desk.specs.declared.telling.Kind.TheVariants as kinds
-use Rattle.lobby_words.specs.Words.{rest_of, is_pair, is_message, sort_of, is_close_sort, is_leave_sort, is_leave_lobby_sort, u32_in}
+use Rattle.lobby_words.specs.Words.{rest_of, is_pair, is_message, sort_of, is_close_sort, is_leave_sort}
+use Rattle.lobby_words.specs.Words.{is_leave_lobby_sort, u32_in}
 use Rattle.lobby_words.specs.declared.refusals.Refusal.TheVariants as refusals
 use Rattle.lobby_words.specs.Plans.{refusal_text}
 use Rattle.lobby_words.specs.Naming.{takes_name}
-use Rattle.lobby_words.specs.Waiting.{tells_end}
-use Rattle.lobby_words.specs.Answers.{left_after, is_whole, answer, is_accepted, is_over, act_game}
-use Rattle.lobby_desk.specs.Watching.{at_table, watch_if, sit_if, unwatched, none_watched, risen, followers}
-use Rattle.lobby_desk.specs.Events.{DeskInput, Opened, Closed, Said, Hurried, Heard, ServerTurned, Renewed, Linked, MessageValue, to_one, to_one_as, Ask, ForPositions, ForGame, ForTable, ForAct, Owed, Nobody, Naming, Asker, Dropper, Pairer, Followers, Behind, owed_lines, asker, follower, Following, follows_heard, told_as}
+use Rattle.lobby_words.specs.Answers.{left_after, is_whole, answer, is_shown, is_position, is_pgn, is_over, act_game, tells_end}
+use Rattle.lobby_table.specs.Watching.{at_table, watch_if, sit_if, unwatched, none_watched, risen, followers}
+use Rattle.lobby_desk.specs.Events.{DeskInput, Opened, Closed, Said, Hurried, Heard, ServerTurned, Renewed, Linked}
+use Rattle.lobby_desk.specs.Events.{MessageValue, to_one, to_one_as}
+use Rattle.lobby_table.specs.Owed.{Ask, ForPositions, ForGame, ForTable, ForAct, Owed}
+use Rattle.lobby_table.specs.Owed.{Nobody, Naming, Asker, Dropper, Pairer, Followers, Behind, owed_lines}
+use Rattle.lobby_desk.specs.Events.{asker}
+use Rattle.lobby_desk.specs.Events.{follower, Following, follows_heard, told_as}
 use Rattle.lobby_desk.specs.Logging.{logged_for, logged_standing}
-use Rattle.lobby_desk.specs.Waiting.{seats_told, seats_opened, seats_listed}
-use Rattle.lobby_desk.specs.Pairings.{pairings_opened, pairings_told}
-use Rattle.lobby_desk.specs.Refusals.{refused_told}
+use Rattle.lobby_table.specs.Waiting.{seats_told, seats_opened, seats_listed}
+use Rattle.lobby_table.specs.Pairings.{pairings_opened, pairings_told}
+use Rattle.lobby_table.specs.Refusals.{refused_told}
+use Rattle.lobby_table.specs.Owed.{is_number, owes, waiter}
 
 -- What is known of the connections and of the server: for whom the next answers of the server are, the oldest first;
 -- how many lines of the answer that has begun are still to come, and those that came; the last whole answer; who
@@ -68,7 +75,7 @@ left_game c (Some game) watches = unwatched c game watches
 -- Who watches after an answer, by whose it is: whose `watch` it is, if its connection is open and the answer before it
 -- shows the game.
 abbrev pub watch_heard : (ℕ → Bool) → List ℕ → Owed → List Watch → List Watch
-watch_heard is_open before (Asker c (ForGame game)) watches = watch_if (is_accepted before && is_open c) c game watches
+watch_heard is_open before (Asker c (ForGame game)) watches = watch_if (is_shown before && is_open c) c game watches
 watch_heard is_open before _ watches = watches
 
 abbrev pub watch_next : (ℕ → Bool) → List ℕ → List Owed → List Watch → List Watch
@@ -127,7 +134,8 @@ pairings_next [] now pairings = pairings
 pairings_next (o ∷ owed) now pairings = pairings_heard o now pairings
 
 abbrev pub pairings_now : DeskInput → Known → List Pairing
-pairings_now (Heard line) k = if is_counted k line then pairings_next k.owed (answer k.begun line) k.pairings else k.pairings
+pairings_now (Heard line) k =
+    if is_counted k line then pairings_next k.owed (answer k.begun line) k.pairings else k.pairings
 pairings_now _ k = k.pairings
 
 -- How many acts were refused after an answer, by whose it is.
@@ -141,7 +149,8 @@ refused_next [] now refused = refused
 refused_next (o ∷ owed) now refused = refused_heard o now refused
 
 abbrev pub refused_now : DeskInput → Known → List RefusedActs
-refused_now (Heard line) k = if is_counted k line then refused_next k.owed (answer k.begun line) k.refused else k.refused
+refused_now (Heard line) k =
+    if is_counted k line then refused_next k.owed (answer k.begun line) k.refused else k.refused
 refused_now _ k = k.refused
 
 -- The act of which is told next, after an answer, by whose it is; none on a new connection to the server.
@@ -150,7 +159,8 @@ follows_next [] now follows = follows
 follows_next (o ∷ owed) now follows = follows_heard o now follows
 
 abbrev pub follows_now : DeskInput → Known → Option Following
-follows_now (Heard line) k = if is_counted k line then follows_next k.owed (answer k.begun line) k.follows else k.follows
+follows_now (Heard line) k =
+    if is_counted k line then follows_next k.owed (answer k.begun line) k.follows else k.follows
 follows_now (ServerTurned is_here) k = None
 follows_now _ k = k.follows
 
@@ -165,7 +175,8 @@ misnamed_next [] now misnamed = misnamed
 misnamed_next (o ∷ owed) now misnamed = misnamed_heard o now misnamed
 
 abbrev pub misnamed_now : DeskInput → Known → Bool
-misnamed_now (Heard line) k = if is_counted k line then misnamed_next k.owed (answer k.begun line) k.misnamed else k.misnamed
+misnamed_now (Heard line) k =
+    if is_counted k line then misnamed_next k.owed (answer k.begun line) k.misnamed else k.misnamed
 misnamed_now (ServerTurned is_here) k = false
 misnamed_now _ k = k.misnamed
 
@@ -177,7 +188,8 @@ owed_answered (o ∷ owed) now lines = owed ++ owed_lines (follower o now) lines
 -- For whom the next answers are: the server answers each line, in the order in which the lines went to it.
 abbrev pub owed_now : DeskInput → List ℕ → List (List ℕ) → Known → List Owed
 owed_now (Said c text) by lines k = k.owed ++ owed_lines (asker c by text) lines
-owed_now (Heard line) by lines k = if is_counted k line then owed_answered k.owed (answer k.begun line) lines else k.owed
+owed_now (Heard line) by lines k =
+    if is_counted k line then owed_answered k.owed (answer k.begun line) lines else k.owed
 owed_now (ServerTurned is_here) by lines k = []
 owed_now _ by lines k = k.owed
 
@@ -234,21 +246,21 @@ acted_text text now = if is_pair text then pair_told (act_game now) now else now
 -- where the game is shown, `ok watch G` and both answers; else the first of them.
 abbrev pub made_of : Ask → List ℕ → List ℕ → List ℕ
 made_of ForTable before now = table_front ++ now
-made_of (ForGame game) before now = if is_accepted before then watch_front game ++ before ++ now else before
+made_of (ForGame game) before now = if is_shown before then watch_front game ++ before ++ now else before
 made_of (ForAct by text) before now = acted_text text now
 made_of _ before now = now
 
 -- what is still to be done with a text that ends with the answer to `fen`, and with the answer to `pgn` for `line`
 abbrev pub position_kind : List ℕ → Kind
-position_kind now = if is_accepted now then kinds.Position else kinds.Whole
+position_kind now = if is_position now then kinds.Position else kinds.Whole
 
 abbrev pub positions_kind : List ℕ → Kind
-positions_kind now = if is_accepted now then kinds.Line else kinds.Whole
+positions_kind now = if is_pgn now then kinds.Line else kinds.Whole
 
 -- what is still to be done with what is told for a message
 abbrev pub kind_of : Ask → List ℕ → List ℕ → Kind
 kind_of ForPositions before now = positions_kind now
-kind_of (ForGame game) before now = if is_accepted before then position_kind now else kinds.Whole
+kind_of (ForGame game) before now = if is_shown before then position_kind now else kinds.Whole
 kind_of _ before now = kinds.Whole
 
 -- A notice of an act, with the answers to `show` and `fen`: to all who watch the game, and to the table where that is
@@ -263,10 +275,11 @@ notice watches table game act is_table before now = record {
 -- What an arbiter's `drop` is answered that does not go out: where the game is shown, that it does not wait for a
 -- second player; else the refusal to show it.
 abbrev pub undropped : List ℕ → List ℕ
-undropped now = if is_accepted now then refusal_text refusals.NotWaiting else now
+undropped now = if is_shown now then refusal_text refusals.NotWaiting else now
 
 -- What is told for an answer of the server, by whose it is. What goes to the log is told before the rest.
-abbrev pub IsToldFor : List ℕ → List Watch → List ℕ → List RefusedActs → Owed → List ℕ → List (List ℕ) → List MessageValue → Type 0
+abbrev pub IsToldFor : List ℕ → List Watch → List ℕ → List RefusedActs → Owed → List ℕ → List (List ℕ)
+    → List MessageValue → Type 0
 IsToldFor before watches table refused Nobody now lines tells = (lines ≡ []) × (tells ≡ [])
 IsToldFor before watches table refused (Naming name) now lines tells = (lines ≡ []) × (tells ≡ [])
 IsToldFor before watches table refused (Asker c ask) now lines tells =
@@ -275,7 +288,8 @@ IsToldFor before watches table refused (Dropper c by text) now [] tells = tells 
 IsToldFor before watches table refused (Dropper c by text) now (line ∷ lines) tells = tells ≡ []
 IsToldFor before watches table refused (Pairer c by black text) now [] tells =
     tells ≡ logged_for refused (ForAct by text) now ++ to_one c now ∷ []
-IsToldFor before watches table refused (Pairer c by black text) now (line ∷ lines) tells = tells ≡ logged_for refused (ForAct by text) now
+IsToldFor before watches table refused (Pairer c by black text) now (line ∷ lines) tells =
+    tells ≡ logged_for refused (ForAct by text) now
 IsToldFor before watches table refused (Followers game act is_table) now lines tells =
     (lines ≡ []) × (tells ≡ logged_standing before ++ notice watches table game act is_table before now ∷ [])
 IsToldFor before watches table refused Behind now lines tells = (lines ≡ []) × (tells ≡ [])
@@ -283,26 +297,12 @@ IsToldFor before watches table refused Behind now lines tells = (lines ≡ []) �
 -- the same of the first that is owed; what nobody asked for is told to nobody
 abbrev pub IsToldNext : Known → List Owed → List ℕ → List (List ℕ) → List MessageValue → Type 0
 IsToldNext k [] now lines tells = (lines ≡ []) × (tells ≡ [])
-IsToldNext k (o ∷ owed) now lines tells = IsToldFor k.last k.watches k.table k.refused (told_as k.follows o) now lines tells
+IsToldNext k (o ∷ owed) now lines tells =
+    IsToldFor k.last k.watches k.table k.refused (told_as k.follows o) now lines tells
 
 abbrev pub IsToldHeard : Bool → Known → List ℕ → List (List ℕ) → List MessageValue → Type 0
 IsToldHeard false k now lines tells = (lines ≡ []) × (tells ≡ [])
 IsToldHeard true k now lines tells = IsToldNext k k.owed now lines tells
-
-abbrev pub is_number : ℕ → Option ℕ → Bool
-is_number n None = false
-is_number n (Some m) = n == m
-
--- the connection whose message waits for an answer
-abbrev pub waiter : Owed → Option ℕ
-waiter (Asker c ask) = Some c
-waiter (Dropper c by text) = Some c
-waiter (Pairer c by black text) = Some c
-waiter _ = None
-
--- whether the answer to a message of a connection is owed
-abbrev pub owes : List Owed → ℕ → Bool
-owes owed c = list_any (λ o. is_number c (waiter o)) owed
 
 -- `lost` to each connection whose message waits, in the order of the messages
 abbrev pub lost_of : Option ℕ → List MessageValue
@@ -329,7 +329,8 @@ linked_text text token = codes "ok " ++ text ++ token_told (is_close_sort (sort_
 -- these messages, and behind them one to every connection that is open
 abbrev pub AreToldAll : (ℕ → Bool) → List MessageValue → List ℕ → List MessageValue → Type 0
 AreToldAll is_open first text tells =
-    (to : List ℕ) × ((c : ℕ) → at_table to c ≡ is_open c) × (tells ≡ first ++ record { to = to; kind = kinds.Whole; text = text } ∷ [])
+    (to : List ℕ) × ((c : ℕ) → at_table to c ≡ is_open c)
+    × (tells ≡ first ++ record { to = to; kind = kinds.Whole; text = text } ∷ [])
 
 -- What connections are told for an event, where these are open and this is known before it, and these lines go out. A
 -- connection says a message where it is open and no answer is owed to it, so that its answers come in the order of its

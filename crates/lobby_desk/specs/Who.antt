@@ -1,5 +1,6 @@
 -- For whom connections act, and what a step of the desk does.
-use Rattle.std.specs.Prelude.{ℕ, ◌≡◌, ◌⊎◌, Bool, true, false, not, ◌&&◌, ◌||◌, ◌==◌, List, [], ◌∷◌, ◌++◌, ◌+◌, codes, decimal, map, Option, None, Some, is_some, option_and_then, if◌then◌else◌}
+use Rattle.std.specs.Prelude.{ℕ, ◌≡◌, ◌⊎◌, Bool, true, false, not, ◌&&◌, ◌||◌, ◌==◌, List, [], ◌∷◌, ◌++◌, ◌+◌, codes}
+use Rattle.std.specs.Prelude.{decimal, map, Option, None, Some, is_some, option_and_then, if◌then◌else◌}
 use Rattle.std.specs.BTreeMap.{BTreeMap, get}
 use Rattle.std.specs.Ordering.{nat_cmp}
 use Rattle.std.specs.String.{string_bytes}
@@ -14,28 +15,36 @@ use Rattle.lobby_words.specs.declared.initials.NameForm.TheVariants as forms
 use Rattle.lobby_words.specs.declared.planning.Standing.{Standing}
 use Rattle.lobby_words.specs.declared.planning.Identity.{Identity}
 use Rattle.lobby_words.specs.declared.players.Player.{Player}
-use Rattle.lobby_desk.specs.declared.visitors.Visitor.{Visitor}
-use Rattle.lobby_desk.specs.declared.watching.Watch.{Watch}
+use Rattle.lobby_table.specs.declared.visitors.Visitor.{Visitor}
+use Rattle.lobby_table.specs.declared.watching.Watch.{Watch}
 use Rattle.lobby_desk.specs.declared.desk.Desk.{Desk}
 use Rattle.lobby_words.specs.Words.{rest_of, as_name, black_name, actor, is_message, sort_of, u32_in, is_login_sort}
 use Rattle.lobby_words.specs.Waiting.{opens_game, joins_game}
-use Rattle.lobby_words.specs.Players.{holder_of, known_name, renewed, login_text, players_text, seated_text, present_names, who_text, IsRelinked}
+use Rattle.lobby_words.specs.Players.{holder_of, known_name, renewed, login_text, players_text, seated_text}
+use Rattle.lobby_words.specs.Players.{present_names, who_text, IsRelinked}
 use Rattle.lobby_words.specs.Plans.{refusal_text, plan_of, order_of}
-use Rattle.lobby_desk.specs.Lines.{bytes_of, lines_of, act_lines, join_line, said_after, notice_lines, IsNamed}
-use Rattle.lobby_words.specs.Answers.{IsSeated, IsFirstSeated, IsSeatless, has_empty_seat, act_game, answer}
-use Rattle.lobby_desk.specs.Watching.{games_of, unwatched, risen, is_full}
-use Rattle.lobby_desk.specs.Refusals.{game_named}
-use Rattle.lobby_desk.specs.declared.waiting.Limits.{Limits}
-use Rattle.lobby_desk.specs.Waiting.{is_crowded, is_busy, is_spent, is_nearly_full}
-use Rattle.lobby_desk.specs.Pairings.{game_bar, open_bar, join_bar}
+use Rattle.lobby_desk.specs.Lines.{bytes_of, lines_of, said_after, IsNamed}
+use Rattle.lobby_table.specs.Sending.{act_lines, join_line, notice_lines}
+use Rattle.lobby_words.specs.Answers.{act_game, answer, lone_player}
+use Rattle.lobby_table.specs.Watching.{games_of, unwatched, risen, is_full}
+use Rattle.lobby_table.specs.Refusals.{game_named}
+use Rattle.lobby_desk.specs.declared.limits.Limits.{Limits}
+use Rattle.lobby_desk.specs.Limits.{is_crowded, is_busy, is_spent, is_nearly_full}
+use Rattle.lobby_table.specs.Pairings.{game_bar, open_bar, join_bar}
 use Rattle.lobby_desk.specs.Pace.{is_too_fast}
-pub use Rattle.lobby_desk.specs.Watching.{at_table}
-use Rattle.lobby_desk.specs.Events.{DeskInput, Opened, Closed, Said, Hurried, Heard, ServerTurned, Renewed, Linked, MessageValue, to_one, ForAct, Owed, Asker, Dropper, Pairer, owed_of, owed_lines, plan_asker, follower, following, asked_after, follows_heard, told_as}
-use Rattle.lobby_desk.specs.Tellings.{Known, is_counted, open_now, watch_heard, watch_next, table_heard, table_next, watches_now, table_now, seats_heard, seats_next, seats_now, pairings_heard, pairings_next, pairings_now, refused_heard, refused_next, refused_now, follows_next, follows_now, misnamed_heard, misnamed_next, misnamed_now, owed_now, left_now, begun_now, last_now, owed_answered, owes, presence, IsTold, IsToldFor, IsToldNext}
-
--- the player for whom a connection acts
-abbrev pub who_in : BTreeMap ℕ Visitor → ℕ → Option Identity
-who_in visitors c = option_and_then (λ (v : Visitor). v.who) (get nat_cmp visitors c)
+pub use Rattle.lobby_table.specs.Watching.{at_table}
+use Rattle.lobby_desk.specs.Events.{DeskInput, Opened, Closed, Said, Hurried, Heard, ServerTurned, Renewed, Linked}
+use Rattle.lobby_desk.specs.Events.{MessageValue, to_one}
+use Rattle.lobby_table.specs.Owed.{ForAct, Owed, Asker, Dropper, Pairer, owed_of, owed_lines}
+use Rattle.lobby_desk.specs.Events.{plan_asker, follower, following, asked_after, follows_heard, told_as}
+use Rattle.lobby_desk.specs.Tellings.{Known, is_counted, open_now, watch_heard, watch_next, table_heard, table_next}
+use Rattle.lobby_desk.specs.Tellings.{watches_now, table_now, seats_heard, seats_next, seats_now, pairings_heard}
+use Rattle.lobby_desk.specs.Tellings.{pairings_next, pairings_now, refused_heard, refused_next, refused_now}
+use Rattle.lobby_desk.specs.Tellings.{follows_next, follows_now, misnamed_heard, misnamed_next, misnamed_now, owed_now}
+use Rattle.lobby_desk.specs.Tellings.{left_now, begun_now, last_now, owed_answered, presence, IsTold, IsToldFor}
+use Rattle.lobby_table.specs.Owed.{owes}
+use Rattle.lobby_desk.specs.Tellings.{IsToldNext}
+use Rattle.lobby_table.specs.Visitors.{who_in, until_in, open_in_map, IsPresence}
 
 abbrev pub who_of : Desk → ℕ → Option Identity
 who_of desk c = who_in desk.visitors c
@@ -43,14 +52,6 @@ who_of desk c = who_in desk.visitors c
 -- the games that connections watch, each once for each of them
 abbrev pub watched_games : Desk → List ℕ
 watched_games desk = games_of desk.watches.items
-
--- until when the time of a connection is taken
-abbrev pub until_at : Option Visitor → ℕ
-until_at None = 0
-until_at (Some v) = v.until
-
-abbrev pub until_in : BTreeMap ℕ Visitor → ℕ → ℕ
-until_in visitors c = until_at (get nat_cmp visitors c)
 
 abbrev pub until_of : Desk → ℕ → ℕ
 until_of desk c = until_in desk.visitors c
@@ -69,16 +70,8 @@ players_now (Renewed next) before = next
 players_now (Linked c text next token) before = next
 players_now _ before = before
 
--- whether a connection is open
-abbrev pub open_in_map : BTreeMap ℕ Visitor → ℕ → Bool
-open_in_map visitors c = is_some (get nat_cmp visitors c)
-
 abbrev pub open_of : Desk → ℕ → Bool
 open_of desk c = open_in_map desk.visitors c
-
--- a connection when the players are others
-abbrev pub visitor_renewed : List Player → List Player → Visitor → Visitor
-visitor_renewed old later v = record { who = renewed old later v.who; until = v.until }
 
 -- the name of a player, and none of nobody
 abbrev pub name_of : Option Identity → List ℕ
@@ -124,12 +117,6 @@ is_own plans.LeaveLobby = true
 is_own (plans.Leave game) = true
 is_own _ = false
 
--- The answer to `who` tells whether entries are paused, and the players for whom a connection acts that is open, and no
--- other.
-abbrev pub IsPresence : Bool → List Player → (ℕ → Bool) → (ℕ → Option Identity) → List ℕ → Type 0
-IsPresence is_paused players is_open acts_for text =
-    (all : List ℕ) × ((c : ℕ) → at_table all c ≡ is_open c) × (text ≡ who_text is_paused (present_names acts_for all players))
-
 -- Such an answer, where entries are paused or not, these connections are open, and each acts for this player: a refusal
 -- says why; the player is told, or all players are, or those who have a seat, or are there; what is left is named. An
 -- order is not carried out here.
@@ -143,16 +130,20 @@ IsOwnText is_paused players seats is_open acts_for plans.Pause text = text ≡ c
 IsOwnText is_paused players seats is_open acts_for plans.Resume text = text ≡ codes "ok resume entries\n"
 IsOwnText is_paused players seats is_open acts_for (plans.Order order) text = text ≡ refusal_text refusals.NotWritten
 IsOwnText is_paused players seats is_open acts_for plans.LeaveLobby text = text ≡ codes "ok leave lobby\n"
-IsOwnText is_paused players seats is_open acts_for (plans.Leave game) text = text ≡ codes "ok leave " ++ decimal game ++ codes "\n"
+IsOwnText is_paused players seats is_open acts_for (plans.Leave game) text =
+    text ≡ codes "ok leave " ++ decimal game ++ codes "\n"
 IsOwnText is_paused players seats is_open acts_for _ text = Unit {0}
 
-abbrev pub IsAnsweredIf : Bool → Bool → List Player → List Seat → (ℕ → Bool) → (ℕ → Option Identity) → Plan → ℕ → List MessageValue → Type 0
+abbrev pub IsAnsweredIf : Bool → Bool → List Player → List Seat → (ℕ → Bool) → (ℕ → Option Identity) → Plan → ℕ
+    → List MessageValue → Type 0
 IsAnsweredIf true is_paused players seats is_open acts_for plan c tells =
     (text : List ℕ) × IsOwnText is_paused players seats is_open acts_for plan text × (tells ≡ to_one c text ∷ [])
 IsAnsweredIf false is_paused players seats is_open acts_for plan c tells = tells ≡ []
 
-abbrev pub IsAnswered : Bool → List Player → List Seat → (ℕ → Bool) → (ℕ → Option Identity) → Plan → ℕ → List MessageValue → Type 0
-IsAnswered is_paused players seats is_open acts_for plan c tells = IsAnsweredIf (is_own plan) is_paused players seats is_open acts_for plan c tells
+abbrev pub IsAnswered : Bool → List Player → List Seat → (ℕ → Bool) → (ℕ → Option Identity) → Plan → ℕ
+    → List MessageValue → Type 0
+IsAnswered is_paused players seats is_open acts_for plan c tells =
+    IsAnsweredIf (is_own plan) is_paused players seats is_open acts_for plan c tells
 
 abbrev pub known : Desk → Known
 known desk = record {
@@ -187,7 +178,17 @@ pub record View : Type 0 where
   pub known : Known
 
 abbrev pub view : Desk → View
-view desk = record { next = desk.next; is_open = open_of desk; who = who_of desk; said = desk.line.said; here = desk.line.is_here; paused = desk.is_paused; limits = desk.limits; known = known desk }
+view desk =
+    record {
+      next = desk.next;
+      is_open = open_of desk;
+      who = who_of desk;
+      said = desk.line.said;
+      here = desk.line.is_here;
+      paused = desk.is_paused;
+      limits = desk.limits;
+      known = known desk;
+    }
 
 -- A desk that begins: no connection has come, and nothing was said. Entries are paused just where it is told so.
 pub record BeginsView (is_paused : Bool) (now : View) : Type 0 where
@@ -221,13 +222,16 @@ said_event false c text = Said c text
 -- go on or be left on the table, or the last places are for arbiters and pairings; or no such game waits for him.
 abbrev pub player_bar : Limits → Known → Bool → List ℕ → Option Refusal
 player_bar limits k is_arbiter name =
-    game_bar (not is_arbiter && is_busy limits k.seats k.owed name) (not is_arbiter && is_spent limits k.seats k.owed name)
+    game_bar (not is_arbiter && is_busy limits k.seats k.owed name)
+    (not is_arbiter && is_spent limits k.seats k.owed name)
 
 abbrev pub name_bar : Limits → Known → Bool → List ℕ → List ℕ → Option Refusal
 name_bar limits k is_arbiter name text =
-    if opens_game text then open_bar (is_crowded limits k.seats k.owed name) (not is_arbiter && is_nearly_full limits k.seats k.owed)
+    if opens_game text then open_bar (is_crowded limits k.seats k.owed name)
+    (not is_arbiter && is_nearly_full limits k.seats k.owed)
     (player_bar limits k is_arbiter name)
-    else (if joins_game text then join_bar k.seats k.pairings (player_bar limits k is_arbiter name) name (game_named text) else None)
+    else (if joins_game text then join_bar k.seats k.pairings (player_bar limits k is_arbiter name) name
+    (game_named text) else None)
 
 abbrev pub bar_of : Limits → Known → Option Identity → List ℕ → Option Refusal
 bar_of limits k None text = None
@@ -260,7 +264,8 @@ order_asked desk c text at =
 
 -- The plan for a message is carried out: these lines go out, and of the players for whom connections act no more
 -- changes than a login says.
-pub record IsSaid (players : List Player) (old : View) (c : ℕ) (text : List ℕ) (lines : List (List ℕ)) (tells : List MessageValue) (new : View) : Type 0 where
+pub record IsSaid (players : List Player) (old : View) (c : ℕ) (text : List ℕ) (lines : List (List ℕ))
+    (tells : List MessageValue) (new : View) : Type 0 where
   pub standing : Standing
   pub who : standing.who ≡ old.who c
   pub holder : standing.holder ≡ holder_shown players text
@@ -285,20 +290,20 @@ pub record IsSaid (players : List Player) (old : View) (c : ℕ) (text : List �
 
 -- A drop that waited goes out, under the name of the player who waits in its game for a second one, as the answer to
 -- `show` says.
-pub record IsDropped (said : Option (List ℕ)) (now text : List ℕ) (lines : List (List ℕ)) (later : Option (List ℕ)) : Type 0 where
+pub record IsDropped (said : Option (List ℕ)) (now text : List ℕ) (lines : List (List ℕ))
+    (later : Option (List ℕ)) : Type 0 where
   pub name : List ℕ
   pub named : IsName name
-  pub seated : IsSeated now (rest_of text) name
-  pub first : IsFirstSeated now name
-  pub empty : has_empty_seat now ≡ true
+  pub alone : lone_player now (rest_of text) ≡ Some name
   pub lines_are : lines ≡ act_lines said name text (game_named text)
   pub said_is : later ≡ Some name
 
 -- Nothing goes out for a drop that waited: nobody has a seat in its game, or no seat of it is empty.
-pub record IsNotDropped (said : Option (List ℕ)) (now text : List ℕ) (lines : List (List ℕ)) (later : Option (List ℕ)) : Type 0 where
+pub record IsNotDropped (said : Option (List ℕ)) (now text : List ℕ) (lines : List (List ℕ))
+    (later : Option (List ℕ)) : Type 0 where
   pub none : lines ≡ []
   pub said_is : later ≡ said
-  pub not_waiting : IsSeatless now (rest_of text) ⊎ (has_empty_seat now ≡ false)
+  pub not_waiting : lone_player now (rest_of text) ≡ None
 
 -- What goes out for the answer to the opening of a pairing: where it names the game, Black joins it.
 abbrev pub IsPaired : Option ℕ → Option (List ℕ) → List ℕ → List (List ℕ) → Option (List ℕ) → Type 0
@@ -311,8 +316,10 @@ IsPaired (Some game) said black lines later =
 -- that it waits for, where a seat is empty, and the join of a pairing for the answer that opens its game; else nothing
 -- does.
 abbrev pub IsSentFor : Owed → Option (List ℕ) → List ℕ → List (List ℕ) → Option (List ℕ) → Type 0
-IsSentFor (Asker c (ForAct by text)) said now lines later = (lines ≡ notice_lines (asked_after text (act_game now))) × (later ≡ said)
-IsSentFor (Dropper c by text) said now lines later = IsNotDropped said now text lines later ⊎ IsDropped said now text lines later
+IsSentFor (Asker c (ForAct by text)) said now lines later =
+    (lines ≡ notice_lines (asked_after text (act_game now))) × (later ≡ said)
+IsSentFor (Dropper c by text) said now lines later =
+    IsNotDropped said now text lines later ⊎ IsDropped said now text lines later
 IsSentFor (Pairer c by black text) said now lines later = IsPaired (act_game now) said black lines later
 IsSentFor _ said now lines later = (lines ≡ []) × (later ≡ said)
 
@@ -326,7 +333,8 @@ IsSentHeard true owed said now lines later = IsSentNext owed said now lines late
 
 -- a line of the server is taken
 pub record IsHeard (old : View) (line : List ℕ) (lines : List (List ℕ)) (new : View) : Type 0 where
-  pub sent : IsSentHeard (is_counted old.known line) old.known.owed old.said (answer old.known.begun line) lines new.said
+  pub sent : IsSentHeard (is_counted old.known line) old.known.owed old.said
+      (answer old.known.begun line) lines new.said
   pub next_is : new.next ≡ old.next
   pub here_is : new.here ≡ old.here
   pub paused_is : new.paused ≡ old.paused
@@ -372,7 +380,8 @@ pub record IsTurned (old : View) (here : Bool) (lines : List (List ℕ)) (new : 
 
 -- The players are others from now on: a connection acts for a player on just where his sum is the same. Nothing else
 -- changes.
-pub record IsRenewed (players : List Player) (old : View) (later : List Player) (lines : List (List ℕ)) (new : View) : Type 0 where
+pub record IsRenewed (players : List Player) (old : View) (later : List Player) (lines : List (List ℕ))
+    (new : View) : Type 0 where
   pub none : lines ≡ []
   pub next_is : new.next ≡ old.next
   pub said_is : new.said ≡ old.said
@@ -382,7 +391,8 @@ pub record IsRenewed (players : List Player) (old : View) (later : List Player) 
 
 -- The same for a message, whose plan is an order of an arbiter's: the players from now on are those before, but that
 -- the one whom the message names has this token, which nobody had.
-pub record IsLinked (players : List Player) (old : View) (c : ℕ) (text : List ℕ) (later : List Player) (token : List ℕ) (lines : List (List ℕ)) (new : View) : Type 0 where
+pub record IsLinked (players : List Player) (old : View) (c : ℕ) (text : List ℕ) (later : List Player)
+    (token : List ℕ) (lines : List (List ℕ)) (new : View) : Type 0 where
   pub standing : Standing
   pub who : standing.who ≡ old.who c
   pub link : standing.linked ≡ known_name players (rest_of text)
@@ -404,7 +414,8 @@ IsDone players old (ServerTurned is_here) lines tells new = IsTurned old is_here
 
 -- What is known then, where these connections are open before, and the one that has spoken acts for the player of this
 -- name.
-pub record IsKnown (event : DeskInput) (by : List ℕ) (lines : List (List ℕ)) (is_open : ℕ → Bool) (old new : Known) : Type 0 where
+pub record IsKnown (event : DeskInput) (by : List ℕ) (lines : List (List ℕ)) (is_open : ℕ → Bool)
+    (old new : Known) : Type 0 where
   pub owed : new.owed ≡ owed_now event by lines old
   pub left : new.left ≡ left_now event old
   pub begun : new.begun ≡ begun_now event old
@@ -418,7 +429,8 @@ pub record IsKnown (event : DeskInput) (by : List ℕ) (lines : List (List ℕ))
   pub misnamed : new.misnamed ≡ misnamed_now event old
 
 -- a step: what comes in, the lines that go to the server, and what connections are told; the limits stay
-pub record IsStep (players : List Player) (old : View) (event : DeskInput) (lines : List (List ℕ)) (tells : List MessageValue) (new : View) : Type 0 where
+pub record IsStep (players : List Player) (old : View) (event : DeskInput) (lines : List (List ℕ))
+    (tells : List MessageValue) (new : View) : Type 0 where
   pub done : IsDone players old event lines tells new
   pub opens : (c : ℕ) → new.is_open c ≡ open_now event c (old.is_open c)
   pub limits : new.limits ≡ old.limits
@@ -427,7 +439,8 @@ pub record IsStep (players : List Player) (old : View) (event : DeskInput) (line
 
 -- The same of the desk, of the bytes that go to the server, and of what connections are told. The time of no other
 -- connection is taken.
-pub record Steps (old : Desk) (event : DeskInput) (before after : List ℕ) (told_before told_after : List MessageValue) (new : Desk) : Type 0 where
+pub record Steps (old : Desk) (event : DeskInput) (before after : List ℕ) (told_before told_after : List MessageValue)
+    (new : Desk) : Type 0 where
   pub lines : List (List ℕ)
   pub tells : List MessageValue
   pub sent : after ≡ before ++ bytes_of lines
@@ -437,18 +450,21 @@ pub record Steps (old : Desk) (event : DeskInput) (before after : List ℕ) (tol
   pub untils : (c : ℕ) → is_of event c ≡ false → until_of new c ≡ until_of old c
 
 -- a plan for a message is carried out
-pub record Carried (old : Desk) (from : ℕ) (text : List ℕ) (plan : Plan) (until : ℕ) (before after : List ℕ) (told_before told_after : List MessageValue) (new : Desk) : Type 0 where
+pub record Carried (old : Desk) (from : ℕ) (text : List ℕ) (plan : Plan) (until : ℕ) (before after : List ℕ)
+    (told_before told_after : List MessageValue) (new : Desk) : Type 0 where
   pub tells : List MessageValue
   pub sent : after ≡ before ++ bytes_of (lines_of plan old.line.said text)
   pub told : told_after ≡ told_before ++ tells
-  pub answers : IsAnswered old.is_paused old.players.items old.line.seats.items (open_of old) (who_of old) plan from tells
+  pub answers : IsAnswered old.is_paused old.players.items old.line.seats.items (open_of old)
+      (who_of old) plan from tells
   pub named : IsNamed plan
   pub said_is : new.line.said ≡ said_after plan old.line.said
   pub here_is : new.line.is_here ≡ old.line.is_here
   pub paused_is : new.is_paused ≡ paused_after plan old.is_paused
   pub limits_is : new.limits ≡ old.limits
   pub who_is : (c : ℕ) → who_of new c ≡ (if from == c then who_noted plan (who_of old c) else who_of old c)
-  pub owed : (known new).owed ≡ (known old).owed ++ owed_lines (plan_asker plan from text) (lines_of plan old.line.said text)
+  pub owed : (known new).owed ≡ (known old).owed ++ owed_lines (plan_asker plan from text)
+      (lines_of plan old.line.said text)
   pub opens : (c : ℕ) → open_of new c ≡ (from == c || open_of old c)
   pub untils : (c : ℕ) → until_of new c ≡ (if from == c then until else until_of old c)
   pub watches : new.watches.items ≡ plan_watches plan from old.watches.items
@@ -475,13 +491,15 @@ pub record IsElseSame (old new : Desk) : Type 0 where
   pub next : new.next ≡ old.next
 
 -- An answer of the server is taken, by whose it is; the first that was owed is taken off before.
-pub record AnswersTo (o : Owed) (now : List ℕ) (old : Desk) (before after : List ℕ) (told_before told_after : List MessageValue) (new : Desk) : Type 0 where
+pub record AnswersTo (o : Owed) (now : List ℕ) (old : Desk) (before after : List ℕ)
+    (told_before told_after : List MessageValue) (new : Desk) : Type 0 where
   pub lines : List (List ℕ)
   pub tells : List MessageValue
   pub sent : after ≡ before ++ bytes_of lines
   pub told : told_after ≡ told_before ++ tells
   pub for_whom : IsSentFor o old.line.said now lines new.line.said
-  pub told_whom : IsToldFor (string_bytes old.line.last) old.watches.items old.table.items old.line.refused.items (told_as (following old.line.acted) o) now lines tells
+  pub told_whom : IsToldFor (string_bytes old.line.last) old.watches.items old.table.items old.line.refused.items
+      (told_as (following old.line.acted) o) now lines tells
   pub owed : (known new).owed ≡ (known old).owed ++ owed_lines (follower o now) lines
   pub watches : new.watches.items ≡ watch_heard (open_of old) (string_bytes old.line.last) o old.watches.items
   pub table : new.table.items ≡ table_heard (open_of old) o old.table.items
@@ -493,7 +511,8 @@ pub record AnswersTo (o : Owed) (now : List ℕ) (old : Desk) (before after : Li
   pub rests : IsElseSame old new
 
 -- the same of the first that is owed
-pub record Answered (now : List ℕ) (old : Desk) (before after : List ℕ) (told_before told_after : List MessageValue) (new : Desk) : Type 0 where
+pub record Answered (now : List ℕ) (old : Desk) (before after : List ℕ) (told_before told_after : List MessageValue)
+    (new : Desk) : Type 0 where
   pub lines : List (List ℕ)
   pub tells : List MessageValue
   pub sent : after ≡ before ++ bytes_of lines
@@ -501,7 +520,8 @@ pub record Answered (now : List ℕ) (old : Desk) (before after : List ℕ) (tol
   pub for_whom : IsSentNext (known old).owed old.line.said now lines new.line.said
   pub told_whom : IsToldNext (known old) (known old).owed now lines tells
   pub owed : (known new).owed ≡ owed_answered (known old).owed now lines
-  pub watches : new.watches.items ≡ watch_next (open_of old) (string_bytes old.line.last) (known old).owed old.watches.items
+  pub watches : new.watches.items ≡ watch_next (open_of old) (string_bytes old.line.last)
+      (known old).owed old.watches.items
   pub table : new.table.items ≡ table_next (open_of old) (known old).owed old.table.items
   pub seats : new.line.seats.items ≡ seats_next (known old).owed now old.line.seats.items
   pub pairings : new.line.pairings.items ≡ pairings_next (known old).owed now old.line.pairings.items

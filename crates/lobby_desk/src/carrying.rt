@@ -1,16 +1,20 @@
 //! What is done by a plan for a message.
-ghost use Rattle.std.specs.Prelude.{ℕ, List, codes, ◌≡◌, ◌++◌, ◌==◌, ◌||◌, IfOk, IfSome, OnOk, map, is_some, if◌then◌else◌};
+ghost use Rattle.std.specs.Prelude.{ℕ, List, codes, ◌≡◌, ◌++◌, ◌==◌, ◌||◌, IfOk, IfSome, OnOk, map, is_some};
+ghost use Rattle.std.specs.Prelude.{if◌then◌else◌};
 ghost use Rattle.std.specs.String.{string_bytes};
-ghost use Rattle.lobby_desk.specs.Lines.{bytes_of, lines_of, said_after, IsNamed, IsHeardSame};
-ghost use Rattle.lobby_desk.specs.Events.{MessageValue, message_values, owed_of, owed_lines, plan_asker};
+ghost use Rattle.lobby_desk.specs.Lines.{bytes_of, lines_of, said_after, IsNamed};
+ghost use Rattle.lobby_table.specs.Sending.{IsHeardSame};
+ghost use Rattle.lobby_desk.specs.Events.{MessageValue, message_values, plan_asker};
+ghost use Rattle.lobby_table.specs.Owed.{owed_of, owed_lines};
 ghost use Rattle.lobby_desk.specs.Tellings.{token_told};
-ghost use Rattle.lobby_desk.specs.Who.{who_in, open_in_map, until_in, who_noted, plan_watches, plan_table, paused_after, is_own, IsOwnText, IsAnswered};
+ghost use Rattle.lobby_table.specs.Visitors.{who_in, open_in_map, until_in};
+ghost use Rattle.lobby_desk.specs.Who.{who_noted, plan_watches, plan_table};
+ghost use Rattle.lobby_desk.specs.Who.{paused_after, is_own, IsOwnText, IsAnswered};
 
-use crate::present::present_rows;
-use crate::server_line::{Due, ServerLine, waiting_act};
 use crate::telling::{Kind, Message, tell};
-use crate::visitors::Visitor;
-use crate::watching::{Watch, rise, unwatch};
+use lobby_table::{
+    Due, ServerLine, Visitor, Watch, present_rows, put, rise, unwatch, waiting_act, who_acts,
+};
 use lobby_words::{
     Identity, Order, Plan, Player, Refusal, Seat, as_line, headed, login_line, player_rows,
     seated_rows,
@@ -41,8 +45,10 @@ pub fn answer_plan(
     plan: &Plan,
     told: &mut Vec<Message>,
 ) -> Result<(), AllocError>
-    ensures { OnOk result ((tells : List MessageValue) × (message_values told.new.items ≡ message_values told.old.items ++ tells)
-        × IsAnswered is_paused players.now seats.now (open_in_map visitors.now) (who_in visitors.now) plan.now from tells) }
+    ensures { OnOk result ((tells : List MessageValue)
+        × (message_values told.new.items ≡ message_values told.old.items ++ tells)
+        × IsAnswered is_paused players.now seats.now (open_in_map visitors.now)
+        (who_in visitors.now) plan.now from tells) }
 {
     match own_answer(alloc, is_paused, plan, players, seats, visitors)? {
         None => Ok(()),
@@ -61,7 +67,8 @@ fn own_answer(
 ) -> Result<Option<String>, AllocError>
     ensures own { IfOk result (λ answer. is_some answer ≡ is_own plan.now) }
     ensures text { IfOk result (λ answer. IfSome answer (λ text.
-        IsOwnText is_paused players.now seats.now (open_in_map visitors.now) (who_in visitors.now) plan.now (string_bytes text))) }
+        IsOwnText is_paused players.now seats.now (open_in_map visitors.now) (who_in visitors.now) plan.now
+        (string_bytes text))) }
 {
     match plan {
         Plan::Refuse(refusal) => Ok(Some(String::from_str(alloc, refusal.line())?)),
@@ -87,8 +94,11 @@ pub fn send(
     plan: &Plan,
     wire: &mut Vec<u8>,
 ) -> Result<(), AllocError>
-    ensures sent { OnOk result (wire.new.items ≡ wire.old.items ++ bytes_of (lines_of plan.now line.old.said text.now)) }
-    ensures owed { OnOk result (map owed_of line.new.queue.items ≡ map owed_of line.old.queue.items ++ owed_lines (plan_asker plan.now from text.now) (lines_of plan.now line.old.said text.now)) }
+    ensures sent { OnOk result (wire.new.items ≡ wire.old.items
+        ++ bytes_of (lines_of plan.now line.old.said text.now)) }
+    ensures owed { OnOk result (map owed_of line.new.queue.items
+        ≡ map owed_of line.old.queue.items ++ owed_lines (plan_asker plan.now from text.now)
+        (lines_of plan.now line.old.said text.now)) }
     ensures said { OnOk result (line.new.said ≡ said_after plan.now line.old.said) }
     ensures here { line.new.is_here ≡ line.old.is_here }
     ensures heard { IsHeardSame line.old line.new }
@@ -135,32 +145,6 @@ pub fn paused_after(before: bool, plan: &Plan) -> bool
     }
 }
 
-/// For whom a connection acts.
-pub fn who_acts(visitors: &BTreeMap<u64, Visitor>, connection: u64) -> Option<Identity>
-    ensures { result ≡ who_in visitors.now connection }
-{
-    match visitors.get(&connection) {
-        Some(visitor) => visitor.who,
-        None => None,
-    }
-}
-
-/// A connection is so from now on.
-pub fn put(
-    visitors: &mut BTreeMap<u64, Visitor>,
-    connection: u64,
-    who: Option<Identity>,
-    until: u64,
-) -> Result<(), AllocError>
-    ensures who { OnOk result ((c : ℕ) → who_in visitors.new c ≡ (if connection == c then who else who_in visitors.old c)) }
-    ensures opens { OnOk result ((c : ℕ) → open_in_map visitors.new c ≡ (connection == c || open_in_map visitors.old c)) }
-    ensures untils { OnOk result ((c : ℕ) → until_in visitors.new c ≡ (if connection == c then until else until_in visitors.old c)) }
-{
-    let visitor = Visitor { who, until };
-    visitors.insert(connection, visitor)?;
-    Ok(())
-}
-
 /// The answer to a message that asks for a player's link, once that is done.
 pub fn linked_line(
     alloc: Global,
@@ -168,7 +152,8 @@ pub fn linked_line(
     order: &Order,
     token: &str,
 ) -> Result<String, AllocError>
-    ensures { IfOk result (λ line. string_bytes line ≡ codes "ok " ++ text.now ++ token_told order.now.closes token.now) }
+    ensures { IfOk result (λ line. string_bytes line
+        ≡ codes "ok " ++ text.now ++ token_told order.now.closes token.now) }
 {
     let mut line = String::from_str(alloc, "ok ")?;
     line.push_str(text)?;
@@ -187,9 +172,11 @@ pub fn note(
     plan: &Plan,
     until: u64,
 ) -> Result<(), AllocError>
-    ensures who { OnOk result ((c : ℕ) → who_in visitors.new c ≡ (if from == c then who_noted plan.now (who_in visitors.old c) else who_in visitors.old c)) }
+    ensures who { OnOk result ((c : ℕ) → who_in visitors.new c
+        ≡ (if from == c then who_noted plan.now (who_in visitors.old c) else who_in visitors.old c)) }
     ensures opens { OnOk result ((c : ℕ) → open_in_map visitors.new c ≡ (from == c || open_in_map visitors.old c)) }
-    ensures untils { OnOk result ((c : ℕ) → until_in visitors.new c ≡ (if from == c then until else until_in visitors.old c)) }
+    ensures untils { OnOk result ((c : ℕ) → until_in visitors.new c
+        ≡ (if from == c then until else until_in visitors.old c)) }
 {
     let before = who_acts(visitors, from);
     put(visitors, from, who_noted(before, plan), until)?;

@@ -3,34 +3,25 @@
 //! come out.
 //!
 //! Modules: `desk` is what comes in; what is done about it is in `carrying` for a message and in `answering` for an
-//! answer of the server. `server_line` is the line to the server, with whose answers come, `telling` says messages to
-//! connections. What the desk knows: who is connected (`visitors`), is told of what (`watching`) and is there
-//! (`present`), which games wait (`waiting`), and which acts were refused (`refusals`). `pace` has how fast a
-//! connection may say messages, `renewing` for whom it acts when the players are others, `law` the laws.
+//! answer of the server, and `telling` says messages to connections. `limits` has how many games there may be, `pace`
+//! how fast a connection may say messages, `strangers` and `roles` what a connection is, `law` the laws. What the desk
+//! knows is in `lobby_table`.
 #![tactic(auto)]
 
-mod adding;
 mod answering;
 mod carrying;
 mod desk;
 mod law;
+mod limits;
 mod pace;
-mod pairings;
-mod present;
-mod refusals;
-mod renewing;
 mod roles;
-mod server_line;
 mod strangers;
 mod telling;
-mod visitors;
-mod waiting;
-mod watching;
 
 pub use desk::Desk;
 pub use law::{
     law_of_initials, law_of_lines, law_of_logs, law_of_names, law_of_pairings, law_of_tellings,
 };
+pub use limits::Limits;
 pub use lobby_words::Order;
 pub use telling::{Kind, Message};
-pub use waiting::Limits;

@@ -1,9 +1,9 @@
 //! What a connection is to the lobby.
 ghost use Rattle.std.specs.Prelude.{◌≡◌};
-ghost use Rattle.lobby_desk.specs.Watching.{watches_any};
+ghost use Rattle.lobby_table.specs.Watching.{watches_any};
 
 use crate::desk::Desk;
-use crate::watching::{Watch, is_at_table};
+use lobby_table::{Watch, is_at_table};
 
 // Whether a connection watches a game.
 fn watches_any(watches: &[Watch], by: u64) -> bool

@@ -1,16 +1,13 @@
 //! Connections that act for nobody.
 ghost use Rattle.std.specs.Prelude.{◌≡◌};
 ghost use Rattle.std.specs.List.{list_any};
-ghost use Rattle.lobby_desk.specs.Events.{owed_of};
-ghost use Rattle.lobby_desk.specs.Tellings.{waiter};
-ghost use Rattle.lobby_desk.specs.Who.{who_in};
+ghost use Rattle.lobby_table.specs.Owed.{owed_of};
+ghost use Rattle.lobby_table.specs.Owed.{waiter};
+ghost use Rattle.lobby_table.specs.Visitors.{who_in};
 ghost use Rattle.lobby_desk.specs.Strangers.{acts, player_at, is_stranger, strangers_wait};
 
-use crate::answering::asker;
-use crate::carrying::who_acts;
 use crate::desk::Desk;
-use crate::server_line::Due;
-use crate::visitors::Visitor;
+use lobby_table::{Due, Visitor, asker, who_acts};
 use player_name::Name;
 use std::collections::BTreeMap;
 

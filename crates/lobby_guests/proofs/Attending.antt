@@ -4,8 +4,9 @@ use Rattle.std.specs.Io.KnownBytes.{Consumes}
 use Rattle.lobby_web.specs.declared.site.Site.{Site}
 use Rattle.lobby_guests.specs.declared.guest.Guest.{Guest}
 use Rattle.lobby_guests.specs.declared.rounds.Others.{Others}
-use Rattle.lobby_guests.specs.declared.talk.Talk.{Talk}
-use Rattle.lobby_guests.specs.Guests.{InTurn, IsAttended, IsServedIf, IsPlayersTurn, IsOthersTurn, Room, acts_at, has_time}
+use Rattle.lobby_talk.specs.declared.talk.Talk.{Talk}
+use Rattle.lobby_guests.specs.Guests.{InTurn, IsAttended, IsServedIf, IsPlayersTurn, IsOthersTurn, Room, has_time}
+use Rattle.lobby_talk.specs.Talking.{acts_at}
 use Rattle.lobby_guests.proofs.EachGuest.{in_turn_as}
 
 module _ {S : Type 0} (remaining : S → Option (List ℕ)) (site : Site) (at : ℕ) where
@@ -36,13 +37,13 @@ module _ {S : Type 0} (remaining : S → Option (List ℕ)) (site : Site) (at : 
       in_turn_as (λ (t : Talk). t) (IsPlayersTurn remaining site at) (IsAttended remaining site at)
       (λ x y a b one. players_attended x y a b one) old new talk after turns
 
-  others_attended : (others : Others) (old new : Guest S) (room after : Room) → IsOthersTurn others remaining site at old new room after →
+  others_attended : (others : Others) (fresh : Bool) (old new : Guest S) (room after : Room) → IsOthersTurn others fresh remaining site at old new room after →
       IsAttended remaining site at old new room.talk after.talk
-  others_attended others old new room after (inl over) = left_alone old new room.talk after.talk over.guest over.talk
-  others_attended others old new room after (inr called) = called.served.attended
+  others_attended others fresh old new room after (inl over) = left_alone old new room.talk after.talk over.guest over.talk
+  others_attended others fresh old new room after (inr called) = called.served.attended
 
-  pub others_pass : (others : Others) (old new : List (Guest S)) (room after : Room) →
-      InTurn (IsOthersTurn others remaining site at) old new room after → InTurn (IsAttended remaining site at) old new room.talk after.talk
-  others_pass others old new room after turns =
-      in_turn_as (λ (r : Room). r.talk) (IsOthersTurn others remaining site at) (IsAttended remaining site at)
-      (λ x y a b one. others_attended others x y a b one) old new room after turns
+  pub others_pass : (others : Others) (fresh : Bool) (old new : List (Guest S)) (room after : Room) →
+      InTurn (IsOthersTurn others fresh remaining site at) old new room after → InTurn (IsAttended remaining site at) old new room.talk after.talk
+  others_pass others fresh old new room after turns =
+      in_turn_as (λ (r : Room). r.talk) (IsOthersTurn others fresh remaining site at) (IsAttended remaining site at)
+      (λ x y a b one. others_attended others fresh x y a b one) old new room after turns

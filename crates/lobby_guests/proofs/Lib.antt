@@ -1,11 +1,7 @@
 pub mod EachGuest
 pub mod Attending
 pub mod Telling
-pub mod Each
-pub mod Making
-pub mod Taking
-pub mod Saying
-pub mod Logging
 pub mod Room
 pub mod Seats
-pub mod Keeping
+pub mod Due
+pub mod Owing

@@ -12,7 +12,7 @@ use Rattle.lobby_guests.specs.Guests.{IsAsBefore}
 use Rattle.lobby_guests.specs.Places.{is_gone, is_player, gone, each_own, judged, IsKeptOrClosed, IsKeptOrGone, IsOwned, IsFair}
 use Rattle.lobby_guests.specs.Roles.{role_by}
 use Rattle.lobby_guests.specs.Seating.{role_of, player_of, place_of, Yields, AreYielding, YieldAt, AreSeated, AreSeatedIf}
-use Rattle.lobby_guests.proofs.Each.{SameFrom, further_same, further_front}
+use Rattle.lobby_talk.proofs.Each.{SameFrom, further_same, further_front}
 
 -- ---- one after the other
 
@@ -175,7 +175,7 @@ module _ {S : Type 0} (desk : Desk) where
   all_as_before (guest ∷ guests) = (record { number = refl; stream = refl; browser = refl }, all_as_before guests)
 
   pub seated_not : (at from : ℕ) (guests : List (Guest S)) → AreSeatedIf false at from desk guests guests
-  seated_not at from guests = record { before = all_as_before guests; seats = λ is. absurd (cc) }
+  seated_not at from guests = record { before = all_as_before guests; seats = λ is. absurd (cc); same = λ is. refl }
 
   pub seated_so : (at from : ℕ) (old new : List (Guest S)) → AreSeated at from desk old new → AreSeatedIf true at from desk old new
-  seated_so at from old new seated = record { before = seated.before; seats = λ is. seated }
+  seated_so at from old new seated = record { before = seated.before; seats = λ is. seated; same = λ is. absurd (cc) }

@@ -6,7 +6,7 @@ use Rattle.std.proofs.lemmas.List.Sums.{count_by_more_yes, count_by_more_no}
 use Rattle.lobby_guests.specs.declared.guest.Guest.{Guest}
 use Rattle.lobby_desk.specs.declared.telling.Message.{Message}
 use Rattle.lobby_guests.specs.Guests.{IsTold, AreTold}
-use Rattle.lobby_guests.specs.Counting.{one_if, counted_up, refuses, refusals_of}
+use Rattle.lobby_talk.specs.Counting.{one_if, counted_up, refuses, refusals_of}
 
 -- What the rest of them make of a browser now, all of them make of it as it was.
 abbrev pub IsToldTo : {S : Type 0} → ℕ → List Message → Guest S → Guest S → Type 0

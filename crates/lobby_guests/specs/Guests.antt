@@ -1,13 +1,14 @@
 -- What happens at a browser's connection.
-use Rattle.std.specs.Prelude.{ℕ, ◌≡◌, ◌≤◌, ◌<◌, ◌-◌, ◌⊎◌, ◌&&◌, ◌==◌, nat_le, nat_lt, codes, Bool, true, false, not, is_some, List, [], ◌∷◌, Option, None, Some, Result, length, take, filter}
-use Rattle.std.specs.List.{AllZip, starts_with}
+use Rattle.std.specs.Prelude.{ℕ, ◌≡◌, ◌≤◌, ◌<◌, ◌+◌, ◌-◌, ◌/◌, ◌^◌, ◌⊎◌, ◌&&◌, ◌||◌, ◌==◌, nat_le, nat_lt, min, max, Bool, true, false, not}
+use Rattle.std.specs.Prelude.{count_by, if◌then◌else◌, is_some, List, [], ◌∷◌, Option, None, Some, Result, length, take, filter}
+use Rattle.std.specs.List.{AllZip}
 use Rattle.std.specs.Io.KnownBytes.{Consumes, Appends}
 use Rattle.std.specs.String.{string_bytes}
 use Rattle.websocket.specs.Content.{text as Text, ping as Ping}
 use Rattle.lobby_desk.specs.declared.telling.Message.{Message}
 use Rattle.lobby_desk.specs.Events.{Closed}
 use Rattle.lobby_desk.specs.declared.desk.Desk.{Desk}
-use Rattle.lobby_desk.specs.Who.{at_table, IsReady}
+use Rattle.lobby_desk.specs.Who.{IsReady}
 use Rattle.lobby_desk.specs.Strangers.{acts, strangers_wait}
 use Rattle.lobby_web.specs.declared.browser.Browser.{Browser}
 use Rattle.lobby_web.specs.declared.site.Site.{Site}
@@ -18,9 +19,10 @@ use Rattle.lobby_web.specs.Browsing.{IsNew, pending, WantsBytes, Takes, HearsNex
 use Rattle.lobby_guests.specs.declared.guest.Guest.{Guest}
 use Rattle.lobby_guests.specs.declared.rounds.Others.{Others}
 use Rattle.lobby_guests.specs.declared.rounds.Others.TheVariants.{Newcomers, Strangers}
-use Rattle.lobby_guests.specs.declared.talk.Talk.{Talk}
-use Rattle.lobby_guests.specs.Talking.{Moves, Opens, IsTextSaid}
-use Rattle.lobby_guests.specs.Making.{IsMadeOf}
+use Rattle.lobby_talk.specs.declared.talk.Talk.{Talk}
+use Rattle.lobby_talk.specs.Talking.{Moves, Opens, IsTextSaid, acts_at}
+use Rattle.lobby_talk.specs.Counting.{is_for}
+use Rattle.lobby_talk.specs.Making.{IsMadeOf}
 
 -- A connection that begins: nothing came of it, and it has no number.
 pub record IsNewGuest {S : Type 0} (stream : S) (guest : Guest S) : Type 0 where
@@ -78,16 +80,38 @@ pub record IsAttended {S : Type 0} (remaining : S → Option (List ℕ)) (site :
   pub reads : IsRead remaining site old read
   pub hears : IsHeard at read new talk after
 
+-- until when the time of a connection is taken, once so many milliseconds more of it are taken at a moment
+abbrev pub taken_until : ℕ → ℕ → ℕ → ℕ
+taken_until at until millis = min (max until at + millis) (2 ^ 64 - 1)
+
+-- the same once it was read: a millisecond where bytes came, and one for each 40 of them
+abbrev pub paid_after : ℕ → ℕ → ℕ → ℕ
+paid_after at until count = if count == 0 then until else taken_until at until (1 + count / 40)
+
+-- One is read that acts for nobody: at most 1,024 bytes, for which its time is taken, and none while something of it
+-- may wait to be heard.
+pub record IsPaid {S : Type 0} (remaining : S → Option (List ℕ)) (at : ℕ) (old new : Guest S) : Type 0 where
+  pub taken : List ℕ
+  pub consumed : Consumes (remaining old.stream) (remaining new.stream) taken
+  pub few : length taken ≤ 1024
+  pub waits : old.has_more ≡ true → length taken ≡ 0
+  pub paid : new.paid_until ≡ paid_after at old.paid_until (length taken)
+
+-- the same once its socket has opened: nothing is owed then
+abbrev pub owed_after : Option ℕ → Option ℕ → ℕ → ℕ
+owed_after None None until = until
+owed_after None (Some c) until = 0
+owed_after (Some c) number until = until
+
 -- Where it is not lost then and the desk takes what comes next of it, it is asked for that at once: what is whole of it
 -- is not left to a later turn.
 pub record IsServed {S : Type 0} (remaining : S → Option (List ℕ)) (site : Site) (at : ℕ) (old new : Guest S)
     (talk after : Talk) : Type 0 where
   pub attended : IsAttended remaining site at old new talk after
-  pub asks : attended.read.is_lost ≡ false → MaySpeak talk.desk attended.read.number → IsAsked at attended.read new talk after
-
--- whether an answer refuses a login
-abbrev pub refuses_login : List ℕ → Bool
-refuses_login text = starts_with (λ a b. a == b) text (codes "no 32 ")
+  pub asks : attended.read.is_lost ≡ false → MaySpeak talk.desk attended.read.number
+      → IsAsked at attended.read new talk after
+  pub pays : acts_at talk.desk old.number ≡ false → IsPaid remaining at old attended.read
+  pub owes : new.paid_until ≡ owed_after attended.read.number new.number attended.read.paid_until
 
 -- Each takes 12 seconds of a connection's time for that, and where more than 48 are taken at its moment it is one too
 -- many: five at once, and five a minute.
@@ -101,23 +125,66 @@ InTurn {A = A} {B = B} does (one ∷ ones) after old new =
     (next : A) × (rest : List A) × (between : B) × (after ≡ next ∷ rest)
     × does one next old between × InTurn does ones rest between new
 
--- whether it acts for a player
-abbrev pub acts_at : Desk → Option ℕ → Bool
-acts_at desk None = false
-acts_at desk (Some c) = acts desk c
-
 -- whether the time of one that acts for a player is not taken too far ahead, 10 seconds, by what it was told
 abbrev pub has_time : ℕ → ℕ → Bool
 has_time at until = nat_le (until - at) 10000
 
 -- Who acts for a player and has time is served, and nothing is done to anybody else.
-abbrev pub IsServedIf : {S : Type 0} → Bool → (S → Option (List ℕ)) → Site → ℕ → Guest S → Guest S → Talk → Talk → Type 0
+abbrev pub IsServedIf : {S : Type 0} → Bool → (S → Option (List ℕ)) → Site → ℕ → Guest S → Guest S → Talk → Talk
+    → Type 0
 IsServedIf true remaining site at old new talk after = IsServed remaining site at old new talk after
 IsServedIf false remaining site at old new talk after = (new ≡ old) × (after ≡ talk)
 
 abbrev pub IsPlayersTurn : {S : Type 0} → (S → Option (List ℕ)) → Site → ℕ → Guest S → Guest S → Talk → Talk → Type 0
 IsPlayersTurn remaining site at old new talk after =
     IsServedIf (acts_at talk.desk old.number && has_time at old.paid_until) remaining site at old new talk after
+
+-- The same of one that acts for nobody, one second, by what came of it and by what it was told.
+abbrev pub is_in_time : ℕ → ℕ → Bool
+is_in_time at until = nat_le (until - at) 1000
+
+-- Something may have come of it that was not heard, or not read.
+abbrev pub MayHave : {S : Type 0} → Guest S → Type 0
+MayHave guest = (guest.has_more ≡ true) ⊎ ((guest.can_read ≡ true) × WantsBytes guest.browser.stage)
+
+-- It has no socket yet, or one, and nothing of its time was taken since.
+abbrev pub is_fresh : {S : Type 0} → Guest S → Bool
+is_fresh guest = not (is_some guest.number) || guest.paid_until == 0
+
+-- One that acts for nobody is due: something may have come of it for which its time is not taken too far ahead.
+pub record IsDue {S : Type 0} (among_fresh : Bool) (at : ℕ) (guest : Guest S) : Type 0 where
+  pub stays : guest.is_lost ≡ false
+  pub in_time : is_in_time at guest.paid_until ≡ true
+  pub fresh : is_fresh guest ≡ among_fresh
+  pub may_have : MayHave guest
+
+-- So far ahead the time of a connection may be taken when its next message is taken: of one that acts for nobody, and
+-- where it is taken further, of one that acts for a player.
+abbrev pub ahead_at : ℕ → ℕ → ℕ
+ahead_at at until = if has_time at until then 1000 else 10000
+
+abbrev pub may_have : {S : Type 0} → Guest S → Bool
+may_have guest = guest.has_more || guest.can_read
+
+-- the moment from which on what comes next of it is taken, where that is behind this one, and something may have come
+abbrev pub due_at : {S : Type 0} → ℕ → Guest S → Option ℕ
+due_at at guest =
+    let moment = guest.paid_until - ahead_at at guest.paid_until in
+    if may_have guest && nat_lt at moment then Some moment else None
+
+abbrev pub earlier : Option ℕ → Option ℕ → Option ℕ
+earlier None b = b
+earlier (Some a) None = Some a
+earlier (Some a) (Some b) = Some (min a b)
+
+-- the earliest of these moments, if there is any
+abbrev pub first_due : {S : Type 0} → ℕ → List (Guest S) → Option ℕ
+first_due at [] = None
+first_due at (guest ∷ guests) = earlier (due_at at guest) (first_due at guests)
+
+-- It has no socket yet, something may have come of it, and nothing was ever read.
+abbrev pub is_unheard : {S : Type 0} → Guest S → Bool
+is_unheard guest = guest.can_read && not (is_some guest.number) && guest.paid_until == 0 && not guest.is_lost
 
 -- Who else is attended: who has no socket yet; and who has one and acts for nobody.
 abbrev pub is_other : Others → Desk → Option ℕ → Bool
@@ -147,26 +214,34 @@ pub record IsPassedOver {S : Type 0} (old new : Guest S) (room after : Room) : T
   pub talk : after.talk ≡ room.talk
   pub left : after.left ≤ room.left
 
-pub record IsCalled {S : Type 0} (others : Others) (remaining : S → Option (List ℕ)) (site : Site) (at : ℕ) (old new : Guest S)
+pub record IsCalled {S : Type 0} (others : Others) (among_fresh : Bool) (remaining : S → Option (List ℕ)) (site : Site) (at : ℕ)
+    (old new : Guest S)
     (room after : Room) : Type 0 where
   pub other : is_other others room.talk.desk old.number ≡ true
   pub may : may_call others room.talk.desk ≡ true
+  pub due : IsDue among_fresh at old
   pub served : IsServed remaining site at old new room.talk after.talk
   pub takes : after.left < room.left
 
-abbrev pub IsOthersTurn : {S : Type 0} → Others → (S → Option (List ℕ)) → Site → ℕ → Guest S → Guest S → Room → Room → Type 0
-IsOthersTurn others remaining site at old new room after =
-    IsPassedOver old new room after ⊎ IsCalled others remaining site at old new room after
+abbrev pub IsOthersTurn : {S : Type 0} → Others → Bool → (S → Option (List ℕ)) → Site → ℕ → Guest S → Guest S → Room → Room
+    → Type 0
+IsOthersTurn others among_fresh remaining site at old new room after =
+    IsPassedOver old new room after ⊎ IsCalled others among_fresh remaining site at old new room after
 
 -- So many of them at most are attended in a turn.
 abbrev pub others_most : ℕ
 others_most = 16
 
+-- Of so many nothing was ever read that a turn does not attend them all: who was read once keeps nobody out.
+abbrev pub is_crowded : {S : Type 0} → List (Guest S) → Bool
+is_crowded guests = nat_lt others_most (count_by is_unheard guests)
+
 abbrev pub full_room : Talk → Room
 full_room talk = record { talk = talk; left = others_most }
 
 -- In a turn players are served first, each of them; then some of those who have no socket yet; and then twice some of
--- those who act for nobody. That the first of these two passes is of who was told no answer yet is not said.
+-- those who act for nobody: of whose time nothing was taken since their sockets opened, as who is about to show a token,
+-- and of the others.
 pub record AreAttended {S : Type 0} (remaining : S → Option (List ℕ)) (site : Site) (at : ℕ) (old new : List (Guest S))
     (talk after : Talk) : Type 0 where
   pub first : List (Guest S)
@@ -174,20 +249,15 @@ pub record AreAttended {S : Type 0} (remaining : S → Option (List ℕ)) (site 
   pub players : InTurn (IsPlayersTurn remaining site at) old first talk said
   pub second : List (Guest S)
   pub came : Room
-  pub newcomers : InTurn (IsOthersTurn Newcomers remaining site at) first second (full_room said) came
+  pub newcomers : InTurn (IsOthersTurn Newcomers true remaining site at) first second (full_room said) came
   pub third : List (Guest S)
   pub asked : Room
-  pub fresh : InTurn (IsOthersTurn Strangers remaining site at) second third (full_room came.talk) asked
+  pub fresh : InTurn (IsOthersTurn Strangers true remaining site at) second third (full_room came.talk) asked
   pub last : Room
-  pub strangers : InTurn (IsOthersTurn Strangers remaining site at) third new (full_room asked.talk) last
+  pub strangers : InTurn (IsOthersTurn Strangers false remaining site at) third new (full_room asked.talk) last
   pub after_is : after ≡ last.talk
 
 -- ---- what goes
-
--- whether a message is for a connection
-abbrev pub is_for : Option ℕ → List ℕ → Bool
-is_for None to = false
-is_for (Some c) to = at_table to c
 
 -- The text is said to a browser, as one frame; or it is not, for a reason.
 abbrev pub IsSaid : List ℕ → Browser → Browser → Type 0
@@ -227,7 +297,8 @@ pub record IsWritten {S : Type 0} (contents : S → Option (List ℕ)) (site : S
 pub record IsLookedAfter {S : Type 0} (old new : Guest S) : Type 0 where
   pub number : new.number ≡ old.number
   pub stream : new.stream ≡ old.stream
-  pub said : (new.browser ≡ old.browser) ⊎ ((answer : Result (Unit {0}) Unsaid) × SaysTo (Ping []) old.browser.stage new.browser.stage answer)
+  pub said : (new.browser ≡ old.browser) ⊎ ((answer : Result (Unit {0}) Unsaid)
+      × SaysTo (Ping []) old.browser.stage new.browser.stage answer)
 
 -- ---- who is let go
 
@@ -239,7 +310,8 @@ IsClosedIf true (Some c) old new = Moves old (Closed c) new
 
 abbrev pub AreClosed : {S : Type 0} → List (Guest S) → Talk → Talk → Type 0
 AreClosed [] old new = new ≡ old
-AreClosed (guest ∷ guests) old new = (between : Talk) × IsClosedIf guest.is_lost guest.number old between × AreClosed guests between new
+AreClosed (guest ∷ guests) old new =
+    (between : Talk) × IsClosedIf guest.is_lost guest.number old between × AreClosed guests between new
 
 -- Those who are lost are let go, and the others stay; the desk is told who is let go, and nothing else.
 pub record AreParted {S : Type 0} (guests stay : List (Guest S)) (old new : Talk) : Type 0 where

@@ -1,12 +1,6 @@
-pub mod Pieces
 pub mod Guests
-pub mod Held
-pub mod Making
-pub mod Talking
-pub mod Lines
 pub mod Places
 pub mod Origins
 pub mod Roles
 pub mod Seating
 pub mod Counting
-pub mod Keeping

@@ -1,12 +1,14 @@
 -- Who has a place, and who makes room for whom: connections in the order in which they came.
-use Rattle.std.specs.Prelude.{ℕ, ◌≡◌, ◌≤◌, ◌<◌, ◌-◌, ◌⊎◌, ◌==◌, ◌&&◌, ◌||◌, Bool, true, false, List, [], ◌∷◌, Option, None, Some, length, count_by, nat_le, nat_lt, max, min, if◌then◌else◌}
+use Rattle.std.specs.Prelude.{ℕ, ◌≡◌, ◌≤◌, ◌<◌, ◌-◌, ◌⊎◌, ◌==◌, ◌&&◌, ◌||◌, Bool, true, false, List, [], ◌∷◌, Option}
+use Rattle.std.specs.Prelude.{None, Some, length, count_by, nat_le, nat_lt, max, min, if◌then◌else◌}
 use Rattle.std.specs.List.{AllZip}
 use Rattle.std.specs.Str.{bytes_eq}
 use Rattle.lobby_guests.specs.declared.places.Place.{Place}
 use Rattle.lobby_guests.specs.declared.places.Role.{Role}
 use Rattle.lobby_guests.specs.declared.places.Role.TheVariants as roles
 use Rattle.lobby_guests.specs.declared.places.Class.{Class}
-use Rattle.lobby_guests.specs.declared.places.Class.TheVariants.{Gone, Players, Nameless, Watchers, Newcomers, Aged, Own}
+use Rattle.lobby_guests.specs.declared.places.Class.TheVariants.{Gone, Players, Nameless, Watchers, Newcomers, Aged}
+use Rattle.lobby_guests.specs.declared.places.Class.TheVariants.{Own}
 
 -- ---- which connections are counted
 
@@ -101,7 +103,8 @@ trim address class most ps = leave (counted address class) (count_of address Nam
 -- Nameless connections make room until so many are left: first newcomers who came 5 seconds ago or before, then
 -- watchers, then the other newcomers; of each who came first.
 abbrev pub make_room : Option ℕ → ℕ → ℕ → List Place → List Place
-make_room address most at ps = trim address Newcomers most (trim address Watchers most (trim address (Aged at 5000) most ps))
+make_room address most at ps =
+    trim address Newcomers most (trim address Watchers most (trim address (Aged at 5000) most ps))
 
 -- An address has at most 32 nameless ones.
 abbrev pub room_at : ℕ → Option ℕ → List Place → List Place

@@ -58,7 +58,9 @@ pub record AreSeated {S : Type 0} (at from : ℕ) (desk : Desk) (old new : List 
   pub judged_so : map (place_of desk) new ≡ judged at from owned
   pub fair : IsFair at from owned (map (place_of desk) new)
 
--- The same where it is due, and else nothing changes.
-pub record AreSeatedIf {S : Type 0} (is_due : Bool) (at from : ℕ) (desk : Desk) (old new : List (Guest S)) : Type 0 where
+-- The same where it is due, and else all stay as they were.
+pub record AreSeatedIf {S : Type 0} (is_due : Bool) (at from : ℕ) (desk : Desk)
+    (old new : List (Guest S)) : Type 0 where
   pub before : AllZip IsAsBefore old new
   pub seats : is_due ≡ true → AreSeated at from desk old new
+  pub same : is_due ≡ false → new ≡ old

@@ -1,17 +1,22 @@
 //! A browser's connection: its socket, what it says, and what it is told.
-ghost use Rattle.std.specs.Prelude.{ℕ, ◌≡◌, ◌↔◌, None, Some, true, false, IsTrue, OnOk};
+ghost use Rattle.std.specs.Prelude.{ℕ, ◌≡◌, ◌<◌, ◌≤◌, ◌+◌, ◌/◌, ◌↔◌, None, Some, true, false, IsTrue, OnOk};
 ghost use Rattle.lobby_desk.specs.Who.{IsReady, at_table};
-ghost use Rattle.lobby_guests.specs.Guests.{has_time, refuses_login, is_beyond, IsNewGuest, IsAsBefore, IsRead, IsHeardAs, IsHeard, IsAsked, MaySpeak, IsSaid, IsTold, AreTold, IsWritten, IsLookedAfter};
-ghost use Rattle.lobby_guests.specs.Counting.{counted_up, one_if, refuses, refusals_of};
+ghost use Rattle.lobby_guests.specs.Guests.{has_time, is_beyond, IsNewGuest, IsAsBefore, IsRead};
+ghost use Rattle.lobby_guests.specs.Guests.{IsHeardAs, IsHeard, IsAsked, MaySpeak, IsSaid, IsTold, AreTold, IsWritten};
+ghost use Rattle.lobby_guests.specs.Guests.{IsLookedAfter, is_in_time, taken_until, MayHave, may_have, is_fresh, IsDue};
+ghost use Rattle.lobby_guests.specs.Guests.{due_at, ahead_at, is_unheard, IsPaid, owed_after};
+ghost use Rattle.lobby_web.specs.Browsing.{WantsBytes};
+ghost use Rattle.lobby_talk.specs.Counting.{refuses_login, counted_up, one_if, refuses, refusals_of};
 ghost use Rattle.lobby_guests.specs.Seating.{role_of, player_of, place_of, Yields};
+ghost use Rattle.lobby_guests.specs.Roles.{role_at};
 
-use crate::counts::{Asked, Coming};
 use crate::origin::Origin;
-use crate::pieces::{Gone, PIECE_ROOM, write_piece};
 use crate::places::{Place, Role, is_gone};
-use crate::said::say_to_desk;
-use crate::{Counts, KeepsLinks, Talk};
 use lobby_desk::Message;
+use lobby_talk::{
+    Asked, Coming, Counts, Gone, KeepsLinks, PIECE_ROOM, Talk, is_refused_login, say_to_desk,
+    write_piece,
+};
 use lobby_web::{Browser, Heard, Site, Unsaid};
 use player_name::Name;
 use std::alloc::{AllocError, Global};
@@ -33,6 +38,13 @@ const AHEAD: u64 = 1_000;
 
 /// The same for one that acts for a player.
 const AHEAD_OF_PLAYERS: u64 = 10_000;
+
+/// So many bytes that come of one which acts for nobody take a millisecond of its time, whatever they are, beside one
+/// for each time that it is read: a page's load has some 30 requests of 700 bytes, and takes half a second.
+const COME_A_MILLISECOND: u64 = 40;
+
+/// So many bytes of one that acts for nobody are read in a turn at most: more than the head of a browser's request has.
+const ROOM_OF_OTHERS: usize = 1_024;
 
 /// A login that is refused takes so many milliseconds of a connection's time for that, and where so many are taken
 /// already it is one too many: five at once, and five a minute.
@@ -64,7 +76,8 @@ pub struct Guest<S> {
     is_asked: bool,
     /// When its messages were taken that are not answered.
     asked: Asked,
-    /// Until when its time is taken by the answers that it was told.
+    /// Until when its time is taken by the answers that it was told, and while it acts for nobody by what came of it; 0
+    /// where nothing was read yet, and once its socket opens.
     paid_until: u64,
     /// The same by logins that were refused.
     logins_until: u64,
@@ -77,11 +90,26 @@ fn is_among(connections: &[u64], number: u64) -> bool
     connections.iter().any(|one| *one == number)
 }
 
-// Whether an answer refuses a login.
-pub(crate) fn is_refused_login(text: &str) -> bool
-    ensures { result ≡ refuses_login text.now }
+// So many bytes of one are read in a turn at most that acts for a player, or for nobody.
+fn room_of(acts: bool) -> usize
+    ensures some { 0 < result }
+    ensures within { result ≤ PIECE_ROOM }
+    ensures few { acts ≡ false → result ≡ ROOM_OF_OTHERS }
 {
-    text.starts_with("no 32 ")
+    if acts { PIECE_ROOM } else { ROOM_OF_OTHERS }
+}
+
+// What a connection of this number is to the lobby.
+fn role_at(talk: &Talk, number: u64) -> Role
+    ensures { result ≡ role_at talk.now.desk number }
+{
+    if talk.acts(Some(number)) {
+        Role::Player
+    } else if talk.is_watcher(number) {
+        Role::Watcher
+    } else {
+        Role::Newcomer
+    }
 }
 
 impl<S> Guest<S> {
@@ -134,11 +162,43 @@ impl<S> Guest<S> {
         self.key
     }
 
-    /// Whether it was told no answer yet, or some, and something may have come of it for which its time is not taken.
-    pub fn is_due(&self, is_fresh: bool, at: u64) -> bool {
-        let wants = self.has_more || self.can_read && self.browser.wants_read();
-        let may = !self.is_lost && self.paid_until <= at.saturating_add(AHEAD);
-        wants && may && is_fresh == (self.paid_until == 0)
+    // Whether something may have come of it that was not heard, or not read.
+    fn has_something(&self) -> bool
+        ensures { IsTrue result ↔ MayHave self.now }
+    {
+        self.has_more || self.can_read && self.browser.wants_read()
+    }
+
+    // Whether the time of one that acts for nobody is not taken too far ahead.
+    fn is_in_time(&self, at: u64) -> bool
+        ensures { result ≡ is_in_time at self.now.paid_until }
+    {
+        self.paid_until.saturating_sub(at) <= AHEAD
+    }
+
+    // Whether it has no socket yet, or one, and nothing of its time was taken since.
+    fn is_fresh(&self) -> bool
+        ensures { result ≡ is_fresh self.now }
+    {
+        self.number.is_none() || self.paid_until == 0
+    }
+
+    /// Whether something may have come of one that acts for nobody for which its time is not taken too far ahead: of one
+    /// that has no socket yet, or has it, and nothing of its time was taken since; or of another.
+    pub fn is_due(&self, among_fresh: bool, at: u64) -> bool
+        ensures { IsTrue result ↔ IsDue among_fresh at self.now }
+    {
+        !self.is_lost
+            && self.is_in_time(at)
+            && self.is_fresh() == among_fresh
+            && self.has_something()
+    }
+
+    /// Whether it has no socket yet, something may have come of it, and nothing was ever read.
+    pub fn is_unheard(&self) -> bool
+        ensures { result ≡ is_unheard self.now }
+    {
+        self.can_read && self.number.is_none() && self.paid_until == 0 && !self.is_lost
     }
 
     /// Whether the time of one that acts for a player is not taken too far ahead by what it was told.
@@ -148,15 +208,31 @@ impl<S> Guest<S> {
         self.paid_until.saturating_sub(at) <= AHEAD_OF_PLAYERS
     }
 
-    /// The moment from which on its next message is taken, where it may have one and its time is taken so far ahead.
-    pub fn due_at(&self, at: u64) -> Option<u64> {
-        let ahead = if self.has_time(at) {
+    // So far ahead its time may be taken when its next message is taken.
+    fn ahead_at(&self, at: u64) -> u64
+        ensures { result ≡ ahead_at at self.now.paid_until }
+    {
+        if self.has_time(at) {
             AHEAD
         } else {
             AHEAD_OF_PLAYERS
-        };
-        let moment = self.paid_until.saturating_sub(ahead);
-        if self.has_more && moment > at {
+        }
+    }
+
+    // Whether something may have come of it.
+    fn may_have(&self) -> bool
+        ensures { result ≡ may_have self.now }
+    {
+        self.has_more || self.can_read
+    }
+
+    /// The moment from which on what comes next of it is taken, where that is behind this one, and something may have
+    /// come.
+    pub fn due_at(&self, at: u64) -> Option<u64>
+        ensures { result ≡ due_at at self.now }
+    {
+        let moment = self.paid_until.saturating_sub(self.ahead_at(at));
+        if self.may_have() && at < moment {
             Some(moment)
         } else {
             None
@@ -202,7 +278,7 @@ impl<S> Guest<S> {
             return Role::Gone;
         }
         match self.number {
-            Some(number) => talk.role(number),
+            Some(number) => role_at(talk, number),
             None => Role::Newcomer,
         }
     }
@@ -250,6 +326,7 @@ impl<S> Guest<S> {
     }
 
     // What its socket gave is said to the desk.
+    #[tactic(auto, using(crate::proofs::Owing::owed_same))]
     fn speak<K: KeepsLinks>(
         &mut self,
         heard: &Heard,
@@ -262,11 +339,13 @@ impl<S> Guest<S> {
         ensures told { OnOk result (IsHeardAs (Some heard.now) at self.old.number self.new.number talk.old talk.new) }
         ensures browser { OnOk result (self.new.browser ≡ self.old.browser) }
         ensures stream { OnOk result (self.new.stream ≡ self.old.stream) }
+        ensures owes { OnOk result (self.new.paid_until ≡ owed_after self.old.number self.new.number self.old.paid_until) }
     {
         match heard {
             Heard::Opened => match self.number {
                 None => {
                     self.number = Some(talk.opened()?);
+                    self.paid_until = 0;
                     Ok(true)
                 }
                 // (it is told but once)
@@ -292,7 +371,8 @@ impl<S> Guest<S> {
     }
 
     /// What came next of it is said to the desk: that its socket is open, or a message, once the one before it is
-    /// answered. It tells whether there was any.
+    /// answered. It tells whether there was any, or more may be read that could not be before.
+    #[tactic(auto, using(crate::proofs::Owing::owed_same))]
     pub(crate) fn hear<K: KeepsLinks>(
         &mut self,
         talk: &mut Talk,
@@ -303,14 +383,17 @@ impl<S> Guest<S> {
         ensures heard { OnOk result (IsHeard at self.old self.new talk.old talk.new) }
         ensures asks { OnOk result (self.old.is_lost ≡ false → MaySpeak talk.old.desk self.old.number →
             IsAsked at self.old self.new talk.old talk.new) }
+        ensures owes { OnOk result (self.new.paid_until ≡ owed_after self.old.number self.new.number self.old.paid_until) }
     {
         if self.is_lost || !self.may_speak(talk) {
             return Ok(false);
         }
         match self.browser.next() {
             None => {
+                // (what waits in its socket may be read now)
+                let may_more = self.has_more && self.can_read;
                 self.has_more = false;
-                Ok(false)
+                Ok(may_more)
             }
             Some(heard) => self.speak(&heard, talk, at, links, coming),
         }
@@ -329,18 +412,27 @@ impl<S> Guest<S> {
         }
     }
 
+    // So many milliseconds more of its time are taken.
+    fn take_time(&mut self, at: u64, millis: u64)
+        ensures before { IsAsBefore self.old self.new }
+        ensures time { self.new.paid_until ≡ taken_until at self.old.paid_until millis }
+    {
+        self.paid_until = self.paid_until.max(at).saturating_add(millis);
+    }
+
     // Its time is taken by an answer of so many bytes.
     fn pay(&mut self, at: u64, bytes: usize)
-        ensures { IsAsBefore self.old self.new }
+        ensures before { IsAsBefore self.old self.new }
+        ensures paid { self.new.paid_until ≡ taken_until at self.old.paid_until (bytes / 200) }
     {
-        let from = self.paid_until.max(at);
-        self.paid_until = from.saturating_add(bytes as u64 / BYTES_A_MILLISECOND);
+        self.take_time(at, bytes as u64 / BYTES_A_MILLISECOND);
     }
 
     // A login of it was refused, if this answer says so. It is to be closed where there were too many.
     fn note_login(&mut self, at: u64, text: &str)
         ensures before { IsAsBefore self.old self.new }
-        ensures closes { refuses_login text.now ≡ true → is_beyond at self.old.logins_until ≡ true → self.new.is_lost ≡ true }
+        ensures closes { refuses_login text.now ≡ true → is_beyond at self.old.logins_until ≡ true
+            → self.new.is_lost ≡ true }
     {
         if is_refused_login(text) {
             let ahead = self.logins_until.saturating_sub(at);
@@ -411,19 +503,45 @@ impl<S> Guest<S> {
 }
 
 impl<S: Read + Write> Guest<S> {
-    /// Reads a piece, if bytes are wanted. It tells whether anything came.
+    // Whether bytes of it are read. Of one that acts for nobody none are while something of it may wait to be heard: so
+    // in no turn more of it is heard than came in that turn, and what began before.
+    fn is_to_read(&self, acts: bool) -> bool
+        ensures wanted { result ≡ true → WantsBytes self.now.browser.stage }
+        ensures heard { result ≡ true → acts ≡ false → self.now.has_more ≡ false }
+    {
+        let may = self.can_read && !self.is_lost && (acts || !self.has_more);
+        may && self.browser.wants_read()
+    }
+
+    // Bytes of it came, for which its time is taken where it acts for nobody.
+    fn note_bytes(&mut self, acts: bool, at: u64, count: usize)
+        ensures before { IsAsBefore self.old self.new }
+        ensures paid { acts ≡ false → self.new.paid_until ≡ taken_until at self.old.paid_until (1 + count / 40) }
+    {
+        self.heard_at = at;
+        self.is_asked = false;
+        self.has_more = true;
+        if !acts {
+            self.take_time(at, 1 + count as u64 / COME_A_MILLISECOND);
+        }
+    }
+
+    /// Reads a piece, if bytes are wanted, of one that acts for a player or for nobody. It tells whether anything came.
     pub(crate) fn read_in(
         &mut self,
+        acts: bool,
         site: &Site,
         at: u64,
         piece: &mut [u8; PIECE_ROOM],
         coming: &mut Coming,
     ) -> bool
-        ensures { IsRead S.remaining site.now self.old self.new }
+        ensures read { IsRead S.remaining site.now self.old self.new }
+        ensures paid { acts ≡ false → IsPaid S.remaining at self.old self.new }
     {
-        if !self.can_read || self.is_lost || !self.browser.wants_read() {
+        if !self.is_to_read(acts) {
             return false;
         }
+        let piece = &mut piece[..room_of(acts)];
         match read_piece(&mut self.stream, piece) {
             Came::Nothing => {
                 self.can_read = false;
@@ -434,9 +552,7 @@ impl<S: Read + Write> Guest<S> {
                 coming.take(&piece[..count]);
                 self.browser.take(site, &piece[..count]);
                 self.origin = self.origin.told(self.browser.forwarded());
-                self.heard_at = at;
-                self.is_asked = false;
-                self.has_more = true;
+                self.note_bytes(acts, at, count);
                 true
             }
             Came::End => {

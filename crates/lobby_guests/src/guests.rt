@@ -1,22 +1,22 @@
 //! All browsers that are connected, by the names of their sockets, which grow.
-#![tactic(auto, using(crate::proofs::Each::zipped_none, crate::proofs::Each::zipped_vec))]
+#![tactic(auto, using(lobby_talk::proofs::Each::zipped_none, lobby_talk::proofs::Each::zipped_vec))]
 
-ghost use Rattle.std.specs.Prelude.{ℕ, Bool, true, false, ◌≡◌, ◌++◌, ◌∷◌, [], List, Option, OnOk};
+ghost use Rattle.std.specs.Prelude.{ℕ, Bool, true, false, ◌≡◌, ◌++◌, ◌∷◌, [], List, Option, OnOk, count_by};
 ghost use Rattle.std.specs.List.{AllZip};
-ghost use Rattle.lobby_guests.specs.Counting.{counted_up, refusals_in, CountsLogins};
+ghost use Rattle.lobby_guests.specs.Counting.{refusals_in, CountsLogins};
+ghost use Rattle.lobby_talk.specs.Counting.{counted_up};
 ghost use Rattle.lobby_guests.specs.Guests as guests;
-ghost use Rattle.lobby_guests.specs.Guests.{IsAsBefore, IsServed, IsPlayersTurn, IsOthersTurn, InTurn, Room, full_room, AreAttended, AreTold, AreDelivered, IsWritten, IsLookedAfter, IsClosedIf, AreClosed, AreParted};
-ghost use Rattle.lobby_guests.specs.Keeping.{AreKept};
+ghost use Rattle.lobby_guests.specs.Guests.{IsAsBefore, IsServed, IsPlayersTurn, IsOthersTurn, InTurn, Room, full_room};
+ghost use Rattle.lobby_guests.specs.Guests.{AreAttended, AreTold, AreDelivered, IsWritten, IsLookedAfter, IsClosedIf};
+ghost use Rattle.lobby_guests.specs.Guests.{AreClosed, AreParted};
+ghost use Rattle.lobby_talk.specs.Keeping.{AreKept};
 
-use crate::counts::Coming;
 use crate::guest::Guest;
-use crate::made::finish_all;
-use crate::pieces::PIECE_ROOM;
 use crate::rounds::{ATTENDED_MOST, Others, Round, Rounds};
-use crate::{Counts, KeepsLinks, Talk};
 use lobby_desk::Message;
+use lobby_talk::{Coming, Counts, KeepsLinks, PIECE_ROOM, Talk};
 use lobby_web::Site;
-use std::alloc::{AllocError, Global};
+use std::alloc::AllocError;
 use std::io::{Read, Write};
 
 // Reads for a browser, and says to the desk what came next of it. It tells whether there was anything.
@@ -31,7 +31,8 @@ fn attend<S: Read + Write, K: KeepsLinks>(
 ) -> Result<bool, AllocError>
     ensures { OnOk result (IsServed S.remaining site.now at guest.old guest.new talk.old talk.new) }
 {
-    let has_read = guest.read_in(site, at, piece, coming);
+    let acts = talk.acts(guest.number());
+    let has_read = guest.read_in(acts, site, at, piece, coming);
     let has_heard = guest.hear(talk, at, links, coming)?;
     Ok(has_read | has_heard)
 }
@@ -65,7 +66,8 @@ fn attend_players<S: Read + Write, K: KeepsLinks>(
     piece: &mut [u8; PIECE_ROOM],
     coming: &mut Coming,
 ) -> Result<bool, AllocError>
-    ensures { OnOk result (InTurn (IsPlayersTurn S.remaining site.now at) guests.old.items guests.new.items talk.old talk.new) }
+    ensures { OnOk result (InTurn (IsPlayersTurn S.remaining site.now at) guests.old.items guests.new.items talk.old
+        talk.new) }
 {
     let mut any = false;
     for guest in guests.iter_mut() {
@@ -108,7 +110,7 @@ fn attend_other<S: Read + Write, K: KeepsLinks>(
     piece: &mut [u8; PIECE_ROOM],
     coming: &mut Coming,
 ) -> Result<bool, AllocError>
-    ensures { OnOk result (IsOthersTurn others S.remaining site.now at guest.old guest.new
+    ensures { OnOk result (IsOthersTurn others is_fresh S.remaining site.now at guest.old guest.new
         (record { talk = talk.old; left = round.old.left }) (record { talk = talk.new; left = round.new.left })) }
 {
     if !round.is_at(guest.key())
@@ -139,7 +141,8 @@ fn attend_others<S: Read + Write, K: KeepsLinks>(
     coming: &mut Coming,
 ) -> Result<bool, AllocError>
     ensures { OnOk result ((room : Room) × (room.talk ≡ talk.new)
-        × InTurn (IsOthersTurn others S.remaining site.now at) guests.old.items guests.new.items (full_room talk.old) room) }
+        × InTurn (IsOthersTurn others is_fresh S.remaining site.now at) guests.old.items guests.new.items
+        (full_room talk.old) room) }
 {
     let mut any = false;
     round.begin_attending();
@@ -228,7 +231,6 @@ fn tell_all<S>(guests: &mut Vec<Guest<S>>, made: &[Message], counts: &mut Counts
 
 /// Those who are told something are told it.
 pub fn deliver<S>(
-    alloc: Global,
     guests: &mut Vec<Guest<S>>,
     talk: &mut Talk,
     counts: &mut Counts,
@@ -242,8 +244,7 @@ pub fn deliver<S>(
         counts.new.logins_refused) }
     ensures kept { OnOk result (AreKept talk.new.kept.answers.items) }
 {
-    finish_all(alloc, &mut talk.told, &mut talk.kept)?;
-    talk.rest_strangers(counts.at);
+    talk.make_told(counts.at)?;
     tell_all(guests, talk.told.as_slice(), counts);
     talk.told.clear();
     Ok(())
@@ -304,22 +305,43 @@ pub fn write_all<S: Read + Write>(
     players | others
 }
 
-/// The earliest moment behind this one from which on somebody's next message is taken, where there is any.
-pub fn first_due<S>(guests: &[Guest<S>], at: u64) -> Option<u64> {
+/// The earlier of two moments, where there are any.
+pub fn earlier(a: Option<u64>, b: Option<u64>) -> Option<u64>
+    ensures { result ≡ guests.earlier a b }
+{
+    match (a, b) {
+        (Some(a), Some(b)) => Some(a.min(b)),
+        (Some(a), None) => Some(a),
+        (None, b) => b,
+    }
+}
+
+/// The earliest moment behind this one from which on what comes next of somebody is taken, where there is any.
+pub fn first_due<S>(connections: &[Guest<S>], at: u64) -> Option<u64>
+    ensures { result ≡ guests.first_due at connections.now }
+{
     let mut first: Option<u64> = None;
-    for guest in guests {
-        first = match (first, guest.due_at(at)) {
-            (Some(one), Some(other)) => Some(one.min(other)),
-            (None, other) => other,
-            (one, None) => one,
-        };
+    for guest in connections {
+        first = earlier(first, guest.due_at(at));
     }
     first
 }
 
-/// Whether so many wait who were told no answer yet that a turn does not attend them all.
-pub fn is_crowded<S>(guests: &[Guest<S>], at: u64) -> bool {
-    guests.iter().filter(|guest| guest.is_due(true, at)).count() > ATTENDED_MOST
+// Of how many that have no socket yet nothing was ever read, and may have come.
+fn count_unheard<S>(connections: &[Guest<S>]) -> usize
+    ensures { result ≡ count_by guests.is_unheard connections.now }
+{
+    connections
+        .iter()
+        .filter(|guest| guest.is_unheard())
+        .count()
+}
+
+/// Whether so many wait to be heard for the first time that a turn does not attend them all.
+pub fn is_crowded<S>(connections: &[Guest<S>]) -> bool
+    ensures { result ≡ guests.is_crowded connections.now }
+{
+    count_unheard(connections) > ATTENDED_MOST
 }
 
 /// Looks after each, where it is time.

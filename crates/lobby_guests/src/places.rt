@@ -1,6 +1,8 @@
 //! Who has a place, and who makes room for whom.
 ghost use Rattle.std.specs.Prelude.{ℕ, ◌≡◌, ◌-◌, ◌&&◌, None, count_by, IfOk, OnOk};
-ghost use Rattle.lobby_guests.specs.Places.{is_gone, is_of, is_at, is_in, counted, count_of, own_room, each_own, leave, beyond, trim, make_room, room_at, room_for, each_room, in_time, most_nameless, judged, IsOwned, IsFair};
+ghost use Rattle.lobby_guests.specs.Places.{is_gone, is_of, is_at, is_in, counted, count_of, own_room, each_own, leave};
+ghost use Rattle.lobby_guests.specs.Places.{beyond, trim, make_room, room_at, room_for, each_room, in_time};
+ghost use Rattle.lobby_guests.specs.Places.{most_nameless, judged, IsOwned, IsFair};
 
 use player_name::Name;
 use std::alloc::{AllocError, Global};

@@ -2,9 +2,9 @@
 ghost use Rattle.std.specs.Prelude.{◌≡◌, IfOk, OnOk, length, map};
 ghost use Rattle.lobby_guests.specs.Seating.{place_of, AreYielding, YieldAt, AreSeated, AreSeatedIf};
 
-use crate::Talk;
 use crate::guest::Guest;
 use crate::places::{Place, judge, own};
+use lobby_talk::Talk;
 use std::alloc::{AllocError, Global};
 
 // The places of connections, in their order.

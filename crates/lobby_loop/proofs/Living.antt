@@ -23,14 +23,14 @@ use Rattle.lobby_web.specs.declared.socket.Heard.{Heard as HeardOf}
 use Rattle.lobby_web.specs.declared.socket.Heard.TheVariants as heards
 use Rattle.lobby_guests.specs.declared.guest.Guest.{Guest}
 use Rattle.lobby_loop.specs.declared.hall.Hall.{Hall}
-use Rattle.lobby_guests.specs.declared.link.Link.{Link}
-use Rattle.lobby_guests.specs.declared.talk.Talk.{Talk}
-use Rattle.lobby_guests.specs.Talking.{Saying, InTime, TooFast, WithLink, saying, Moves}
+use Rattle.lobby_talk.specs.declared.link.Link.{Link}
+use Rattle.lobby_talk.specs.declared.talk.Talk.{Talk}
+use Rattle.lobby_talk.specs.Talking.{Saying, InTime, TooFast, WithLink, saying, Moves}
 use Rattle.lobby_guests.specs.declared.rounds.Others.TheVariants.{Newcomers, Strangers}
 use Rattle.lobby_guests.proofs.Attending.{players_pass, others_pass}
 use Rattle.lobby_guests.specs.Guests.{IsNewGuest, IsHeardAs, IsAsBefore, IsAttended, InTurn, full_room, IsLookedAfter, AreTold, AreDelivered, IsWritten, IsClosedIf, AreClosed}
-use Rattle.lobby_guests.specs.Lines.{bytes_of as bytes_before, AreHeard}
-use Rattle.lobby_guests.specs.Held.{HoldsNoLine, IsKept}
+use Rattle.lobby_talk.specs.Lines.{bytes_of as bytes_before, AreHeard}
+use Rattle.lobby_talk.specs.Held.{HoldsNoLine, IsKept}
 use Rattle.lobby_loop.specs.Turning.{BeginsHall, Admits, ServerComes, IsServerAsBefore, HearsServer, bytes_heard, PartsFromServer, TellsServer, HasTurned, texts_put, AreAdmitted, IsReached, IsLobbyTurn}
 use Rattle.lobby_loop.specs.Doing.{Gave, Spot, spot, DoesAt, all_tells, IsServed, AreServed, WereServed, Before}
 use Rattle.lobby_loop.specs.Living.{Happening, Came, Woke, ServerCame, Turned, IsWoken, IsLife, written_in, taken_in, put_in, lost_if, presences_in, kept, sent_in, line_more, lines_heard, presence_more, presences_told, IsHeld, IsOther, HasNone, IsOneOf, AreKnown, IsOwn, AreOwn, numbers, NoLineWaits, IsRightLife, Passing, TurnAt, Rested, IsLobbyLife, Filed, Files, before_in, Changed, Relisted, Renews, Enrolled}
@@ -1146,14 +1146,14 @@ module _ {S : Type 0} (remaining contents : S → Option (List ℕ)) (players : 
       let one = attended_pass at former base out site old.guests.items passes.first t.takes.parted passes.said own two
       (players_pass remaining site at old.guests.items passes.first t.takes.parted passes.said passes.players) in
       let next = attended_pass at former base out site passes.first passes.second passes.said passes.came.talk one.1 one.0
-      (others_pass remaining site at Newcomers passes.first passes.second (full_room passes.said) passes.came passes.newcomers) in
+      (others_pass remaining site at Newcomers true passes.first passes.second (full_room passes.said) passes.came passes.newcomers) in
       let third = attended_pass at former base out site passes.second passes.third passes.came.talk passes.asked.talk next.1 next.0
-      (others_pass remaining site at Strangers passes.second passes.third (full_room passes.came.talk) passes.asked passes.fresh) in
+      (others_pass remaining site at Strangers true passes.second passes.third (full_room passes.came.talk) passes.asked passes.fresh) in
       let said = subst (λ (u : Talk). IsTalkAt players is_paused base out
       (Two remaining contents site came players is_paused former base out [] t.takes.attended) u
       × AreOwn u.next (numbers (former ++ t.takes.attended))) (sym passes.after_is)
       (attended_pass at former base out site passes.third t.takes.attended passes.asked.talk passes.last.talk third.1 third.0
-      (others_pass remaining site at Strangers passes.third t.takes.attended (full_room passes.asked.talk) passes.last passes.strangers)) in
+      (others_pass remaining site at Strangers false passes.third t.takes.attended (full_room passes.asked.talk) passes.last passes.strangers)) in
       let attended : IsAt players is_paused base out (AreKept remaining contents site came former out t.takes.attended) t.between.talk.desk
       t.between.talk.wire.items (message_values t.between.talk.told.items) =
       at_with players is_paused base out (Two remaining contents site came players is_paused former base out [] t.takes.attended)

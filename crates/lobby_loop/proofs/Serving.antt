@@ -15,9 +15,10 @@ use Rattle.lobby_web.specs.declared.site.Site.{Site}
 use Rattle.lobby_web.specs.declared.socket.Heard.TheVariants as heards
 use Rattle.lobby_web.specs.Browsing.{pending}
 use Rattle.lobby_guests.specs.declared.guest.Guest.{Guest}
-use Rattle.lobby_guests.specs.Making.{IsMadeOf}
-use Rattle.lobby_guests.specs.Talking.{Saying, InTime, TooFast, WithLink, saying}
-use Rattle.lobby_guests.specs.Guests.{IsNewGuest, IsAsBefore, IsRead, IsSaidIf, is_for, AreTold, IsWritten, IsLookedAfter}
+use Rattle.lobby_talk.specs.Making.{IsMadeOf}
+use Rattle.lobby_talk.specs.Talking.{Saying, InTime, TooFast, WithLink, saying}
+use Rattle.lobby_talk.specs.Counting.{is_for}
+use Rattle.lobby_guests.specs.Guests.{IsNewGuest, IsAsBefore, IsRead, IsSaidIf, AreTold, IsWritten, IsLookedAfter}
 use Rattle.lobby_loop.specs.Living.{numbers}
 use Rattle.lobby_loop.specs.Doing.{Doing, Took, Tried, Gave, WasTold, Wrote, Spot, spot, DoesAt, IsAt, AreAt, IsAmong, Before, has_opened, texts_more, texts_given, texts_told, AreLate, message_of, messages_of, IsSaidAs, IsSaidBy, all_tells, told_for, is_opening, before_opening, IsToldAs, IsToldOf, IsToldBy, IsServed, WasClosed, WereServed, AreServed}
 

@@ -3,7 +3,7 @@ use Rattle.std.proofs.Common.{◌++◌, inl, inr, List, [], ◌∷◌, Option, N
 use Rattle.std.specs.List.{AllZip}
 use Rattle.lobby_guests.specs.declared.guest.Guest.{Guest}
 use Rattle.lobby_loop.specs.declared.hall.Hall.{Hall}
-use Rattle.lobby_guests.specs.declared.link.Link.{Link}
+use Rattle.lobby_talk.specs.declared.link.Link.{Link}
 use Rattle.lobby_guests.specs.Guests.{IsAsBefore}
 use Rattle.lobby_loop.specs.Turning.{IsServerAsBefore, IsHallAsBefore, Admits}
 use Rattle.lobby_loop.specs.Living.{IsWoken}

@@ -1,5 +1,6 @@
 -- What was done at a browser's connection since it came, and what the desk has of it.
-use Rattle.std.specs.Prelude.{ℕ, ◌≡◌, ◌≤◌, ◌⊎◌, ◌==◌, Bool, true, false, List, [], ◌∷◌, ◌++◌, length, take, Option, None, Some, IsUtf8, Result, if◌then◌else◌}
+use Rattle.std.specs.Prelude.{ℕ, ◌≡◌, ◌≤◌, ◌⊎◌, ◌==◌, Bool, true, false, List, [], ◌∷◌, ◌++◌, length, take, Option}
+use Rattle.std.specs.Prelude.{None, Some, IsUtf8, Result, if◌then◌else◌}
 use Rattle.std.specs.List.{AllZip}
 use Rattle.std.specs.Io.KnownBytes.{Consumes, Appends}
 use Rattle.websocket.specs.Content.{Content}
@@ -14,7 +15,7 @@ use Rattle.lobby_web.specs.declared.socket.Unsaid.{Unsaid}
 use Rattle.lobby_web.specs.Browsing.{IsNew, pending, WantsBytes, Takes, HearsNext, SaysTo, Writes}
 use Rattle.lobby_web.specs.Happening.{text_of, is_close}
 use Rattle.lobby_guests.specs.declared.guest.Guest.{Guest}
-use Rattle.lobby_guests.specs.Making.{IsFinished}
+use Rattle.lobby_talk.specs.Making.{IsFinished}
 
 -- Bytes came of its socket, none where it is told that no more come; the socket was tried for nothing; it was asked
 -- what came next, and gave this; it was to be told this, and that became of it; these bytes were written. Where bytes
@@ -38,10 +39,12 @@ spot guest = record { stage = guest.browser.stage; stream = guest.stream }
 -- front of what waits there. The lobby does not begin to close it.
 abbrev pub DoesAt : {S : Type 0} → (S → Option (List ℕ)) → (S → Option (List ℕ)) → Doing → Spot S → Spot S → Type 0
 DoesAt remaining contents (Took site bytes) old new =
-    Consumes (remaining old.stream) (remaining new.stream) bytes × WantsBytes old.stage × Takes site bytes old.stage new.stage
+    Consumes (remaining old.stream) (remaining new.stream) bytes × WantsBytes old.stage
+    × Takes site bytes old.stage new.stage
 DoesAt remaining contents Tried old new =
     (new.stage ≡ old.stage)
-    × (Consumes (remaining old.stream) (remaining new.stream) [] ⊎ Appends (contents old.stream) (contents new.stream) [])
+    × (Consumes (remaining old.stream) (remaining new.stream) []
+    ⊎ Appends (contents old.stream) (contents new.stream) [])
 DoesAt remaining contents (Gave heard) old new = (new.stream ≡ old.stream) × HearsNext old.stage new.stage heard
 DoesAt remaining contents (WasTold content answer) old new =
     (new.stream ≡ old.stream) × (is_close content ≡ false) × SaysTo content old.stage new.stage answer
@@ -50,7 +53,8 @@ DoesAt remaining contents (Wrote site bytes) old new =
     × Appends (contents old.stream) (contents new.stream) bytes × Writes site count old.stage new.stage
 
 -- all that was done, the newest first
-abbrev pub HasDone : {S : Type 0} → (S → Option (List ℕ)) → (S → Option (List ℕ)) → Spot S → List Doing → Spot S → Type 0
+abbrev pub HasDone : {S : Type 0} → (S → Option (List ℕ)) → (S → Option (List ℕ)) → Spot S → List Doing → Spot S
+    → Type 0
 HasDone remaining contents first [] now = now ≡ first
 HasDone {S} remaining contents first (d ∷ past) now =
     (before : Spot S) × HasDone remaining contents first past before × DoesAt remaining contents d before now
@@ -69,7 +73,8 @@ AllAt site (d ∷ past) = IsAt site d × AllAt site past
 abbrev pub AreAt : Site → List Site → List Doing → Type 0
 AreAt site [] past = AllAt site past
 AreAt site (before ∷ older) past =
-    (later : List Doing) × (earlier : List Doing) × (past ≡ later ++ earlier) × AllAt site later × AreAt before older earlier
+    (later : List Doing) × (earlier : List Doing) × (past ≡ later ++ earlier) × AllAt site later
+    × AreAt before older earlier
 
 -- whether its socket was open, and the texts that came of it since, the newest first
 abbrev pub opens : Option Heard → Bool → Bool
@@ -197,7 +202,8 @@ pub record Before (S : Type 0) : Type 0 where
 
 -- A browser with this number, at this place: it came by one of these streams, with nothing done; and of all that was
 -- done since, while these sites were served, the desk has what it said, and it was told what went out for it.
-pub record IsServed {S : Type 0} (remaining contents : S → Option (List ℕ)) (site : Site) (came : Before S) (steps : List Step)
+pub record IsServed {S : Type 0} (remaining contents : S → Option (List ℕ)) (site : Site) (came : Before S)
+    (steps : List Step)
     (out : List MessageValue) (number : Option ℕ) (now : Spot S) : Type 0 where
   pub first : Spot S
   pub new : IsNew first.stage
@@ -209,7 +215,8 @@ pub record IsServed {S : Type 0} (remaining contents : S → Option (List ℕ)) 
   pub said : IsSaidBy steps number past
   pub told : IsToldBy steps out number past
 
-abbrev pub AreServed : {S : Type 0} → (S → Option (List ℕ)) → (S → Option (List ℕ)) → Site → Before S → List Step → List MessageValue
+abbrev pub AreServed : {S : Type 0} → (S → Option (List ℕ)) → (S → Option (List ℕ)) → Site → Before S → List Step
+    → List MessageValue
     → List (Guest S) → Type 0
 AreServed remaining contents site came steps out [] = Unit {0}
 AreServed remaining contents site came steps out (guest ∷ guests) =
@@ -234,7 +241,8 @@ WasClosed steps until (Some c) = IsClosedBehind steps until c
 
 -- A browser that had this number and stood at this place when it was let go. Until then it was served: it was told what
 -- had gone out for it; and all that the desk has of its number it has said.
-pub record WasServed {S : Type 0} (remaining contents : S → Option (List ℕ)) (site : Site) (came : Before S) (steps : List Step)
+pub record WasServed {S : Type 0} (remaining contents : S → Option (List ℕ)) (site : Site) (came : Before S)
+    (steps : List Step)
     (out : List MessageValue) (number : Option ℕ) (last : Spot S) : Type 0 where
   pub until : List MessageValue
   pub after : List MessageValue
@@ -242,7 +250,8 @@ pub record WasServed {S : Type 0} (remaining contents : S → Option (List ℕ))
   pub served : IsServed remaining contents site came steps until number last
   pub closed : WasClosed steps until number
 
-abbrev pub WereServed : {S : Type 0} → (S → Option (List ℕ)) → (S → Option (List ℕ)) → Site → Before S → List Step → List MessageValue
+abbrev pub WereServed : {S : Type 0} → (S → Option (List ℕ)) → (S → Option (List ℕ)) → Site → Before S → List Step
+    → List MessageValue
     → List (Guest S) → Type 0
 WereServed remaining contents site came steps out [] = Unit {0}
 WereServed remaining contents site came steps out (guest ∷ guests) =

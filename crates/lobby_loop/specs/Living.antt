@@ -14,11 +14,12 @@ use Rattle.lobby_web.specs.Pages.{Changes, IsSameSite}
 use Rattle.lobby_guests.specs.declared.guest.Guest.{Guest}
 use Rattle.lobby_loop.specs.declared.hall.Hall.{Hall}
 use Rattle.lobby_guests.specs.Guests.{IsAsBefore}
-use Rattle.lobby_guests.specs.Talking.{Moves}
-use Rattle.lobby_guests.specs.declared.link.Link.{Link}
-use Rattle.lobby_guests.specs.Lines.{bytes_of as bytes_before}
-use Rattle.lobby_guests.specs.Held.{HoldsNoLine}
-use Rattle.lobby_loop.specs.Turning.{BeginsHall, Admits, IsServerAsBefore, ServerComes, HasTurned, bytes_heard, texts_put, IsLobbyTurn}
+use Rattle.lobby_talk.specs.Talking.{Moves}
+use Rattle.lobby_talk.specs.declared.link.Link.{Link}
+use Rattle.lobby_talk.specs.Lines.{bytes_of as bytes_before}
+use Rattle.lobby_talk.specs.Held.{HoldsNoLine}
+use Rattle.lobby_loop.specs.Turning.{BeginsHall, Admits, IsServerAsBefore, ServerComes, HasTurned, bytes_heard}
+use Rattle.lobby_loop.specs.Turning.{texts_put, IsLobbyTurn}
 use Rattle.lobby_loop.specs.Doing.{all_tells, AreServed, WereServed, Before}
 
 -- What happens to a hall: a browser comes, sockets may be ready, the server is there, at a path another file is served
@@ -66,25 +67,30 @@ pub record KeepsFiles {S : Type 0} (old new : Hall S) : Type 0 where
 pub record TurnsBy {S : Type 0} (remaining contents : S → Option (List ℕ)) (at : ℕ) (taken : List ℕ) (is_gone : Bool)
     (put : List (List ℕ)) (front : List ℕ) (old new : Hall S) : Type 0 where
   pub turned : HasTurned remaining contents at old new
-  pub taken_is : bytes_heard remaining old.server turned.takes.server_heard old.talk turned.takes.heard turned.takes.hears ≡ taken
+  pub taken_is : bytes_heard remaining old.server turned.takes.server_heard old.talk turned.takes.heard
+      turned.takes.hears ≡ taken
   pub gone : turned.takes.is_gone ≡ is_gone
   pub put_is : texts_put turned ≡ put
   pub front_is : turned.hands.front ≡ front
 
-abbrev pub Happens : {S : Type 0} → (S → Option (List ℕ)) → (S → Option (List ℕ)) → Happening S → Hall S → Hall S → Type 0
+abbrev pub Happens : {S : Type 0} → (S → Option (List ℕ)) → (S → Option (List ℕ)) → Happening S → Hall S → Hall S
+    → Type 0
 Happens remaining contents (Came stream) old new = Admits stream old new
 Happens remaining contents Woke old new = IsWoken old new
 Happens remaining contents (ServerCame stream) old new = ServerComes stream old new
 Happens remaining contents (Filed path file before) old new = Files path file old new × (before ≡ old.site)
 Happens remaining contents (Relisted players) old new = Renews players old new
-Happens remaining contents (Turned at taken is_gone put front) old new = TurnsBy remaining contents at taken is_gone put front old new
+Happens remaining contents (Turned at taken is_gone put front) old new =
+    TurnsBy remaining contents at taken is_gone put front old new
 
 -- a hall that begins with these players, with entries paused or not, and what happened to it, the newest first
-abbrev pub IsLife : {S : Type 0} → (S → Option (List ℕ)) → (S → Option (List ℕ)) → List Player → Bool → List (Happening S)
+abbrev pub IsLife : {S : Type 0} → (S → Option (List ℕ)) → (S → Option (List ℕ)) → List Player → Bool
+    → List (Happening S)
     → Hall S → Type 0
 IsLife remaining contents players is_paused [] now = (site : Site) × BeginsHall site players is_paused now
 IsLife {S} remaining contents players is_paused (h ∷ past) now =
-    (before : Hall S) × IsLife remaining contents players is_paused past before × Happens remaining contents h before now
+    (before : Hall S) × IsLife remaining contents players is_paused past before
+    × Happens remaining contents h before now
 
 -- the bytes that were written to the server since its connection began
 abbrev pub written_in : {S : Type 0} → List (Happening S) → List ℕ
@@ -223,7 +229,8 @@ NoLineWaits (Some link) = HoldsNoLine link
 -- those that were let go too, no two have one connection's number, and the desk was told of no connection but theirs;
 -- the desk has, under its number, all that a browser said, and of what went out it was told all that is for its number.
 -- Its requests have the answers of the sites that were served.
-pub record IsRightLife {S : Type 0} (remaining contents : S → Option (List ℕ)) (players : List Player) (is_paused : Bool)
+pub record IsRightLife {S : Type 0} (remaining contents : S → Option (List ℕ)) (players : List Player)
+    (is_paused : Bool)
     (past : List (Happening S)) (now : Hall S) : Type 0 where
   pub steps : List Step
   pub run : IsRun players is_paused steps (view now.talk.desk)
@@ -255,11 +262,13 @@ pub data Passing : Type 0 where
   Rested : Passing
 
 -- a lobby that begins so, and what passed, the newest first
-abbrev pub IsLobbyLife : {S : Type 0} → (S → Option (List ℕ)) → (S → Option (List ℕ)) → List Player → Bool → List Passing → Hall S
+abbrev pub IsLobbyLife : {S : Type 0} → (S → Option (List ℕ)) → (S → Option (List ℕ)) → List Player → Bool
+    → List Passing → Hall S
     → Type 0
 IsLobbyLife remaining contents players is_paused [] now = (site : Site) × BeginsHall site players is_paused now
 IsLobbyLife {S} remaining contents players is_paused (TurnAt at ∷ past) now =
-    (before : Hall S) × IsLobbyLife remaining contents players is_paused past before × IsLobbyTurn remaining contents at before now
+    (before : Hall S) × IsLobbyLife remaining contents players is_paused past before
+    × IsLobbyTurn remaining contents at before now
 IsLobbyLife {S} remaining contents players is_paused (Rested ∷ past) now =
     (before : Hall S) × IsLobbyLife remaining contents players is_paused past before × IsWoken before now
 IsLobbyLife {S} remaining contents players is_paused (Changed path file ∷ past) now =

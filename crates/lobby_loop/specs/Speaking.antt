@@ -58,12 +58,14 @@ pub record IsSilent (past : List Doing) : Type 0 where
 abbrev pub AreAnsweredBy : List Doing → List Call → Type 0
 AreAnsweredBy [] calls = calls ≡ []
 AreAnsweredBy (Took site bytes ∷ past) calls =
-    (before : List Call) × (new : List Call) × (calls ≡ before ++ new) × AreAnsweredBy past before × AreAnswered site new
+    (before : List Call) × (new : List Call) × (calls ≡ before ++ new) × AreAnsweredBy past before
+    × AreAnswered site new
 AreAnsweredBy (Tried ∷ past) calls = AreAnsweredBy past calls
 AreAnsweredBy (Gave heard ∷ past) calls = AreAnsweredBy past calls
 AreAnsweredBy (WasTold content answer ∷ past) calls = AreAnsweredBy past calls
 AreAnsweredBy (Wrote site bytes ∷ past) calls =
-    (before : List Call) × (new : List Call) × (calls ≡ before ++ new) × AreAnsweredBy past before × AreAnswered site new
+    (before : List Call) × (new : List Call) × (calls ≡ before ++ new) × AreAnsweredBy past before
+    × AreAnswered site new
 
 -- one of the sites that were served then
 abbrev pub IsSiteIn : Site → List Doing → Type 0
@@ -120,6 +122,7 @@ pub record IsBySocket (past : List Doing) (socket : Socket) : Type 0 where
 -- What the bytes of a browser say, by where its connection stands. Over is one that memory was refused.
 abbrev pub Speaks : List Doing → Stage → Type 0
 Speaks past (At.Http connection) =
-    (config_of connection ≡ web_config) × IsByHttp past (bytes_came past) (bytes_written past) (history connection) × IsSilent past
+    (config_of connection ≡ web_config) × IsByHttp past (bytes_came past) (bytes_written past) (history connection)
+    × IsSilent past
 Speaks past (At.Socket socket) = IsBySocket past socket
 Speaks past At.Over = IsSilent past

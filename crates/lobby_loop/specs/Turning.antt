@@ -1,16 +1,17 @@
 -- One turn of all that are connected.
-use Rattle.std.specs.Prelude.{ℕ, ◌≡◌, ◌⊎◌, ◌||◌, Bool, true, false, List, [], ◌∷◌, ◌++◌, Option, None, Some, is_some, if◌then◌else◌}
+use Rattle.std.specs.Prelude.{ℕ, ◌≡◌, ◌⊎◌, ◌||◌, Bool, true, false, List, [], ◌∷◌, ◌++◌, Option, None, Some, is_some}
+use Rattle.std.specs.Prelude.{if◌then◌else◌}
 use Rattle.std.specs.List.{AllZip}
 use Rattle.lobby_words.specs.declared.players.Player.{Player}
 use Rattle.lobby_desk.specs.Events.{Gone, Here, message_values}
 use Rattle.lobby_desk.specs.Logging.{log_texts}
 use Rattle.lobby_web.specs.declared.site.Site.{Site}
 use Rattle.lobby_guests.specs.declared.guest.Guest.{Guest}
-use Rattle.lobby_guests.specs.declared.link.Link.{Link}
-use Rattle.lobby_guests.specs.declared.talk.Talk.{Talk}
-use Rattle.lobby_guests.specs.Talking.{Begins, MovesAnew}
+use Rattle.lobby_talk.specs.declared.link.Link.{Link}
+use Rattle.lobby_talk.specs.declared.talk.Talk.{Talk}
+use Rattle.lobby_talk.specs.Talking.{Begins, MovesAnew}
 use Rattle.lobby_guests.specs.Guests.{IsNewGuest, AreAttended, AreDelivered, IsWritten, IsLookedAfter, AreParted}
-use Rattle.lobby_guests.specs.Held.{TakesIn, HandsOn, IsKept}
+use Rattle.lobby_talk.specs.Held.{TakesIn, HandsOn, IsKept}
 use Rattle.lobby_guests.specs.Seating.{AreSeated}
 use Rattle.lobby_loop.specs.declared.hall.Hall.{Hall}
 
@@ -21,7 +22,8 @@ HearsServer {S} remaining (Some link) server old new =
     (after : Link S) × (server ≡ Some after) × TakesIn remaining link after old new
 
 -- the bytes that came of it then
-abbrev pub bytes_heard : {S : Type 0} → (remaining : S → Option (List ℕ)) → (server after : Option (Link S)) → (old new : Talk) →
+abbrev pub bytes_heard : {S : Type 0} → (remaining : S → Option (List ℕ)) → (server after : Option (Link S))
+    → (old new : Talk) →
     HearsServer remaining server after old new → List ℕ
 bytes_heard remaining None after old new (is, same) = []
 bytes_heard remaining (Some link) after old new (next, is, takes) = takes.taken
@@ -38,7 +40,8 @@ PartsFromServer false server after old new = (after ≡ server) × (new ≡ old)
 PartsFromServer true server after old new = (after ≡ None) × MovesAnew old Gone new
 
 -- A front of what is to go to the server is written, where it is there, and the rest is to go.
-abbrev pub TellsServer : {S : Type 0} → (S → Option (List ℕ)) → List ℕ → Option (Link S) → Option (Link S) → List ℕ → List ℕ
+abbrev pub TellsServer : {S : Type 0} → (S → Option (List ℕ)) → List ℕ → Option (Link S) → Option (Link S) → List ℕ
+    → List ℕ
     → Type 0
 TellsServer contents front None server old new = (server ≡ None) × (front ≡ []) × (new ≡ old)
 TellsServer {S} contents front (Some link) server old new =
@@ -46,7 +49,8 @@ TellsServer {S} contents front (Some link) server old new =
     × IsKept link after
 
 -- Nobody is connected, and nothing was said. Entries are paused, or not.
-pub record BeginsHall {S : Type 0} (site : Site) (players : List Player) (is_paused : Bool) (now : Hall S) : Type 0 where
+pub record BeginsHall {S : Type 0} (site : Site) (players : List Player) (is_paused : Bool)
+    (now : Hall S) : Type 0 where
   pub site_is : now.site ≡ site
   pub talk : Begins players is_paused now.talk
   pub guests : now.guests.items ≡ []
@@ -92,7 +96,8 @@ away_after is_here before at = if is_here then before else at
 abbrev pub HasPlaces : {S : Type 0} → Bool → ℕ → List (Guest S) → Hall S → Type 0
 HasPlaces {S} has_come at attended new =
     has_come ≡ true →
-    (looked : List (Guest S)) × AllZip IsLookedAfter attended looked × AreSeated at new.away_at new.talk.desk looked new.guests.items
+    (looked : List (Guest S)) × AllZip IsLookedAfter attended looked
+    × AreSeated at new.away_at new.talk.desk looked new.guests.items
 
 -- What comes is taken in: the server is heard, and the desk is told where its connection is lost; then each browser is.
 pub record TakesAllIn {S : Type 0} (remaining : S → Option (List ℕ)) (at : ℕ) (old new : Hall S) : Type 0 where
@@ -142,7 +147,8 @@ texts_put turned = log_texts (message_values turned.between.talk.told.items)
 -- Browsers come or are turned away, one after the other, the last first.
 abbrev pub AreAdmitted : {S : Type 0} → List S → Hall S → Hall S → Type 0
 AreAdmitted [] old new = new ≡ old
-AreAdmitted {S} (stream ∷ before) old new = (between : Hall S) × AreAdmitted before old between × Admits stream between new
+AreAdmitted {S} (stream ∷ before) old new =
+    (between : Hall S) × AreAdmitted before old between × Admits stream between new
 
 -- The server is reached, where it was not there; or it is not.
 abbrev pub IsReached : {S : Type 0} → Hall S → Hall S → Type 0
@@ -150,7 +156,8 @@ IsReached {S} old new = (new ≡ old) ⊎ ((old.server ≡ None) × ((stream : S
 
 -- One turn of the lobby: the server is reached or not, browsers come or are turned away, and then all who are connected
 -- have one turn.
-pub record IsLobbyTurn {S : Type 0} (remaining contents : S → Option (List ℕ)) (at : ℕ) (old new : Hall S) : Type 0 where
+pub record IsLobbyTurn {S : Type 0} (remaining contents : S → Option (List ℕ)) (at : ℕ)
+    (old new : Hall S) : Type 0 where
   pub reached : Hall S
   pub reaches : IsReached old reached
   pub streams : List S

@@ -18,13 +18,16 @@ ghost use Rattle.lobby_loop.specs.Speaking.{Speaks};
 /// while it was there a browser was to be told each message that is for its number, once and in their order, and
 /// nothing else; and the log has had all texts for it among what went out, likewise.
 pub fn law_of_halls<S>()
-    ensures { (remaining contents : S → Option (List ℕ)) (players : List Player) (is_paused : Bool) (past : List (Happening S))
-        (now : Hall S) → IsLife remaining contents players is_paused past now → IsRightLife remaining contents players is_paused past now }
+    ensures { (remaining contents : S → Option (List ℕ)) (players : List Player) (is_paused : Bool)
+        (past : List (Happening S))
+        (now : Hall S) → IsLife remaining contents players is_paused past now
+        → IsRightLife remaining contents players is_paused past now }
 {}
 
 /// Whatever passes at a lobby, by its turns and the rests between them: all that happened to its hall is such a life.
 pub fn law_of_lobbies<S>()
-    ensures { (remaining contents : S → Option (List ℕ)) (players : List Player) (is_paused : Bool) (passed : List Passing)
+    ensures { (remaining contents : S → Option (List ℕ)) (players : List Player) (is_paused : Bool)
+        (passed : List Passing)
         (now : Hall S) → IsLobbyLife remaining contents players is_paused passed now →
         (past : List (Happening S)) × IsLife remaining contents players is_paused past now
         × IsRightLife remaining contents players is_paused past now }
@@ -35,7 +38,8 @@ pub fn law_of_lobbies<S>()
 /// order; and the texts that it was told are those of the frames among the bytes that were written to it and wait, in
 /// their order, all of them while its socket is open. Before that HTTP answers what came, and nothing is said.
 pub fn law_of_browsers<S>()
-    ensures { (remaining contents : S → Option (List ℕ)) (site : Site) (came : Before S) (steps : List Step) (out : List MessageValue)
+    ensures { (remaining contents : S → Option (List ℕ)) (site : Site) (came : Before S) (steps : List Step)
+        (out : List MessageValue)
         (number : Option ℕ) (now : Spot S) → (served : IsServed remaining contents site came steps out number now) →
         Speaks served.past now.stage }
 {}

@@ -17,4 +17,4 @@ pub use hall::Hall;
 pub use law::{law_of_browsers, law_of_halls, law_of_lobbies};
 pub use listener::{Acceptor, LobbyListener, Welcomed, welcome};
 pub use lobby::{Lobby, Turned};
-pub use lobby_guests::{ACTS, BOUNDS, Counts, KeepsLinks, NoLinks};
+pub use lobby_talk::{ACTS, BOUNDS, Counts, KeepsLinks, NoLinks};

@@ -1,9 +1,10 @@
 //! The sockets of a lobby, and what wakes it.
-ghost use Rattle.std.specs.Prelude.{◌≡◌, List, None, Some, IfOk, OnOk, OnErr, is_some};
+ghost use Rattle.std.specs.Prelude.{◌≡◌, ◌≤◌, false, List, None, Some, IfOk, OnOk, OnErr, is_some};
 ghost use Rattle.mio.specs.declared.net.stream.TcpStream.{TcpStream};
 ghost use Rattle.mio.specs.declared.net.uds.stream.UnixStream.{UnixStream};
 ghost use Rattle.either.specs.declared.Either.{Either};
 ghost use Rattle.lobby_desk.specs.Who.{watched_games};
+ghost use Rattle.lobby_guests.specs.Guests.{is_crowded};
 ghost use Rattle.either.specs.Either.{either};
 ghost use Rattle.lobby_loop.specs.Turning.{BeginsHall, AreAdmitted, IsReached, IsLobbyTurn, texts_put, unknown};
 ghost use Rattle.lobby_loop.specs.Living.{IsWoken, Files, KeepsFiles, Renews};
@@ -13,7 +14,8 @@ use crate::act_log::{ActLog, Fault};
 use crate::hall::Hall;
 use crate::listener::{LobbyAcceptor, LobbyListener, Welcomed, welcome};
 use lobby_desk::Limits;
-use lobby_guests::{Counts, KeepsLinks};
+use lobby_guests::earlier;
+use lobby_talk::{Counts, KeepsLinks};
 use lobby_web::{File, Site};
 use lobby_words::Player;
 use mio::{Events, Interest, Poll, Token};
@@ -121,15 +123,6 @@ fn wake_each(events: &Events, hall: &mut Hall<Call>) -> bool
     has_listener
 }
 
-// The earlier of two moments, where there are any.
-fn earlier(a: Option<u64>, b: Option<u64>) -> Option<u64> {
-    match (a, b) {
-        (Some(a), Some(b)) => Some(a.min(b)),
-        (Some(a), None) => Some(a),
-        (None, b) => b,
-    }
-}
-
 impl Lobby {
     /// A lobby whose server is at this address, which begins with entries paused, or not, and has these limits, behind
     /// a trusted proxy of this address, if there is one. The system's error where it cannot be watched.
@@ -219,9 +212,11 @@ impl Lobby {
     // Where many wait to be heard for the first time, who comes next waits at the listener, a second at most: else so
     // many could come that these make room before they are heard.
     fn hold(&mut self, at: u64)
-        ensures { self.new.hall ≡ self.old.hall }
+        ensures hall { self.new.hall ≡ self.old.hall }
+        ensures few { is_crowded self.old.hall.guests.items ≡ false → self.new.ask_at ≡ self.old.ask_at }
+        ensures most { self.old.held_until ≤ at → self.new.ask_at ≡ self.old.ask_at }
     {
-        if at < self.held_until && self.hall.is_crowded(at) {
+        if at < self.held_until && self.hall.is_crowded() {
             self.ask_at = self.ask_at.max(at.saturating_add(HOLD));
         } else {
             self.held_until = at.saturating_add(HELD_MOST);
@@ -330,7 +325,8 @@ impl Lobby {
         log: &mut L,
         links: &mut K,
     ) -> Result<Turned, Fault>
-        ensures { OnOk result ((turn : IsLobbyTurn (either unknown unknown) (either unknown unknown) at self.old.hall self.new.hall)
+        ensures { OnOk result ((turn : IsLobbyTurn (either unknown unknown)
+            (either unknown unknown) at self.old.hall self.new.hall)
             × Logs (L.logged log.old) (L.logged log.new) (texts_put turn.turns)) }
     {
         self.hold(at);

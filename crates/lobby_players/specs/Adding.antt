@@ -26,7 +26,9 @@ abbrev pub entry_added : Addition → List ℕ → Entry
 entry_added who token = entry_with who (sha256 (encode_lower token))
 
 abbrev pub line_of : Entry → List ℕ
-line_of e = e.name ++ (codes " " ++ (role_text e.is_arbiter ++ (codes " " ++ (encode_lower e.sum ++ (codes " " ++ e.full_name)))))
+line_of e =
+    e.name ++ (codes " " ++ (role_text e.is_arbiter
+    ++ (codes " " ++ (encode_lower e.sum ++ (codes " " ++ e.full_name)))))
 
 -- the line of who has this name
 abbrev pub is_of : List ℕ → List ℕ → Bool

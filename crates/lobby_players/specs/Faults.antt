@@ -1,5 +1,6 @@
 -- What is wrong with a text that is no players' file.
-use Rattle.std.specs.Prelude.{ℕ, suc, ◌≡◌, true, false, ◌==◌, ◌⊎◌, List, [], ◌∷◌, ◌++◌, length, take, Option, Some, None}
+use Rattle.std.specs.Prelude.{ℕ, suc, ◌≡◌, true, false, ◌==◌, ◌⊎◌, List, [], ◌∷◌, ◌++◌, length, take, Option, Some}
+use Rattle.std.specs.Prelude.{None}
 use Rattle.std.specs.List.{list_any, count_by}
 use Rattle.std.specs.Str.{IsUtf8}
 use Rattle.std.specs.Str.Lossy.{utf8_valid_len}
@@ -9,7 +10,8 @@ use Rattle.lobby_players.specs.declared.faults.PlayersFault.{PlayersFault}
 use Rattle.lobby_players.specs.declared.faults.PlayersFault.TheVariants as faults
 use Rattle.lobby_players.specs.declared.faults.RereadFault.{RereadFault}
 use Rattle.lobby_players.specs.declared.faults.RereadFault.TheVariants as reread_faults
-use Rattle.lobby_players.specs.File.{Entry, IsLineOf, AreLinesOf, IsFileOf, lines_of, is_silent, has_name, is_alike, has_sum, ends_line}
+use Rattle.lobby_players.specs.File.{Entry, IsLineOf, AreLinesOf, IsFileOf, lines_of, is_silent, has_name, is_alike}
+use Rattle.lobby_players.specs.File.{has_sum, ends_line}
 
 -- the line tells of a player whose name, or whose sum, one of those before has
 pub record HasNameOf (before : List Entry) (line : List ℕ) : Type 0 where

@@ -1,5 +1,6 @@
 -- The players' file.
-use Rattle.std.specs.Prelude.{ℕ, ◌≡◌, ◌≢◌, ◌-◌, Bool, true, false, ◌&&◌, ◌||◌, ◌==◌, not, nat_le, List, [], ◌∷◌, ◌++◌, length, codes, Ok, EachIndex, slice_index, map, filter, chars}
+use Rattle.std.specs.Prelude.{ℕ, ◌≡◌, ◌≢◌, ◌-◌, Bool, true, false, ◌&&◌, ◌||◌, ◌==◌, not, nat_le, List, [], ◌∷◌, ◌++◌}
+use Rattle.std.specs.Prelude.{length, codes, Ok, EachIndex, slice_index, map, filter, chars}
 use Rattle.std.specs.List.{AllZip, AllPairs, list_all, list_any}
 use Rattle.std.specs.Char.{is_whitespace}
 use Rattle.std.specs.Str.{bytes_eq, str_to_ascii_lowercase, str_eq_ignore_ascii_case}
@@ -42,7 +43,8 @@ is_from_to first last c = nat_le first c && nat_le c last
 -- joins or parts letters, sets the direction of writing or chooses a form, the fillers of Hangul, and tags.
 abbrev pub hidden : List (ℕ × ℕ)
 hidden =
-    (0x80, 0x9f) ∷ (0xad, 0xad) ∷ (0x34f, 0x34f) ∷ (0x61c, 0x61c) ∷ (0x115f, 0x1160) ∷ (0x17b4, 0x17b5) ∷ (0x180b, 0x180f)
+    (0x80, 0x9f) ∷ (0xad, 0xad) ∷ (0x34f, 0x34f) ∷ (0x61c, 0x61c) ∷ (0x115f, 0x1160) ∷ (0x17b4, 0x17b5)
+    ∷ (0x180b, 0x180f)
     ∷ (0x200b, 0x200f) ∷ (0x2028, 0x202e) ∷ (0x2060, 0x206f) ∷ (0x2800, 0x2800) ∷ (0x3164, 0x3164)
     ∷ (0xfe00, 0xfe0f) ∷ (0xfeff, 0xfeff) ∷ (0xffa0, 0xffa0) ∷ (0xfff0, 0xfffb) ∷ (0x1bca0, 0x1bca3)
     ∷ (0x1d173, 0x1d17a) ∷ (0xe0000, 0xe0fff) ∷ []
@@ -99,7 +101,8 @@ pub record IsLineOf (line : List ℕ) (e : Entry) : Type 0 where
   pub digits : List ℕ
   pub sum : decode_sized digits 32 ≡ Ok e.sum
   pub full_name : is_full_name e.full_name ≡ true
-  pub spelled : line ≡ e.name ++ (codes " " ++ (role_text e.is_arbiter ++ (codes " " ++ (digits ++ (codes " " ++ e.full_name)))))
+  pub spelled : line ≡ e.name ++ (codes " " ++ (role_text e.is_arbiter
+      ++ (codes " " ++ (digits ++ (codes " " ++ e.full_name)))))
 
 -- the player has this name, or this sum
 abbrev pub has_name : List ℕ → Entry → Bool

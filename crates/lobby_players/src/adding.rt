@@ -5,7 +5,8 @@ ghost use Rattle.std.specs.String.{string_bytes};
 ghost use Rattle.hex.specs.Hex.{decode_sized, encode_lower};
 ghost use Rattle.lobby_words.specs.Answers.{ended};
 ghost use Rattle.lobby_words.specs.Lines.{bytes_of};
-ghost use Rattle.lobby_players.specs.Adding.{IsAdded, IsAddFault, added_text, entry_added, entry_with, in_place, is_of, is_other, line_of};
+ghost use Rattle.lobby_players.specs.Adding.{IsAdded, IsAddFault, added_text, entry_added, entry_with, in_place, is_of};
+ghost use Rattle.lobby_players.specs.Adding.{is_other, line_of};
 ghost use Rattle.lobby_players.specs.File.{has_sum, is_alike as is_alike_to, entry_of, lines_of, role_text};
 
 use crate::faults::{AddFault, PlayersFault};
@@ -38,7 +39,8 @@ pub struct WithPlayer {
 
 // Whether another player has the sum.
 fn is_taken(players: &[Player], name: &Name, sum: &[u8; 32]) -> bool
-    ensures { result ≡ list_any (λ player. is_other name.now (entry_of player) && has_sum sum.now (entry_of player)) players.now }
+    ensures { result ≡ list_any (λ player. is_other name.now (entry_of player)
+        && has_sum sum.now (entry_of player)) players.now }
 {
     players.iter().any(|player| {
         player.name.as_str() != name.as_str() && player.sum.as_slice() == sum.as_slice()
@@ -47,7 +49,8 @@ fn is_taken(players: &[Player], name: &Name, sum: &[u8; 32]) -> bool
 
 // Whether another player's name differs from it in small and capital letters alone.
 fn is_named_alike(players: &[Player], name: &Name) -> bool
-    ensures { result ≡ list_any (λ player. is_other name.now (entry_of player) && is_alike_to name.now (entry_of player)) players.now }
+    ensures { result ≡ list_any (λ player. is_other name.now (entry_of player)
+        && is_alike_to name.now (entry_of player)) players.now }
 {
     players.iter().any(|player| {
         player.name.as_str() != name.as_str() && is_alike(player.name.as_str(), name.as_str())
@@ -105,7 +108,8 @@ fn is_first(is_put: bool, old: &str, name: &str) -> bool
 
 // The lines of a text, each with its line feed, and this line in the place of the first of the name, or behind all.
 fn with_line(alloc: Global, text: &str, name: &str, line: &str) -> Result<String, AllocError>
-    ensures { IfOk result (λ new. string_bytes new ≡ bytes_of (in_place (is_of name.now) line.now (lines_of text.now))) }
+    ensures { IfOk result (λ new. string_bytes new ≡ bytes_of
+        (in_place (is_of name.now) line.now (lines_of text.now))) }
 {
     let lines = parts(alloc, text, '\n')?;
     let mut new = String::new(alloc);
@@ -151,7 +155,8 @@ pub fn added(
     who: &Addition<'_>,
     token: &[u8; 16],
 ) -> Result<WithPlayer, AddFault>
-    ensures added { IfOk result (λ new. IsAdded text.now (entry_added who.now token.now) (string_bytes new.text) new.is_new) }
+    ensures added { IfOk result (λ new. IsAdded text.now (entry_added who.now token.now)
+        (string_bytes new.text) new.is_new) }
     ensures fault { IfErr result (IsAddFault text.now (entry_added who.now token.now)) }
 {
     let text = match text_of(text) {

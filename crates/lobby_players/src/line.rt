@@ -154,7 +154,8 @@ pub fn is_full_name(text: &str) -> bool
 // The player that fields tell.
 fn player_told(alloc: Global, fields: &Fields<'_>) -> Result<Option<Player>, AllocError>
     ensures some { IfOk result (λ found. IfSome found (λ player.
-        TellsOf fields.now.name.now fields.now.role.now fields.now.sum.now fields.now.full_name.now (entry_of player))) }
+        TellsOf fields.now.name.now fields.now.role.now fields.now.sum.now fields.now.full_name.now
+        (entry_of player))) }
     ensures none { IfOk result (λ found. IfNone found ((e : Entry) →
         ¬ TellsOf fields.now.name.now fields.now.role.now fields.now.sum.now fields.now.full_name.now e)) }
 {

@@ -5,7 +5,8 @@ ghost use Rattle.std.specs.String.{string_bytes};
 ghost use Rattle.hex.specs.Hex.{decode_sized, encode_lower};
 ghost use Rattle.lobby_words.specs.Players.{IsRelinked, IsWithSum, sum_given};
 ghost use Rattle.lobby_players.specs.Adding.{added_text};
-ghost use Rattle.lobby_players.specs.Relinking.{IsFileRelinked, IsLinkFault, entry_linked, is_same_player, are_same_players};
+ghost use Rattle.lobby_players.specs.Relinking.{IsFileRelinked, IsLinkFault, entry_linked, is_same_player};
+ghost use Rattle.lobby_players.specs.Relinking.{are_same_players};
 
 use crate::adding::{Addition, text_with};
 use crate::faults::LinkFault;
@@ -85,7 +86,8 @@ fn all_with_sum(
     name: &Name,
     sum: &[u8; 32],
 ) -> Result<Vec<Player>, AllocError>
-    ensures { IfOk result (λ after. AllZip (λ old new. IsWithSum (sum_given name.now sum.now old) old new) players.now after.items) }
+    ensures { IfOk result (λ after. AllZip (λ old new.
+        IsWithSum (sum_given name.now sum.now old) old new) players.now after.items) }
 {
     let mut after = Vec::new(alloc);
     for player in players {
@@ -103,7 +105,8 @@ fn text_linked(
     name: &Name,
     sum: &[u8; 32],
 ) -> Result<String, AllocError>
-    ensures written { IfOk result (λ new. string_bytes new ≡ added_text text.now (entry_linked name.now sum.now player.now)) }
+    ensures written { IfOk result (λ new. string_bytes new
+        ≡ added_text text.now (entry_linked name.now sum.now player.now)) }
     ensures digits { IfOk result (λ _. decode_sized (encode_lower sum.now) 32 ≡ Ok sum.now) }
 {
     let who = Addition {
@@ -126,8 +129,10 @@ pub fn relinked(
     name: &Name,
     token: &[u8; 16],
 ) -> Result<ChangedFile, LinkFault>
-    ensures file { IfOk result (λ new. IsFileRelinked name.now text.now (string_bytes new.text) known.now new.linked.players.items) }
-    ensures players { IfOk result (λ new. IsRelinked name.now (string_bytes new.linked.token) known.now new.linked.players.items) }
+    ensures file { IfOk result (λ new. IsFileRelinked name.now text.now
+        (string_bytes new.text) known.now new.linked.players.items) }
+    ensures players { IfOk result (λ new. IsRelinked name.now
+        (string_bytes new.linked.token) known.now new.linked.players.items) }
     ensures token { IfOk result (λ new. string_bytes new.linked.token ≡ encode_lower token.now) }
     ensures fault { IfErr result (IsLinkFault known.now name.now (encode_lower token.now) text.now) }
 {

@@ -51,7 +51,8 @@ pub fn start_of(lines: &[&str]) -> Option<Board>
 
 /// The words of lines that may name moves.
 pub fn words_of<'a>(alloc: Global, lines: &[&'a str]) -> Result<Vec<&'a str>, AllocError>
-    ensures { IfOk result (λ words. map (λ word. word.now) words.items ≡ moves_in (tokens_of (map (λ line. line.now) lines.entry.now))) }
+    ensures { IfOk result (λ words. map (λ word. word.now) words.items
+        ≡ moves_in (tokens_of (map (λ line. line.now) lines.entry.now))) }
 {
     let mut words = tokens_of(alloc, lines)?;
     words.retain(|word| is_move(word));

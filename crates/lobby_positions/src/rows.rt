@@ -14,7 +14,8 @@ use text_parts::push_number;
 
 // Appends a space, a position's FEN and a line feed.
 fn push_fen(text: &mut String, board: &Board) -> Result<(), AllocError>
-    ensures { OnOk result (string_bytes text.new ≡ string_bytes text.old ++ (codes " " ++ (fen_of board.now ++ codes "\n"))) }
+    ensures { OnOk result (string_bytes text.new ≡ string_bytes text.old
+        ++ (codes " " ++ (fen_of board.now ++ codes "\n"))) }
 {
     text.push(' ')?;
     text.push_str(fen_write(board).as_str())?;

@@ -5,7 +5,8 @@ ghost use Rattle.chess_bits.specs.Square.{IsOnBoard};
 ghost use Rattle.chess_board.specs.Position.{Position, IsValid};
 ghost use Rattle.chess_notation.specs.Name.{square_name};
 ghost use Rattle.chess_notation.specs.Fen.{IsFenOf};
-ghost use Rattle.lobby_positions.specs.Telling.{check_sign, promotion_letter, coordinate_of, spaced, IsBetweenSquares, TellsMoves};
+ghost use Rattle.lobby_positions.specs.Telling.{check_sign, promotion_letter, coordinate_of, spaced, IsBetweenSquares};
+ghost use Rattle.lobby_positions.specs.Telling.{TellsMoves};
 
 use chess_bits::{Kind, Square};
 use chess_board::{Board, Move};
@@ -52,7 +53,8 @@ pub fn push_move(text: &mut String, mv: &Move) -> Result<(), AllocError>
 
 // Appends the coordinate texts of moves, a space before each.
 fn push_moves(text: &mut String, moves: &[Move]) -> Result<(), AllocError>
-    ensures bytes { OnOk result (string_bytes text.new ≡ string_bytes text.old ++ spaced (map coordinate_of moves.now)) }
+    ensures bytes { OnOk result (string_bytes text.new
+        ≡ string_bytes text.old ++ spaced (map coordinate_of moves.now)) }
     ensures squares { OnOk result (All IsBetweenSquares moves.now) }
 {
     for mv in moves {

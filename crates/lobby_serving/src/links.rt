@@ -37,9 +37,11 @@ impl<'a, R: Files<File = File> + AllocGlobal + RandomSource> FileLinks<'a, R> {
         order: &Order,
         players: &[Player],
     ) -> Result<ChangedFile>
-        ensures relinked { IfOk result (λ new. IsRelinked order.now.name (string_bytes new.linked.token) players.now new.linked.players.items) }
+        ensures relinked { IfOk result (λ new. IsRelinked order.now.name
+            (string_bytes new.linked.token) players.now new.linked.players.items) }
         ensures given { IfOk result (λ new.
-            (bytes : List ℕ) × G.may_fill source.old bytes source.new × (string_bytes new.linked.token ≡ encode_lower bytes)) }
+            (bytes : List ℕ) × G.may_fill source.old bytes source.new
+            × (string_bytes new.linked.token ≡ encode_lower bytes)) }
     {
         let text = lobby_players::read_file(self.rt, self.file)?;
         let token = new_token(source)?;
@@ -56,7 +58,8 @@ impl<'a, R: Files<File = File> + AllocGlobal + RandomSource> FileLinks<'a, R> {
 
     // The same, where nobody else holds the file. Where the link is closed nobody is told the token.
     fn changed(&mut self, order: &Order, players: &[Player]) -> Result<Linked>
-        ensures { IfOk result (λ linked. IsRelinked order.now.name (string_bytes linked.token) players.now linked.players.items) }
+        ensures { IfOk result (λ linked. IsRelinked order.now.name
+            (string_bytes linked.token) players.now linked.players.items) }
     {
         let _hold = Hold::at_once(self.rt, self.file)?;
         let mut source = SysRng::new(self.rt);

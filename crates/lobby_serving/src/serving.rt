@@ -170,9 +170,19 @@ where
     }
 }
 
-// Prints the page's address.
-fn tell_address<R: Print + Eprint>(rt: &R, address: SocketAddr) -> Result<()> {
-    println!(rt; "http://{address}/")?;
+// Prints the page's address; where all of this machine's are listened at, those by which browsers may come.
+fn tell_address<R: Print + Eprint>(rt: &R, address: SocketAddr, hosts: &[&str]) -> Result<()> {
+    if !address.ip().is_unspecified() {
+        println!(rt; "http://{address}/")?;
+    } else if hosts.is_empty() {
+        eprintln!(rt;
+            "no --host names an address by which other devices come: their browsers are refused"
+        )?;
+    } else {
+        for host in hosts {
+            println!(rt; "http://{host}/")?;
+        }
+    }
     if !address.ip().is_loopback() {
         eprintln!(rt; "the line is not encrypted: whoever is on the way reads along, links too")?;
     }
@@ -253,7 +263,7 @@ where
         lobby: &mut Lobby,
         log: &mut L,
     ) -> Result<()> {
-        tell_address(self.rt, address)?;
+        tell_address(self.rt, address, self.serving.hosts.as_slice())?;
         tell_proxy(self.rt, self.serving)?;
         let mut beside = Beside::new(self.rt, self.serving, entries);
         let served = beside.take_turns(players, lobby, log);

@@ -1,5 +1,6 @@
 -- What a site answers to a request.
-use Rattle.std.specs.Prelude.{ℕ, ◌≡◌, ◌⊎◌, ◌==◌, ◌||◌, Bool, true, List, [], ◌∷◌, ◌++◌, Option, None, Some, bytes_eq, codes, MatchBool}
+use Rattle.std.specs.Prelude.{ℕ, ◌≡◌, ◌⊎◌, ◌==◌, ◌||◌, Bool, true, List, [], ◌∷◌, ◌++◌, Option, None, Some, bytes_eq}
+use Rattle.std.specs.Prelude.{codes, MatchBool}
 use Rattle.http.specs.declared.request.Request.{Request}
 use Rattle.std.specs.List.{list_any}
 use Rattle.http1.specs.Fields.{Header, elements}
@@ -12,11 +13,13 @@ use Rattle.lobby_web.specs.declared.site.Kind.{Kind}
 use Rattle.lobby_web.specs.declared.site.Kind.TheVariants.{Pgn}
 use Rattle.lobby_web.specs.Media.{media_type}
 use Rattle.lobby_web.specs.Pages.{file_at}
-use Rattle.lobby_web.specs.Requests.{field, path_of, is_taken, is_from_page, asks_socket, asks_upgrade, only_reads, served_path}
+use Rattle.lobby_web.specs.Requests.{field, path_of, is_taken, is_from_page, asks_socket, asks_upgrade, only_reads}
+use Rattle.lobby_web.specs.Requests.{served_path}
 
 -- The browser runs and loads only what is of the page's own host, frames it nowhere, and sends no form.
 abbrev pub policy : List ℕ
-policy = codes "default-src 'none'; script-src 'self'; style-src 'self'; img-src 'self'; connect-src 'self'; base-uri 'none'; form-action 'none'; frame-ancestors 'none'"
+policy =
+    codes "default-src 'none'; script-src 'self'; style-src 'self'; img-src 'self'; connect-src 'self'; base-uri 'none'; form-action 'none'; frame-ancestors 'none'"
 
 -- the fields that each answer has but an upgrade
 abbrev pub guards : List Header
@@ -62,18 +65,21 @@ is_known known file = bytes_eq known (codes "*") || list_any (is_tag_of file) (e
 abbrev pub IsFileAnswer : List ℕ → Option File → Response → Type 0
 IsFileAnswer known None response = IsTold 404 (codes "There is no such page here.") response
 IsFileAnswer known (Some file) response =
-    MatchBool (is_known known file) (IsResponse 304 (same_fields file) [] response) (IsResponse 200 (file_fields file) file.bytes response)
+    MatchBool (is_known known file) (IsResponse 304 (same_fields file) [] response)
+    (IsResponse 200 (file_fields file) file.bytes response)
 
 -- 405 with the methods that are answered
 abbrev pub IsOtherMethodAnswer : Response → Type 0
 IsOtherMethodAnswer =
-    IsResponse 405 (guarded plain_text ++ (codes "allow", codes "GET, HEAD") ∷ []) (codes "Only GET and HEAD are answered.")
+    IsResponse 405 (guarded plain_text ++ (codes "allow", codes "GET, HEAD") ∷ [])
+    (codes "Only GET and HEAD are answered.")
 
 -- 101 with the key that accepts the upgrade
 abbrev pub IsSwitch : List ℕ → Response → Type 0
 IsSwitch key =
     IsResponse 101
-    ((codes "connection", codes "Upgrade") ∷ (codes "upgrade", codes "websocket") ∷ (codes "sec-websocket-accept", key) ∷ [])
+    ((codes "connection", codes "Upgrade") ∷ (codes "upgrade", codes "websocket")
+    ∷ (codes "sec-websocket-accept", key) ∷ [])
     []
 
 -- A key of sixteen bytes is answered by its accept key, and any other by 400.

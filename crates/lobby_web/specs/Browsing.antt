@@ -1,5 +1,6 @@
 -- One browser's connection, from its first byte on.
-use Rattle.std.specs.Prelude.{ℕ, ◌≡◌, ◌≢◌, ◌<◌, ◌≤◌, Bool, true, false, List, [], ◌∷◌, ◌++◌, drop, length, ⊤, Option, None, Result, Err}
+use Rattle.std.specs.Prelude.{ℕ, ◌≡◌, ◌≢◌, ◌<◌, ◌≤◌, Bool, true, false, List, [], ◌∷◌, ◌++◌, drop, length, ⊤, Option}
+use Rattle.std.specs.Prelude.{None, Result, Err}
 use Rattle.http_server.specs.declared.state.Config.{Config}
 use Rattle.http_server.specs.declared.state.State.TheVariants.{Open, Upgraded}
 use Rattle.http_server.specs.Connection.{config_of, history}
@@ -87,7 +88,8 @@ IsOver At.Over = ⊤
 
 -- What becomes of bytes that came where bytes are wanted.
 abbrev pub TakesBytes : Site → List ℕ → Stage → Stage → Type 0
-TakesBytes site bytes (At.Http connection) new = Answers (config_of connection) site (after_read (history connection) bytes) new
+TakesBytes site bytes (At.Http connection) new =
+    Answers (config_of connection) site (after_read (history connection) bytes) new
 TakesBytes site bytes (At.Socket old) new = (socket : Socket) × (new ≡ At.Socket socket) × TakesIn bytes old socket
 TakesBytes site bytes At.Over new = ⊥
 
@@ -98,9 +100,11 @@ pub record Takes (site : Site) (bytes : List ℕ) (old new : Stage) : Type 0 whe
 
 -- So many of the bytes that waited are written, and the site answers on where it had waited for that.
 abbrev pub Writes : Site → ℕ → Stage → Stage → Type 0
-Writes site count (At.Http connection) new = Answers (config_of connection) site (after_sent (history connection) count) new
+Writes site count (At.Http connection) new =
+    Answers (config_of connection) site (after_sent (history connection) count) new
 Writes site count (At.Socket old) new =
-    (socket : Socket) × (new ≡ At.Socket socket) × (socket.output.items ≡ drop count old.output.items) × Keeps old socket
+    (socket : Socket) × (new ≡ At.Socket socket) × (socket.output.items ≡ drop count old.output.items)
+    × Keeps old socket
 Writes site count At.Over new = new ≡ At.Over
 
 -- What a browser's socket gives next; by HTTP it gives nothing.
@@ -112,7 +116,8 @@ HearsNext At.Over new heard = (heard ≡ None) × (new ≡ At.Over)
 -- What becomes of what is to be said: by HTTP nothing is said.
 abbrev pub SaysTo : Content → Stage → Stage → Result (Unit {0}) Unsaid → Type 0
 SaysTo content (At.Http connection) new result = (result ≡ Err NotOpen) × (new ≡ At.Http connection)
-SaysTo content (At.Socket old) new result = (socket : Socket) × (new ≡ At.Socket socket) × Says content old socket result
+SaysTo content (At.Socket old) new result =
+    (socket : Socket) × (new ≡ At.Socket socket) × Says content old socket result
 SaysTo content At.Over new result = (result ≡ Err NotOpen) × (new ≡ At.Over)
 
 -- A connection that begins: nothing came, and nothing was said.

@@ -1,7 +1,8 @@
 -- What a frame is for the lobby, and the close codes.
 use Rattle.std.specs.Prelude.{ℕ, ◌≡◌, List, ⊤, Option, Some, None}
 use Rattle.websocket.specs.declared.error.Error.{Error}
-use Rattle.websocket.specs.declared.error.Error.TheVariants.{ConnectionClosed, AlreadyClosed, Capacity, Protocol, Utf8, OutOfMemory}
+use Rattle.websocket.specs.declared.error.Error.TheVariants.{ConnectionClosed, AlreadyClosed, Capacity, Protocol, Utf8}
+use Rattle.websocket.specs.declared.error.Error.TheVariants.{OutOfMemory}
 use Rattle.websocket.specs.declared.protocol.frame.coding.CloseCode.{CloseCode}
 use Rattle.websocket.specs.declared.protocol.frame.coding.CloseCode.TheVariants as Code
 use Rattle.websocket.specs.Content.{Content, text, binary, ping, pong, close}

@@ -1,5 +1,6 @@
 -- A socket's whole life, as what happens to it, one thing after another.
-use Rattle.std.specs.Prelude.{ℕ, ◌≡◌, ◌⊎◌, Bool, true, false, List, [], ◌∷◌, ◌++◌, ⊤, Option, Some, None, Result, Ok, Err}
+use Rattle.std.specs.Prelude.{ℕ, ◌≡◌, ◌⊎◌, Bool, true, false, List, [], ◌∷◌, ◌++◌, ⊤, Option, Some, None, Result, Ok}
+use Rattle.std.specs.Prelude.{Err}
 use Rattle.websocket.specs.Content.{Content, text, binary, ping, pong, close}
 use Rattle.websocket.specs.Connection.{Connection, Outgoing}
 use Rattle.lobby_web.specs.declared.socket.Socket.{Socket}
@@ -138,4 +139,5 @@ pub record Utters (waited : List ℕ) (events : List SocketStep) (new : Socket) 
 -- Whatever happens to a socket: what goes out are whole frames, and the texts among them are those that were said, each
 -- once and in their order.
 abbrev pub SayingsGoOut : Type 0
-SayingsGoOut = (events : List SocketStep) (old new : Socket) → Happen events old new → Utters old.output.items events new
+SayingsGoOut =
+    (events : List SocketStep) (old new : Socket) → Happen events old new → Utters old.output.items events new

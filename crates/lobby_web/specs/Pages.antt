@@ -1,5 +1,6 @@
 -- What a site has: its hosts and its files.
-use Rattle.std.specs.Prelude.{ℕ, ◌≡◌, ◌≢◌, ◌-◌, Bool, List, [], ◌∷◌, ◌++◌, Option, bytes_eq, codes, drop, find, if◌then◌else◌, length, take}
+use Rattle.std.specs.Prelude.{ℕ, ◌≡◌, ◌≢◌, ◌-◌, Bool, List, [], ◌∷◌, ◌++◌, Option, bytes_eq, codes, drop, find}
+use Rattle.std.specs.Prelude.{if◌then◌else◌, length, take}
 use Rattle.std.specs.List.{list_any, position}
 use Rattle.http1.specs.Text.{eq_ignore_case}
 use Rattle.lobby_web.specs.declared.site.Site.{Site}

@@ -1,5 +1,7 @@
 -- What is read from a request.
-use Rattle.std.specs.Prelude.{ℕ, Bool, true, false, not, ◌&&◌, ◌||◌, List, [], ◌∷◌, Option, None, Some, is_some, unwrap_or, bytes_eq, codes, length, take, drop, nat_lt, nat_le, ◌-◌, ◌==◌, slice_get, reverse, if◌then◌else◌}
+use Rattle.std.specs.Prelude.{ℕ, Bool, true, false, not, ◌&&◌, ◌||◌, List, [], ◌∷◌, Option, None, Some, is_some}
+use Rattle.std.specs.Prelude.{unwrap_or, bytes_eq, codes, length, take, drop, nat_lt, nat_le, ◌-◌, ◌==◌, slice_get}
+use Rattle.std.specs.Prelude.{reverse, if◌then◌else◌}
 use Rattle.std.specs.List.{list_all}
 use Rattle.std.specs.Char.{is_ascii_digit}
 use Rattle.http.specs.declared.request.Request.{Request}

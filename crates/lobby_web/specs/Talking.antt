@@ -1,17 +1,20 @@
 -- What a socket reads, gives and sends.
-use Rattle.std.specs.Prelude.{ℕ, ◌≡◌, ◌≢◌, ◌⊎◌, ◌<◌, Bool, true, false, not, ◌&&◌, List, [], ◌∷◌, ◌++◌, drop, length, Option, Some, None, Result, Ok, Err}
+use Rattle.std.specs.Prelude.{ℕ, ◌≡◌, ◌≢◌, ◌⊎◌, ◌<◌, Bool, true, false, not, ◌&&◌, List, [], ◌∷◌, ◌++◌, drop, length}
+use Rattle.std.specs.Prelude.{Option, Some, None, Result, Ok, Err}
 use Rattle.websocket.specs.declared.protocol.config.Role.TheVariants.{Server}
 use Rattle.websocket.specs.declared.protocol.state.WebSocketState.TheVariants.{Active, ClosedByUs}
 use Rattle.websocket.specs.declared.protocol.frame.coding.CloseCode.{CloseCode}
 use Rattle.websocket.specs.declared.protocol.frame.coding.OpCode.TheVariants as Op
 use Rattle.websocket.specs.declared.protocol.frame.coding.Control.TheVariants as Control
 use Rattle.websocket.specs.declared.protocol.frame.codec.FrameStatus.TheVariants.{Partial, Complete}
-use Rattle.websocket.specs.Content.{Content, text, binary, ping, pong, close, close_payload, content_opcode, content_payload}
+use Rattle.websocket.specs.Content.{Content, text, binary, ping, pong, close, close_payload, content_opcode}
+use Rattle.websocket.specs.Content.{content_payload}
 use Rattle.websocket.specs.Connection.{Connection, Effect, read_step, can_write, failed_connection}
 use Rattle.websocket.specs.View.{GivesError}
 use Rattle.lobby_web.specs.declared.socket.Socket.{Socket}
 use Rattle.lobby_web.specs.declared.socket.Frame.{Frame}
-use Rattle.lobby_web.specs.declared.socket.Frame.TheVariants.{Waits, Quiet, Text, Lost, Binary, Close, Slow as SlowFrame, Bad}
+use Rattle.lobby_web.specs.declared.socket.Frame.TheVariants.{Waits, Quiet, Text, Lost, Binary, Close}
+use Rattle.lobby_web.specs.declared.socket.Frame.TheVariants.{Slow as SlowFrame, Bad}
 use Rattle.lobby_web.specs.declared.socket.Heard.{Heard}
 use Rattle.lobby_web.specs.declared.socket.Heard.TheVariants.{Opened, Text as Words}
 use Rattle.lobby_web.specs.declared.socket.Unsaid.{Unsaid}
@@ -111,7 +114,8 @@ pub record Gives (old new : Socket) (words : Option (List ℕ)) : Type 0 where
   pub texts : GivesTexts frames words new.is_over
   pub stands : new.is_over ≡ false → (new.context ≡ conn) × (new.input.items ≡ rest)
       × (new.output.items ≡ old.output.items ++ replies frames)
-  pub over : new.is_over ≡ true → (code : CloseCode) × ClosesBy code (old.output.items ++ replies frames) new.output.items
+  pub over : new.is_over ≡ true → (code : CloseCode)
+      × ClosesBy code (old.output.items ++ replies frames) new.output.items
   pub waits : words ≡ None → new.is_over ≡ false → (needed : ℕ) × (read_step conn rest ≡ Ok (Partial needed))
   pub ended : old.is_over ≡ true → (words ≡ None) × IsSame old new
 

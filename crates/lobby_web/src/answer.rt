@@ -11,8 +11,12 @@ ghost use Rattle.http_header.specs.FieldValue.{is_visible_text};
 ghost use Rattle.http1.specs.Fields.{elements};
 ghost use Rattle.http_server.specs.Response.{IsBlank, IsResponse, fields_of};
 ghost use Rattle.lobby_web.specs.Media.{media_type};
-ghost use Rattle.lobby_web.specs.Requests.{field, last_field, forwarded_text, count_of, host_of, scheme_of, is_by_http, is_taken, is_1_1, is_page_of, path_of, is_from_page, lists_upgrade, asks_upgrade, only_reads, is_number, names_game, is_board, served_path};
-ghost use Rattle.lobby_web.specs.Answering.{guards, guarded, readers, file_fields, same_fields, is_tag_of, is_known, IsTold, IsFileAnswer, IsOtherMethodAnswer, IsSwitch, IsKeyAnswer, IsSocketAnswer, IsPageAnswer, IsAnswer};
+ghost use Rattle.lobby_web.specs.Requests.{field, last_field, forwarded_text, count_of, host_of, scheme_of, is_by_http};
+ghost use Rattle.lobby_web.specs.Requests.{is_taken, is_page_of, path_of, is_from_page, lists_upgrade};
+ghost use Rattle.lobby_web.specs.Requests.{asks_upgrade, only_reads, is_number, names_game, is_board, served_path};
+ghost use Rattle.lobby_web.specs.Answering.{guards, guarded, readers, file_fields, same_fields, is_tag_of, is_known};
+ghost use Rattle.lobby_web.specs.Answering.{IsTold, IsFileAnswer, IsOtherMethodAnswer, IsSwitch, IsKeyAnswer};
+ghost use Rattle.lobby_web.specs.Answering.{IsSocketAnswer, IsPageAnswer, IsAnswer};
 
 use crate::listed::{Elements, last_element};
 use crate::site::{File, Kind, Site, is_same_host};
@@ -131,18 +135,11 @@ fn has_method(request: &Request<Bytes>, name: &[u8]) -> bool
     request.method().as_str().as_bytes() == name
 }
 
-// Whether a version is HTTP/1.1.
-fn is_1_1(version: Version) -> bool
-    ensures { result ≡ is_1_1 version }
-{
-    version == Version::HTTP_11
-}
-
 // Whether a request asks to go on as a WebSocket.
 fn asks_upgrade(request: &Request<Bytes>) -> bool
     ensures { result ≡ asks_upgrade request.now }
 {
-    is_1_1(request.version())
+    request.version() == Version::HTTP_11
         && has_method(request, b"GET")
         && lists_upgrade(field(request, "connection"))
         && eq_ignore_case(field(request, "upgrade"), b"websocket")

@@ -5,7 +5,8 @@ ghost use Rattle.http_server.specs.Connection.{config_of, history};
 ghost use Rattle.http_server.specs.History.{after_read};
 ghost use Rattle.websocket.specs.CloseCode.{is_allowed};
 ghost use Rattle.websocket.specs.Content.{text as Text, ping as Ping, close as Close};
-ghost use Rattle.lobby_web.specs.Browsing.{web_config, pending, Answers, WantsBytes, IsOver, is_open, Takes, TakesBytes, Writes, HearsNext, SaysTo, IsNew};
+ghost use Rattle.lobby_web.specs.Browsing.{web_config, pending, Answers, WantsBytes, IsOver, is_open, Takes};
+ghost use Rattle.lobby_web.specs.Browsing.{TakesBytes, Writes, HearsNext, SaysTo, IsNew};
 
 use crate::answer::Asked;
 use crate::site::Site;

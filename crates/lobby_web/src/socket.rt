@@ -1,10 +1,12 @@
 //! The messages of a WebSocket, once HTTP has handed the connection over.
-ghost use Rattle.std.specs.Prelude.{◌≡◌, ◌≢◌, ◌++◌, ◌<◌, ◌≤◌, ◌↔◌, [], true, false, IsTrue, IfOk, IfErr, IfSome, OnOk, OnErr, IsUtf8, length, drop, option_map};
+ghost use Rattle.std.specs.Prelude.{◌≡◌, ◌≢◌, ◌++◌, ◌<◌, ◌≤◌, ◌↔◌, [], true, false, IsTrue, IfOk, IfErr, IfSome, OnOk};
+ghost use Rattle.std.specs.Prelude.{OnErr, IsUtf8, length, drop, option_map};
 ghost use Rattle.bytes.specs.Unread.{IsChunkOf};
 ghost use Rattle.websocket.specs.declared.protocol.config.Role.TheVariants.{Server};
 ghost use Rattle.lobby_web.specs.Codes.{code_of, IsFrameOf};
 ghost use Rattle.websocket.specs.CloseCode.{is_allowed};
-ghost use Rattle.websocket.specs.Content.{message_content, received_content, text as Text, ping as Ping, close as Close, IsReceivedInside};
+ghost use Rattle.websocket.specs.Content.{message_content, received_content, text as Text, ping as Ping};
+ghost use Rattle.websocket.specs.Content.{close as Close, IsReceivedInside};
 ghost use Rattle.websocket.specs.Connection.{read_step, failed_connection, can_write};
 ghost use Rattle.websocket.specs.View.{Returns, ReadLeaves, KeepsRest, GivesError, IfMessage};
 
@@ -118,7 +120,8 @@ fn frame_of(alloc: Global, message: &Option<Received>, input: &[u8]) -> Frame
 }
 
 impl Socket {
-    ghost use Rattle.lobby_web.specs.Talking.{IsFresh, TakesFrame, Reaches, Gives, Hears, Says, EndsWith, Keeps, TakesIn};
+    ghost use Rattle.lobby_web.specs.Talking.{IsFresh, TakesFrame, Reaches, Gives, Hears, Says, EndsWith, Keeps};
+    ghost use Rattle.lobby_web.specs.Talking.{TakesIn};
 
     /// A socket that begins with what HTTP left: bytes that came behind the upgrade, and what waits to be written.
     pub fn new(alloc: Global, input: BytesMut, output: Rope) -> Socket

@@ -1,22 +1,19 @@
--- The answers that come from the server.
-use Rattle.std.specs.Prelude.{ℕ, ◌≡◌, ◌-◌, ◌⊎◌, ◌==◌, ◌&&◌, ◌||◌, Bool, true, false, not, List, [], ◌∷◌, ◌++◌, codes}
-use Rattle.std.specs.Prelude.{Option, Some, None, if◌then◌else◌}
-use Rattle.std.specs.List.{starts_with, ends_with, before_first}
+-- What the answers of the server say, by the forms that `server_answers` reads.
+use Rattle.std.specs.Prelude.{ℕ, ◌≡◌, ◌-◌, ◌==◌, ◌||◌, Bool, true, false, List, [], ◌∷◌, ◌++◌, codes}
+use Rattle.std.specs.Prelude.{Option, Some, None, is_some, option_map, if◌then◌else◌}
+use Rattle.std.specs.List.{before_first}
 use Rattle.std.specs.Str.{bytes_eq}
 use Rattle.std.specs.String.{string_bytes}
 use Rattle.std.specs.declared.string.String.{String}
-use Rattle.player_name.specs.Name.{IsName}
+use Rattle.server_answers.specs.declared.games.Shown.{Shown}
+use Rattle.server_answers.specs.declared.refusals.Refusal.{Refusal}
+use Rattle.server_answers.specs.declared.refusals.Refusal.TheVariants as server_refusals
+use Rattle.server_answers.specs.Entered.{Entered, end_of, entered_in}
+use Rattle.server_answers.specs.Games.{shown_in}
+use Rattle.server_answers.specs.Heads.{lines_behind, pgn_in, fen_in}
+use Rattle.server_answers.specs.Refusals.{refusal_in}
 use Rattle.lobby_words.specs.declared.coming.Coming.{Coming}
-use Rattle.lobby_words.specs.Words.{word_of, rest_of, line_said, u32_in, number_or_0}
-
--- how many lines stand behind the first line of an answer: as many as `ok list K` and `ok pgn G K` say, and else none
-abbrev pub lines_behind : List ℕ → ℕ
-lines_behind line =
-    if bytes_eq (word_of line) (codes "ok")
-    then (if bytes_eq (word_of (rest_of line)) (codes "list") then number_or_0 (rest_of (rest_of line))
-    else (if bytes_eq (word_of (rest_of line)) (codes "pgn") then number_or_0 (rest_of (rest_of (rest_of line)))
-    else 0))
-    else 0
+use Rattle.lobby_words.specs.Words.{word_of, line_said, u32_in}
 
 -- How many lines of an answer are still to come behind a line, where so many were to come before it; 0 where none had
 -- come.
@@ -42,60 +39,64 @@ IsTaken old line (Some text) new =
     (is_whole old.left line ≡ true) × (string_bytes text ≡ answer (string_bytes old.text) line)
     × (string_bytes new.text ≡ [])
 
--- whether the server does what it was asked
-abbrev pub is_accepted : List ℕ → Bool
-is_accepted answer = starts_with (λ a b. a == b) answer (codes "ok ")
-
--- the name of White, and that of Black, in an answer to `show`: `ok show G WHITE BLACK ..`
-abbrev pub white_in : List ℕ → List ℕ
-white_in answer = word_of (rest_of (rest_of (rest_of answer)))
-
-abbrev pub black_in : List ℕ → List ℕ
-black_in answer = word_of (rest_of (rest_of (rest_of (rest_of answer))))
-
--- The answer to `show` says that this name has a seat in this game.
-pub record IsSeated (answer game name : List ℕ) : Type 0 where
-  pub accepted : word_of answer ≡ codes "ok"
-  pub shows : word_of (rest_of answer) ≡ codes "show"
-  pub numbered : word_of (rest_of (rest_of answer)) ≡ game
-  pub seat : (name ≡ white_in answer) ⊎ (name ≡ black_in answer)
-
--- It is White's name, where somebody is White.
-abbrev pub IsFirstSeated : List ℕ → List ℕ → Type 0
-IsFirstSeated answer name = IsName (white_in answer) → name ≡ white_in answer
-
--- The answer to `show` names nobody who has a seat in this game.
-abbrev pub IsSeatless : List ℕ → List ℕ → Type 0
-IsSeatless answer game = (name : List ℕ) → IsName name → IsSeated answer game name → ⊥
-
--- The answer to `show` says that one of the two seats is empty, which is told as `-`: the game waits for its second
--- player.
-abbrev pub has_empty_seat : List ℕ → Bool
-has_empty_seat answer = bytes_eq (white_in answer) (codes "-") || bytes_eq (black_in answer) (codes "-")
-
 -- what stands before the first line feed
 abbrev pub first_line : List ℕ → List ℕ
 first_line answer = before_first (λ b. b == 10) answer
 
--- the game in which an act was done, as its answer says: `ok WORD G ..`, or `fallen G ..`
-abbrev pub game_in : List ℕ → Option ℕ
-game_in line =
-    if bytes_eq (word_of line) (codes "ok") then u32_in (word_of (rest_of (rest_of line)))
-    else (if bytes_eq (word_of line) (codes "fallen") then u32_in (word_of (rest_of line)) else None)
-
+-- Of an act that was entered, as its answer tells: the game in which it was done, and whether that is over with it.
 abbrev pub act_game : List ℕ → Option ℕ
-act_game answer = game_in (first_line answer)
+act_game answer = option_map (λ (e : Entered). e.game) (entered_in (first_line answer))
 
--- whether a game goes on no more, as the answer to `show` says: it is shown, and its last field is the article by which
--- it ended, which is `-` while it goes on; or there is no such game (any more). Any other refusal says nothing of it.
-abbrev pub is_ended : List ℕ → Bool
-is_ended shown = is_accepted shown && not (ends_with (λ a b. a == b) shown (codes " -\n"))
+abbrev pub is_entered : List ℕ → Bool
+is_entered answer = is_some (entered_in (first_line answer))
 
-abbrev pub is_no_game : List ℕ → Bool
-is_no_game shown = starts_with (λ a b. a == b) shown (codes "no 3 ")
+abbrev pub has_end : Option Entered → Bool
+has_end None = false
+has_end (Some entered) = is_some (end_of entered.done)
+
+abbrev pub tells_end : List ℕ → Bool
+tells_end answer = has_end (entered_in (first_line answer))
+
+-- whether an answer tells how a game stands, its position, or its PGN
+abbrev pub is_shown : List ℕ → Bool
+is_shown answer = is_some (shown_in (first_line answer))
+
+abbrev pub is_position : List ℕ → Bool
+is_position answer = is_some (fen_in (first_line answer))
+
+abbrev pub is_pgn : List ℕ → Bool
+is_pgn answer = is_some (pgn_in (first_line answer))
+
+-- Whether a game goes on no more, as the answer to `show` tells: it is shown and has ended, or there is no such game
+-- (any more). Any other refusal says nothing of it.
+abbrev pub has_ended : Option Shown → Bool
+has_ended None = false
+has_ended (Some shown) = is_some shown.ending
+
+abbrev pub is_gone : Option Refusal → Bool
+is_gone (Some server_refusals.NoGame) = true
+is_gone _ = false
 
 abbrev pub is_over : List ℕ → Bool
-is_over shown = is_ended shown || is_no_game shown
+is_over answer = has_ended (shown_in (first_line answer)) || is_gone (refusal_in (first_line answer))
+
+-- who has one of two seats, where the other is empty
+abbrev pub alone : (white black : Option (List ℕ)) → Option (List ℕ)
+alone None black = black
+alone (Some white) None = Some white
+alone (Some white) (Some black) = None
+
+-- The player who waits for a second one in the game of this number, as the answer to `show` tells.
+abbrev pub alone_in : Shown → Option ℕ → Option (List ℕ)
+alone_in shown None = None
+alone_in shown (Some game) = if shown.game == game then alone shown.seats.white shown.seats.black else None
+
+abbrev pub alone_at : Option Shown → Option ℕ → Option (List ℕ)
+alone_at None game = None
+alone_at (Some shown) game = alone_in shown game
+
+abbrev pub lone_player : List ℕ → List ℕ → Option (List ℕ)
+lone_player answer number = alone_at (shown_in (first_line answer)) (u32_in number)
 
 -- whether those who are told of the table are told of an act whatever comes of it
 abbrev pub is_table_act : List ℕ → Bool

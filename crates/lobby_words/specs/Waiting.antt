@@ -1,14 +1,19 @@
 -- The games on the server's table, as its answers tell: each waits for a second player, goes on, or is over.
-use Rattle.std.specs.Prelude.{ℕ, Bool, true, false, [], ◌∷◌, ◌++◌, ◌&&◌, ◌||◌, ◌==◌, nat_le, List, length, codes}
-use Rattle.std.specs.Prelude.{Option, None, Some, if◌then◌else◌}
-use Rattle.std.specs.List.{list_all, list_any, flat_map, starts_with}
+use Rattle.std.specs.Prelude.{ℕ, Bool, true, false, [], ◌∷◌, ◌++◌, ◌&&◌, ◌||◌, nat_le, List, length, codes}
+use Rattle.std.specs.Prelude.{Option, None, Some, is_some, if◌then◌else◌}
+use Rattle.std.specs.List.{list_all, flat_map}
+use Rattle.std.specs.Option.{is_none}
 use Rattle.std.specs.Str.{bytes_eq}
 use Rattle.text_parts.specs.Parts.{parts_of}
 use Rattle.player_name.specs.Name.{is_name_byte}
 use Rattle.lobby_words.specs.declared.listing.Seat.{Seat}
 use Rattle.lobby_words.specs.declared.listing.Stage.{Stage}
 use Rattle.lobby_words.specs.declared.listing.Stage.TheVariants as stages
-use Rattle.lobby_words.specs.Words.{word_of, rest_of, line_said, u32_in}
+use Rattle.server_answers.specs.declared.games.Row.{Row}
+use Rattle.server_answers.specs.Games.{row_in}
+use Rattle.server_answers.specs.Heads.{list_in}
+use Rattle.lobby_words.specs.Answers.{first_line}
+use Rattle.lobby_words.specs.Words.{word_of, line_said}
 
 -- Whether a message opens a game, whether it joins one, and whether it is one by which a game waits no more: of a
 -- pairing that is its second act.
@@ -44,35 +49,31 @@ abbrev pub seat_of : Option ℕ → List ℕ → Stage → Option Seat
 seat_of None by stage = None
 seat_of (Some game) by stage = if is_name by then Some (record { game = game; by = by; stage = stage }) else None
 
-abbrev pub listed : Option Seat → List Seat
-listed None = []
-listed (Some seat) = seat ∷ []
+-- The seats in the game of a row: each of its players has one. Where one seat is empty the game waits for its second
+-- player; else it goes on while it has no result.
+abbrev pub stage_of : Row → Stage
+stage_of row =
+    if is_none row.seats.white || is_none row.seats.black then stages.Waits
+    else (if is_none row.result then stages.Plays else stages.Over)
 
--- The seats in the game of a row `G WHITE BLACK PLY RESULT`: that of who waits, where the other one is empty, which is
--- told as `-`; else both, of a game that goes on, which is told as `*`, or is over.
-abbrev pub result_in : List ℕ → List ℕ
-result_in row = word_of (rest_of (rest_of (rest_of (rest_of row))))
+abbrev pub listed : ℕ → Stage → Option (List ℕ) → List Seat
+listed game stage None = []
+listed game stage (Some by) = record { game = game; by = by; stage = stage } ∷ []
 
-abbrev pub stage_in : List ℕ → Stage
-stage_in row = if bytes_eq (result_in row) (codes "*") then stages.Plays else stages.Over
+abbrev pub seats_of : Row → List Seat
+seats_of row =
+    listed row.game (stage_of row) row.seats.white ++ listed row.game (stage_of row) row.seats.black
+
+abbrev pub seats_by : Option Row → List Seat
+seats_by None = []
+seats_by (Some row) = seats_of row
 
 abbrev pub seats_row : List ℕ → List Seat
-seats_row row =
-    if bytes_eq (word_of (rest_of row)) (codes "-")
-    then listed (seat_of (u32_in (word_of row)) (word_of (rest_of (rest_of row))) stages.Waits)
-    else (if bytes_eq (word_of (rest_of (rest_of row))) (codes "-")
-    then listed (seat_of (u32_in (word_of row)) (word_of (rest_of row)) stages.Waits)
-    else listed (seat_of (u32_in (word_of row)) (word_of (rest_of row)) (stage_in row))
-    ++ listed (seat_of (u32_in (word_of row)) (word_of (rest_of (rest_of row))) (stage_in row)))
-
--- whether an answer to an act tells that the game is over: the article by which it ended is the only word of any with a
--- full stop
-abbrev pub tells_end : List ℕ → Bool
-tells_end answer = list_any (λ b. b == 46) answer
+seats_row line = seats_by (row_in line)
 
 -- whether an answer is one to `list` that is accepted, and the seats in the games by its rows
 abbrev pub is_list : List ℕ → Bool
-is_list answer = starts_with (λ a b. a == b) answer (codes "ok list ")
+is_list answer = is_some (list_in (first_line answer))
 
 abbrev pub seats_in : List ℕ → List Seat
 seats_in answer = flat_map seats_row (parts_of 10 answer)

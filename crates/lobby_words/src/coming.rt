@@ -4,7 +4,7 @@ ghost use Rattle.std.specs.String.{string_bytes};
 ghost use Rattle.lobby_words.specs.Answers.{answer, IsTaken};
 ghost use Rattle.lobby_words.specs.Answers as answers;
 
-use crate::words::{cut_word, number_or_0};
+use server_answers::lines_behind;
 use std::alloc::{AllocError, Global};
 
 /// An answer of which not every line has come.
@@ -14,24 +14,6 @@ pub struct Coming {
     pub text: String,
     /// How many lines are still to come; 0 where none has.
     pub left: u32,
-}
-
-// How many lines stand behind the first line of an answer: as many as `ok list K` and `ok pgn G K` say, and else none.
-fn lines_behind(first: &str) -> u32
-    ensures { result ≡ answers.lines_behind first.now }
-{
-    let (word, rest) = cut_word(first);
-    let (kind, rest) = cut_word(rest);
-    let (_, last) = cut_word(rest);
-    if word != "ok" {
-        0
-    } else if kind == "list" {
-        number_or_0(rest)
-    } else if kind == "pgn" {
-        number_or_0(last)
-    } else {
-        0
-    }
 }
 
 impl Coming {

@@ -30,12 +30,13 @@ fn push_initial(text: &mut String, begins: bool, c: char) -> Result<(), AllocErr
     ensures { OnOk result (string_bytes text.new ≡ string_bytes text.old ++ initial_at begins c) }
 {
     if c == ' ' {
-        text.push(' ')?;
+        text.push(' ')
     } else if begins {
         text.push(c)?;
-        text.push('.')?;
+        text.push('.')
+    } else {
+        Ok(())
     }
-    Ok(())
 }
 
 // Appends the initials of a full name.

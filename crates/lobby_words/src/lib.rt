@@ -4,7 +4,7 @@
 //!
 //! Modules: `words` tells what the first word of a message says, `planning` what is done about the message, `refusals`
 //! what the lobby itself refuses, `naming` under which name a line goes. `coming` takes the server's answers line by
-//! line, `answers` tells what they say, and `listing` which games wait by them. `players` has a player and who holds a
+//! line, `answers` tells what they say by `server_answers`, and `listing` which games wait by them. `players` has a player and who holds a
 //! token, `linked` who has a new one, `renewing` who goes on when the players are others, `rows` how players are told,
 //! and `initials` what of their full names.
 #![tactic(auto)]
@@ -22,12 +22,14 @@ mod renewing;
 mod rows;
 mod words;
 
-pub use answers::{game_told, has_empty_seat, is_accepted, is_over, is_table_act, seated};
+pub use answers::{
+    first_line, game_told, is_entered, is_over, is_shown, is_table_act, lone_player, tells_end,
+};
 pub use coming::Coming;
 pub use initials::{NameForm, name_form, name_told, push_full_name};
 pub use linked::Linked;
 pub use listing::{
-    Seat, Stage, ends_wait, is_list, is_stage, joins_game, opens_game, seat_of, seats_in, tells_end,
+    Seat, Stage, ends_wait, is_list, is_stage, joins_game, opens_game, seat_of, seats_in,
 };
 pub use naming::{is_said, takes_name};
 pub use planning::{

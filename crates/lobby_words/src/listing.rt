@@ -1,10 +1,11 @@
 //! The games on the server's table, as its answers tell: each waits for a second player, goes on, or is over.
-ghost use Rattle.std.specs.Prelude.{◌≡◌, ◌++◌, true, IfOk, OnOk};
-ghost use Rattle.lobby_words.specs.Waiting.{opens_game, joins_game, ends_wait, is_stage, seat_of, listed, stage_in};
-ghost use Rattle.lobby_words.specs.Waiting.{seats_row, tells_end, is_list, seats_in};
+ghost use Rattle.std.specs.Prelude.{◌≡◌, ◌++◌, IfOk, OnOk};
+ghost use Rattle.lobby_words.specs.Waiting as spec;
 
-use crate::words::{cut_word, line_said, number_named};
+use crate::answers::first_line;
+use crate::words::{cut_word, line_said};
 use player_name::Name;
+use server_answers::{Row, list_head_of, row_of};
 use std::alloc::{AllocError, Global};
 use text_parts::parts;
 
@@ -29,19 +30,17 @@ pub struct Seat {
 
 /// Whether a game stands so.
 pub fn is_stage(stage: Stage, wanted: Stage) -> bool
-    ensures { result ≡ is_stage stage wanted }
+    ensures { result ≡ spec.is_stage stage wanted }
 {
-    match (stage, wanted) {
-        (Stage::Waits, Stage::Waits) => true,
-        (Stage::Plays, Stage::Plays) => true,
-        (Stage::Over, Stage::Over) => true,
-        _ => false,
-    }
+    matches!(
+        (stage, wanted),
+        (Stage::Waits, Stage::Waits) | (Stage::Plays, Stage::Plays) | (Stage::Over, Stage::Over)
+    )
 }
 
 /// Whether a message opens a game.
 pub fn opens_game(text: &str) -> bool
-    ensures { result ≡ opens_game text.now }
+    ensures { result ≡ spec.opens_game text.now }
 {
     let (word, _) = cut_word(line_said(text));
     word == "open"
@@ -49,7 +48,7 @@ pub fn opens_game(text: &str) -> bool
 
 /// Whether a message joins a game.
 pub fn joins_game(text: &str) -> bool
-    ensures { result ≡ joins_game text.now }
+    ensures { result ≡ spec.joins_game text.now }
 {
     let (word, _) = cut_word(line_said(text));
     word == "join"
@@ -57,108 +56,79 @@ pub fn joins_game(text: &str) -> bool
 
 /// Whether a message is one by which a game waits no more; of a pairing that is its second act.
 pub fn ends_wait(text: &str) -> bool
-    ensures { result ≡ ends_wait text.now }
+    ensures { result ≡ spec.ends_wait text.now }
 {
     let (word, _) = cut_word(line_said(text));
-    let is_join = word == "join";
-    let is_drop = word == "drop";
-    let is_pair = word == "pair";
-    is_join | is_drop | is_pair
+    word == "join" || word == "drop" || word == "pair"
 }
 
 #[tactic(auto, using(crate::proofs::Names::name_is, crate::proofs::Names::name_is_not))]
 /// A seat of this player in the game of a number, which stands so; none where no player can have the name.
 pub fn seat_of(game: Option<u32>, seated: &str, stage: Stage) -> Option<Seat>
-    ensures { result ≡ seat_of game seated.now stage }
+    ensures { result ≡ spec.seat_of game seated.now stage }
 {
-    match game {
-        None => None,
-        Some(game) => match Name::try_new(seated) {
-            Some(by) => Some(Seat { game, by, stage }),
-            None => None,
-        },
-    }
+    let game = game?;
+    let by = Name::try_new(seated)?;
+    Some(Seat { game, by, stage })
 }
 
-// Puts a seat behind others, if it is one.
-fn push_seat(seats: &mut Vec<Seat>, seat: Option<Seat>) -> Result<(), AllocError>
-    ensures { OnOk result (seats.new.items ≡ seats.old.items ++ listed seat) }
+// How the game of a row stands.
+fn stage_of(row: &Row) -> Stage
+    ensures { result ≡ spec.stage_of row.now }
 {
-    match seat {
-        None => Ok(()),
-        Some(one) => {
-            seats.push(one)?;
-            Ok(())
-        }
-    }
-}
-
-// Puts the two seats of a game that stands so behind others.
-fn push_both(
-    seats: &mut Vec<Seat>,
-    game: Option<u32>,
-    white: &str,
-    black: &str,
-    stage: Stage,
-) -> Result<(), AllocError>
-    ensures { OnOk result (seats.new.items
-        ≡ seats.old.items ++ (listed (seat_of game white.now stage) ++ listed (seat_of game black.now stage))) }
-{
-    push_seat(seats, seat_of(game, white, stage))?;
-    push_seat(seats, seat_of(game, black, stage))?;
-    Ok(())
-}
-
-// How the game of a row stands, in which both sit.
-fn stage_in(row: &str) -> Stage
-    ensures { result ≡ stage_in row.now }
-{
-    let (_, rest) = cut_word(row);
-    let (_, rest) = cut_word(rest);
-    let (_, rest) = cut_word(rest);
-    let (_, rest) = cut_word(rest);
-    let (result, _) = cut_word(rest);
-    if result == "*" {
+    if row.seats.white.is_none() || row.seats.black.is_none() {
+        Stage::Waits
+    } else if row.result.is_none() {
         Stage::Plays
     } else {
         Stage::Over
     }
 }
 
-// Puts the seats in the game of a row `G WHITE BLACK PLY RESULT` behind others.
-fn add_row(seats: &mut Vec<Seat>, row: &str) -> Result<(), AllocError>
-    ensures { OnOk result (seats.new.items ≡ seats.old.items ++ seats_row row.now) }
+// Puts the seat of a player behind others, if there is one.
+fn push_seat(
+    seats: &mut Vec<Seat>,
+    game: u32,
+    by: Option<Name>,
+    stage: Stage,
+) -> Result<(), AllocError>
+    ensures { OnOk result (seats.new.items ≡ seats.old.items ++ spec.listed game stage by) }
 {
-    let (number, rest) = cut_word(row);
-    let (white, rest) = cut_word(rest);
-    let (black, _) = cut_word(rest);
-    let game = number_named(number);
-    if white == "-" {
-        push_seat(seats, seat_of(game, black, Stage::Waits))
-    } else if black == "-" {
-        push_seat(seats, seat_of(game, white, Stage::Waits))
-    } else {
-        push_both(seats, game, white, black, stage_in(row))
+    if let Some(by) = by {
+        seats.push(Seat { game, by, stage })?;
     }
+    Ok(())
 }
 
-/// Whether an answer to an act tells that the game is over.
-pub fn tells_end(answer: &str) -> bool
-    ensures { result ≡ tells_end answer.now }
+// Puts the seats in the game of a row behind others.
+fn push_seats(seats: &mut Vec<Seat>, row: &Row) -> Result<(), AllocError>
+    ensures { OnOk result (seats.new.items ≡ seats.old.items ++ spec.seats_of row.now) }
 {
-    answer.as_bytes().iter().any(|byte| *byte == b'.')
+    let stage = stage_of(row);
+    push_seat(seats, row.game, row.seats.white, stage)?;
+    push_seat(seats, row.game, row.seats.black, stage)
+}
+
+// The same of a line, if it is a row.
+fn add_row(seats: &mut Vec<Seat>, line: &str) -> Result<(), AllocError>
+    ensures { OnOk result (seats.new.items ≡ seats.old.items ++ spec.seats_row line.now) }
+{
+    match row_of(line) {
+        None => Ok(()),
+        Some(row) => push_seats(seats, &row),
+    }
 }
 
 /// Whether an answer is one to `list` that is accepted.
 pub fn is_list(answer: &str) -> bool
-    ensures { result ≡ is_list answer.now }
+    ensures { result ≡ spec.is_list answer.now }
 {
-    answer.starts_with("ok list ")
+    list_head_of(first_line(answer)).is_some()
 }
 
 /// The seats in the games by the rows of the answer to `list`.
 pub fn seats_in(alloc: Global, list: &str) -> Result<Vec<Seat>, AllocError>
-    ensures { IfOk result (λ seats. seats.items ≡ seats_in list.now) }
+    ensures { IfOk result (λ seats. seats.items ≡ spec.seats_in list.now) }
 {
     let rows = parts(alloc, list, '\n')?;
     let mut seats = Vec::new(alloc);

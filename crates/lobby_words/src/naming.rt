@@ -4,7 +4,6 @@ ghost use Rattle.player_name.specs.Name.{IsName};
 ghost use Rattle.lobby_words.specs.Naming as naming;
 
 use crate::answers::first_line;
-use crate::words::cut_word;
 use player_name::Name;
 
 /// Whether the name was said last.
@@ -23,7 +22,5 @@ pub fn is_said(said: &Option<Name>, name: &Name) -> bool
 pub fn takes_name(name: &Name, answer: &str) -> bool
     ensures { result ≡ naming.takes_name name.now answer.now }
 {
-    let (ok, rest) = cut_word(first_line(answer));
-    let (word, said) = cut_word(rest);
-    ok == "ok" && word == "name" && said == name.as_str()
+    server_answers::takes_name(name.as_str(), first_line(answer))
 }

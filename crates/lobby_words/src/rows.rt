@@ -1,20 +1,24 @@
 //! How players are told.
 ghost use Rattle.std.specs.Prelude.{◌≡◌, ◌++◌, ◌∷◌, [], codes, decimal, length, filter, IfOk, OnOk, find};
-ghost use Rattle.std.specs.Prelude.{if◌then◌else◌};
-ghost use Rattle.std.specs.List.{flat_map};
+ghost use Rattle.std.specs.Prelude.{ℕ, List, if◌then◌else◌};
+ghost use Rattle.std.specs.HashSet.{contains_text};
+ghost use Rattle.std.specs.List.{flat_map, list_any};
 ghost use Rattle.std.specs.Option.{option_copied};
 ghost use Rattle.std.specs.Str.{bytes_eq};
 ghost use Rattle.std.specs.String.{string_bytes};
 ghost use Rattle.lobby_words.specs.Answers.{ended};
 ghost use Rattle.lobby_words.specs.declared.initials.NameForm.TheVariants as forms;
+ghost use Rattle.lobby_words.specs.declared.listing.Seat.{Seat};
+ghost use Rattle.lobby_words.specs.declared.players.Player.{Player};
 ghost use Rattle.lobby_words.specs.Players.{role_text, row_in, known_name, full_name_of, login_text, players_text};
-ghost use Rattle.lobby_words.specs.Players.{is_seated, seated_text, who_front, who_text};
+ghost use Rattle.lobby_words.specs.Players.{seated_text, who_front, who_text};
 
 use crate::players::Player;
 use crate::{Identity, NameForm, Seat, push_full_name};
 use itoa::Buffer;
 use player_name::Name;
 use std::alloc::{AllocError, Global};
+use std::collections::HashSet;
 
 fn role_text(is_arbiter: bool) -> &'static str
     ensures { result.now ≡ role_text is_arbiter }
@@ -100,22 +104,32 @@ pub fn player_rows(alloc: Global, players: &[Player]) -> Result<String, AllocErr
     Ok(text)
 }
 
-// Whether a player has one of these seats.
-fn is_seated(player: &Player, seats: &[Seat]) -> bool
-    ensures { result ≡ is_seated seats.now player.now }
+// The names of those who have these seats. Each seat is looked at once, and then each player.
+fn names_seated(alloc: Global, seats: &[Seat]) -> Result<HashSet<String>, AllocError>
+    ensures { IfOk result (λ names. (one : List ℕ) →
+        contains_text names one ≡ list_any (λ (s : Seat). bytes_eq s.by one) seats.now) }
 {
-    seats
-        .iter()
-        .any(|seat| seat.by.as_str() == player.name.as_str())
+    let mut names = HashSet::new(alloc);
+    for seat in seats {
+        names.insert(String::from_str(alloc, seat.by.as_str())?)?;
+    }
+    Ok(names)
 }
 
-// How many players have one of these seats.
-fn count_seated(players: &[Player], seats: &[Seat]) -> usize
-    ensures { result ≡ length (filter (is_seated seats.now) players.now) }
+// Whether a player is one of these.
+fn is_among(names: &HashSet<String>, player: &Player) -> bool
+    ensures { result ≡ contains_text names.now player.now.name }
+{
+    names.contains(player.name.as_str())
+}
+
+// How many players are among these.
+fn count_among(names: &HashSet<String>, players: &[Player]) -> usize
+    ensures { result ≡ length (filter (λ (p : Player). contains_text names.now p.name) players.now) }
 {
     players
         .iter()
-        .filter(|player| is_seated(player, seats))
+        .filter(|player| is_among(names, player))
         .count()
 }
 
@@ -145,9 +159,10 @@ pub fn seated_rows(
 ) -> Result<String, AllocError>
     ensures { IfOk result (λ text. string_bytes text ≡ seated_text form seats.now players.now) }
 {
-    let mut text = headed(alloc, "ok players ", count_seated(players, seats) as u64)?;
+    let names = names_seated(alloc, seats)?;
+    let mut text = headed(alloc, "ok players ", count_among(&names, players) as u64)?;
     for player in players {
-        push_if(&mut text, form, is_seated(player, seats), player)?;
+        push_if(&mut text, form, is_among(&names, player), player)?;
     }
     Ok(text)
 }

@@ -111,14 +111,13 @@ fn is_read(text: &str) -> bool
 pub fn is_play_word(word: &str) -> bool
     ensures { result ≡ words.is_play_word word.now }
 {
-    let play = word == "move";
-    let offer = word == "offer";
-    let accept = word == "accept";
-    let decline = word == "decline";
-    let resign = word == "resign";
-    let claim = word == "claim";
-    let flag = word == "flag";
-    play | offer | accept | decline | resign | claim | flag
+    word == "move"
+        || word == "offer"
+        || word == "accept"
+        || word == "decline"
+        || word == "resign"
+        || word == "claim"
+        || word == "flag"
 }
 
 // Whether a line of the server with this word is an act, but `drop`.
@@ -126,10 +125,7 @@ pub fn is_play_word(word: &str) -> bool
 fn is_act_word(word: &str) -> bool
     ensures { result ≡ words.is_act_word word.now }
 {
-    let opening = word == "open";
-    let join = word == "join";
-    let play = is_play_word(word);
-    opening | join | play
+    word == "open" || word == "join" || is_play_word(word)
 }
 
 /// The name in a message `as NAME LINE`.
@@ -300,8 +296,5 @@ pub fn number_named(text: &str) -> Option<u32>
 pub fn number_or_0(text: &str) -> u32
     ensures { result ≡ words.number_or_0 text.now }
 {
-    match number_named(text) {
-        Some(number) => number,
-        None => 0,
-    }
+    number_named(text).unwrap_or(0)
 }

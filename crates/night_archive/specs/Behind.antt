@@ -1,5 +1,6 @@
 -- What may stand behind the lines of an archive's file.
-use Rattle.std.specs.Prelude.{ℕ, ◌==◌, ◌&&◌, ◌||◌, ◌-◌, Bool, false, not, nat_le, List, [], ◌∷◌, codes, length, drop, take}
+use Rattle.std.specs.Prelude.{ℕ, ◌==◌, ◌&&◌, ◌||◌, ◌-◌, Bool, false, not, nat_le, List, [], ◌∷◌, codes, length, drop}
+use Rattle.std.specs.Prelude.{take}
 use Rattle.std.specs.List.{list_any, starts_with}
 use Rattle.night_files.specs.Torn.{begins}
 use Rattle.text_parts.specs.Signs.{line_feed}

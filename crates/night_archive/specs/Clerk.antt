@@ -1,5 +1,6 @@
 -- What the clerk knows, and what it does.
-use Rattle.std.specs.Prelude.{ℕ, ◌≡◌, Bool, true, false, ◌&&◌, ◌||◌, not, ◌==◌, List, [], ◌∷◌, ◌++◌, Option, None, Some, is_none, if◌then◌else◌}
+use Rattle.std.specs.Prelude.{ℕ, ◌≡◌, Bool, true, false, ◌&&◌, ◌||◌, not, ◌==◌, List, [], ◌∷◌, ◌++◌, Option, None, Some}
+use Rattle.std.specs.Prelude.{is_none, if◌then◌else◌}
 use Rattle.std.specs.BTreeMap as map
 use Rattle.std.specs.BTreeSet as set
 use Rattle.std.specs.Ordering.{nat_cmp}
@@ -48,11 +49,14 @@ drops old game = is_kept (old.stage game) && (old.has game && not (contains game
 -- how far a game is that is seen to be over
 abbrev pub seen : View → ℕ → Bool → Option Stage
 seen old game droppable =
-    if is_none (old.stage game) then (if droppable || not (old.has game) then Some stages.Asked else Some stages.Found) else old.stage game
+    if is_none (old.stage game) then (if droppable || not
+    (old.has game) then Some stages.Asked else Some stages.Found) else old.stage game
 
 -- how far it is when its PGN has come
 abbrev pub come : View → ℕ → Bool → Option Stage
-come old game same = if is_asked (old.stage game) then (if old.has game && not same then Some stages.Found else Some stages.Kept) else old.stage game
+come old game same =
+    if is_asked (old.stage game) then (if old.has game
+    && not same then Some stages.Found else Some stages.Kept) else old.stage game
 
 abbrev pub left : View → ℕ → Option Stage
 left old game = if drops old game then Some stages.Dropped else old.stage game
@@ -84,7 +88,8 @@ pub record IsSynced (old new : View) : Type 0 where
 -- what the clerk decides about what happens, and what it knows then
 abbrev pub IsStep : View → Step → View → Type 0
 IsStep old (Begun archive) new = Begins archive new
-IsStep old (Over game droppable says) new = (says ≡ asks old game droppable) × IsStaged old game (seen old game droppable) new
+IsStep old (Over game droppable says) new =
+    (says ≡ asks old game droppable) × IsStaged old game (seen old game droppable) new
 IsStep old (Came game same says) new = (says ≡ puts old game) × IsCome old game same says new
 IsStep old (Refused game) new = IsStaged old game None new
 IsStep old Synced new = IsSynced old new

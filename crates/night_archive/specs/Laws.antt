@@ -60,10 +60,12 @@ is_sent (s ∷ past) game = sent_after s game (is_sent past game)
 -- there, since before a sync that has answered; and once.
 abbrev pub may_go : List Step → ℕ → Bool
 may_go past game =
-    (is_matched past game && not (is_sent past game)) && (contains game (archive_in past) && not (contains game (fresh_in past)))
+    (is_matched past game && not (is_sent past game))
+    && (contains game (archive_in past) && not (contains game (fresh_in past)))
 
 abbrev pub IsRightStep : Step → List Step → Type 0
-IsRightStep (Over game droppable asks) past = asks ≡ (not (is_seen past game) && (droppable || not (contains game (archive_in past))))
+IsRightStep (Over game droppable asks) past =
+    asks ≡ (not (is_seen past game) && (droppable || not (contains game (archive_in past))))
 IsRightStep (Came game same puts) past = puts ≡ (is_waiting past game && not (contains game (archive_in past)))
 IsRightStep (Left game drops) past = drops ≡ may_go past game
 IsRightStep _ past = Unit {0}

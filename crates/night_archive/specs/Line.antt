@@ -1,5 +1,6 @@
 -- A game's line in the archive, which is an object of JSON.
-use Rattle.std.specs.Prelude.{ℕ, Bool, false, ◌==◌, ◌||◌, ◌&&◌, not, nat_le, List, ◌++◌, codes, decimal, Option, Some, None, drop, if◌then◌else◌}
+use Rattle.std.specs.Prelude.{ℕ, Bool, false, ◌==◌, ◌||◌, ◌&&◌, not, nat_le, List, ◌++◌, codes, decimal, Option, Some}
+use Rattle.std.specs.Prelude.{None, drop, if◌then◌else◌}
 use Rattle.std.specs.List.{list_all, before_first, after_first}
 use Rattle.std.specs.Str.{bytes_eq}
 use Rattle.text_parts.specs.Signs.{line_feed, comma, colon}

@@ -21,7 +21,8 @@ pub record IsAsking (game : ℕ) (now : View) (is_safe is_matched : ℕ → Bool
 
 -- Of each game that was seen, whose drop is not to be sent yet, it is settled what comes of it while games are dropped.
 abbrev pub AreSettled : View → Bool → (ℕ → Bool) → Type 0
-AreSettled now drops is_settled = drops ≡ true → (g : ℕ) → is_some (now.stage g) ≡ true → is_kept (now.stage g) ≡ false → is_settled g ≡ true
+AreSettled now drops is_settled =
+    drops ≡ true → (g : ℕ) → is_some (now.stage g) ≡ true → is_kept (now.stage g) ≡ false → is_settled g ≡ true
 
 -- the same, but of one game
 abbrev pub AreSettledBut : ℕ → View → Bool → (ℕ → Bool) → Type 0
@@ -62,4 +63,5 @@ AreDone is_safe has_left games = (g : ℕ) → contains g games ≡ true → (is
 
 -- while games are dropped, it is settled of each of these games what comes of it, or it has left the table
 abbrev pub AreSettledOf : Bool → (ℕ → Bool) → (ℕ → Bool) → List ℕ → Type 0
-AreSettledOf drops is_settled has_left games = drops ≡ true → (g : ℕ) → contains g games ≡ true → (is_settled g || has_left g) ≡ true
+AreSettledOf drops is_settled has_left games =
+    drops ≡ true → (g : ℕ) → contains g games ≡ true → (is_settled g || has_left g) ≡ true

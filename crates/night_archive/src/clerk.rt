@@ -62,7 +62,8 @@ fn stage_of(stages: &BTreeMap<u32, Stage>, game: u32) -> Option<Stage>
 
 // A game is so far from now on.
 fn put(stages: &mut BTreeMap<u32, Stage>, game: u32, stage: Stage) -> Result<(), AllocError>
-    ensures { OnOk result ((g : ℕ) → map.get nat_cmp stages.new g ≡ (if game == g then Some stage else map.get nat_cmp stages.old g)) }
+    ensures { OnOk result ((g : ℕ) → map.get nat_cmp stages.new g
+        ≡ (if game == g then Some stage else map.get nat_cmp stages.old g)) }
 {
     stages.insert(game, stage)?;
     Ok(())
@@ -77,7 +78,8 @@ fn take_off(stages: &mut BTreeMap<u32, Stage>, game: u32)
 
 // A game stands in the archive.
 fn keep(kept: &mut BTreeSet<u32>, game: u32) -> Result<(), AllocError>
-    ensures { OnOk result ((g : ℕ) → set.contains nat_cmp kept.new g ≡ (if game == g then true else set.contains nat_cmp kept.old g)) }
+    ensures { OnOk result ((g : ℕ) → set.contains nat_cmp kept.new g
+        ≡ (if game == g then true else set.contains nat_cmp kept.old g)) }
 {
     kept.insert(game)?;
     Ok(())

@@ -4,7 +4,8 @@ ghost use Rattle.night_archive.specs.Steps.{Step};
 ghost use Rattle.night_files.specs.File.{IsFront};
 ghost use Rattle.night_archive.specs.Files.{contains, archive_in, safe_in, IsHonest};
 ghost use Rattle.night_archive.specs.Clerk.{View, IsRun};
-ghost use Rattle.night_archive.specs.Laws.{IsOnce, is_seen, is_waiting, is_dropped, was_over, AllRight, AllDrops, AllHanded};
+ghost use Rattle.night_archive.specs.Laws.{IsOnce, is_seen, is_waiting, is_dropped, was_over, AllRight, AllDrops};
+ghost use Rattle.night_archive.specs.Laws.{AllHanded};
 
 /// Each decision is the one that follows from what happened before, and no other.
 pub fn law_of_decisions()
@@ -18,7 +19,8 @@ pub fn law_of_decisions()
 pub fn law_of_drops()
     ensures sent { (steps : List Step) (now : View) → IsRun steps now → AllDrops steps }
     ensures handed { (steps : List Step) (now : View) → IsRun steps now → IsHonest steps → AllHanded steps }
-    ensures kept { (steps : List Step) (now : View) → IsRun steps now → IsHonest steps → (game : ℕ) → is_dropped steps game ≡ true → contains game (safe_in steps) ≡ true }
+    ensures kept { (steps : List Step) (now : View) → IsRun steps now → IsHonest steps → (game : ℕ)
+        → is_dropped steps game ≡ true → contains game (safe_in steps) ≡ true }
 {}
 
 /// In each such run no game stands in the archive twice, and none that was never seen to be over; and each game that
@@ -33,5 +35,6 @@ pub fn law_of_games()
 
 /// What was safe once stands in the archive at each later moment, in its place.
 pub fn law_of_safety()
-    ensures { (later earlier : List Step) → IsHonest (later ++ earlier) → IsFront (safe_in earlier) (archive_in (later ++ earlier)) }
+    ensures { (later earlier : List Step) → IsHonest (later ++ earlier)
+        → IsFront (safe_in earlier) (archive_in (later ++ earlier)) }
 {}

@@ -1,8 +1,10 @@
 //! What is done about the games of a table that are over.
-ghost use Rattle.std.specs.Prelude.{ℕ, ◌≡◌, ◌==◌, ◌||◌, Bool, true, false, not, is_none, is_some, OnOk, OnErr, IfOk, IfSome};
+ghost use Rattle.std.specs.Prelude.{ℕ, ◌≡◌, ◌==◌, ◌||◌, Bool, true, false, not, is_none, is_some, OnOk, OnErr, IfOk};
+ghost use Rattle.std.specs.Prelude.{IfSome};
 ghost use Rattle.night_archive.specs.Files.{contains};
 ghost use Rattle.night_archive.specs.Clerk.{view};
-ghost use Rattle.night_archive.specs.Night.{IsTold, IsAsking, AreSettled, AreSettledBut, IsLater, Stays, BecomesAt, StaysBut, IsOnlyAt, IsNowhere, AreAll, AreDone, AreSettledOf};
+ghost use Rattle.night_archive.specs.Night.{IsTold, IsAsking, AreSettled, AreSettledBut, IsLater, Stays, BecomesAt};
+ghost use Rattle.night_archive.specs.Night.{StaysBut, IsOnlyAt, IsNowhere, AreAll, AreDone, AreSettledOf};
 
 use crate::clerk::Clerk;
 use std::alloc::{AllocError, Global};
@@ -74,7 +76,8 @@ pub trait Night {
         ensures matched { IfOk result (λ is_same. BecomesAt game is_same (is_matched self.old) (is_matched self.new)) }
         ensures unmatched { OnErr result (BecomesAt game false (is_matched self.old) (is_matched self.new)) }
         ensures unwatched { IsNowhere (is_unwatched self.new) }
-        ensures settled { IfOk result (λ is_same. BecomesAt game (not is_same) (is_settled self.old) (is_settled self.new)) };
+        ensures settled { IfOk result (λ is_same. BecomesAt game (not is_same) (is_settled self.old)
+            (is_settled self.new)) };
 
     /// Puts the PGN of a game that is over and not there, which the table told last, into the archive, and syncs. `Ok`
     /// says that the sync has answered.
@@ -102,7 +105,8 @@ pub trait Night {
         ensures matched { Stays (is_matched self.old) (is_matched self.new) }
         ensures unwatched { IfOk result (λ is_left. IsOnlyAt game is_left (is_unwatched self.new)) }
         ensures unknown { OnErr result (IsNowhere (is_unwatched self.new)) }
-        ensures settled { IfOk result (λ is_left. BecomesAt game (not is_left) (is_settled self.old) (is_settled self.new)) };
+        ensures settled { IfOk result (λ is_left. BecomesAt game (not is_left) (is_settled self.old)
+            (is_settled self.new)) };
 
     /// Sends a drop for a game that is over, which has to be safe: where games are dropped, the archive has just the
     /// PGN that the table told last of it, and it stays for nobody who looks at it, as was asked last. It answers
@@ -192,7 +196,8 @@ fn look_at<N: Night>(
     ensures later { OnOk result (IsLater (N.has_left night.old) (N.has_left night.new)) }
     ensures fewer { OnOk result (N.drops_games night.new ≡ true → N.drops_games night.old ≡ true) }
     ensures settled { OnOk result (AreSettled (view clerk.new) (N.drops_games night.new) (N.is_settled night.new)) }
-    ensures here { OnOk result (N.drops_games night.new ≡ true → (N.is_settled night.new game || N.has_left night.new game) ≡ true) }
+    ensures here { OnOk result (N.drops_games night.new ≡ true
+        → (N.is_settled night.new game || N.has_left night.new game) ≡ true) }
     ensures others { OnOk result (StaysBut game (N.is_settled night.old) (N.is_settled night.new)) }
 {
     if clerk.over(game, droppable)? && !take_in(night, clerk, game)? {
@@ -207,7 +212,8 @@ fn look_at<N: Night>(
 // A clerk who knows the archive of a night, all of which is safe.
 fn clerk_of<N: Night>(night: &N, alloc: Global) -> Result<Clerk, AllocError>
     ensures told { IfOk result (λ clerk. IsTold (view clerk) (N.is_safe night.now) (N.is_matched night.now)) }
-    ensures settled { IfOk result (λ clerk. AreSettled (view clerk) (N.drops_games night.now) (N.is_settled night.now)) }
+    ensures settled { IfOk result (λ clerk. AreSettled (view clerk) (N.drops_games night.now)
+        (N.is_settled night.now)) }
 {
     let mut clerk = Clerk::new(alloc, night.games())?;
     clerk.synced();
@@ -221,7 +227,8 @@ fn clerk_of<N: Night>(night: &N, alloc: Global) -> Result<Clerk, AllocError>
 pub fn look<N: Night>(night: &mut N, alloc: Global, over: &[u32]) -> Result<(), N::Fault>
     requires { AreAll (N.is_over night.now) over.now }
     ensures done { OnOk result (AreDone (N.is_safe night.new) (N.has_left night.new) over.now) }
-    ensures settled { OnOk result (AreSettledOf (N.drops_games night.new) (N.is_settled night.new) (N.has_left night.new) over.now) }
+    ensures settled { OnOk result (AreSettledOf (N.drops_games night.new) (N.is_settled night.new)
+        (N.has_left night.new) over.now) }
 {
     let mut clerk = clerk_of(night, alloc)?;
     for game in over {

@@ -106,7 +106,8 @@ fn put_among(games: &mut BTreeSet<u32>, game: u32) -> Result<(), AllocError>
 
 // A game is not among games any more.
 fn take_off(games: &mut BTreeSet<u32>, game: u32)
-    ensures { (g : ℕ) → set.contains nat_cmp games.new g ≡ (if game == g then false else set.contains nat_cmp games.old g) }
+    ensures { (g : ℕ) → set.contains nat_cmp games.new g
+        ≡ (if game == g then false else set.contains nat_cmp games.old g) }
 {
     games.remove(&game);
 }

@@ -46,11 +46,17 @@ turned scores.Open = scores.Open
 -- `w`, and White's opponent; without one a bye, `U`, which is a win
 abbrev pub white_cell : Meeting → Option ℕ → Cell
 white_cell m None = record { opponent = 0; colour = 45; sign = 85; halves = 2 }
-white_cell m (Some black) = record { opponent = black; colour = 119; sign = white_sign m.score m.play; halves = white_halves m.score }
+white_cell m (Some black) =
+    record { opponent = black; colour = 119; sign = white_sign m.score m.play; halves = white_halves m.score }
 
 abbrev pub black_cell : Meeting → Cell
 black_cell m =
-    record { opponent = m.white; colour = 98; sign = white_sign (turned m.score) m.play; halves = white_halves (turned m.score) }
+    record {
+      opponent = m.white;
+      colour = 98;
+      sign = white_sign (turned m.score) m.play;
+      halves = white_halves (turned m.score);
+    }
 
 -- who is not paired: `Z`, no point
 abbrev pub absent : Cell

@@ -1,5 +1,6 @@
 -- A tournament report, FIDE's TRF-16: lines of fixed columns. Columns are counted in characters from 1 on.
-use Rattle.std.specs.Prelude.{ℕ, zero, suc, ◌+◌, ◌-◌, ◌/◌, ◌%◌, ◌==◌, Bool, not, nat_lt, List, [], ◌∷◌, ◌++◌, length, replicate, codes, decimal, map, flat_map, Option, None, Some, if◌then◌else◌}
+use Rattle.std.specs.Prelude.{ℕ, zero, suc, ◌+◌, ◌-◌, ◌/◌, ◌%◌, ◌==◌, Bool, not, nat_lt, List, [], ◌∷◌, ◌++◌, length}
+use Rattle.std.specs.Prelude.{replicate, codes, decimal, map, flat_map, Option, None, Some, if◌then◌else◌}
 use Rattle.night_report.specs.declared.cells.Cell.{Cell}
 use Rattle.night_report.specs.declared.cells.Meeting.{Meeting}
 use Rattle.night_report.specs.declared.columns.Tournament.{Tournament}
@@ -40,7 +41,8 @@ opponent_text n = if n == 0 then codes "0000" else at_right 4 (decimal n)
 
 -- a round in ten columns: two spaces, the opponent, a space, the colour, a space, the result
 unfoldable pub cell_text : Cell → List ℕ
-cell_text cell = codes "  " ++ (opponent_text cell.opponent ++ (codes " " ++ (cell.colour ∷ (codes " " ++ (cell.sign ∷ [])))))
+cell_text cell =
+    codes "  " ++ (opponent_text cell.opponent ++ (codes " " ++ (cell.colour ∷ (codes " " ++ (cell.sign ∷ [])))))
 
 abbrev pub cells_text : ℕ → List (List Meeting) → List ℕ
 cells_text n rounds = flat_map (λ round. cell_text (cell_in n round)) rounds
@@ -64,12 +66,14 @@ better_than halves (other ∷ others) = (if nat_lt halves other then 1 else 0) +
 -- number and the date of birth, 10 to 13 and 49 to 79, are not known.
 unfoldable pub front_text : ℕ → List ℕ → List ℕ
 front_text n name =
-    codes "001 " ++ (at_right 4 (decimal n) ++ (replicate 6 space ++ (at_left 33 (map plain_byte name) ++ replicate 33 space)))
+    codes "001 " ++ (at_right 4 (decimal n) ++ (replicate 6 space
+    ++ (at_left 33 (map plain_byte name) ++ replicate 33 space)))
 
 -- Columns 81 to 89: the points, and the place among players of all these half points.
 unfoldable pub standing_text : List (List Meeting) → List ℕ → ℕ → List ℕ
 standing_text rounds all n =
-    at_right 4 (points_text (halves_in n rounds)) ++ (codes " " ++ at_right 4 (decimal (better_than (halves_in n rounds) all + 1)))
+    at_right 4 (points_text (halves_in n rounds)) ++
+    (codes " " ++ at_right 4 (decimal (better_than (halves_in n rounds) all + 1)))
 
 -- The line of a player among these: columns 92 to 99 have the first round, and so on.
 unfoldable pub player_line : List (List Meeting) → List ℕ → ℕ → List ℕ → List ℕ
@@ -93,7 +97,8 @@ place_text e =
 
 -- how many players there are, how many of them are known to have a rating, and how many teams
 unfoldable pub counts_text : ℕ → List ℕ
-counts_text count = line_of (codes "062") (decimal count) ++ (line_of (codes "072") (codes "0") ++ line_of (codes "082") (codes "0"))
+counts_text count =
+    line_of (codes "062") (decimal count) ++ (line_of (codes "072") (codes "0") ++ line_of (codes "082") (codes "0"))
 
 -- of which kind it is, who directs it, and the times
 unfoldable pub kind_text : Tournament → List ℕ
@@ -106,4 +111,5 @@ tournament_text e count = place_text e ++ (counts_text count ++ (kind_text e ++ 
 
 -- the report of these players, who are numbered from 1 on in their order
 unfoldable pub report_text : Tournament → List (List ℕ) → List (List Meeting) → List ℕ
-report_text e names rounds = tournament_text e (length names) ++ players_text rounds (all_halves rounds (length names)) 1 names
+report_text e names rounds =
+    tournament_text e (length names) ++ players_text rounds (all_halves rounds (length names)) 1 names

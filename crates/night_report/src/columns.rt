@@ -1,5 +1,6 @@
 //! A tournament's report.
-ghost use Rattle.std.specs.Prelude.{◌≡◌, ◌++◌, ◌∷◌, [], ◌≤◌, ◌<◌, ◌*◌, ◌^◌, length, map, decimal, codes, replicate, IfOk, IfErr, OnOk, if◌then◌else◌};
+ghost use Rattle.std.specs.Prelude.{◌≡◌, ◌++◌, ◌∷◌, [], ◌≤◌, ◌<◌, ◌*◌, ◌^◌, length, map, decimal, codes, replicate};
+ghost use Rattle.std.specs.Prelude.{IfOk, IfErr, OnOk, if◌then◌else◌};
 ghost use Rattle.night_report.specs.Report as spec;
 ghost use Rattle.night_report.specs.Faults.{HasRoom, IsFault};
 ghost use Rattle.night_report.specs.declared.columns.Fault.TheVariants as faults;
@@ -160,7 +161,8 @@ fn push_cell(out: &mut Vec<u8>, cell: Cell) -> Result<(), AllocError>
 }
 
 fn push_cells(out: &mut Vec<u8>, number: u32, rounds: &[Vec<Meeting>]) -> Result<(), AllocError>
-    ensures { OnOk result (out.new.items ≡ out.old.items ++ spec.cells_text number (map (λ round. round.items) rounds.now)) }
+    ensures { OnOk result (out.new.items ≡ out.old.items
+        ++ spec.cells_text number (map (λ round. round.items) rounds.now)) }
 {
     for at in 0..rounds.len() {
         push_cell(out, cell_of(number, rounds[at].as_slice()))?;
@@ -234,7 +236,8 @@ fn push_standing(
     number: u32,
 ) -> Result<(), AllocError>
     requires { length rounds.now ≤ 99 }
-    ensures { OnOk result (out.new.items ≡ out.old.items ++ spec.standing_text (map (λ round. round.items) rounds.now) all.now number) }
+    ensures { OnOk result (out.new.items ≡ out.old.items
+        ++ spec.standing_text (map (λ round. round.items) rounds.now) all.now number) }
 {
     let halves = halves_of(number, rounds);
     let points = points_text(alloc, halves)?;
@@ -254,7 +257,8 @@ fn push_player(
     name: &str,
 ) -> Result<(), AllocError>
     requires { length rounds.now ≤ 99 }
-    ensures { OnOk result (out.new.items ≡ out.old.items ++ spec.player_line (map (λ round. round.items) rounds.now) all.now number name.now) }
+    ensures { OnOk result (out.new.items ≡ out.old.items
+        ++ spec.player_line (map (λ round. round.items) rounds.now) all.now number name.now) }
 {
     push_front(out, number, name)?;
     push_standing(out, alloc, rounds, all, number)?;
@@ -273,7 +277,8 @@ fn push_players(
 ) -> Result<(), AllocError>
     requires rounds { length rounds.now ≤ 99 }
     requires players { length names.now ≤ 9999 }
-    ensures { OnOk result (out.new.items ≡ out.old.items ++ spec.players_text (map (λ round. round.items) rounds.now) all.now 1 (map (λ name. name.now) names.now)) }
+    ensures { OnOk result (out.new.items ≡ out.old.items
+        ++ spec.players_text (map (λ round. round.items) rounds.now) all.now 1 (map (λ name. name.now) names.now)) }
 {
     for at in 0..names.len() {
         push_player(out, alloc, rounds, all, at as u32 + 1, names[at])?;
@@ -349,7 +354,8 @@ pub fn report(
     names: &[&str],
     rounds: &[Vec<Meeting>],
 ) -> Result<Vec<u8>, Fault>
-    ensures text { IfOk result (λ text. text.items ≡ spec.report_text tournament.now (map (λ name. name.now) names.now) (map (λ round. round.items) rounds.now)) }
+    ensures text { IfOk result (λ text. text.items ≡ spec.report_text tournament.now
+        (map (λ name. name.now) names.now) (map (λ round. round.items) rounds.now)) }
     ensures room { IfOk result (λ _. HasRoom (length names.now) (length rounds.now)) }
     ensures fault { IfErr result (IsFault (length names.now) (length rounds.now)) }
 {

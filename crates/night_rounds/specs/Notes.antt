@@ -1,5 +1,6 @@
 -- A note of the round's file, an object of JSON in a line: how far the game of a board is.
-use Rattle.std.specs.Prelude.{ℕ, ◌≡◌, ◌<◌, ◌^◌, ◌==◌, true, List, [], ◌∷◌, ◌++◌, codes, decimal, Option, None, Some, if◌then◌else◌}
+use Rattle.std.specs.Prelude.{ℕ, ◌≡◌, ◌<◌, ◌^◌, ◌==◌, true, List, [], ◌∷◌, ◌++◌, codes, decimal, Option, None, Some}
+use Rattle.std.specs.Prelude.{if◌then◌else◌}
 use Rattle.std.specs.Str.{bytes_eq}
 use Rattle.lobby_words.specs.Words.{number_or_0}
 use Rattle.lobby_words.specs.Waiting.{is_name}
@@ -62,7 +63,8 @@ member_text name value = quoted name ++ (codes ":" ++ value)
 -- `{"board":3,"white":"ann","black":"bob","opened":17}`
 unfoldable pub note_text : NoteState → List ℕ
 note_text n =
-    codes "{" ++ (member_text (codes "board") (decimal n.board) ++ (codes "," ++ (member_text (codes "white") (quoted n.white)
+    codes "{" ++ (member_text (codes "board") (decimal n.board)
+    ++ (codes "," ++ (member_text (codes "white") (quoted n.white)
     ++ (codes "," ++ (member_text (codes "black") (quoted n.black)
     ++ (codes "," ++ (member_text (stage_word n.stage) (value_text n.stage) ++ codes "}")))))))
 
@@ -116,7 +118,8 @@ stage_in line = reached_in (last_word line) (last_value line)
 
 -- the note of which a line may be that
 abbrev pub likely_of : ℕ → Option (List ℕ) → Option (List ℕ) → Option Reached → Option NoteState
-likely_of board (Some white) (Some black) (Some stage) = Some (record { board = board; white = white; black = black; stage = stage })
+likely_of board (Some white) (Some black) (Some stage) =
+    Some (record { board = board; white = white; black = black; stage = stage })
 likely_of board (Some white) (Some black) None = None
 likely_of board (Some white) None stage = None
 likely_of board None black stage = None

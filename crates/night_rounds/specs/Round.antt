@@ -1,5 +1,6 @@
 -- The pairings of a round.
-use Rattle.std.specs.Prelude.{ℕ, suc, ◌≡◌, ◌==◌, Bool, false, ◌||◌, List, [], ◌∷◌, ◌++◌, Option, None, Some, Result, Ok, Err, if◌then◌else◌}
+use Rattle.std.specs.Prelude.{ℕ, suc, ◌≡◌, ◌==◌, Bool, false, ◌||◌, List, [], ◌∷◌, ◌++◌, Option, None, Some, Result, Ok}
+use Rattle.std.specs.Prelude.{Err, if◌then◌else◌}
 use Rattle.std.specs.List.{list_any}
 use Rattle.std.specs.Str.{bytes_eq}
 use Rattle.csv.specs.Reading.{AreRecords, default_config, strip_bom}
@@ -53,7 +54,8 @@ taken before (Err fault) = Err fault
 abbrev pub take_row : List Pairing → List (List ℕ) → Result (List Pairing) RowFault
 take_row before fields = taken before (row_in fields)
 
-abbrev pub behind : (List Pairing → Result (List Pairing) Fault) → ℕ → Result (List Pairing) RowFault → Result (List Pairing) Fault
+abbrev pub behind : (List Pairing → Result (List Pairing) Fault) → ℕ → Result (List Pairing) RowFault
+    → Result (List Pairing) Fault
 behind more number (Ok pairings) = more pairings
 behind more number (Err fault) = Err (faults.Row number fault)
 
@@ -61,7 +63,8 @@ behind more number (Err fault) = Err (faults.Row number fault)
 -- on
 abbrev pub rows_in : List Pairing → ℕ → List (List (List ℕ)) → Result (List Pairing) Fault
 rows_in before number [] = Ok before
-rows_in before number (fields ∷ rows) = behind (λ pairings. rows_in pairings (suc number) rows) number (take_row before fields)
+rows_in before number (fields ∷ rows) =
+    behind (λ pairings. rows_in pairings (suc number) rows) number (take_row before fields)
 
 -- the first row is the header, row 1
 abbrev pub round_in : List (List (List ℕ)) → Result (List Pairing) Fault

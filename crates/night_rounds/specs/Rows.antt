@@ -1,5 +1,6 @@
 -- A row of the pairings.
-use Rattle.std.specs.Prelude.{ℕ, ℤ, pos, ◌==◌, Bool, ◌&&◌, List, [], length, get_or, codes, Option, None, Some, Result, Ok, Err, option_map, int_div, if◌then◌else◌}
+use Rattle.std.specs.Prelude.{ℕ, ℤ, pos, ◌==◌, Bool, ◌&&◌, List, [], length, get_or, codes, Option, None, Some, Result}
+use Rattle.std.specs.Prelude.{Ok, Err, option_map, int_div, if◌then◌else◌}
 use Rattle.std.specs.Str.{bytes_eq}
 use Rattle.jiff.specs.Words.{parse_timestamp}
 use Rattle.lobby_words.specs.Words.{u32_in}
@@ -79,4 +80,5 @@ row_in fields =
 unfoldable pub is_header : List (List ℕ) → Bool
 is_header fields =
     (length fields == 5) && bytes_eq (cell fields 0) (codes "board") && bytes_eq (cell fields 1) (codes "white")
-    && bytes_eq (cell fields 2) (codes "black") && bytes_eq (cell fields 3) (codes "times") && bytes_eq (cell fields 4) (codes "start")
+    && bytes_eq (cell fields 2) (codes "black") && bytes_eq (cell fields 3) (codes "times")
+    && bytes_eq (cell fields 4) (codes "start")

@@ -1,6 +1,7 @@
 -- What becomes of a board while `start` is killed at any moments and given again, its server goes on, and others open,
 -- join, end and drop games.
-use Rattle.std.specs.Prelude.{ℕ, ◌≡◌, ◌≤◌, ◌==◌, ◌&&◌, Bool, true, false, not, List, [], ◌∷◌, ◌++◌, length, filter, Option, None, Some, if◌then◌else◌}
+use Rattle.std.specs.Prelude.{ℕ, ◌≡◌, ◌≤◌, ◌==◌, ◌&&◌, Bool, true, false, not, List, [], ◌∷◌, ◌++◌, length, filter}
+use Rattle.std.specs.Prelude.{Option, None, Some, if◌then◌else◌}
 use Rattle.std.specs.List.{list_any}
 use Rattle.night_rounds.specs.declared.steps.Seats.{Seats}
 use Rattle.night_rounds.specs.declared.steps.Step.{Step}
@@ -106,7 +107,8 @@ has_game white game rows = list_any (λ row. (row.game == game) && sits white ro
 -- While it is noted that the board's game is about to be opened, the one that `start` opened for it stays on the table.
 abbrev pub Stays : Board → Option Reached → List ℕ → List Row → List Row → Type 0
 Stays b (Some (Opening older)) opened old new =
-    (game : ℕ) → list_any (λ one. one == game) opened ≡ true → has_game b.white game old ≡ true → has_game b.white game new ≡ true
+    (game : ℕ) → list_any (λ one. one == game) opened ≡ true → has_game b.white game old ≡ true
+    → has_game b.white game new ≡ true
 Stays b _ opened old new = Unit {0}
 
 -- What may happen. The arbiter says nothing meanwhile.

@@ -1,5 +1,6 @@
 -- What is to be done about a board.
-use Rattle.std.specs.Prelude.{ℕ, ◌&&◌, Bool, true, false, not, List, [], ◌∷◌, flat_map, map, Option, None, Some, if◌then◌else◌}
+use Rattle.std.specs.Prelude.{ℕ, ◌&&◌, Bool, true, false, not, List, [], ◌∷◌, flat_map, map, Option, None, Some}
+use Rattle.std.specs.Prelude.{if◌then◌else◌}
 use Rattle.std.specs.Str.{bytes_eq}
 use Rattle.night_rounds.specs.declared.steps.Seats.{Seats}
 use Rattle.night_rounds.specs.declared.steps.Step.{Step}

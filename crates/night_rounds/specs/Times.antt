@@ -1,5 +1,6 @@
 -- The times of a game as a text.
-use Rattle.std.specs.Prelude.{ℕ, zero, suc, ◌==◌, Bool, true, false, ◌&&◌, nat_le, List, [], ◌∷◌, ◌++◌, codes, decimal, Option, None, Some, if◌then◌else◌}
+use Rattle.std.specs.Prelude.{ℕ, zero, suc, ◌==◌, Bool, true, false, ◌&&◌, nat_le, List, [], ◌∷◌, ◌++◌, codes, decimal}
+use Rattle.std.specs.Prelude.{Option, None, Some, if◌then◌else◌}
 use Rattle.std.specs.List.{before_first, after_first}
 use Rattle.std.specs.Str.{bytes_eq}
 use Rattle.lobby_words.specs.Words.{number_or_0}
@@ -74,4 +75,5 @@ likely_times text =
 -- the times of a text; none where it is the text of none that the server takes
 unfoldable pub times_in : List ℕ → Option Times
 times_in text =
-    if are_taken (likely_times text) && bytes_eq (times_text (likely_times text)) text then Some (likely_times text) else None
+    if are_taken (likely_times text) && bytes_eq (times_text (likely_times text)) text then Some
+    (likely_times text) else None

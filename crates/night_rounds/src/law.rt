@@ -20,13 +20,18 @@ pub fn law_of_notes()
 /// and where a game is noted as the board's, no other. The premises, all in `specs/Runs`:
 ///
 /// - At first nothing is noted, no `start` runs, and none has opened a game for the board (`IsBeginning`).
-/// - The board's players and times stay the same, and so do a game's times and first position (`Board`). The arbiter says nothing.
-/// - One `start` runs at a time, and what it says to have a game paired is done before anything else happens, or never (`Acts`).
+/// - The board's players and times stay the same, and so do a game's times and first position (`Board`). The arbiter
+///   says nothing.
+/// - One `start` runs at a time, and what it says to have a game paired is done before anything else happens, or never
+///   (`Acts`).
 /// - A look has all games of the table (`looked`).
-/// - What is noted as older is no newer than the games that were seen: what is newer than these is newer than it (`IsDone`).
-/// - A game that `start` opens has the board's times and the initial position, and is newer than all before it (`IsDone`); and the
-///   table never has a game that is newer than all that were given (`IsBeginning`, `IsAllowed`).
-/// - While `opening` is the last note, a game that `start` opened for the board stays on the table, and White in it (`Stays`).
+/// - What is noted as older is no newer than the games that were seen: what is newer than these is newer than it
+///   (`IsDone`).
+/// - A game that `start` opens has the board's times and the initial position, and is newer than all before it
+///   (`IsDone`); and the table never has a game that is newer than all that were given (`IsBeginning`, `IsAllowed`).
+/// - While `opening` is the last note, a game that `start` opened for the board stays on the table, and White in it
+///   (`Stays`).
 pub fn law_of_runs()
-    ensures { (b : Board) (s : Standing) (events : List RunStep) → IsBeginning s → AreAllowed b events s → HasOneGame (after_all b events s) }
+    ensures { (b : Board) (s : Standing) (events : List RunStep) → IsBeginning s → AreAllowed b events s
+        → HasOneGame (after_all b events s) }
 {}

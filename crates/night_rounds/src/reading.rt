@@ -68,7 +68,8 @@ fn take(
     pairings: &mut Vec<Pairing>,
     row: &StringRecord,
 ) -> Result<Option<RowFault>, AllocError>
-    ensures { IfOk result (λ fault. spec.take_row pairings.old.items (fields_of row.now) ≡ spec.outcome_of pairings.new.items fault) }
+    ensures { IfOk result (λ fault. spec.take_row pairings.old.items (fields_of row.now)
+        ≡ spec.outcome_of pairings.new.items fault) }
 {
     let pairing = match pairing_of(alloc, row)? {
         Ok(pairing) => pairing,
@@ -101,7 +102,8 @@ fn pairings_under(
     header: &StringRecord,
     below: &[StringRecord],
 ) -> Result<Vec<Pairing>, Fault>
-    ensures pairings { IfOk result (λ pairings. spec.round_in (fields_of header.now ∷ map fields_of below.now) ≡ Ok pairings.items) }
+    ensures pairings { IfOk result (λ pairings. spec.round_in (fields_of header.now ∷ map fields_of below.now)
+        ≡ Ok pairings.items) }
     ensures fault { IfErr result (spec.IsRowsFault (fields_of header.now ∷ map fields_of below.now)) }
 {
     if is_header(header) {

@@ -19,7 +19,8 @@ fn put(rows: &mut Vec<StringRecord>, row: Result<StringRecord, Error>) -> Result
 
 /// The rows of a text (RFC 4180), of any lengths.
 pub fn records_of(alloc: Global, text: &[u8]) -> Result<Vec<StringRecord>, Error>
-    ensures { IfOk result (λ rows. AreRecords default_config st.StartRecord (strip_bom text.now) (map fields_of rows.items)) }
+    ensures { IfOk result (λ rows. AreRecords default_config st.StartRecord (strip_bom text.now)
+        (map fields_of rows.items)) }
 {
     let reader = ReaderBuilder::new()
         .has_headers(false)

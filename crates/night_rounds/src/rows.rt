@@ -102,7 +102,8 @@ fn game_of(
     white: Name,
     fields: Fields<'_>,
 ) -> Result<Result<Game, RowFault>, AllocError>
-    ensures { IfOk result (λ game. game ≡ spec.game_by_fields white fields.entry.black.now fields.entry.times.now fields.entry.start.now) }
+    ensures { IfOk result (λ game. game ≡ spec.game_by_fields white fields.entry.black.now fields.entry.times.now
+        fields.entry.start.now) }
 {
     let Some(black) = name_of(fields.black) else {
         return Ok(Err(RowFault::BadBlack));

@@ -1,6 +1,7 @@
 //! The answer to a line.
 ghost use Rattle.std.specs.Prelude.{ℕ, ◌≡◌, ◌≢◌, ◌<◌, ◌≤◌, ◌^◌, decimal, IfOk, IfErr, IfSome, IfNone, SomeIff};
-ghost use Rattle.perft.specs.Answers.{IsCountFrom, IsFault, IsAnswer, IsRefusal, board_fault_name, fen_fault_name, fault_name};
+ghost use Rattle.perft.specs.Answers.{IsCountFrom, IsFault, IsAnswer, IsRefusal, board_fault_name, fen_fault_name};
+ghost use Rattle.perft.specs.Answers.{fault_name};
 
 use crate::lines::count_lines;
 use chess_board::BadBoard;

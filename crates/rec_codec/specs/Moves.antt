@@ -1,4 +1,5 @@
-use Rattle.std.specs.Prelude.{ℕ, ◌≡◌, ◌+◌, ◌-◌, ◌*◌, ◌/◌, ◌%◌, ◌≤◌, ◌<◌, List, ◌++◌, length, map, replicate, Option, Some, None, Bool, ◌&&◌, if◌then◌else◌, ◌==◌, nat_lt, take, drop}
+use Rattle.std.specs.Prelude.{ℕ, ◌≡◌, ◌+◌, ◌-◌, ◌*◌, ◌/◌, ◌%◌, ◌≤◌, ◌<◌, List, ◌++◌, length, map, replicate, Option}
+use Rattle.std.specs.Prelude.{Some, None, Bool, ◌&&◌, if◌then◌else◌, ◌==◌, nat_lt, take, drop}
 use Rattle.std.proofs.Common.{zero, suc, refl, arith}
 use Rattle.std.specs.List.{flat_map, list_all, AllByRecursion}
 use Rattle.chess_bits.specs.declared.men.Kind.{Kind}

@@ -1,4 +1,5 @@
-use Rattle.std.specs.Prelude.{ℕ, ◌+◌, ◌-◌, ◌*◌, ◌==◌, nat_lt, if◌then◌else◌, List, [], ◌∷◌, map, replicate, Option, Some, None}
+use Rattle.std.specs.Prelude.{ℕ, ◌+◌, ◌-◌, ◌*◌, ◌==◌, nat_lt, if◌then◌else◌, List, [], ◌∷◌, map, replicate, Option}
+use Rattle.std.specs.Prelude.{Some, None}
 use Rattle.std.specs.List.{range_with_len}
 use Rattle.chess_bits.specs.declared.men.Colour.{Colour}
 use Rattle.chess_bits.specs.declared.men.Colour.TheVariants.{White, Black}
@@ -31,7 +32,8 @@ content_number (Some man) = man_number man
 -- byte k of the men: square 2k in its low four bits, square 2k + 1 in its high four
 abbrev pub pair_byte : List (Option Man) → ℕ → ℕ
 pair_byte placement k =
-    content_number (man_at placement (square_at (2 * k))) + 16 * content_number (man_at placement (square_at (2 * k + 1)))
+    content_number (man_at placement (square_at (2 * k)))
+    + 16 * content_number (man_at placement (square_at (2 * k + 1)))
 
 abbrev pub men : ℕ → List (Option Man) → Field
 men at placement = record { offset = at; width = 32; bytes = map (pair_byte placement) (range_with_len 0 32) }

@@ -1,6 +1,7 @@
 //! Fields of a table, written and read at their places.
 ghost use Rattle.std.specs.Prelude.{◌≡◌, ◌==◌, ◌+◌, ◌*◌, ◌^◌, ◌<◌, ◌≤◌, ℕ, length, cond};
-ghost use Rattle.rec_codec.specs.Field.{u8 as byte_field, u16 as u16_field, u32 as u32_field, u64 as u64_field, over, Stands};
+ghost use Rattle.rec_codec.specs.Field.{u8 as byte_field, u16 as u16_field, u32 as u32_field, u64 as u64_field, over};
+ghost use Rattle.rec_codec.specs.Field.{Stands};
 ghost use Rattle.rec_codec.specs.Flags.{is_set, is_black, colour_of};
 
 use byteorder::{ByteOrder, LittleEndian};

@@ -1,9 +1,11 @@
-ghost use Rattle.std.specs.Prelude.{◌≡◌, ◌==◌, nat_lt, ◌≤◌, ◌<◌, ◌+◌, ◌*◌, ◌^◌, ℕ, List, Some, None, IfSome, IfNone, length, slice_index_or};
+ghost use Rattle.std.specs.Prelude.{◌≡◌, ◌==◌, nat_lt, ◌≤◌, ◌<◌, ◌+◌, ◌*◌, ◌^◌, ℕ, List, Some, None, IfSome, IfNone};
+ghost use Rattle.std.specs.Prelude.{length, slice_index_or};
 ghost use Rattle.std.specs.List.{flat_map, list_all, AllByRecursion};
 ghost use Rattle.byteorder.specs.Endian.{little_bytes};
 ghost use Rattle.chess_bits.specs.Square.{IsOnBoard};
 ghost use Rattle.chess_board.specs.declared.moves.Move.{Move};
-ghost use Rattle.rec_codec.specs.Moves.{CanBecome, IsStorable, IsMoveList, promotion_number, promotion_of, move_code, move_of, codes_of, are_codes};
+ghost use Rattle.rec_codec.specs.Moves.{CanBecome, IsStorable, IsMoveList, promotion_number, promotion_of, move_code};
+ghost use Rattle.rec_codec.specs.Moves.{move_of, codes_of, are_codes};
 
 use byteorder::{ByteOrder, LittleEndian};
 use chess_bits::{Kind, Square};
@@ -32,7 +34,8 @@ impl Model for StoredMove {
 
     ghost inverse = { λ m. record { code = move_code m } };
 
-    ghost inverse_ok = { λ a h. ap (λ (n : ℕ). let i : Inside = record { code = n } in i) (move_code-move_of a.code h) };
+    ghost inverse_ok = { λ a h. ap (λ (n : ℕ). let i : Inside = record { code = n } in i)
+        (move_code-move_of a.code h) };
 }
 
 // The number of a promotion.

@@ -6,7 +6,8 @@ ghost use Rattle.chess_bits.specs.Square.{Square, IsOnBoard};
 ghost use Rattle.chess_bits.specs.Man.{Man};
 ghost use Rattle.chess_board.specs.Position.{Position, IsValid};
 ghost use Rattle.chess_board.specs.RightsOf.{rights_of};
-ghost use Rattle.rec_codec.specs.Position.{content_number, pair_byte, target_number, position_flags, position_bytes, kind_number, kind_numbered, with_colour, man_numbered};
+ghost use Rattle.rec_codec.specs.Position.{content_number, pair_byte, target_number, position_flags, position_bytes};
+ghost use Rattle.rec_codec.specs.Position.{kind_number, kind_numbered, with_colour, man_numbered};
 
 use crate::fields::{colour_of, is_black, is_set, put, put_u8, put_u16, u8_at, u16_at};
 use chess_bits::{Colour, Kind, Square};

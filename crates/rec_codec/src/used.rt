@@ -1,5 +1,6 @@
 //! The fields that kinds of records share.
-ghost use Rattle.std.specs.Prelude.{◌≡◌, ◌≤◌, ◌<◌, ◌^◌, ◌+◌, ℕ, List, length, replicate, Option, Some, None, IfSome, is_some};
+ghost use Rattle.std.specs.Prelude.{◌≡◌, ◌≤◌, ◌<◌, ◌^◌, ◌+◌, ℕ, List, length, replicate, Option, Some, None, IfSome};
+ghost use Rattle.std.specs.Prelude.{is_some};
 ghost use Rattle.chess_board.specs.declared.moves.Move.{Move};
 ghost use Rattle.chess_board.specs.Position.{Position, IsValid};
 ghost use Rattle.rec_codec.specs.Field.{Stands, over, u32 as u32_field};

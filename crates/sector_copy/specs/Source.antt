@@ -28,7 +28,8 @@ pub record IsSeenInForce (image : ℕ → Sectors) (from to : ℕ) (header : Hea
   pub in_force : IsInForce (image moment) header
 
 -- Reads go on: the sectors are as many, and what they are at each moment stays; time does not go back.
-pub record ReadsOn {S : Type 0} (told : S → Type 0) (image : S → ℕ → Sectors) (moment sector_count : S → ℕ) (old new : S)
+pub record ReadsOn {S : Type 0} (told : S → Type 0) (image : S → ℕ → Sectors) (moment sector_count : S → ℕ)
+    (old new : S)
     : Type 0 where
   pub size : sector_count new ≡ sector_count old
   pub tells : told new ↔ told old

@@ -4,7 +4,8 @@ use Rattle.std.specs.Prelude.{◌≡◌, ◌↔◌, ℕ, List, Option, Result, I
 use Rattle.sector_dev.specs.declared.device.DeviceFault.{DeviceFault}
 use Rattle.sector_dev.specs.declared.device.Got.{Got}
 use Rattle.sector_dev.specs.Image.{sector_at}
-use Rattle.sector_dev.specs.Device.{State, IsRead, WithOrWithout, IsUnchanged, IsPending, MayBePending, IsStable, MayBeStable, Elapses, CountsFailure, TakesOne}
+use Rattle.sector_dev.specs.Device.{State, IsRead, WithOrWithout, IsUnchanged, IsPending, MayBePending, IsStable}
+use Rattle.sector_dev.specs.Device.{MayBeStable, Elapses, CountsFailure, TakesOne}
 
 module _ {D : Type 0} (state : D → State) (sector_count failures : D → ℕ) (left : D → Option ℕ) (old new : D) where
   -- a read of this sector, which gives these bytes

@@ -1,5 +1,6 @@
 -- What a device shows, and what its calls do to that and to what a crash may leave.
-use Rattle.std.specs.Prelude.{◌≡◌, ◌⊎◌, ◌≤◌, ◌+◌, ◌-◌, ◌^◌, ◌↔◌, ℕ, List, length, slice_set, replicate, min, Option, Some, None, Result, IsErr, MatchResult, refl}
+use Rattle.std.specs.Prelude.{◌≡◌, ◌⊎◌, ◌≤◌, ◌+◌, ◌-◌, ◌^◌, ◌↔◌, ℕ, List, length, slice_set, replicate, min, Option}
+use Rattle.std.specs.Prelude.{Some, None, Result, IsErr, MatchResult, refl}
 use Rattle.sector_dev.specs.declared.device.Sector.{Sector}
 use Rattle.sector_dev.specs.declared.device.Sector.TheVariants.{Bytes, Unreadable}
 use Rattle.sector_dev.specs.declared.device.Got.{Got}

@@ -2,7 +2,8 @@
 use Rattle.std.specs.Prelude.{◌≡◌, ◌<◌, ◌*◌, ◌↔◌, ℕ, List, Result, OnOk, OnErr}
 use Rattle.sector_dev.specs.declared.device.Sector.TheVariants.{Bytes}
 use Rattle.sector_dev.specs.Image.{sector_at}
-use Rattle.sector_dev.specs.Device.{State, WithOrWithout, IsUnchanged, IsPending, MayBePending, IsStable, MayBeStable, Elapses}
+use Rattle.sector_dev.specs.Device.{State, WithOrWithout, IsUnchanged, IsPending, MayBePending, IsStable, MayBeStable}
+use Rattle.sector_dev.specs.Device.{Elapses}
 
 module _ {F E : Type 0} (state : F → State) (sector_count : F → ℕ) (old new : F) where
   -- a read from this offset on, which gives these bytes

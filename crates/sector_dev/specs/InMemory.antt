@@ -1,5 +1,6 @@
 -- A device in memory as its clauses see it.
-use Rattle.std.specs.Prelude.{◌≡◌, ◌⊎◌, ◌≤◌, ◌+◌, ◌-◌, ◌^◌, min, ℕ, List, Some, None, false, true, length, replicate, vec_len, vec_capacity}
+use Rattle.std.specs.Prelude.{◌≡◌, ◌⊎◌, ◌≤◌, ◌+◌, ◌-◌, ◌^◌, min, ℕ, List, Some, None, false, true, length, replicate}
+use Rattle.std.specs.Prelude.{vec_len, vec_capacity}
 use Rattle.sector_dev.specs.Device.{State, IsStable}
 use Rattle.sector_dev.specs.declared.device.Sector.TheVariants.{Bytes}
 use Rattle.sector_dev.specs.Image.{Sectors}

@@ -15,7 +15,8 @@ shown d = applied d.stable d.pending
 
 -- after one more call
 abbrev pub step : Disk → Call → Disk
-step d (Written at value) = record { stable = d.stable; pending = d.pending ++ record { sector = at; value = value } ∷ [] }
+step d (Written at value) =
+    record { stable = d.stable; pending = d.pending ++ record { sector = at; value = value } ∷ [] }
 step d Synced = record { stable = applied d.stable d.pending; pending = [] }
 
 -- after these calls

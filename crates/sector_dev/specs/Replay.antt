@@ -44,7 +44,8 @@ no_other_moment stable calls c m =
 
 pub length-applied : (stable : Sectors) (ws : List Write) → length (applied stable ws) ≡ length stable
 length-applied stable [] = refl
-length-applied stable (w ∷ ws) = length-applied (slice_set stable w.sector (Bytes w.value)) ws ∙ length-set stable w.sector (Bytes w.value)
+length-applied stable (w ∷ ws) =
+    length-applied (slice_set stable w.sector (Bytes w.value)) ws ∙ length-set stable w.sector (Bytes w.value)
 
 pub length-disk_after : (d : Disk) (cs : List Call) → length (disk_after d cs).stable ≡ length d.stable
 length-disk_after d [] = refl
@@ -56,10 +57,15 @@ each_applied : (stable : Sectors) (ws : List Write) (at : ℕ) → at < length s
     ⊎ IsWritten ws at (sector_at (applied stable ws) at)
 each_applied stable [] at lt = inl refl
 each_applied stable (w ∷ ws) at lt =
-    elim (each_applied (slice_set stable w.sector (Bytes w.value)) ws at (omega (arith, lt, length-set stable w.sector (Bytes w.value)))) [
+    elim (each_applied (slice_set stable w.sector (Bytes w.value)) ws at
+    (omega (arith, lt, length-set stable w.sector (Bytes w.value)))) [
       | inr later ↦ inr (inr later)
       | inl same ↦ elim (cases_eq at w.sector) [
-        | inl eq ↦ inr (inl (sym eq, inl (same ∙ get_or-set_at stable w.sector at (Bytes w.value) Unreadable eq (omega arith))))
+        | inl eq ↦ inr (inl (
+          sym eq,
+          inl (same ∙ get_or-set_at stable w.sector at (Bytes w.value) Unreadable eq
+              (omega arith)),
+        ))
         | inr ne ↦ inl (same ∙ get_or-set_other stable w.sector at (Bytes w.value) Unreadable ne)
       ]
     ]
@@ -93,7 +99,8 @@ applied_whole : (stable : Sectors) (ws : List Write) → AreWhole stable → ByR
     → AreWhole (applied stable ws)
 applied_whole stable [] whole written = whole
 applied_whole stable (w ∷ ws) whole written =
-    applied_whole (slice_set stable w.sector (Bytes w.value)) ws (set_whole stable w.sector w.value whole written.0) written.1
+    applied_whole (slice_set stable w.sector (Bytes w.value)) ws
+    (set_whole stable w.sector w.value whole written.0) written.1
 
 push_whole : (ws : List Write) (w : Write) → ByRecursion (λ w. IsWhole w.value) ws → IsWhole w.value
     → ByRecursion (λ w. IsWhole w.value) (ws ++ w ∷ [])
@@ -155,7 +162,8 @@ recorded_state stops stable calls = record {
   image_since = MightLeaveSince stable calls;
 }
 
-pub recorded_is_coherent : {stops : ℕ} (stable : Sectors) (calls : List Call) → AreWhole stable → AreWholeWrites (writes_of calls)
+pub recorded_is_coherent : {stops : ℕ} (stable : Sectors) (calls : List Call) → AreWhole stable
+    → AreWholeWrites (writes_of calls)
     → IsCoherent (length stable) (recorded_state stops stable calls)
 recorded_is_coherent stable calls whole written =
     let d = disk_after (at_rest stable) calls in

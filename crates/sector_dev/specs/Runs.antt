@@ -18,7 +18,8 @@ pub record LeavesOnly (old new : State) (P : Sectors → Type 0) : Type 0 where
 
 -- A run of calls, of which at most the last has failed: what goes on from call to call. During it a crash may leave
 -- what has P, and nothing is forgotten of what it might have left before.
-pub record IsRun {D T E : Type 0} (state : D → State) (sector_count failures : D → ℕ) (old new : D) (result : Result T E)
+pub record IsRun {D T E : Type 0} (state : D → State) (sector_count failures : D → ℕ) (old new : D)
+    (result : Result T E)
     (P : Sectors → Type 0) : Type 0 where
   pub model : (state new).keeps_model ↔ (state old).keeps_model
   pub size : sector_count new ≡ sector_count old

@@ -1,7 +1,9 @@
 // A device in memory: the values that were stable when its record began, and the record of the calls since.
-ghost use Rattle.std.specs.Prelude.{◌≡◌, ◌⊎◌, ◌<◌, ◌^◌, ◌++◌, ◌∷◌, ◌↔◌, [], false, map, length, slice_set, Some, None, IsErr, IfOk, OnOk, OnErr, vec_len, vec_capacity, ◌≤◌, ◌+◌};
+ghost use Rattle.std.specs.Prelude.{◌≡◌, ◌⊎◌, ◌<◌, ◌^◌, ◌++◌, ◌∷◌, ◌↔◌, [], false, map, length, slice_set, Some, None};
+ghost use Rattle.std.specs.Prelude.{IsErr, IfOk, OnOk, OnErr, vec_len, vec_capacity, ◌≤◌, ◌+◌};
 ghost use Rattle.sector_dev.specs.declared.device.Sector.TheVariants.{Bytes};
-ghost use Rattle.sector_dev.specs.Device.{IsUnchanged, IsStable, Elapses, HasStopped, CountsFailure, TakesOne, one_less};
+ghost use Rattle.sector_dev.specs.Device.{IsUnchanged, IsStable, Elapses, HasStopped, CountsFailure, TakesOne};
+ghost use Rattle.sector_dev.specs.Device.{one_less};
 ghost use Rattle.sector_dev.specs.Calls.{IsReadCall, IsWriteCall, IsSyncCall};
 ghost use Rattle.sector_dev.specs.Whole.{AreWhole, AreWholeWrites};
 ghost use Rattle.sector_dev.specs.Image.{applied};
@@ -138,7 +140,8 @@ fn put(
 }
 
 impl Device for MemoryDevice {
-    ghost use Rattle.sector_dev.specs.InMemory.{disk_of, sector_count_of, state_of, room_of, IsStopped, KeepsDisk, IsRefused, Pends, IsFirstFailed};
+    ghost use Rattle.sector_dev.specs.InMemory.{disk_of, sector_count_of, state_of, room_of, IsStopped, KeepsDisk};
+    ghost use Rattle.sector_dev.specs.InMemory.{IsRefused, Pends, IsFirstFailed};
     ghost use Rattle.sector_dev.specs.Memory.{step};
     ghost use Rattle.sector_dev.specs.declared.memory.Call.TheVariants.{Synced};
 

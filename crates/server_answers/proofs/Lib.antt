@@ -5,3 +5,4 @@ pub mod Standing
 pub mod Counted
 pub mod Refused
 pub mod DoneActs
+pub mod Apart

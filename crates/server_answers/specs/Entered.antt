@@ -1,5 +1,6 @@
 -- The acts that were entered, as their answers tell.
-use Rattle.std.specs.Prelude.{ℕ, ◌^◌, ◌<◌, ◌≡◌, ◌==◌, ◌&&◌, false, List, [], ◌∷◌, length, codes, decimal, Option, None, Some, IfSome, if◌then◌else◌}
+use Rattle.std.specs.Prelude.{ℕ, ◌^◌, ◌<◌, ◌≡◌, ◌==◌, ◌&&◌, false, List, [], ◌∷◌, length, codes, decimal, Option, None}
+use Rattle.std.specs.Prelude.{Some, IfSome, if◌then◌else◌}
 use Rattle.std.specs.List.{list_any}
 use Rattle.std.specs.Str.{bytes_eq}
 use Rattle.server_answers.specs.declared.values.Side.{Side}
@@ -36,6 +37,21 @@ pub data Done : Type 0 where
 pub record Entered : Type 0 where
   pub game : ℕ
   pub done : Done
+
+-- how the game ended with it, if it did
+abbrev pub end_of : Done → Option Ending
+end_of Opened = None
+end_of (Joined side) = None
+end_of (Moved made) = made.ending
+end_of Offered = None
+end_of (Accepted ending) = Some ending
+end_of Declined = None
+end_of (Resigned ending) = Some ending
+end_of (Claimed ending) = Some ending
+end_of (ClaimedWrongly None) = None
+end_of (ClaimedWrongly (Some made)) = made.ending
+end_of (Fallen ending) = Some ending
+end_of Dropped = None
 
 -- Its number is one of 32 bits, and its SAN is one field.
 pub record IsMade (made : Made) : Type 0 where

@@ -1,5 +1,6 @@
 -- How a game stands, as the answer to `show` tells, and a row of that to `list`.
-use Rattle.std.specs.Prelude.{ℕ, ◌^◌, ◌<◌, ◌&&◌, List, [], ◌∷◌, codes, decimal, Option, None, Some, IfSome, if◌then◌else◌}
+use Rattle.std.specs.Prelude.{ℕ, ◌^◌, ◌<◌, ◌&&◌, List, [], ◌∷◌, codes, decimal, Option, None, Some, IfSome}
+use Rattle.std.specs.Prelude.{if◌then◌else◌}
 use Rattle.std.specs.Str.{bytes_eq}
 use Rattle.player_name.specs.Name.{IsName}
 use Rattle.server_answers.specs.declared.values.Seats.{Seats}
@@ -11,7 +12,8 @@ use Rattle.server_answers.specs.declared.values.Ending.{Ending}
 use Rattle.server_answers.specs.declared.games.Shown.{Shown}
 use Rattle.server_answers.specs.declared.games.Row.{Row}
 use Rattle.server_answers.specs.Fields.{first_fields, has_fields, line_of}
-use Rattle.server_answers.specs.Values.{seat_text, side_text, offers_text, result_text, ending_result, ending_article, u32_in, seats_in, side_in, clocks_in, offers_in, result_in, ending_in}
+use Rattle.server_answers.specs.Values.{seat_text, side_text, offers_text, result_text, ending_result, ending_article}
+use Rattle.server_answers.specs.Values.{u32_in, seats_in, side_in, clocks_in, offers_in, result_in, ending_in}
 
 -- ---- the forms
 

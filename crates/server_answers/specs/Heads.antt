@@ -1,8 +1,8 @@
--- The first lines of answers that have more lines behind them.
-use Rattle.std.specs.Prelude.{ℕ, ◌^◌, ◌<◌, ◌&&◌, List, [], ◌∷◌, codes, decimal, Option, None, Some, if◌then◌else◌}
+-- The first lines of answers that have more lines behind them, and the answers to `fen` and `name`.
+use Rattle.std.specs.Prelude.{ℕ, ◌^◌, ◌<◌, Bool, ◌&&◌, List, [], ◌∷◌, codes, decimal, Option, None, Some, if◌then◌else◌}
 use Rattle.std.specs.Str.{bytes_eq}
 use Rattle.server_answers.specs.declared.heads.PgnHead.{PgnHead}
-use Rattle.server_answers.specs.Fields.{first_fields, has_fields, line_of}
+use Rattle.server_answers.specs.Fields.{field_of, rest_of, first_fields, has_fields, line_of}
 use Rattle.server_answers.specs.Values.{u32_in}
 
 -- `ok list K`
@@ -48,3 +48,18 @@ counted None None = 0
 -- how many lines stand behind a first line
 abbrev pub lines_behind : List ℕ → ℕ
 lines_behind line = counted (list_in line) (pgn_in line)
+
+-- which game's FEN an answer tells: `ok fen G` and six fields
+abbrev pub fen_by : List (List ℕ) → Option ℕ
+fen_by (ok ∷ fen ∷ game ∷ []) =
+    if bytes_eq ok (codes "ok") && bytes_eq fen (codes "fen") then u32_in game else None
+fen_by _ = None
+
+unfoldable pub fen_in : List ℕ → Option ℕ
+fen_in line = if has_fields 9 line then fen_by (first_fields 3 line) else None
+
+-- whether an answer takes this name: `ok name NAME`
+abbrev pub takes_name : List ℕ → List ℕ → Bool
+takes_name name line =
+    bytes_eq (field_of line) (codes "ok") && bytes_eq (field_of (rest_of line)) (codes "name")
+    && bytes_eq (rest_of (rest_of line)) name

@@ -45,6 +45,27 @@ pub enum Done<'a> {
     Dropped,
 }
 
+impl Done<'_> {
+    /// How the game ended with it, if it did.
+    pub fn ending(&self) -> Option<Ending>
+        ensures { result ≡ spec.end_of (spec.done_of self.now) }
+    {
+        match self {
+            Done::Moved(made) | Done::ClaimedWrongly(Some(made)) => made.ending,
+            Done::Accepted(ending)
+            | Done::Resigned(ending)
+            | Done::Claimed(ending)
+            | Done::Fallen(ending) => Some(*ending),
+            Done::Opened
+            | Done::Joined(_)
+            | Done::Offered
+            | Done::Declined
+            | Done::ClaimedWrongly(None)
+            | Done::Dropped => None,
+        }
+    }
+}
+
 /// An act that was entered.
 #[derive(Clone, Copy)]
 pub struct Entered<'a> {

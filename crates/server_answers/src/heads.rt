@@ -1,4 +1,4 @@
-//! The first lines of answers that have more lines behind them.
+//! The first lines of answers that have more lines behind them, and the answers to `fen` and `name`.
 ghost use Rattle.std.specs.Prelude.{◌≡◌};
 ghost use Rattle.server_answers.specs.Heads as spec;
 
@@ -51,6 +51,31 @@ pub fn pgn_head_of(first: &str) -> Option<PgnHead>
     let game = number_of_32_bits(game)?;
     let lines = number_of_32_bits(count)?;
     Some(PgnHead { game, lines })
+}
+
+/// Which game's FEN an answer to `fen` tells, given without its line feed: G of `ok fen G FEN`, where FEN has six fields.
+/// `None` exactly where it has another form.
+#[tactic(auto, unfolding(crate::specs::Heads::fen_in))]
+pub fn fen_game_of(line: &str) -> Option<u32>
+    ensures { result ≡ spec.fen_in line.now }
+{
+    let (ok, rest) = cut_field(line);
+    let (fen, rest) = cut_field(rest);
+    let (game, _) = cut_field(rest);
+    if has_fields(line, 9) && ok == "ok" && fen == "fen" {
+        number_of_32_bits(game)
+    } else {
+        None
+    }
+}
+
+/// Whether an answer to a `name` line takes this name: it is `ok name NAME`, given without its line feed.
+pub fn takes_name(name: &str, line: &str) -> bool
+    ensures { result ≡ spec.takes_name name.now line.now }
+{
+    let (ok, rest) = cut_field(line);
+    let (word, said) = cut_field(rest);
+    ok == "ok" && word == "name" && said == name
 }
 
 /// How many lines stand behind the first line of an answer: rows of a list, or lines of a PGN; none behind another.

@@ -3,7 +3,7 @@
 //!
 //! Modules: `fields` cuts a line, `values` has what a field says, `entered` the answers to acts that were entered,
 //! `games` the answer to `show` and a row of that to `list`, `heads` the first lines of answers with more lines behind
-//! them, `refusals` what is refused, `law` what is promised of them.
+//! them and the answers to `fen` and `name`, `refusals` what is refused, `law` what is promised of them.
 #![tactic(auto)]
 
 mod entered;
@@ -16,7 +16,7 @@ mod values;
 
 pub use entered::{Done, Entered, Made, entered_of};
 pub use games::{Row, Shown, row_of, shown_of};
-pub use heads::{PgnHead, lines_behind, list_head_of, pgn_head_of};
+pub use heads::{PgnHead, fen_game_of, lines_behind, list_head_of, pgn_head_of, takes_name};
 pub use law::{law_of_entered, law_of_heads, law_of_refusals, law_of_rows, law_of_shown};
 pub use refusals::{Refusal, refusal_of};
 pub use values::{

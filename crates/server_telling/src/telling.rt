@@ -48,7 +48,8 @@ impl TurnedAway {
         ensures none { IfNone result (self.new ≡ self.old) }
         ensures rare { (last : ℕ) → self.old.at ≡ Some last → at < last + 60_000 → result ≡ None }
         ensures first { self.old.at ≡ None → self.old.told < count → IsSome result }
-        ensures due { (last : ℕ) → self.old.at ≡ Some last → last + 60_000 ≤ at → self.old.told < count → IsSome result }
+        ensures due { (last : ℕ) → self.old.at ≡ Some last → last + 60_000 ≤ at → self.old.told < count
+            → IsSome result }
     {
         let is_early = match self.at {
             Some(last) => at.saturating_sub(last) < MINUTE,

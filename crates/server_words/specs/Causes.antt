@@ -30,7 +30,8 @@ IsOfSystem _ = ⊥
 
 -- why a fault of the store came; nothing is said where the system has said it
 abbrev pub reason_of_store : StoreFault → List ℕ
-reason_of_store store.Exists = codes "it is not made a journal: one stands in it, or other bytes than zeros at its front"
+reason_of_store store.Exists =
+    codes "it is not made a journal: one stands in it, or other bytes than zeros at its front"
 reason_of_store store.TooSmall = codes "it is shorter than the limits of its journal need"
 reason_of_store store.NotOurs = codes "no journal stands in it"
 reason_of_store store.Damaged = codes "it begins as a journal, and what it holds is none"

@@ -1,7 +1,8 @@
 -- How a run of the program ends.
 use Rattle.std.specs.Prelude.{ℕ, List, Result, Ok, Err, codes}
 use Rattle.chess_store.specs.declared.fault.StoreFault.{StoreFault}
-use Rattle.chess_store.specs.declared.fault.StoreFault.TheVariants.{Exists, TooSmall, NotOurs, Damaged, Device, NoMemory, Worn, Failed}
+use Rattle.chess_store.specs.declared.fault.StoreFault.TheVariants.{Exists, TooSmall, NotOurs, Damaged, Device}
+use Rattle.chess_store.specs.declared.fault.StoreFault.TheVariants.{NoMemory, Worn, Failed}
 use Rattle.chess_hub.specs.declared.fault.HubFault.{HubFault}
 use Rattle.chess_hub.specs.declared.fault.HubFault.TheVariants as hub
 use Rattle.board_session.specs.declared.board_loop.BoardFault.{BoardFault}
@@ -9,7 +10,8 @@ use Rattle.board_session.specs.declared.board_loop.BoardFault.TheVariants as boa
 use Rattle.server_words.specs.declared.ends.End.{End}
 use Rattle.server_words.specs.declared.ends.End.TheVariants as ends
 use Rattle.server_words.specs.declared.ends.Fault.{Fault}
-use Rattle.server_words.specs.declared.ends.Fault.TheVariants.{File, Read, Write, Limits, Socket, LineTooLong, Changing, Store, Hub}
+use Rattle.server_words.specs.declared.ends.Fault.TheVariants.{File, Read, Write, Limits, Socket, LineTooLong, Changing}
+use Rattle.server_words.specs.declared.ends.Fault.TheVariants.{Store, Hub}
 use Rattle.server_words.specs.declared.ends.Fault.TheVariants as faults
 
 -- the exit status: 1 after a fault, 2 for words that the program does not know

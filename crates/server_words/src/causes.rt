@@ -1,6 +1,7 @@
 //! Why a fault came, in words, where the system has not said it.
 ghost use Rattle.std.specs.Prelude.{◌≡◌, ◌↔◌, IsNone, IfSome};
-ghost use Rattle.server_words.specs.Causes.{IsOfDevice, IsOfHubsDevice, IsOfSystem, reason_of, reason_of_hub, reason_of_store};
+ghost use Rattle.server_words.specs.Causes.{IsOfDevice, IsOfHubsDevice, IsOfSystem, reason_of, reason_of_hub};
+ghost use Rattle.server_words.specs.Causes.{reason_of_store};
 
 use crate::ends::Fault;
 use chess_hub::HubFault;

@@ -1,5 +1,6 @@
 //! A listener, and the connections that it accepts.
-ghost use Rattle.std.specs.Prelude.{◌≡◌, ◌<◌, ◌+◌, ◌-◌, ◌^◌, ◌↔◌, false, Some, None, IsSome, IfSome, IfNone, IfOk, OnErr};
+ghost use Rattle.std.specs.Prelude.{◌≡◌, ◌<◌, ◌+◌, ◌-◌, ◌^◌, ◌↔◌, false, Some, None, IsSome, IfSome, IfNone, IfOk};
+ghost use Rattle.std.specs.Prelude.{OnErr};
 ghost use Rattle.sockets.specs.Accepting.{IsLost};
 ghost use Rattle.sockets.specs.Listeners.{IsAsked};
 

@@ -15,7 +15,7 @@ fn place(fault: BoardFault) -> u8 {
 }
 
 #[test]
-fn server_board(rt: HostRuntime) {
+fn one_board(rt: HostRuntime) {
     let mut reader = b"move e2e4\nmove e2e4\nhello\n".as_slice();
     let mut written = Vec::new(rt.alloc());
     let ended: Result<(), BoardFault> = board(&mut reader, &mut written);

@@ -21,6 +21,8 @@ use std::{io, mem};
 struct Peer {
     gives: &'static [u8],
     reads: usize,
+    // So many bytes were read of one that has always more.
+    read: usize,
     takes: usize,
     is_full: bool,
     written: Vec<u8>,
@@ -31,6 +33,7 @@ impl Peer {
         Peer {
             gives,
             reads: 0,
+            read: 0,
             takes,
             is_full: false,
             written: Vec::new(alloc),
@@ -54,8 +57,49 @@ const END: &[u8] = b"END";
 
 const RESET: &[u8] = b"RESET";
 
+// What a peer gives that has always more: requests of 512 bytes each, as many as are taken.
+const MANY: &[u8] = b"MANY";
+
+const FRONT: &[u8] = b"GET /none HTTP/1.1\r\nHost: a:1\r\nX: ";
+
+// The byte at this place of such requests.
+fn byte_of_many(at: usize) -> u8 {
+    let place = at % 512;
+    match FRONT.get(place) {
+        Some(byte) => *byte,
+        None => match place {
+            508 | 510 => b'\r',
+            509 | 511 => b'\n',
+            _ => b'a',
+        },
+    }
+}
+
+// What a peer gives that upgrades, and then pings without end: so many bytes of empty pings.
+const PINGS: &[u8] = b"PINGS";
+
+const PING: [u8; 6] = [0x89, 0x80, 0, 0, 0, 0];
+
+impl Peer {
+    // Fills a buffer with what it has always more of.
+    fn fill(&mut self, buf: &mut [u8]) {
+        for byte in buf.iter_mut() {
+            *byte = if self.gives == MANY {
+                byte_of_many(self.read)
+            } else {
+                PING.get(self.read % 6).copied().unwrap_or(0)
+            };
+            self.read = self.read.saturating_add(1);
+        }
+    }
+}
+
 impl Read for Peer {
     fn read(&mut self, buf: &mut [u8]) -> io::Result<usize> {
+        if self.gives == MANY || self.gives == PINGS && self.reads > 0 {
+            self.fill(buf);
+            return Ok(buf.len());
+        }
         let given = self.given();
         self.reads = self.reads.saturating_add(1);
         if given.is_empty() {
@@ -64,7 +108,11 @@ impl Read for Peer {
         if given == RESET {
             return Err(Error::from(ErrorKind::ConnectionReset));
         }
-        let bytes = if given == UP { UPGRADE } else { given };
+        let bytes = if given == UP || given == PINGS {
+            UPGRADE
+        } else {
+            given
+        };
         if given == END || bytes.len() > buf.len() {
             return Ok(0);
         }
@@ -519,8 +567,9 @@ fn an_act_counts_only_under_its_name(rt: &impl Abort, lab: &mut Lab) {
     }
 }
 
+// (it is not read in the turn behind one in which something was written to it)
 const ASKS: &[u8] =
-    b"GET /live.pgn HTTP/1.1\r\nHost: a:1\r\n\r\n~~GET /live.pgn HTTP/1.1\r\nHost: a:1\r\n\r\n~~GET /live.pgn HTTP/1.1\r\nHost: a:1\r\n\r\n";
+    b"GET /live.pgn HTTP/1.1\r\nHost: a:1\r\n\r\n~GET /live.pgn HTTP/1.1\r\nHost: a:1\r\n\r\n~~GET /live.pgn HTTP/1.1\r\nHost: a:1\r\n\r\n";
 
 fn a_file_changes_between_turns(rt: &impl Abort, lab: &mut Lab) {
     lab.begin(rt, &(ASKS, b"", How::Plainly));
@@ -531,8 +580,8 @@ fn a_file_changes_between_turns(rt: &impl Abort, lab: &mut Lab) {
         assert!(rt; lab.is_told(bytes));
     }
     lab.hall.take_off_file(b"/live.pgn");
-    assert!(rt; lab.turn(rt, 1, 1).is_none());
-    lab.turn_alone(rt, 1);
+    assert!(rt; lab.turn(rt, 2, 1).is_none());
+    lab.turn_alone(rt, 2);
     assert!(rt; lab.is_told(b"There is no such page here."));
 }
 
@@ -702,6 +751,80 @@ fn players_come_before_strangers(rt: &impl Abort, lab: &mut Lab) {
     assert!(rt; lab.is_asked(b"name ann\nopen white 300 2\nfen 1\nshow 1\nfen 1\nfen 3\nfen 2\n"));
 }
 
+// So many bytes were read of the first browser that had always more.
+fn is_read(lab: &Lab, count: usize) -> bool {
+    match lab.hall.guest_stream() {
+        Some(peer) => peer.read == count,
+        None => false,
+    }
+}
+
+// Of who acts for nobody 1,024 bytes are read at once, each time for 26 ms of its time, which runs one second ahead: of
+// one that asks by HTTP, and of one that pings.
+fn what_comes_of_strangers_is_paid(rt: &impl Abort, lab: &mut Lab) {
+    for browser in [MANY, PINGS] {
+        lab.begin(rt, &(browser, b"", How::Plainly));
+        lab.turn_alone(rt, 0);
+        assert!(rt; is_read(lab, if browser == MANY { 1_024 } else { 0 }));
+        for (at, count) in [(0, 39_936), (26, 40_960), (52, 41_984)] {
+            for _ in 0..200 {
+                lab.turn_alone(rt, at);
+                lab.hall.wake(2);
+            }
+            assert!(rt; is_read(lab, count));
+        }
+    }
+}
+
+// In how many turns a game is opened, where so many strangers beside have always more to say.
+fn turns_to_open(rt: &impl Abort, lab: &mut Lab, browser: &'static [u8], count: usize) -> u64 {
+    lab.begin(rt, &(OPENER, b"", How::Plainly));
+    let mut at = 0;
+    for _ in 0..90 {
+        if lab.is_asked(b"name ann\nopen white 300 2\n") {
+            return at;
+        }
+        if at == 4 {
+            for i in 0..count {
+                let peer = Peer::new(lab.alloc, browser, 1_000);
+                lab.hall.admit(peer, i.saturating_add(3), NEAR, at);
+            }
+        }
+        lab.turn_alone(rt, at);
+        lab.hall.wake(2);
+        at = at.saturating_add(1);
+    }
+    0
+}
+
+fn a_move_goes_out_beside_requests_without_end(rt: &impl Abort, lab: &mut Lab) {
+    let alone = turns_to_open(rt, lab, MANY, 0);
+    assert!(rt; alone > 5);
+    assert!(rt; turns_to_open(rt, lab, MANY, 20) == alone);
+    assert!(rt; turns_to_open(rt, lab, PINGS, 20) == alone);
+}
+
+// Who sent a byte, and was read, keeps nobody out, though it was told nothing; nor does who has a socket, and is silent.
+fn who_was_read_keeps_nobody_out(rt: &impl Abort, lab: &mut Lab) {
+    for browser in [b"G~E~T".as_slice(), b"UP"] {
+        lab.begin(rt, &(browser, b"", How::Plainly));
+        for key in 3..23 {
+            lab.hall
+                .admit(Peer::new(lab.alloc, browser, 1_000), key, NEAR, 0);
+        }
+        assert!(rt; lab.hall.is_crowded());
+        for _ in 0..2 {
+            lab.turn_alone(rt, 0);
+        }
+        assert!(rt; !lab.hall.is_crowded());
+        for key in 2..23 {
+            lab.hall.wake(key);
+        }
+        lab.turn_alone(rt, 0);
+        assert!(rt; !lab.hall.is_crowded() && lab.hall.len() == 21);
+    }
+}
+
 #[test]
 fn halls(rt: HostRuntime) {
     let alloc = rt.alloc();
@@ -731,5 +854,8 @@ fn halls(rt: HostRuntime) {
     who_has_another_link_acts_no_more(&rt, &mut lab);
     that_entries_are_paused_is_kept_before_the_log_is_told(&rt, &mut lab);
     players_come_before_strangers(&rt, &mut lab);
+    what_comes_of_strangers_is_paid(&rt, &mut lab);
+    a_move_goes_out_beside_requests_without_end(&rt, &mut lab);
+    who_was_read_keeps_nobody_out(&rt, &mut lab);
     drop(lab);
 }

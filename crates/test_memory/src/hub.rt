@@ -3,11 +3,11 @@
 //!
 //! - `store SECTORS GAMES PLIES CALLS`: what the hubs and runs after it stand on, a new store each, on a device that
 //!   serves so many calls more once the store is open, `-` for all;
-//! - `hub`: a new hub; `connect`, `open SID`, `feed SID TEXT`, `turn MOMENT MOST`, `output SID` (all answers that are to
-//!   be given), `waiting SID`, `ended SID`, `close SID`;
-//! - `run READER WRITER MOMENTS TEXT`: a run over a new store from this text. READER and WRITER are
-//!   `BYTES`, so many at a time; `BYTES!COUNT`, which fails after so many; `~` before it, interrupted before each. MOMENTS
-//!   are numbers with commas between, `-` for none.
+//! - `hub`: a new hub; `connect`, `open SID`, `feed SID TEXT`, `turn MOMENT MOST`, `output SID` (all answers that are
+//!   to be given), `waiting SID`, `ended SID`, `close SID`;
+//! - `run READER WRITER MOMENTS TEXT`: a run over a new store from this text. READER and WRITER are `BYTES`, so many at
+//!   a time; `BYTES!COUNT`, which fails after so many; `~` before it, interrupted before each. MOMENTS are numbers with
+//!   commas between, `-` for none.
 use crate::memory::{opened, store_in_memory};
 use chess_hub::{Hub, HubFault, ListMoments, RunFault, run};
 use chess_store::Store;

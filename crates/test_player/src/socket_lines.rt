@@ -1,17 +1,17 @@
 //! A server and its clients over loopback, in one thread. A line is one of these:
 //!
 //! - clients' letters, a space and what these clients do, one after the other (`Clients::act`);
-//! - `turns`: the server takes turns until nothing more comes, and what came to each client is written, its letter before
-//!   each line, the clients in the order in which they connected;
+//! - `turns`: the server takes turns until nothing more comes, and what came to each client is written, its letter
+//!   before each line, the clients in the order in which they connected;
 //! - `turns COUNT`: the server takes so many turns, and no rest;
 //! - `told`: what came to each client is written, as above, and the server takes no turn;
-//! - clients' letters and ` ?`: the server takes turns until each of these clients has a line or its end, and what came to
-//!   each client is written, as above. After 1,000 turns the run ends;
-//! - `away`: how many connections were turned away since the server began is written; `elsewhere`: whether it is reached by
-//!   another address of this machine;
+//! - clients' letters and ` ?`: the server takes turns until each of these clients has a line or its end, and what came
+//!   to each client is written, as above. After 1,000 turns the run ends;
+//! - `away`: how many connections were turned away since the server began is written; `elsewhere`: whether it is
+//!   reached by another address of this machine;
 //! - `moment MOMENT`: that of the turns from now on, in milliseconds, 1,000 at first;
-//! - `silence COUNT`: a new server, without clients and over a new store, closes who is silent for so many milliseconds;
-//!   with 0 nobody.
+//! - `silence COUNT`: a new server, without clients and over a new store, closes who is silent for so many
+//!   milliseconds; with 0 nobody.
 use chess_hub::Hub;
 use chess_sockets::{Server, Turned};
 use sector_dev::MemoryDevice;

@@ -1,5 +1,5 @@
 //! Boards of parts. What else breaks the conditions of a board is in the stored run of `perft`. How a game starts is
-//! settled by the clauses of `Board::initial`: the stored run of `test_player` has its FEN, and that of `server_board`
+//! settled by the clauses of `Board::initial`: the stored run of `test_player` has its FEN, and that of `chess_server`
 //! the one after 1. e4.
 use bitflags::Flags;
 use chess_bits::Colour::{Black, White};

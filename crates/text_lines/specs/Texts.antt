@@ -1,6 +1,7 @@
 -- What the lines of an input are answered, by a rule: at this state a line is answered with this text, and that state
 -- comes.
-use Rattle.std.specs.Prelude.{ℕ, ◌≡◌, ◌⊎◌, ◌<◌, Bool, true, false, List, [], ◌∷◌, ◌++◌, Option, Some, None, String, Result, Ok, Err, length, codes, string_bytes}
+use Rattle.std.specs.Prelude.{ℕ, ◌≡◌, ◌⊎◌, ◌<◌, Bool, true, false, List, [], ◌∷◌, ◌++◌, Option, Some, None, String}
+use Rattle.std.specs.Prelude.{Result, Ok, Err, length, codes, string_bytes}
 use Rattle.std.specs.Io.KnownBytes.{Appends, Consumes}
 use Rattle.text_lines.specs.Lines.{lines_of, has_long_line}
 use Rattle.text_lines.specs.declared.answerer.Answer.{Answer}

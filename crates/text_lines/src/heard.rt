@@ -1,5 +1,6 @@
 //! The lines that a session has sent, and that were not taken.
-ghost use Rattle.std.specs.Prelude.{◌≡◌, ◌+◌, ◌<◌, ◌≤◌, ◌++◌, ◌↔◌, ℕ, List, true, false, [], ◌∷◌, drop, length, IsTrue, IsSome, IfSome, IfNone, OnOk, OnErr, IsErrOf, vec_len, vec_capacity};
+ghost use Rattle.std.specs.Prelude.{◌≡◌, ◌+◌, ◌<◌, ◌≤◌, ◌++◌, ◌↔◌, ℕ, List, true, false, [], ◌∷◌, drop, length, IsTrue};
+ghost use Rattle.std.specs.Prelude.{IsSome, IfSome, IfNone, OnOk, OnErr, IsErrOf, vec_len, vec_capacity};
 ghost use Rattle.std.specs.Bool.{OnTrue, OnFalse};
 ghost use Rattle.text_lines.specs.Lines.{HasNoFeed, IsUnfinished, lines_of, has_long_line};
 ghost use Rattle.text_lines.specs.Heard.{kept_of, heard, heard_more, IsCut, IsFirstLine};

@@ -191,9 +191,11 @@ pub fn answer_lines<A: Answerer + Drop, R: Read, W: Write>(
     requires asked { A.is_ready answerer }
     // Of a reader that tells its bytes: what is written is the text of the whole input.
     ensures whole { OnOk result.1 (IfSome (R.remaining reader.old) (λ input. (text : List ℕ)
-        × IsText A.answers answerer input text result.0 × Appends (W.contents writer.old) (W.contents writer.new) text)) }
+        × IsText A.answers answerer input text result.0
+        × Appends (W.contents writer.old) (W.contents writer.new) text)) }
     ensures long { IsErrOf result.1 LoopFault.LineTooLong → IfSome (R.remaining reader.old) (λ input. (text : List ℕ)
-        × IsText A.answers answerer input text result.0 × Appends (W.contents writer.old) (W.contents writer.new) text) }
+        × IsText A.answers answerer input text result.0
+        × Appends (W.contents writer.old) (W.contents writer.new) text) }
 
     // Also of a reader that does not.
     ensures ended { Ended A.answers A.breaks result.1 (R.remaining reader.old) (R.remaining reader.new)

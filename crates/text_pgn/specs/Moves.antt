@@ -1,5 +1,6 @@
 -- The moves of a game as the archive has them.
-use Rattle.std.specs.Prelude.{ℕ, ◌/◌, ◌%◌, ◌+◌, Bool, true, false, List, [], ◌∷◌, ◌++◌, codes, decimal, Option, Some, None, if◌then◌else◌}
+use Rattle.std.specs.Prelude.{ℕ, ◌/◌, ◌%◌, ◌+◌, Bool, true, false, List, [], ◌∷◌, ◌++◌, codes, decimal, Option, Some}
+use Rattle.std.specs.Prelude.{None, if◌then◌else◌}
 use Rattle.text_pgn.specs.Pgn.{is_move}
 
 -- two digits of a number below 100
@@ -9,7 +10,8 @@ two_digits n = (48 + n / 10) ∷ (48 + n % 10) ∷ []
 -- what a clock shows, as `{[%clk H:MM:SS]}`: the whole seconds of so many milliseconds
 unfoldable pub clock_text : ℕ → List ℕ
 clock_text ms =
-    codes "{[%clk " ++ (decimal (ms / 3600000) ++ (codes ":" ++ (two_digits (ms / 60000 % 60) ++ (codes ":" ++ (two_digits (ms / 1000 % 60) ++ codes "]}")))))
+    codes "{[%clk " ++ (decimal (ms / 3600000) ++ (codes ":"
+    ++ (two_digits (ms / 60000 % 60) ++ (codes ":" ++ (two_digits (ms / 1000 % 60) ++ codes "]}")))))
 
 -- a comment is one token, so that no line ends in it
 abbrev pub clock_tokens : Option ℕ → List (List ℕ)
@@ -44,5 +46,6 @@ abbrev pub told_tokens : List ℕ → Bool → List (List ℕ) → List (Option 
 told_tokens number again [] clocks = []
 told_tokens number again (token ∷ tokens) clocks =
     if is_move token
-    then move_tokens again number token (first_clock clocks) ++ told_tokens number (is_known (first_clock clocks)) tokens (next_clocks clocks)
+    then move_tokens again number token (first_clock clocks)
+    ++ told_tokens number (is_known (first_clock clocks)) tokens (next_clocks clocks)
     else token ∷ told_tokens token false tokens clocks

@@ -44,7 +44,8 @@ fn push_same(told: &mut Vec<Vec<u8>>, alloc: Global, token: &str) -> Result<(), 
 
 // A comment with what a clock shows, where that is known.
 fn push_clock(told: &mut Vec<Vec<u8>>, alloc: Global, clock: Option<u64>) -> Result<(), AllocError>
-    ensures { OnOk result (map (λ t. t.items) told.new.items ≡ map (λ t. t.items) told.old.items ++ spec.clock_tokens clock) }
+    ensures { OnOk result (map (λ t. t.items) told.new.items
+        ≡ map (λ t. t.items) told.old.items ++ spec.clock_tokens clock) }
 {
     if let Some(ms) = clock {
         let text = clock_text(alloc, ms)?;
@@ -60,7 +61,8 @@ fn push_again(
     again: bool,
     number: &str,
 ) -> Result<(), AllocError>
-    ensures { OnOk result (map (λ t. t.items) told.new.items ≡ map (λ t. t.items) told.old.items ++ spec.again_tokens again number.now) }
+    ensures { OnOk result (map (λ t. t.items) told.new.items
+        ≡ map (λ t. t.items) told.old.items ++ spec.again_tokens again number.now) }
 {
     if again {
         let mut text = Vec::from_slice(alloc, number.as_bytes())?;
@@ -79,7 +81,8 @@ fn push_move(
     token: &str,
     clock: Option<u64>,
 ) -> Result<(), AllocError>
-    ensures { OnOk result (map (λ t. t.items) told.new.items ≡ map (λ t. t.items) told.old.items ++ spec.move_tokens again number.now token.now clock) }
+    ensures { OnOk result (map (λ t. t.items) told.new.items
+        ≡ map (λ t. t.items) told.old.items ++ spec.move_tokens again number.now token.now clock) }
 {
     push_again(told, alloc, again, number)?;
     push_same(told, alloc, token)?;
@@ -105,7 +108,8 @@ pub fn told_tokens(
     tokens: &[&str],
     clocks: &[Option<u64>],
 ) -> Result<Vec<Vec<u8>>, AllocError>
-    ensures { IfOk result (λ told. map (λ t. t.items) told.items ≡ spec.told_tokens [] false (map (λ t. t.now) tokens.now) clocks.now) }
+    ensures { IfOk result (λ told. map (λ t. t.items) told.items
+        ≡ spec.told_tokens [] false (map (λ t. t.now) tokens.now) clocks.now) }
 {
     let mut told = Vec::new(alloc);
     let mut number = "";

@@ -28,7 +28,8 @@ fn push_tokens<'a>(
     alloc: Global,
     line: &'a str,
 ) -> Result<(), AllocError>
-    ensures { OnOk result (map (λ t. t.now) tokens.new.items ≡ map (λ t. t.now) tokens.old.items ++ tokens_of_line line.entry.now) }
+    ensures { OnOk result (map (λ t. t.now) tokens.new.items
+        ≡ map (λ t. t.now) tokens.old.items ++ tokens_of_line line.entry.now) }
 {
     if is_tag(line) {
         return Ok(());

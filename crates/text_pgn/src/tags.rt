@@ -75,7 +75,8 @@ pub fn push_value_told(out: &mut Vec<u8>, line: &str, value: Option<&str>) -> Re
 
 // A tag's line without its line feed.
 fn push_told(out: &mut Vec<u8>, heading: &Heading<'_>, line: &str) -> Result<(), AllocError>
-    ensures { OnOk result (out.new.items ≡ out.old.items ++ spec.told_value line.now (spec.value_for heading.now (spec.head_of line.now))) }
+    ensures { OnOk result (out.new.items ≡ out.old.items
+        ++ spec.told_value line.now (spec.value_for heading.now (spec.head_of line.now))) }
 {
     push_value_told(out, line, value_for(heading, head_of(line)))
 }
@@ -94,7 +95,8 @@ fn push_tag(out: &mut Vec<u8>, heading: &Heading<'_>, line: &str) -> Result<(), 
 
 /// Writes the tags of a PGN's lines behind a text. It fails where memory is refused.
 pub fn push_tags(out: &mut Vec<u8>, heading: &Heading<'_>, lines: &[&str]) -> Result<(), AllocError>
-    ensures { OnOk result (out.new.items ≡ out.old.items ++ spec.told_tags heading.now (map (λ line. line.now) lines.now)) }
+    ensures { OnOk result (out.new.items ≡ out.old.items
+        ++ spec.told_tags heading.now (map (λ line. line.now) lines.now)) }
 {
     for line in lines {
         push_tag(out, heading, line)?;

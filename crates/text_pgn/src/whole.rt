@@ -38,7 +38,8 @@ fn laid_out(
     tokens: &[Vec<u8>],
 ) -> Result<Vec<u8>, AllocError>
     requires { is_laid (map (λ t. t.items) tokens.now) ≡ true }
-    ensures { IfOk result (λ text. IsLaidOut heading.now (map (λ line. line.now) lines.now) (map (λ t. t.items) tokens.now) text.items) }
+    ensures { IfOk result (λ text. IsLaidOut heading.now (map (λ line. line.now) lines.now)
+        (map (λ t. t.items) tokens.now) text.items) }
 {
     let mut text = Vec::new(alloc);
     push_tags(&mut text, heading, lines)?;
@@ -59,7 +60,8 @@ pub fn archived(
     clocks: &[Option<u64>],
 ) -> Result<Vec<u8>, TextFault>
     ensures text { IfOk result (λ text. IsArchived heading.now pgn.now clocks.now text.items) }
-    ensures no_pgn { IfErr result (λ fault. fault ≡ faults.NoPgn → is_laid (archive_tokens pgn.now clocks.now) ≡ false) }
+    ensures no_pgn { IfErr result (λ fault. fault ≡ faults.NoPgn
+        → is_laid (archive_tokens pgn.now clocks.now) ≡ false) }
 {
     let lines = parts(alloc, pgn, '\n')?;
     let tokens = tokens_of(alloc, lines.as_slice())?;

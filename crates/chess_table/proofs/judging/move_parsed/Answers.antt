@@ -2,7 +2,7 @@ use Rattle.std.proofs.Common.{Some, List, ℕ, ◌≡◌, sym, ap, subst}
 use Rattle.std.specs.Option.{option_copied}
 use Rattle.chess_board.specs.declared.moves.Move.{Move}
 use Rattle.chess_notation.specs.Naming.{Names}
-use Rattle.chess_records.proofs.Promotions.{CanBecome-legal}
+use Rattle.chess_table.proofs.Promotions.{CanBecome-legal}
 use Rattle.chess_table.specs.Parsing.{IsTheMove}
 use Rattle.chess_table.proofs.CheckLemmas.{move-named, move-unnamed}
 use Rattle.chess_table.proofs.judging.move_parsed.Goals as goal

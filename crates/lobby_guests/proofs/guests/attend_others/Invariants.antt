@@ -5,5 +5,5 @@ use Rattle.lobby_guests.proofs.guests.attend_others.Given as goal
 
 abbrev pub invariant-loop-guest : goal.invariant-loop-guest
 invariant-loop-guest g l =
-    IsTurnedTo (IsOthersTurn l.others g.S.Read.remaining l.site l.at) l.guest-index l.fn.guests.items l.guest-items
+    IsTurnedTo (IsOthersTurn l.others l.is_fresh g.S.Read.remaining l.site l.at) l.guest-index l.fn.guests.items l.guest-items
     (full_room l.fn.talk) (record { talk = l.talk; left = l.round.left })

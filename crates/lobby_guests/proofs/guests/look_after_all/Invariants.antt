@@ -1,6 +1,6 @@
 -- Those so far are looked after, and the others are as they were.
 use Rattle.lobby_guests.specs.Guests.{IsLookedAfter}
-use Rattle.lobby_guests.proofs.Each.{IsZippedTo}
+use Rattle.lobby_talk.proofs.Each.{IsZippedTo}
 use Rattle.lobby_guests.proofs.guests.look_after_all.Given as goal
 
 abbrev pub invariant-loop-guest : goal.invariant-loop-guest

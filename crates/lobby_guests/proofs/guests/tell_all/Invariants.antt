@@ -1,8 +1,9 @@
 -- Those so far are told, and the others are as they were.
 use Rattle.std.proofs.Common.{◌≡◌, take}
 use Rattle.lobby_guests.specs.Guests.{AreTold}
-use Rattle.lobby_guests.specs.Counting.{counted_up, refusals_in}
-use Rattle.lobby_guests.proofs.Each.{IsZippedTo}
+use Rattle.lobby_guests.specs.Counting.{refusals_in}
+use Rattle.lobby_talk.specs.Counting.{counted_up}
+use Rattle.lobby_talk.proofs.Each.{IsZippedTo}
 use Rattle.lobby_guests.proofs.guests.tell_all.Given as goal
 
 abbrev pub invariant-loop-guest : goal.invariant-loop-guest

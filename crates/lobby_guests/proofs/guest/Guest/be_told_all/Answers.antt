@@ -1,7 +1,7 @@
 use Rattle.std.proofs.Common.{Bool, get_or, take, subst, ap, sym, ◌∙◌}
 use Rattle.lobby_desk.specs.declared.telling.Message.{Message}
 use Rattle.lobby_guests.specs.Guests.{IsTold}
-use Rattle.lobby_guests.specs.Counting.{counted_up, one_if, refuses, refusals_of}
+use Rattle.lobby_talk.specs.Counting.{counted_up, one_if, refuses, refusals_of}
 use Rattle.lobby_guests.proofs.Telling.{told_further, refusals_more, counted_more}
 use Rattle.lobby_guests.proofs.guest.Guest.be_told_all.Goals as goal
 

@@ -1,6 +1,6 @@
 -- What the rest of them make of it, all of them make of it.
 use Rattle.std.proofs.Common.{◌≡◌, take}
-use Rattle.lobby_guests.specs.Counting.{counted_up, refusals_of}
+use Rattle.lobby_talk.specs.Counting.{counted_up, refusals_of}
 use Rattle.lobby_guests.proofs.Telling.{IsToldTo}
 use Rattle.lobby_guests.proofs.guest.Guest.be_told_all.Given as goal
 

@@ -1,6 +1,6 @@
 -- A text of a connection that has a number.
 use Rattle.std.proofs.Common.{ℕ, List, refl, subst}
-use Rattle.lobby_guests.specs.Talking.{IsTextSaid}
+use Rattle.lobby_talk.specs.Talking.{IsTextSaid}
 use Rattle.lobby_guests.proofs.guest.Guest.speak.Goals as goal
 
 pub returns-in_ok-say_to_desk-in-Some-number-clause-told : goal.returns-in_ok-say_to_desk-in-Some-number-clause-told

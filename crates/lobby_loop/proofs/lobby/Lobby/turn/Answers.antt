@@ -7,7 +7,7 @@ pub returns : goal.returns
 returns g c = (
   record {
     reached = c.reach_server.new.self.hall;
-    reaches = subst (λ h. IsReached h c.reach_server.new.self.hall) c.hold.ensures c.in_ok-has_reached.ensures;
+    reaches = subst (λ h. IsReached h c.reach_server.new.self.hall) c.hold.ensures.hall c.in_ok-has_reached.ensures;
     streams = c.welcome-has_welcomed.ensures.0;
     welcomed = c.welcome-has_welcomed.new.self.hall;
     welcomes = c.welcome-has_welcomed.ensures.1;

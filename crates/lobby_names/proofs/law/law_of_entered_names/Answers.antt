@@ -1,5 +1,0 @@
-use Rattle.lobby_names.proofs.Names.{run_entered}
-use Rattle.lobby_names.proofs.law.law_of_entered_names.Goals as goal
-
-pub returns : goal.returns
-returns c = λ players is_paused steps now run. run_entered players is_paused steps now run

@@ -1,0 +1,10 @@
+use Rattle.std.proofs.Common.{ap, ◌∙◌}
+use Rattle.std.specs.List.{count_by}
+use Rattle.std.proofs.lemmas.List.{take_all}
+use Rattle.lobby_table.specs.Waiting.{is_seat}
+use Rattle.lobby_table.proofs.waiting.seats_by.Goals as goal
+
+pub returns : goal.returns
+returns c =
+    c.loop-one.invariant
+    ∙ ap (count_by (is_seat c.args.stage c.args.name.now)) (take_all c.loop-one.one-index c.args.seats.now c.loop-one-test.false)

@@ -1,0 +1,6 @@
+pub mod Each
+pub mod Making
+pub mod Taking
+pub mod Saying
+pub mod Logging
+pub mod Keeping

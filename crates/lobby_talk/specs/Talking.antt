@@ -1,0 +1,90 @@
+-- What the desk is told, and what goes from it.
+use Rattle.std.specs.Prelude.{ℕ, ◌≡◌, ◌≤◌, ◌+◌, ◌∷◌, ◌++◌, Bool, true, false, List, Option, None, Some, [], IsUtf8, is_some}
+use Rattle.lobby_words.specs.declared.players.Player.{Player}
+use Rattle.lobby_words.specs.declared.linked.Linked.{Linked as Done}
+use Rattle.lobby_words.specs.declared.refusals.Refusal.TheVariants.{NotWritten}
+use Rattle.lobby_words.specs.Plans.{refusal_text}
+use Rattle.lobby_desk.specs.declared.desk.Desk.{Desk}
+use Rattle.lobby_desk.specs.Strangers.{acts}
+use Rattle.lobby_desk.specs.Events.{DeskInput, Opened, Said, Hurried, Linked, message_values, to_one}
+use Rattle.lobby_desk.specs.Pace.{is_too_fast}
+use Rattle.lobby_desk.specs.Who.{Begins as BeginsDesk, Steps, order_asked, said_event, until_of}
+use Rattle.lobby_talk.specs.declared.talk.Talk.{Talk}
+
+-- A desk that begins, with entries paused or not: nothing was said, nothing is to go, and no number was given.
+pub record Begins (players : List Player) (is_paused : Bool) (now : Talk) : Type 0 where
+  pub desk : BeginsDesk is_paused now.desk
+  pub players_are : now.desk.players.items ≡ players
+  pub wire : now.wire.items ≡ []
+  pub told : now.told.items ≡ []
+  pub next : now.next ≡ 0
+
+-- whether a connection of this number acts for a player
+abbrev pub acts_at : Desk → Option ℕ → Bool
+acts_at desk None = false
+acts_at desk (Some c) = acts desk c
+
+-- a step of the desk, by the bytes that are to go to the server before and after
+abbrev pub StepsAt : Talk → DeskInput → List ℕ → List ℕ → Talk → Type 0
+StepsAt old event before after new =
+    Steps old.desk event before after (message_values old.told.items) (message_values new.told.items) new.desk
+
+-- The desk takes this event: the lines for it stand behind what is to go to the server, and the messages for it behind
+-- those that are to go to connections.
+pub record Moves (old : Talk) (event : DeskInput) (new : Talk) : Type 0 where
+  pub steps : StepsAt old event old.wire.items new.wire.items new
+  pub next : new.next ≡ old.next
+
+-- A connection comes, and has a number that none had before.
+pub record Opens (old : Talk) (c : ℕ) (new : Talk) : Type 0 where
+  pub steps : StepsAt old (Opened c) old.wire.items new.wire.items new
+  pub fresh : old.next ≤ c
+  pub next : new.next ≡ c + 1
+
+-- The desk takes this event, and nothing is to go to the server: what was to go there is not sent.
+pub record MovesAnew (old : Talk) (event : DeskInput) (new : Talk) : Type 0 where
+  pub steps : StepsAt old event [] [] new
+  pub nothing : new.wire.items ≡ []
+  pub next : new.next ≡ old.next
+
+-- How the desk takes a message: it came in time; or too fast; or it asked for a player's link, for which the players'
+-- file has these players and this token was made.
+pub data Saying : Type 0 where
+  InTime : Saying
+  TooFast : Saying
+  WithLink : (players : List Player) → (token : List ℕ) → Saying
+
+abbrev pub saying : Saying → ℕ → List ℕ → DeskInput
+saying InTime c text = Said c text
+saying TooFast c text = Hurried c
+saying (WithLink players token) c text = Linked c text players token
+
+-- each just where it may be so
+abbrev pub IsSaying : Talk → ℕ → ℕ → List ℕ → Saying → Type 0
+IsSaying talk c at text InTime = is_too_fast (until_of talk.desk c) at ≡ false
+IsSaying talk c at text TooFast = is_too_fast (until_of talk.desk c) at ≡ true
+IsSaying talk c at text (WithLink players token) = is_some (order_asked talk.desk c text at) ≡ true
+
+-- What is told of an order, which was carried out so, or was not: then it is refused, and the players are who they were.
+pub record IsRefused (c : ℕ) (old new : Talk) : Type 0 where
+  pub told : message_values new.told.items ≡ message_values old.told.items ++ to_one c (refusal_text NotWritten) ∷ []
+  pub players : new.desk.players ≡ old.desk.players
+
+abbrev pub IsOrderTold : Option Done → ℕ → Talk → Talk → Type 0
+IsOrderTold None c old new = IsRefused c old new
+IsOrderTold (Some done) c old new = new.desk.players.items ≡ done.players.items
+
+-- a message of a connection at a moment is said to the desk
+pub record Says (text : List ℕ) (c at : ℕ) (old new : Talk) : Type 0 where
+  pub how : Saying
+  pub may : IsSaying old c at text how
+  pub moves : Moves old (saying how c text) new
+
+-- A text of a connection is said to the desk; what is no text is said as the empty text, which is refused.
+abbrev pub IsTextSaid : List ℕ → ℕ → ℕ → Talk → Talk → Type 0
+IsTextSaid text c at old new =
+    (shown : List ℕ) × (IsUtf8 text → shown ≡ text) × (¬ IsUtf8 text → shown ≡ []) × Says shown c at old new
+
+-- a message of a connection at a moment, as the desk takes it
+abbrev pub said_at : Talk → ℕ → ℕ → List ℕ → DeskInput
+said_at talk c at text = said_event (is_too_fast (until_of talk.desk c) at) c text

@@ -1,0 +1,27 @@
+//! The desk with what goes to it and what goes from it: messages of browsers and lines of the server as the desk takes
+//! them, messages as browsers get them, the one connection to the server, and what is counted of these. Who changes
+//! players' links is a trait.
+//!
+//! Modules: `talk` has the desk with what goes from it, `said` a browser's message as the desk takes it, `lines` the
+//! lines of the server, `made` the messages as they go out, `kept` and `kept_answer` answers that were made, `link` the
+//! connection to the server, `pieces` one write, `links` who changes players' links, `counts` what is counted beside
+//! that. `proofs/Each` has what is done to each of a list, `proofs/Taking` lines one after another.
+#![tactic(auto)]
+
+mod counts;
+mod kept;
+mod kept_answer;
+mod lines;
+mod link;
+mod links;
+mod made;
+mod pieces;
+mod said;
+mod talk;
+
+pub use counts::{ACTS, Asked, BOUNDS, Coming, Counts, is_refused_login};
+pub use link::Link;
+pub use links::{KeepsLinks, NoLinks};
+pub use pieces::{Gone, PIECE_ROOM, write_piece};
+pub use said::say_to_desk;
+pub use talk::Talk;

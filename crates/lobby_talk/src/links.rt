@@ -1,0 +1,33 @@
+//! Who changes players' links, and keeps whether entries are paused.
+ghost use Rattle.std.specs.Prelude.{IfSome};
+ghost use Rattle.std.specs.String.{string_bytes};
+ghost use Rattle.lobby_words.specs.Players.{IsRelinked};
+
+use lobby_desk::Order;
+use lobby_words::{Linked, Player};
+
+/// Keeps the players' file, by which links hold, and beside it whether entries are paused.
+pub trait KeepsLinks {
+    /// Gives one of these players a new link, or closes it, in the file: the old one holds no more. It answers once
+    /// the file is on the disk, by the players from then on and the token of the new link: they are these, but that
+    /// the player of the order has this token, which none of them had. `None` where that was not done, as where the
+    /// file has other players, and the file is as it was.
+    fn change(&mut self, order: &Order, players: &[Player]) -> Option<Linked>
+        ensures { IfSome result (λ linked. IsRelinked order.now.name
+            (string_bytes linked.token) players.now linked.players.items) };
+
+    /// Entries are paused now, or not. It is told so in each turn, before browsers are told what came of it.
+    fn entries(&mut self, is_paused: bool);
+}
+
+/// No file: no link is changed, and nothing is kept.
+#[derive(Clone, Copy)]
+pub struct NoLinks;
+
+impl KeepsLinks for NoLinks {
+    fn change(&mut self, _order: &Order, _players: &[Player]) -> Option<Linked> {
+        None
+    }
+
+    fn entries(&mut self, _is_paused: bool) {}
+}
