@@ -1,14 +1,13 @@
-"""Connections that cost a lobby more than they say, in a process of its own: rude.py PORT KIND COUNT [TOKEN]. It prints
+"""Connections that cost a lobby more than they say, in a process of its own: `-m lib.rude PORT KIND COUNT [TOKEN]`. It prints
 `ready`, and once standard input ends how many rounds they made in how many seconds. For bench/speed/lobby."""
 
 import asyncio
 import contextlib
-import os
 import socket
-import subprocess
 import sys
 import time
 
+from lib.program import module
 from lib.web import PING, TEXT, frame, handshake
 
 
@@ -91,8 +90,7 @@ class Crowd:
     """So many of a kind, with a player's token or none, in a process of their own."""
 
     def __init__(self, port, kind, count, token=''):
-        self.process = subprocess.Popen([sys.executable, os.path.realpath(__file__), str(port), kind, str(count), token],
-                                        stdin=subprocess.PIPE, stdout=subprocess.PIPE, text=True)
+        self.process = module('lib.rude', port, kind, count, token)
         self.process.stdout.readline()
 
     def end(self):
