@@ -91,6 +91,12 @@ def begin(name, *words, **how):
     return subprocess.Popen([path_of(name), *words], **how)
 
 
+def module(name, *words):
+    """A module of these benches as a program, which is spoken to by its standard input and output."""
+    return subprocess.Popen([sys.executable, '-m', name, *map(str, words)], cwd=os.path.join(TOP, 'bench'),
+                            stdin=subprocess.PIPE, stdout=subprocess.PIPE, text=True)
+
+
 def end(process):
     """Kills a program, and waits for its end."""
     process.kill()

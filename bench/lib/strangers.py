@@ -1,13 +1,12 @@
 """Strangers before a lobby: connections that have shown no token and ask, and players who move beside them. For
 bench/speed/lobby."""
 
-import os
 import selectors
-import subprocess
 import sys
 import time
 
 from lib.net import connect
+from lib.program import module
 from lib.server import Session
 from lib.web import TEXT, Guest, frame, handshake, token_of
 
@@ -109,8 +108,7 @@ class Crowd:
     """A crowd in a process of its own."""
 
     def __init__(self, port, line, count, burst=1):
-        self.process = subprocess.Popen([sys.executable, os.path.realpath(__file__), str(port), line, str(count),
-                                         str(burst)], stdin=subprocess.PIPE, stdout=subprocess.PIPE, text=True)
+        self.process = module('lib.strangers', port, line, count, burst)
         self.count = int(self.process.stdout.readline().split()[1])
 
     def end(self):
