@@ -481,7 +481,7 @@ done_waits players past old (Hurried c) lines tells now agrees before step =
 done_waits players past old (Renewed later) lines tells now agrees before step =
     λ taken. waits_still (known_in players past).owed (unanswered_in players past) (shown_in players past) (name_in past) lines step.none (before taken)
 done_waits players past old (Linked c text later token) lines tells now agrees before step =
-    λ taken. waits_still (known_in players past).owed (unanswered_in players past) (shown_in players past) (name_in past) lines step.renews.none (before taken)
+    λ taken. waits_still (known_in players past).owed (unanswered_in players past) (shown_in players past) (name_in past) lines step.0.none (before taken)
 done_waits players past old (ServerTurned is_here) lines tells now agrees before step =
     λ taken. waits_still [] [] None None lines step.none (tt, refl)
 done_waits players past old (Said c text) lines tells now agrees before step =

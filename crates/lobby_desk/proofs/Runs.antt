@@ -1080,7 +1080,7 @@ came_then players past old (Said d text) lines tells now agrees step c h = subst
 came_then players past old (Hurried d) lines tells now agrees step c h = subst (λ (n : ℕ). c < n) (sym step.next_is) (agrees.came c h)
 came_then players past old (Heard line) lines tells now agrees step c h = subst (λ (n : ℕ). c < n) (sym step.next_is) (agrees.came c h)
 came_then players past old (Renewed later) lines tells now agrees step c h = subst (λ (n : ℕ). c < n) (sym step.next_is) (agrees.came c h)
-came_then players past old (Linked d text later token) lines tells now agrees step c h = subst (λ (n : ℕ). c < n) (sym step.renews.next_is) (agrees.came c h)
+came_then players past old (Linked d text later token) lines tells now agrees step c h = subst (λ (n : ℕ). c < n) (sym step.0.next_is) (agrees.came c h)
 came_then players past old (ServerTurned is_here) lines tells now agrees step c h = subst (λ (n : ℕ). c < n) (sym step.next_is) (agrees.came c h)
 
 none_done : (players : List Player) (past : List Step) (event : DeskInput) (lines : List (List ℕ)) (now : View) →
@@ -1101,9 +1101,9 @@ renewed_who players past old later lines now agrees step d =
     step.who_is d ∙ ap (λ (before : Option Identity). renewed (players_in players past) later before) (agrees.who d)
 
 -- who asks for a link
-linked_orders : (players : List Player) (old : View) (c : ℕ) (text : List ℕ) (later : List Player) (token : List ℕ) (lines : List (List ℕ)) (new : View) →
-    (step : IsLinked players old c text later token lines new) → Orders (is_message text) (sort_of text) step.standing step.order
-linked_orders players old c text later token lines new step =
+linked_orders : (players : List Player) (old : View) (c : ℕ) (text : List ℕ) (later : List Player) (token : List ℕ) →
+    (step : IsLinked players old c text later token) → Orders (is_message text) (sort_of text) step.standing step.order
+linked_orders players old c text later token step =
     subst (OfOrder (Orders (is_message text) (sort_of text) step.standing)) step.planned
     (planned_orders (is_message text) (sort_of text) step.standing (u32_in (rest_of text)))
 
@@ -1140,11 +1140,11 @@ done_good players past old (Renewed later) lines tells now agrees step =
     none_done players past (Renewed later) lines now (λ none. none) step.none (step.said_is ∙ agrees.said)
     (λ d. renewed_who players past old later lines now agrees step d)
 done_good players past old (Linked c text later token) lines tells now agrees step =
-    let orders = linked_orders (players_in players past) old c text later token lines now step in
+    let orders = linked_orders (players_in players past) old c text later token step.1 in
     none_done players past (Linked c text later token) lines now
-    (λ none. (none, subst IsArbiter (step.who ∙ agrees.who c) orders.arbiter, orders.message, orders.sort_is, step.relinks))
-    step.renews.none (step.renews.said_is ∙ agrees.said)
-    (λ d. renewed_who players past old later lines now agrees step.renews d)
+    (λ none. (none, subst IsArbiter (step.1.who ∙ agrees.who c) orders.arbiter, orders.message, orders.sort_is, step.1.relinks))
+    step.0.none (step.0.said_is ∙ agrees.said)
+    (λ d. renewed_who players past old later lines now agrees step.0 d)
 done_good players past old (ServerTurned is_here) lines tells now agrees step =
     none_done players past (ServerTurned is_here) lines now (λ none. none) step.none step.said_is (λ d. step.who_is d ∙ agrees.who d)
 
