@@ -93,11 +93,7 @@ pair_last players s (Some who) said text c same =
 drop_last : (s : Standing) (who : Option Identity) (game : ℕ) (said : Option (List ℕ)) (text : List ℕ) (c : ℕ) →
     LastIs (drop_plan s who game) said text c (Dropper c (name_of who) text)
 drop_last s None game said text c = refl
-drop_last s (Some who) game said text c =
-    elim who.is_arbiter as (λ b. LastIs (if b then asked s (plans.Drop who game) else plans.Refuse refusals.NotArbiter) said text c (Dropper c who.name text)) [
-      | true ↦ asked_last s (plans.Drop who game) said text c (Dropper c who.name text) refl
-      | false ↦ refl
-    ]
+drop_last s (Some who) game said text c = asked_last s (plans.Drop who game) said text c (Dropper c who.name text) refl
 
 arbiter_last : (who : Option Identity) (plan : Plan) (said : Option (List ℕ)) (text : List ℕ) (c : ℕ) → LastIs plan said text c (Asker c ForItself) →
     LastIs (arbiter_plan who plan) said text c (Asker c ForItself)
@@ -224,11 +220,7 @@ pair_does P s (Some who) none h =
 drop_does : (P : Plan → Type 0) (s : Standing) (who : Option Identity) (game : ℕ) → ((r : Refusal) → P (plans.Refuse r)) →
     ((one : Identity) → P (plans.Drop one game)) → P (drop_plan s who game)
 drop_does P s None game none h = none refusals.NoToken
-drop_does P s (Some who) game none h =
-    elim who.is_arbiter as (λ b. P (if b then asked s (plans.Drop who game) else plans.Refuse refusals.NotArbiter)) [
-      | true ↦ asked_does P s (plans.Drop who game) (none refusals.NoServer) (h who)
-      | false ↦ none refusals.NotArbiter
-    ]
+drop_does P s (Some who) game none h = asked_does P s (plans.Drop who game) (none refusals.NoServer) (h who)
 
 pub dropped_does : (P : Plan → Type 0) (s : Standing) (game : Option ℕ) → ((r : Refusal) → P (plans.Refuse r)) →
     ((one : Identity) (g : ℕ) → P (plans.Drop one g)) → P (numbered_plan sorts.Drop s game)

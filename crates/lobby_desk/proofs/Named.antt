@@ -316,8 +316,8 @@ drop_no_pair : (sort : Sort) → is_drop_sort sort ≡ true → is_pair_sort sor
 drop_no_pair sorts.Drop h = refl
 drop_no_pair _ h = absurd (false≢true h)
 
-dropped_fits : (players : List Player) (past : List Step) (c : ℕ) (by text now : List ℕ) (said : Option (List ℕ)) (lines : List (List ℕ)) (later : Option (List ℕ)) →
-    HasAsked players past c text → IsDropped said now text lines later →
+dropped_fits : {who : Option Identity} (players : List Player) (past : List Step) (c : ℕ) (by text now : List ℕ) (said : Option (List ℕ)) (lines : List (List ℕ)) (later : Option (List ℕ)) →
+    HasAsked players past c text → IsDropped who said now text lines later →
     AreFor (owed_lines (Asker c (ForAct by text)) lines) (sent_under said lines)
 dropped_fits players past c by text now said lines later asked h =
     let was = was_asked players past c text asked in
@@ -356,8 +356,8 @@ paired_fits players past c by black text (Some game) said lines later paired h =
     subst (λ (ls : List (List ℕ)). AreFor (owed_lines (Asker c (ForAct by text)) ls) (sent_under said ls)) (sym h.0)
     (joins_fit c by text black game said was.pairs was.named)
 
-sent_fits : (players : List Player) (past : List Step) (o : Owed) (said : Option (List ℕ)) (now : List ℕ) (lines : List (List ℕ)) (later : Option (List ℕ)) →
-    IsAsked players past o → IsSentFor o said now lines later → AreFor (owed_lines (follower o now) lines) (sent_under said lines)
+sent_fits : {who : ℕ → Option Identity} (players : List Player) (past : List Step) (o : Owed) (said : Option (List ℕ)) (now : List ℕ) (lines : List (List ℕ)) (later : Option (List ℕ)) →
+    IsAsked players past o → IsSentFor who o said now lines later → AreFor (owed_lines (follower o now) lines) (sent_under said lines)
 sent_fits players past Nobody said now lines later asked h = none_fits Nobody said lines h.0
 sent_fits players past (Naming name) said now lines later asked h = none_fits Nobody said lines h.0
 sent_fits players past (Asker c ForItself) said now lines later asked h = none_fits Nobody said lines h.0
@@ -409,8 +409,8 @@ same_behind (Followers game act is_table) s shown now m fits taken = silent_behi
 same_behind Behind s shown now m fits taken = silent_behind shown s.line now fits
 
 -- an answer that counts
-next_waits : (players : List Player) (past : List Step) (owed : List Owed) (sent : List Sent) (shown said : Option (List ℕ)) (now : List ℕ) (m : Bool)
-    (lines : List (List ℕ)) (later : Option (List ℕ)) → AreAsked players past owed → Waits owed sent shown said → IsSentNext owed said now lines later →
+next_waits : {who : ℕ → Option Identity} (players : List Player) (past : List Step) (owed : List Owed) (sent : List Sent) (shown said : Option (List ℕ)) (now : List ℕ) (m : Bool)
+    (lines : List (List ℕ)) (later : Option (List ℕ)) → AreAsked players past owed → Waits owed sent shown said → IsSentNext who owed said now lines later →
     misnamed_next owed now m ≡ false →
     Waits (owed_answered owed now lines) (but_first sent ++ sent_under said lines) (shown_next shown sent now) (name_through said lines)
 next_waits players past [] [] shown said now m lines later asked h goes taken = waits_still [] [] shown said lines goes.0 h
@@ -439,9 +439,9 @@ was_named players past line is =
     let k = known_in players past in
     not_false (known_in players past).misnamed (and_parts (is_whole k.left line) (not k.misnamed) is).1
 
-heard_waits : (players : List Player) (past : List Step) (line : List ℕ) (lines : List (List ℕ)) (tells : List MessageValue) (later : Option (List ℕ)) →
+heard_waits : {who : ℕ → Option Identity} (players : List Player) (past : List Step) (line : List ℕ) (lines : List (List ℕ)) (tells : List MessageValue) (later : Option (List ℕ)) →
     InStep players past → AreAsked players past (known_in players past).owed → (b : Bool) → is_counted (known_in players past) line ≡ b →
-    IsSentHeard b (known_in players past).owed (name_in past) (answer (known_in players past).begun line) lines later →
+    IsSentHeard who b (known_in players past).owed (name_in past) (answer (known_in players past).begun line) lines later →
     InStep players (record { event = Heard line; lines = lines; tells = tells } ∷ past)
 heard_waits players past line lines tells later before asked false is goes =
     let k = known_in players past in
@@ -493,8 +493,8 @@ done_waits players past old (Said c text) lines tells now agrees before step =
     (shown_in players past) (name_in past) lines by (before taken)
 done_waits players past old (Heard line) lines tells now agrees before step =
     let k = known_in players past in
-    let said = subst (λ (n : Option (List ℕ)). IsSentHeard (is_counted old.known line) old.known.owed n (answer old.known.begun line) lines now.said) agrees.said step.sent in
-    let known = subst (λ (k : Known). IsSentHeard (is_counted k line) k.owed (name_in past) (answer k.begun line) lines now.said) agrees.known said in
+    let said = subst (λ (n : Option (List ℕ)). IsSentHeard old.who (is_counted old.known line) old.known.owed n (answer old.known.begun line) lines now.said) agrees.said step.sent in
+    let known = subst (λ (k : Known). IsSentHeard old.who (is_counted k line) k.owed (name_in past) (answer k.begun line) lines now.said) agrees.known said in
     let asked = subst (λ (k : Known). AreAsked players past k.owed) agrees.known agrees.asked in
     heard_waits players past line lines tells now.said before asked (is_counted (known_in players past) line) refl known
 

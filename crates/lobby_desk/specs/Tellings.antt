@@ -1,6 +1,6 @@
 -- What connections are told.
 use Rattle.std.specs.Prelude.{ℕ, ◌≡◌, Bool, true, false, ◌&&◌, ◌||◌, ◌==◌, not, List, [], ◌∷◌, ◌++◌, codes, decimal}
-use Rattle.std.specs.Prelude.{Option, None, Some, if◌then◌else◌}
+use Rattle.std.specs.Prelude.{Option, None, Some, is_some, if◌then◌else◌}
 use Rattle.std.specs.List.{list_any}
 use Rattle.lobby_words.specs.declared.listing.Seat.{Seat}
 use Rattle.lobby_table.specs.declared.watching.Watch.{Watch}
@@ -14,7 +14,7 @@ use Rattle.lobby_words.specs.declared.refusals.Refusal.TheVariants as refusals
 use Rattle.lobby_words.specs.Plans.{refusal_text}
 use Rattle.lobby_words.specs.Naming.{takes_name}
 use Rattle.lobby_words.specs.Answers.{left_after, is_whole, answer, is_shown, is_position, is_pgn, is_over, act_game}
-use Rattle.lobby_words.specs.Answers.{tells_end}
+use Rattle.lobby_words.specs.Answers.{tells_end, lone_player}
 use Rattle.lobby_table.specs.Watching.{at_table, watch_if, sit_if, unwatched, none_watched, risen, followers}
 use Rattle.lobby_desk.specs.Events.{DeskInput, Opened, Closed, Said, Hurried, Heard, ServerTurned, Renewed, Linked}
 use Rattle.lobby_desk.specs.Events.{MessageValue, to_one, to_one_as}
@@ -273,10 +273,13 @@ notice k game act is_table now = record {
   text = codes "told " ++ decimal game ++ codes "\n" ++ act ++ k.last ++ now;
 }
 
--- What an arbiter's `drop` is answered that does not go out: where the game is shown, that it does not wait for a
--- second player; else the refusal to show it.
-abbrev pub undropped : List ℕ → List ℕ
-undropped now = if is_shown now then refusal_text refusals.NotWaiting else now
+-- What a `drop` is answered that does not go out, by the answer to `show`: where another waits in its game, that who
+-- asks is no arbiter; else, where the game is shown, that it does not wait for a second player; else the refusal to show
+-- it.
+abbrev pub undropped : List ℕ → List ℕ → List ℕ
+undropped text now =
+    if is_some (lone_player now (rest_of text)) then refusal_text refusals.NotArbiter
+    else (if is_shown now then refusal_text refusals.NotWaiting else now)
 
 -- What is told for an answer of the server, by whose it is and by what is known before it. What goes to the log is told
 -- before the rest.
@@ -285,7 +288,7 @@ IsToldFor k Nobody now lines tells = (lines ≡ []) × (tells ≡ [])
 IsToldFor k (Naming name) now lines tells = (lines ≡ []) × (tells ≡ [])
 IsToldFor k (Asker c ask) now lines tells =
     tells ≡ logged_for k.refused ask now ++ to_one_as c (kind_of ask k.last now) (made_of ask k.last now) ∷ []
-IsToldFor k (Dropper c by text) now [] tells = tells ≡ to_one c (undropped now) ∷ []
+IsToldFor k (Dropper c by text) now [] tells = tells ≡ to_one c (undropped text now) ∷ []
 IsToldFor k (Dropper c by text) now (line ∷ lines) tells = tells ≡ []
 IsToldFor k (Pairer c by black text) now [] tells =
     tells ≡ logged_for k.refused (ForAct by text) now ++ to_one c now ∷ []

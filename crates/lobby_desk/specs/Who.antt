@@ -3,6 +3,7 @@ use Rattle.std.specs.Prelude.{ℕ, ◌≡◌, ◌⊎◌, Bool, true, false, not,
 use Rattle.std.specs.Prelude.{decimal, map, Option, None, Some, is_some, option_and_then, if◌then◌else◌}
 use Rattle.std.specs.BTreeMap.{BTreeMap, get}
 use Rattle.std.specs.Ordering.{nat_cmp}
+use Rattle.std.specs.Str.{bytes_eq}
 use Rattle.std.specs.String.{string_bytes}
 use Rattle.player_name.specs.Name.{IsName}
 use Rattle.lobby_words.specs.declared.planning.Plan.{Plan}
@@ -286,22 +287,34 @@ pub record IsSaid (players : List Player) (old : View) (c : ℕ) (text : List �
   pub paused_is : new.paused ≡ paused_after plan old.paused
   pub who_is : (d : ℕ) → new.who d ≡ (if c == d then who_noted plan (old.who d) else old.who d)
 
--- A drop that waited goes out, under the name of the player who waits in its game for a second one, as the answer to
--- `show` says.
-pub record IsDropped (said : Option (List ℕ)) (now text : List ℕ) (lines : List (List ℕ))
+-- Whether who acts so may drop a game in which this player waits for a second one: an arbiter, or he himself.
+abbrev pub may_drop : Option Identity → List ℕ → Bool
+may_drop None name = false
+may_drop (Some who) name = who.is_arbiter || bytes_eq who.name name
+
+-- The name under which a drop goes out, where this player waits in its game, if one does: his, where who asks may.
+abbrev pub dropped_as : Option Identity → Option (List ℕ) → Option (List ℕ)
+dropped_as who None = None
+dropped_as who (Some name) = if may_drop who name then Some name else None
+
+-- A drop that waited goes out for a connection that acts so, under the name of the player who waits in its game for a
+-- second one, as the answer to `show` says.
+pub record IsDropped (who : Option Identity) (said : Option (List ℕ)) (now text : List ℕ) (lines : List (List ℕ))
     (later : Option (List ℕ)) : Type 0 where
   pub name : List ℕ
   pub named : IsName name
   pub alone : lone_player now (rest_of text) ≡ Some name
+  pub may : may_drop who name ≡ true
   pub lines_are : lines ≡ act_lines said name text (game_named text)
   pub said_is : later ≡ Some name
 
--- Nothing goes out for a drop that waited: nobody has a seat in its game, or no seat of it is empty.
-pub record IsNotDropped (said : Option (List ℕ)) (now text : List ℕ) (lines : List (List ℕ))
-    (later : Option (List ℕ)) : Type 0 where
+-- Nothing goes out for a drop that waited: nobody has a seat in its game, or no seat of it is empty, or who asks may not
+-- drop it.
+pub record IsNotDropped (who : Option Identity) (said : Option (List ℕ)) (now text : List ℕ)
+    (lines : List (List ℕ)) (later : Option (List ℕ)) : Type 0 where
   pub none : lines ≡ []
   pub said_is : later ≡ said
-  pub not_waiting : lone_player now (rest_of text) ≡ None
+  pub not_dropped : dropped_as who (lone_player now (rest_of text)) ≡ None
 
 -- What goes out for the answer to the opening of a pairing: where it names the game, Black joins it.
 abbrev pub IsPaired : Option ℕ → Option (List ℕ) → List ℕ → List (List ℕ) → Option (List ℕ) → Type 0
@@ -309,29 +322,32 @@ IsPaired None said black lines later = (lines ≡ []) × (later ≡ said)
 IsPaired (Some game) said black lines later =
     (lines ≡ act_lines said black (join_line game) None) × (later ≡ Some black) × IsName black
 
--- What goes out for an answer, by whose it is, and the name that was said last then. For the answer to an act it is
--- asked how the game stands that it names, if that was not asked right behind the act; a drop goes out for the answer
--- that it waits for, where a seat is empty, and the join of a pairing for the answer that opens its game; else nothing
--- does.
-abbrev pub IsSentFor : Owed → Option (List ℕ) → List ℕ → List (List ℕ) → Option (List ℕ) → Type 0
-IsSentFor (Asker c (ForAct by text)) said now lines later =
+-- What goes out for an answer, by for whom connections act then, by whose it is, and by the name that was said last. For
+-- the answer to an act it is asked how the game stands that it names, if that was not asked right behind the act; a drop
+-- goes out for the answer that it waits for, where a seat is empty and who asks may drop that game, and the join of a
+-- pairing for the answer that opens its game; else nothing does.
+abbrev pub IsSentFor : (ℕ → Option Identity) → Owed → Option (List ℕ) → List ℕ → List (List ℕ) → Option (List ℕ)
+    → Type 0
+IsSentFor who (Asker c (ForAct by text)) said now lines later =
     (lines ≡ notice_lines (asked_after text (act_game now))) × (later ≡ said)
-IsSentFor (Dropper c by text) said now lines later =
-    IsNotDropped said now text lines later ⊎ IsDropped said now text lines later
-IsSentFor (Pairer c by black text) said now lines later = IsPaired (act_game now) said black lines later
-IsSentFor _ said now lines later = (lines ≡ []) × (later ≡ said)
+IsSentFor who (Dropper c by text) said now lines later =
+    IsNotDropped (who c) said now text lines later ⊎ IsDropped (who c) said now text lines later
+IsSentFor who (Pairer c by black text) said now lines later = IsPaired (act_game now) said black lines later
+IsSentFor who _ said now lines later = (lines ≡ []) × (later ≡ said)
 
-abbrev pub IsSentNext : List Owed → Option (List ℕ) → List ℕ → List (List ℕ) → Option (List ℕ) → Type 0
-IsSentNext [] said now lines later = (lines ≡ []) × (later ≡ said)
-IsSentNext (o ∷ owed) said now lines later = IsSentFor o said now lines later
+abbrev pub IsSentNext : (ℕ → Option Identity) → List Owed → Option (List ℕ) → List ℕ → List (List ℕ)
+    → Option (List ℕ) → Type 0
+IsSentNext who [] said now lines later = (lines ≡ []) × (later ≡ said)
+IsSentNext who (o ∷ owed) said now lines later = IsSentFor who o said now lines later
 
-abbrev pub IsSentHeard : Bool → List Owed → Option (List ℕ) → List ℕ → List (List ℕ) → Option (List ℕ) → Type 0
-IsSentHeard false owed said now lines later = (lines ≡ []) × (later ≡ said)
-IsSentHeard true owed said now lines later = IsSentNext owed said now lines later
+abbrev pub IsSentHeard : (ℕ → Option Identity) → Bool → List Owed → Option (List ℕ) → List ℕ → List (List ℕ)
+    → Option (List ℕ) → Type 0
+IsSentHeard who false owed said now lines later = (lines ≡ []) × (later ≡ said)
+IsSentHeard who true owed said now lines later = IsSentNext who owed said now lines later
 
 -- a line of the server is taken
 pub record IsHeard (old : View) (line : List ℕ) (lines : List (List ℕ)) (new : View) : Type 0 where
-  pub sent : IsSentHeard (is_counted old.known line) old.known.owed old.said
+  pub sent : IsSentHeard old.who (is_counted old.known line) old.known.owed old.said
       (answer old.known.begun line) lines new.said
   pub next_is : new.next ≡ old.next
   pub here_is : new.here ≡ old.here
@@ -499,7 +515,7 @@ pub record AnswersTo (o : Owed) (now : List ℕ) (old : Desk) (before after : Ou
   pub tells : List MessageValue
   pub sent : after.wire ≡ before.wire ++ bytes_of lines
   pub told : after.told ≡ before.told ++ tells
-  pub for_whom : IsSentFor o old.line.said now lines new.line.said
+  pub for_whom : IsSentFor (who_of old) o old.line.said now lines new.line.said
   pub told_whom : IsToldFor (known old) (told_as (following old.line.acted) o) now lines tells
   pub owed : (known new).owed ≡ (known old).owed ++ owed_lines (follower o now) lines
   pub watches : new.watches.items ≡ watch_heard (open_of old) (string_bytes old.line.last) o old.watches.items
@@ -517,7 +533,7 @@ pub record Answered (now : List ℕ) (old : Desk) (before after : Outgoing) (new
   pub tells : List MessageValue
   pub sent : after.wire ≡ before.wire ++ bytes_of lines
   pub told : after.told ≡ before.told ++ tells
-  pub for_whom : IsSentNext (known old).owed old.line.said now lines new.line.said
+  pub for_whom : IsSentNext (who_of old) (known old).owed old.line.said now lines new.line.said
   pub told_whom : IsToldNext (known old) (known old).owed now lines tells
   pub owed : (known new).owed ≡ owed_answered (known old).owed now lines
   pub watches : new.watches.items ≡ watch_next (open_of old) (string_bytes old.line.last)

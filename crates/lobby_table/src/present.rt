@@ -7,7 +7,7 @@ ghost use Rattle.lobby_table.specs.Visitors.{who_in, open_in_map, IsPresence};
 
 use crate::adding::add_if;
 use crate::visitors::{Visitor, open_ones, who_acts};
-use lobby_words::{Identity, Player, who_text};
+use lobby_words::{Identity, Player, is_among, who_text};
 use player_name::Name;
 use std::alloc::{AllocError, Global};
 use std::collections::{BTreeMap, HashSet};
@@ -45,13 +45,6 @@ fn names_acted_for(
         note_name(&mut names, alloc, &who)?;
     }
     Ok(names)
-}
-
-// Whether a player is one of these.
-fn is_among(names: &HashSet<String>, player: &Player) -> bool
-    ensures { result ≡ contains_text names.now player.now.name }
-{
-    names.contains(player.name.as_str())
 }
 
 // The names of the players for whom one of these connections acts, in the list's order.
