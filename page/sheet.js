@@ -104,7 +104,7 @@ export function drawActions(game) {
   show('resign', runs && seat);
   show('copy-invitation', !game.started() && seat);
   show('join', !game.started() && !seat && me);
-  show('drop', game.app.isArbiter() && !game.started());
+  show('drop', (game.app.isArbiter() || seat) && !game.started());
   show('again', standing.article && seat && game.tags.TimeControl);
   byId('move-form').hidden = !(runs && seat) || Boolean(game.proposed);
   byId('actions').hidden = Boolean(game.proposed) || ![...byId('actions').children].some((one) => !one.hidden);

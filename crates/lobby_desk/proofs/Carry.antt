@@ -24,7 +24,7 @@ use Rattle.lobby_table.specs.Owed.{ForItself, ForPositions, ForTable, ForGame, F
 use Rattle.lobby_table.specs.Owed.{owed_lines}
 use Rattle.lobby_table.specs.Watching.{risen}
 use Rattle.lobby_desk.specs.Tellings.{left_game, IsToldOrSent}
-use Rattle.lobby_desk.specs.Who.{name_of, plan_watches, plan_table, IsAnswered}
+use Rattle.lobby_desk.specs.Who.{View, name_of, plan_watches, plan_table, IsAnswered}
 use Rattle.lobby_words.specs.Players.{known_name}
 use Rattle.lobby_desk.specs.History.{IsArbiter}
 use Rattle.lobby_words.proofs.ByName.{named_is}
@@ -93,11 +93,7 @@ pair_last players s (Some who) said text c same =
 drop_last : (s : Standing) (who : Option Identity) (game : ℕ) (said : Option (List ℕ)) (text : List ℕ) (c : ℕ) →
     LastIs (drop_plan s who game) said text c (Dropper c (name_of who) text)
 drop_last s None game said text c = refl
-drop_last s (Some who) game said text c =
-    elim who.is_arbiter as (λ b. LastIs (if b then asked s (plans.Drop who game) else plans.Refuse refusals.NotArbiter) said text c (Dropper c who.name text)) [
-      | true ↦ asked_last s (plans.Drop who game) said text c (Dropper c who.name text) refl
-      | false ↦ refl
-    ]
+drop_last s (Some who) game said text c = asked_last s (plans.Drop who game) said text c (Dropper c who.name text) refl
 
 arbiter_last : (who : Option Identity) (plan : Plan) (said : Option (List ℕ)) (text : List ℕ) (c : ℕ) → LastIs plan said text c (Asker c ForItself) →
     LastIs (arbiter_plan who plan) said text c (Asker c ForItself)
@@ -224,11 +220,7 @@ pair_does P s (Some who) none h =
 drop_does : (P : Plan → Type 0) (s : Standing) (who : Option Identity) (game : ℕ) → ((r : Refusal) → P (plans.Refuse r)) →
     ((one : Identity) → P (plans.Drop one game)) → P (drop_plan s who game)
 drop_does P s None game none h = none refusals.NoToken
-drop_does P s (Some who) game none h =
-    elim who.is_arbiter as (λ b. P (if b then asked s (plans.Drop who game) else plans.Refuse refusals.NotArbiter)) [
-      | true ↦ asked_does P s (plans.Drop who game) (none refusals.NoServer) (h who)
-      | false ↦ none refusals.NotArbiter
-    ]
+drop_does P s (Some who) game none h = asked_does P s (plans.Drop who game) (none refusals.NoServer) (h who)
 
 pub dropped_does : (P : Plan → Type 0) (s : Standing) (game : Option ℕ) → ((r : Refusal) → P (plans.Refuse r)) →
     ((one : Identity) (g : ℕ) → P (plans.Drop one g)) → P (numbered_plan sorts.Drop s game)
@@ -327,26 +319,26 @@ act_sent : (b : Bool) (name text : List ℕ) (rest : List (List ℕ)) (c : ℕ) 
 act_sent true name text rest c tells h = h
 act_sent false name text rest c tells h = h
 
-pub answered_or_sent : (is_paused : Bool) (players : List Player) (seats : List Seat) (is_open : ℕ → Bool) (acts_for : ℕ → Option Identity) (plan : Plan) (said : Option (List ℕ)) (text : List ℕ) (c : ℕ) (tells : List MessageValue) → IsAnswered is_paused players seats is_open acts_for plan c tells →
+pub answered_or_sent : (players : List Player) (v : View) (plan : Plan) (said : Option (List ℕ)) (text : List ℕ) (c : ℕ) (tells : List MessageValue) → IsAnswered players v plan c tells →
     IsToldOrSent (lines_of plan said text) c tells
-answered_or_sent is_paused players seats is_open acts_for (plans.Refuse refusal) said text c tells h = (h.0, h.2)
-answered_or_sent is_paused players seats is_open acts_for plans.Read said text c tells h = h
-answered_or_sent is_paused players seats is_open acts_for (plans.Act who) said text c tells h = act_sent (is_said said who.name) who.name text (notice_lines (game_named text)) c tells h
-answered_or_sent is_paused players seats is_open acts_for (plans.ActAs who name) said text c tells h = act_sent (is_said said name) name (as_line text) (notice_lines (game_named text)) c tells h
-answered_or_sent is_paused players seats is_open acts_for (plans.Pair who white black) said text c tells h = act_sent (is_said said white) white (pair_line text) [] c tells h
-answered_or_sent is_paused players seats is_open acts_for (plans.Drop who game) said text c tells h = h
-answered_or_sent is_paused players seats is_open acts_for (plans.Login who) said text c tells h = (h.0, h.2)
-answered_or_sent is_paused players seats is_open acts_for plans.Players said text c tells h = (h.0, h.2)
-answered_or_sent is_paused players seats is_open acts_for (plans.Seated form) said text c tells h = (h.0, h.2)
-answered_or_sent is_paused players seats is_open acts_for plans.Who said text c tells h = (h.0, h.2)
-answered_or_sent is_paused players seats is_open acts_for plans.Pause said text c tells h = (h.0, h.2)
-answered_or_sent is_paused players seats is_open acts_for plans.Resume said text c tells h = (h.0, h.2)
-answered_or_sent is_paused players seats is_open acts_for (plans.Order order) said text c tells h = (h.0, h.2)
-answered_or_sent is_paused players seats is_open acts_for plans.Lobby said text c tells h = h
-answered_or_sent is_paused players seats is_open acts_for plans.LeaveLobby said text c tells h = (h.0, h.2)
-answered_or_sent is_paused players seats is_open acts_for (plans.Watch game) said text c tells h = h
-answered_or_sent is_paused players seats is_open acts_for (plans.Leave game) said text c tells h = (h.0, h.2)
-answered_or_sent is_paused players seats is_open acts_for (plans.Line game) said text c tells h = h
+answered_or_sent players v (plans.Refuse refusal) said text c tells h = (h.0, h.2)
+answered_or_sent players v plans.Read said text c tells h = h
+answered_or_sent players v (plans.Act who) said text c tells h = act_sent (is_said said who.name) who.name text (notice_lines (game_named text)) c tells h
+answered_or_sent players v (plans.ActAs who name) said text c tells h = act_sent (is_said said name) name (as_line text) (notice_lines (game_named text)) c tells h
+answered_or_sent players v (plans.Pair who white black) said text c tells h = act_sent (is_said said white) white (pair_line text) [] c tells h
+answered_or_sent players v (plans.Drop who game) said text c tells h = h
+answered_or_sent players v (plans.Login who) said text c tells h = (h.0, h.2)
+answered_or_sent players v plans.Players said text c tells h = (h.0, h.2)
+answered_or_sent players v (plans.Seated form) said text c tells h = (h.0, h.2)
+answered_or_sent players v plans.Who said text c tells h = (h.0, h.2)
+answered_or_sent players v plans.Pause said text c tells h = (h.0, h.2)
+answered_or_sent players v plans.Resume said text c tells h = (h.0, h.2)
+answered_or_sent players v (plans.Order order) said text c tells h = (h.0, h.2)
+answered_or_sent players v plans.Lobby said text c tells h = h
+answered_or_sent players v plans.LeaveLobby said text c tells h = (h.0, h.2)
+answered_or_sent players v (plans.Watch game) said text c tells h = h
+answered_or_sent players v (plans.Leave game) said text c tells h = (h.0, h.2)
+answered_or_sent players v (plans.Line game) said text c tells h = h
 
 -- ---- who orders
 

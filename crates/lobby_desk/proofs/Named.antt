@@ -316,8 +316,8 @@ drop_no_pair : (sort : Sort) → is_drop_sort sort ≡ true → is_pair_sort sor
 drop_no_pair sorts.Drop h = refl
 drop_no_pair _ h = absurd (false≢true h)
 
-dropped_fits : (players : List Player) (past : List Step) (c : ℕ) (by text now : List ℕ) (said : Option (List ℕ)) (lines : List (List ℕ)) (later : Option (List ℕ)) →
-    HasAsked players past c text → IsDropped said now text lines later →
+dropped_fits : {who : Option Identity} (players : List Player) (past : List Step) (c : ℕ) (by text now : List ℕ) (said : Option (List ℕ)) (lines : List (List ℕ)) (later : Option (List ℕ)) →
+    HasAsked players past c text → IsDropped who said now text lines later →
     AreFor (owed_lines (Asker c (ForAct by text)) lines) (sent_under said lines)
 dropped_fits players past c by text now said lines later asked h =
     let was = was_asked players past c text asked in
@@ -356,26 +356,26 @@ paired_fits players past c by black text (Some game) said lines later paired h =
     subst (λ (ls : List (List ℕ)). AreFor (owed_lines (Asker c (ForAct by text)) ls) (sent_under said ls)) (sym h.0)
     (joins_fit c by text black game said was.pairs was.named)
 
-sent_fits : (players : List Player) (past : List Step) (o : Owed) (said : Option (List ℕ)) (now : List ℕ) (lines : List (List ℕ)) (later : Option (List ℕ)) →
-    IsAsked players past o → IsSentFor o said now lines later → AreFor (owed_lines (follower o now) lines) (sent_under said lines)
-sent_fits players past Nobody said now lines later asked h = none_fits Nobody said lines h.0
-sent_fits players past (Naming name) said now lines later asked h = none_fits Nobody said lines h.0
-sent_fits players past (Asker c ForItself) said now lines later asked h = none_fits Nobody said lines h.0
-sent_fits players past (Asker c ForPositions) said now lines later asked h = none_fits Nobody said lines h.0
-sent_fits players past (Asker c ForTable) said now lines later asked h = none_fits Nobody said lines h.0
-sent_fits players past (Asker c (ForGame game)) said now lines later asked h = none_fits Nobody said lines h.0
-sent_fits players past (Asker c (ForAct by text)) said now lines later asked h =
+sent_fits : (who : ℕ → Option Identity) (players : List Player) (past : List Step) (o : Owed) (said : Option (List ℕ)) (now : List ℕ) (lines : List (List ℕ)) (later : Option (List ℕ)) →
+    IsAsked players past o → IsSentFor who o said now lines later → AreFor (owed_lines (follower o now) lines) (sent_under said lines)
+sent_fits who players past Nobody said now lines later asked h = none_fits Nobody said lines h.0
+sent_fits who players past (Naming name) said now lines later asked h = none_fits Nobody said lines h.0
+sent_fits who players past (Asker c ForItself) said now lines later asked h = none_fits Nobody said lines h.0
+sent_fits who players past (Asker c ForPositions) said now lines later asked h = none_fits Nobody said lines h.0
+sent_fits who players past (Asker c ForTable) said now lines later asked h = none_fits Nobody said lines h.0
+sent_fits who players past (Asker c (ForGame game)) said now lines later asked h = none_fits Nobody said lines h.0
+sent_fits who players past (Asker c (ForAct by text)) said now lines later asked h =
     subst (λ (ls : List (List ℕ)). AreFor (owed_lines (followers_of (asked_after text (act_game now)) by text now) ls) (sent_under said ls)) (sym h.0)
     (notice_fits (asked_after text (act_game now)) by text now said)
-sent_fits players past (Dropper c by text) said now lines later asked h =
+sent_fits who players past (Dropper c by text) said now lines later asked h =
     elim h [
       | inl none ↦ none_fits (Asker c (ForAct by text)) said lines none.none
       | inr goes ↦ dropped_fits players past c by text now said lines later asked goes
     ]
-sent_fits players past (Pairer c by black text) said now lines later asked h =
+sent_fits who players past (Pairer c by black text) said now lines later asked h =
     paired_fits players past c by black text (act_game now) said lines later asked h
-sent_fits players past (Followers game act is_table) said now lines later asked h = none_fits Nobody said lines h.0
-sent_fits players past Behind said now lines later asked h = none_fits Nobody said lines h.0
+sent_fits who players past (Followers game act is_table) said now lines later asked h = none_fits Nobody said lines h.0
+sent_fits who players past Behind said now lines later asked h = none_fits Nobody said lines h.0
 
 -- the name that holds behind it, where the server takes a name if one was said
 silent_behind : (shown : Option (List ℕ)) (line now : List ℕ) → says_name line ≡ false → shown_behind shown line now ≡ name_behind shown line
@@ -409,17 +409,17 @@ same_behind (Followers game act is_table) s shown now m fits taken = silent_behi
 same_behind Behind s shown now m fits taken = silent_behind shown s.line now fits
 
 -- an answer that counts
-next_waits : (players : List Player) (past : List Step) (owed : List Owed) (sent : List Sent) (shown said : Option (List ℕ)) (now : List ℕ) (m : Bool)
-    (lines : List (List ℕ)) (later : Option (List ℕ)) → AreAsked players past owed → Waits owed sent shown said → IsSentNext owed said now lines later →
+next_waits : (who : ℕ → Option Identity) (players : List Player) (past : List Step) (owed : List Owed) (sent : List Sent) (shown said : Option (List ℕ)) (now : List ℕ) (m : Bool)
+    (lines : List (List ℕ)) (later : Option (List ℕ)) → AreAsked players past owed → Waits owed sent shown said → IsSentNext who owed said now lines later →
     misnamed_next owed now m ≡ false →
     Waits (owed_answered owed now lines) (but_first sent ++ sent_under said lines) (shown_next shown sent now) (name_through said lines)
-next_waits players past [] [] shown said now m lines later asked h goes taken = waits_still [] [] shown said lines goes.0 h
-next_waits players past [] (s ∷ sent) shown said now m lines later asked h goes taken = absurd h.0
-next_waits players past (o ∷ owed) [] shown said now m lines later asked h goes taken = absurd h.0
-next_waits players past (o ∷ owed) (s ∷ sent) shown said now m lines later asked h goes taken =
+next_waits who players past [] [] shown said now m lines later asked h goes taken = waits_still [] [] shown said lines goes.0 h
+next_waits who players past [] (s ∷ sent) shown said now m lines later asked h goes taken = absurd h.0
+next_waits who players past (o ∷ owed) [] shown said now m lines later asked h goes taken = absurd h.0
+next_waits who players past (o ∷ owed) (s ∷ sent) shown said now m lines later asked h goes taken =
     let behind = subst (λ (n : Option (List ℕ)). Follow n sent said) (sym (same_behind o s shown now m h.0.0 taken)) h.1.1 in
     waits_more owed (owed_lines (follower o now) lines) sent (shown_behind shown s.line now) said lines
-    (sent_fits players past o said now lines later asked.0 goes) (h.0.1, behind)
+    (sent_fits who players past o said now lines later asked.0 goes) (h.0.1, behind)
 
 -- ---- over a whole run
 
@@ -439,11 +439,11 @@ was_named players past line is =
     let k = known_in players past in
     not_false (known_in players past).misnamed (and_parts (is_whole k.left line) (not k.misnamed) is).1
 
-heard_waits : (players : List Player) (past : List Step) (line : List ℕ) (lines : List (List ℕ)) (tells : List MessageValue) (later : Option (List ℕ)) →
+heard_waits : (who : ℕ → Option Identity) (players : List Player) (past : List Step) (line : List ℕ) (lines : List (List ℕ)) (tells : List MessageValue) (later : Option (List ℕ)) →
     InStep players past → AreAsked players past (known_in players past).owed → (b : Bool) → is_counted (known_in players past) line ≡ b →
-    IsSentHeard b (known_in players past).owed (name_in past) (answer (known_in players past).begun line) lines later →
+    IsSentHeard who b (known_in players past).owed (name_in past) (answer (known_in players past).begun line) lines later →
     InStep players (record { event = Heard line; lines = lines; tells = tells } ∷ past)
-heard_waits players past line lines tells later before asked false is goes =
+heard_waits who players past line lines tells later before asked false is goes =
     let k = known_in players past in
     let sent = unanswered_in players past in
     let shown = shown_in players past in
@@ -455,7 +455,7 @@ heard_waits players past line lines tells later before asked false is goes =
     subst (λ (b : Bool). Waits (if b then owed_answered k.owed now lines else k.owed)
     ((if b then but_first sent else sent) ++ sent_under said lines) (if b then shown_next shown sent now else shown) (name_through said lines)) (sym is)
     (waits_still k.owed sent shown said lines goes.0 (before named))
-heard_waits players past line lines tells later before asked true is goes =
+heard_waits who players past line lines tells later before asked true is goes =
     let k = known_in players past in
     let sent = unanswered_in players past in
     let shown = shown_in players past in
@@ -467,7 +467,7 @@ heard_waits players past line lines tells later before asked true is goes =
     sym (ap (λ (b : Bool). if b then misnamed_next k.owed now k.misnamed else k.misnamed) is) ∙ taken in
     subst (λ (b : Bool). Waits (if b then owed_answered k.owed now lines else k.owed)
     ((if b then but_first sent else sent) ++ sent_under said lines) (if b then shown_next shown sent now else shown) (name_through said lines)) (sym is)
-    (next_waits players past k.owed sent shown said now k.misnamed lines later asked (before named) goes takes)
+    (next_waits who players past k.owed sent shown said now k.misnamed lines later asked (before named) goes takes)
 
 done_waits : (players : List Player) (past : List Step) (old : View) (event : DeskInput) (lines : List (List ℕ)) (tells : List MessageValue) (now : View) →
     Agrees players past old → InStep players past → IsDone (players_in players past) old event lines tells now →
@@ -481,7 +481,7 @@ done_waits players past old (Hurried c) lines tells now agrees before step =
 done_waits players past old (Renewed later) lines tells now agrees before step =
     λ taken. waits_still (known_in players past).owed (unanswered_in players past) (shown_in players past) (name_in past) lines step.none (before taken)
 done_waits players past old (Linked c text later token) lines tells now agrees before step =
-    λ taken. waits_still (known_in players past).owed (unanswered_in players past) (shown_in players past) (name_in past) lines step.renews.none (before taken)
+    λ taken. waits_still (known_in players past).owed (unanswered_in players past) (shown_in players past) (name_in past) lines step.0.none (before taken)
 done_waits players past old (ServerTurned is_here) lines tells now agrees before step =
     λ taken. waits_still [] [] None None lines step.none (tt, refl)
 done_waits players past old (Said c text) lines tells now agrees before step =
@@ -493,10 +493,10 @@ done_waits players past old (Said c text) lines tells now agrees before step =
     (shown_in players past) (name_in past) lines by (before taken)
 done_waits players past old (Heard line) lines tells now agrees before step =
     let k = known_in players past in
-    let said = subst (λ (n : Option (List ℕ)). IsSentHeard (is_counted old.known line) old.known.owed n (answer old.known.begun line) lines now.said) agrees.said step.sent in
-    let known = subst (λ (k : Known). IsSentHeard (is_counted k line) k.owed (name_in past) (answer k.begun line) lines now.said) agrees.known said in
+    let said = subst (λ (n : Option (List ℕ)). IsSentHeard old.who (is_counted old.known line) old.known.owed n (answer old.known.begun line) lines now.said) agrees.said step.sent in
+    let known = subst (λ (k : Known). IsSentHeard old.who (is_counted k line) k.owed (name_in past) (answer k.begun line) lines now.said) agrees.known said in
     let asked = subst (λ (k : Known). AreAsked players past k.owed) agrees.known agrees.asked in
-    heard_waits players past line lines tells now.said before asked (is_counted (known_in players past) line) refl known
+    heard_waits old.who players past line lines tells now.said before asked (is_counted (known_in players past) line) refl known
 
 -- the answer to an act
 owed_named : (o : Owed) (owed : List Owed) (sent : List Sent) (shown said : Option (List ℕ)) → Waits (o ∷ owed) sent shown said → IsOfOwed o sent shown

@@ -1,6 +1,6 @@
 -- What is promised holds of each run.
 use Rattle.std.proofs.Common.{ℕ, ◌≡◌, ◌<◌, ◌+◌, ◌^◌, ◌⊎◌, inl, inr, Bool, true, false, ◌&&◌, ◌||◌, ◌==◌, not, List, [], ◌∷◌, ◌++◌, Option, None, Some, IfSome, codes, refl, sym, ap, ◌∙◌, subst, arith}
-use Rattle.std.specs.Prelude.{if◌then◌else◌, option_map}
+use Rattle.std.specs.Prelude.{if◌then◌else◌, option_map, is_some}
 use Rattle.std.specs.List.{AllByRecursion}
 use Rattle.std.specs.Str.{bytes_eq}
 use Rattle.std.proofs.lemmas.Bool.{false≢true}
@@ -57,11 +57,7 @@ as_who s who before = as_does (λ plan. who_noted plan before ≡ before) s who 
 
 drop_who : (s : Standing) (who : Option Identity) (game : ℕ) (before : Option Identity) → who_noted (drop_plan s who game) before ≡ before
 drop_who s None game before = refl
-drop_who s (Some who) game before =
-    elim who.is_arbiter as (λ b. who_noted (if b then asked s (plans.Drop who game) else plans.Refuse refusals.NotArbiter) before ≡ before) [
-      | true ↦ asked_who s (plans.Drop who game) before refl
-      | false ↦ refl
-    ]
+drop_who s (Some who) game before = asked_who s (plans.Drop who game) before refl
 
 dropped_who : (s : Standing) (game : Option ℕ) (before : Option Identity) → who_noted (numbered_plan sorts.Drop s game) before ≡ before
 dropped_who s None before = refl
@@ -352,12 +348,7 @@ drop_good : (text : List ℕ) (s : Standing) (under said : Option (List ℕ)) (w
     Good (game_line (codes "show ") game ∷ []) under said (lines_of (drop_plan s who game) said text) (said_after (drop_plan s who game) said)
 drop_good text s under said None game small = λ named. none_good (game_line (codes "show ") game ∷ []) under said
 drop_good text s under said (Some who) game small =
-    elim who.is_arbiter as (λ b. IsNamed (if b then asked s (plans.Drop who game) else plans.Refuse refusals.NotArbiter) →
-    Good (game_line (codes "show ") game ∷ []) under said (lines_of (if b then asked s (plans.Drop who game) else plans.Refuse refusals.NotArbiter) said text)
-    (said_after (if b then asked s (plans.Drop who game) else plans.Refuse refusals.NotArbiter) said)) [
-      | true ↦ asked_good (game_line (codes "show ") game ∷ []) text s under said (plans.Drop who game) (λ _. show_good under said game small)
-      | false ↦ λ _. none_good (game_line (codes "show ") game ∷ []) under said
-    ]
+    asked_good (game_line (codes "show ") game ∷ []) text s under said (plans.Drop who game) (λ _. show_good under said game small)
 
 dropped_good : (text : List ℕ) (s : Standing) (under said : Option (List ℕ)) (game : Option ℕ) → IfSome game (λ g. g < 2 ^ 32) →
     IsNamed (numbered_plan sorts.Drop s game) →
@@ -676,29 +667,24 @@ asked_heard : (players : List Player) (past : List Step) (owed : List Owed) (now
 asked_heard players past owed now lines h true = asked_answered players past owed now lines h
 asked_heard players past owed now lines h false = h
 
--- where something goes out for a message that asks for a drop, an arbiter asks
+-- where something goes out for a message that asks for a drop, a player asks
 abbrev pub AsksDrop : Bool → List (List ℕ) → Option Identity → Bool → Type 0
 AsksDrop false lines who m = Unit {0}
 AsksDrop true [] who m = Unit {0}
-AsksDrop true (line ∷ lines) who m = IsArbiter who × (m ≡ true)
+AsksDrop true (line ∷ lines) who m = (is_some who ≡ true) × (m ≡ true)
 
 asks_none : (b : Bool) (who : Option Identity) (m : Bool) → AsksDrop b [] who m
 asks_none true who m = tt
 asks_none false who m = tt
 
-drop_asks_at : (s : Standing) (who : Identity) (game : ℕ) (said : Option (List ℕ)) (text : List ℕ) (b : Bool) → who.is_arbiter ≡ b →
-    AsksDrop true (lines_of (if b then asked s (plans.Drop who game) else plans.Refuse refusals.NotArbiter) said text) (Some who) true
-drop_asks_at s who game said text true is =
-    elim s.is_here as (λ h. AsksDrop true (lines_of (if h then plans.Drop who game else plans.Refuse refusals.NoServer) said text) (Some who) true) [
-      | true ↦ (is, refl)
-      | false ↦ tt
-    ]
-drop_asks_at s who game said text false is = tt
-
 drop_asks : (s : Standing) (who : Option Identity) (game : ℕ) (said : Option (List ℕ)) (text : List ℕ) →
     AsksDrop true (lines_of (drop_plan s who game) said text) who true
 drop_asks s None game said text = tt
-drop_asks s (Some who) game said text = drop_asks_at s who game said text who.is_arbiter refl
+drop_asks s (Some who) game said text =
+    elim s.is_here as (λ h. AsksDrop true (lines_of (if h then plans.Drop who game else plans.Refuse refusals.NoServer) said text) (Some who) true) [
+      | true ↦ (refl, refl)
+      | false ↦ tt
+    ]
 
 dropped_asks : (s : Standing) (game : Option ℕ) (said : Option (List ℕ)) (text : List ℕ) →
     AsksDrop true (lines_of (numbered_plan sorts.Drop s game) said text) s.who true
@@ -967,7 +953,7 @@ drop_names_none sorts.Nothing h = absurd (false≢true h)
 
 dropped_heard : (players : List Player) (past : List Step) (line : List ℕ) (c : ℕ) (by text : List ℕ) (others : List Owed) →
     (known_in players past).owed ≡ Dropper c by text ∷ others → HasAsked players past c text →
-    (lines : List (List ℕ)) (later : Option (List ℕ)) → IsDropped (name_in past) (answer (known_in players past).begun line) text lines later →
+    (lines : List (List ℕ)) (later : Option (List ℕ)) → IsDropped (player_in players past c) (name_in past) (answer (known_in players past).begun line) text lines later →
     HeardGood players past line lines later
 dropped_heard players past line c by text others waits asked lines later h =
     let was = was_asked players past c text asked in
@@ -984,6 +970,7 @@ dropped_heard players past line c by text others waits asked lines later h =
         name = h.name;
         named = h.named;
         alone = h.alone;
+        may = h.may;
         acts = subst (λ (ls : List (List ℕ)). ActsUnder (name_in past) ls h.name) (sym h.lines_are) under.acts;
         of_text = subst (λ (ls : List (List ℕ)). IsOf (text ∷ notice_lines (game_named text)) ls) (sym h.lines_are) under.of_text;
       })));
@@ -1015,50 +1002,51 @@ paired_heard players past line c by black text others waits paired (Some game) o
       whole = subst AreWhole (sym h.0) under.whole;
     }
 
-sent_for : (players : List Player) (past : List Step) (line : List ℕ) (o : Owed) (others : List Owed) → (known_in players past).owed ≡ o ∷ others →
+sent_for : (players : List Player) (past : List Step) (who : ℕ → Option Identity) → ((c : ℕ) → who c ≡ player_in players past c) → (line : List ℕ) (o : Owed) (others : List Owed) → (known_in players past).owed ≡ o ∷ others →
     IsAsked players past o → (lines : List (List ℕ)) (later : Option (List ℕ)) →
-    IsSentFor o (name_in past) (answer (known_in players past).begun line) lines later → HeardGood players past line lines later
-sent_for players past line Nobody others waits asked lines later h = heard_none players past line lines later h.1 h.0
-sent_for players past line (Naming name) others waits asked lines later h = heard_none players past line lines later h.1 h.0
-sent_for players past line (Asker c ForItself) others waits asked lines later h = heard_none players past line lines later h.1 h.0
-sent_for players past line (Asker c ForPositions) others waits asked lines later h = heard_none players past line lines later h.1 h.0
-sent_for players past line (Asker c ForTable) others waits asked lines later h = heard_none players past line lines later h.1 h.0
-sent_for players past line (Asker c (ForGame game)) others waits asked lines later h = heard_none players past line lines later h.1 h.0
-sent_for players past line (Asker c (ForAct by text)) others waits asked lines later h =
+    IsSentFor who o (name_in past) (answer (known_in players past).begun line) lines later → HeardGood players past line lines later
+sent_for players past who same line Nobody others waits asked lines later h = heard_none players past line lines later h.1 h.0
+sent_for players past who same line (Naming name) others waits asked lines later h = heard_none players past line lines later h.1 h.0
+sent_for players past who same line (Asker c ForItself) others waits asked lines later h = heard_none players past line lines later h.1 h.0
+sent_for players past who same line (Asker c ForPositions) others waits asked lines later h = heard_none players past line lines later h.1 h.0
+sent_for players past who same line (Asker c ForTable) others waits asked lines later h = heard_none players past line lines later h.1 h.0
+sent_for players past who same line (Asker c (ForGame game)) others waits asked lines later h = heard_none players past line lines later h.1 h.0
+sent_for players past who same line (Asker c (ForAct by text)) others waits asked lines later h =
     let now = answer (known_in players past).begun line in
     let asks = notice_read (asked_after text (act_game now)) (after_small text (act_game now) (act_game_small now)) in
     heard_reads players past line lines later h.1 (subst AllRead (sym h.0) asks.0) (subst AreWhole (sym h.0) asks.1)
     (inr (record { c = c; by = by; text = text; others = others; waits = waits; lines_are = h.0 }))
-sent_for players past line (Dropper c by text) others waits asked lines later h =
+sent_for players past who same line (Dropper c by text) others waits asked lines later h =
     elim h [
       | inl none ↦ heard_none players past line lines later none.said_is none.none
-      | inr goes ↦ dropped_heard players past line c by text others waits asked lines later goes
+      | inr goes ↦ dropped_heard players past line c by text others waits asked lines later
+          (subst (λ (w : Option Identity). IsDropped w (name_in past) (answer (known_in players past).begun line) text lines later) (same c) goes)
     ]
-sent_for players past line (Pairer c by black text) others waits asked lines later h =
+sent_for players past who same line (Pairer c by black text) others waits asked lines later h =
     let now = answer (known_in players past).begun line in
     paired_heard players past line c by black text others waits asked (act_game now) refl (act_game_small now) lines later h
-sent_for players past line (Followers game act is_table) others waits asked lines later h = heard_none players past line lines later h.1 h.0
-sent_for players past line Behind others waits asked lines later h = heard_none players past line lines later h.1 h.0
+sent_for players past who same line (Followers game act is_table) others waits asked lines later h = heard_none players past line lines later h.1 h.0
+sent_for players past who same line Behind others waits asked lines later h = heard_none players past line lines later h.1 h.0
 
-sent_next : (players : List Player) (past : List Step) (line : List ℕ) (owed : List Owed) → (known_in players past).owed ≡ owed →
+sent_next : (players : List Player) (past : List Step) (who : ℕ → Option Identity) → ((c : ℕ) → who c ≡ player_in players past c) → (line : List ℕ) (owed : List Owed) → (known_in players past).owed ≡ owed →
     AreAsked players past owed → (lines : List (List ℕ)) (later : Option (List ℕ)) →
-    IsSentNext owed (name_in past) (answer (known_in players past).begun line) lines later → HeardGood players past line lines later
-sent_next players past line [] waits asked lines later h = heard_none players past line lines later h.1 h.0
-sent_next players past line (o ∷ owed) waits asked lines later h = sent_for players past line o owed waits asked.0 lines later h
+    IsSentNext who owed (name_in past) (answer (known_in players past).begun line) lines later → HeardGood players past line lines later
+sent_next players past who same line [] waits asked lines later h = heard_none players past line lines later h.1 h.0
+sent_next players past who same line (o ∷ owed) waits asked lines later h = sent_for players past who same line o owed waits asked.0 lines later h
 
-sent_heard : (players : List Player) (past : List Step) (line : List ℕ) (owed : List Owed) → (known_in players past).owed ≡ owed →
+sent_heard : (players : List Player) (past : List Step) (who : ℕ → Option Identity) → ((c : ℕ) → who c ≡ player_in players past c) → (line : List ℕ) (owed : List Owed) → (known_in players past).owed ≡ owed →
     AreAsked players past owed → (lines : List (List ℕ)) (later : Option (List ℕ)) (b : Bool) →
-    IsSentHeard b owed (name_in past) (answer (known_in players past).begun line) lines later → HeardGood players past line lines later
-sent_heard players past line owed waits asked lines later false h = heard_none players past line lines later h.1 h.0
-sent_heard players past line owed waits asked lines later true h = sent_next players past line owed waits asked lines later h
+    IsSentHeard who b owed (name_in past) (answer (known_in players past).begun line) lines later → HeardGood players past line lines later
+sent_heard players past who same line owed waits asked lines later false h = heard_none players past line lines later h.1 h.0
+sent_heard players past who same line owed waits asked lines later true h = sent_next players past who same line owed waits asked lines later h
 
 heard_good : (players : List Player) (past : List Step) (old : View) (line : List ℕ) (lines : List (List ℕ)) (now : View) →
     Agrees players past old → IsHeard old line lines now → HeardGood players past line lines now.said
 heard_good players past old line lines now agrees h =
     let k = known_in players past in
-    let said = subst (λ (n : Option (List ℕ)). IsSentHeard (is_counted old.known line) old.known.owed n (answer old.known.begun line) lines now.said) agrees.said h.sent in
-    let known = subst (λ (k : Known). IsSentHeard (is_counted k line) k.owed (name_in past) (answer k.begun line) lines now.said) agrees.known said in
-    sent_heard players past line k.owed refl (subst (λ (k : Known). AreAsked players past k.owed) agrees.known agrees.asked) lines now.said (is_counted k line) known
+    let said = subst (λ (n : Option (List ℕ)). IsSentHeard old.who (is_counted old.known line) old.known.owed n (answer old.known.begun line) lines now.said) agrees.said h.sent in
+    let known = subst (λ (k : Known). IsSentHeard old.who (is_counted k line) k.owed (name_in past) (answer k.begun line) lines now.said) agrees.known said in
+    sent_heard players past old.who agrees.who line k.owed refl (subst (λ (k : Known). AreAsked players past k.owed) agrees.known agrees.asked) lines now.said (is_counted k line) known
 
 -- no number comes that came before
 not_come : (b : Bool) (c : ℕ) → (b ≡ true → c < c) → b ≡ false
@@ -1080,7 +1068,7 @@ came_then players past old (Said d text) lines tells now agrees step c h = subst
 came_then players past old (Hurried d) lines tells now agrees step c h = subst (λ (n : ℕ). c < n) (sym step.next_is) (agrees.came c h)
 came_then players past old (Heard line) lines tells now agrees step c h = subst (λ (n : ℕ). c < n) (sym step.next_is) (agrees.came c h)
 came_then players past old (Renewed later) lines tells now agrees step c h = subst (λ (n : ℕ). c < n) (sym step.next_is) (agrees.came c h)
-came_then players past old (Linked d text later token) lines tells now agrees step c h = subst (λ (n : ℕ). c < n) (sym step.renews.next_is) (agrees.came c h)
+came_then players past old (Linked d text later token) lines tells now agrees step c h = subst (λ (n : ℕ). c < n) (sym step.0.next_is) (agrees.came c h)
 came_then players past old (ServerTurned is_here) lines tells now agrees step c h = subst (λ (n : ℕ). c < n) (sym step.next_is) (agrees.came c h)
 
 none_done : (players : List Player) (past : List Step) (event : DeskInput) (lines : List (List ℕ)) (now : View) →
@@ -1101,9 +1089,9 @@ renewed_who players past old later lines now agrees step d =
     step.who_is d ∙ ap (λ (before : Option Identity). renewed (players_in players past) later before) (agrees.who d)
 
 -- who asks for a link
-linked_orders : (players : List Player) (old : View) (c : ℕ) (text : List ℕ) (later : List Player) (token : List ℕ) (lines : List (List ℕ)) (new : View) →
-    (step : IsLinked players old c text later token lines new) → Orders (is_message text) (sort_of text) step.standing step.order
-linked_orders players old c text later token lines new step =
+linked_orders : (players : List Player) (old : View) (c : ℕ) (text : List ℕ) (later : List Player) (token : List ℕ) →
+    (step : IsLinked players old c text later token) → Orders (is_message text) (sort_of text) step.standing step.order
+linked_orders players old c text later token step =
     subst (OfOrder (Orders (is_message text) (sort_of text) step.standing)) step.planned
     (planned_orders (is_message text) (sort_of text) step.standing (u32_in (rest_of text)))
 
@@ -1140,11 +1128,11 @@ done_good players past old (Renewed later) lines tells now agrees step =
     none_done players past (Renewed later) lines now (λ none. none) step.none (step.said_is ∙ agrees.said)
     (λ d. renewed_who players past old later lines now agrees step d)
 done_good players past old (Linked c text later token) lines tells now agrees step =
-    let orders = linked_orders (players_in players past) old c text later token lines now step in
+    let orders = linked_orders (players_in players past) old c text later token step.1 in
     none_done players past (Linked c text later token) lines now
-    (λ none. (none, subst IsArbiter (step.who ∙ agrees.who c) orders.arbiter, orders.message, orders.sort_is, step.relinks))
-    step.renews.none (step.renews.said_is ∙ agrees.said)
-    (λ d. renewed_who players past old later lines now agrees step.renews d)
+    (λ none. (none, subst IsArbiter (step.1.who ∙ agrees.who c) orders.arbiter, orders.message, orders.sort_is, step.1.relinks))
+    step.0.none (step.0.said_is ∙ agrees.said)
+    (λ d. renewed_who players past old later lines now agrees step.0 d)
 done_good players past old (ServerTurned is_here) lines tells now agrees step =
     none_done players past (ServerTurned is_here) lines now (λ none. none) step.none step.said_is (λ d. step.who_is d ∙ agrees.who d)
 

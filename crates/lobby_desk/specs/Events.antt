@@ -50,6 +50,14 @@ message_value told = record { to = told.to.items; kind = told.kind; text = strin
 abbrev pub message_values : List Message → List MessageValue
 message_values told = map message_value told
 
+-- what stands to go to the server, and what to connections and to the log
+pub record Outgoing : Type 0 where
+  pub wire : List ℕ
+  pub told : List MessageValue
+
+abbrev pub outgoing : List ℕ → List Message → Outgoing
+outgoing wire told = record { wire = wire; told = message_values told }
+
 -- a message to one connection: of a kind, and whole
 abbrev pub to_one_as : ℕ → Kind → List ℕ → MessageValue
 to_one_as c kind text = record { to = c ∷ []; kind = kind; text = text }
@@ -76,7 +84,7 @@ sort_asker _ game c by text = Asker c ForItself
 abbrev pub asker : ℕ → List ℕ → List ℕ → Owed
 asker c by text = sort_asker (sort_of text) (u32_in (rest_of text)) c by text
 
--- the same, by the plan for the message
+-- whose the answer to a message is, by the plan for it
 abbrev pub plan_asker : Plan → ℕ → List ℕ → Owed
 plan_asker (plans.Drop who game) c text = Dropper c who.name text
 plan_asker (plans.Act who) c text = Asker c (ForAct who.name text)
@@ -106,7 +114,7 @@ abbrev pub owed_to : Option Following → Owed
 owed_to None = Nobody
 owed_to (Some f) = Followers f.game f.act f.is_table
 
--- the same, by the desk's own
+-- an act of which some are told, by what the desk keeps of it
 abbrev pub following : Option Notice → Option Following
 following None = None
 following (Some notice) =

@@ -1,6 +1,6 @@
 -- What is promised of whatever came in and went out.
 use Rattle.std.specs.Prelude.{ℕ, ◌≡◌, ◌⊎◌, Bool, true, false, ◌&&◌, ◌||◌, ◌==◌, not, List, [], ◌∷◌, ◌++◌, codes, length}
-use Rattle.std.specs.Prelude.{map, filter, Option, None, Some, if◌then◌else◌}
+use Rattle.std.specs.Prelude.{map, filter, Option, None, Some, is_some, if◌then◌else◌}
 use Rattle.std.specs.List.{AllByRecursion}
 use Rattle.player_name.specs.Name.{IsName}
 use Rattle.lobby_words.specs.declared.words.Sort.{Sort}
@@ -24,7 +24,7 @@ use Rattle.lobby_table.specs.Pairings.{game_joined, IsFree, IsOffered}
 use Rattle.lobby_desk.specs.Logging.{act_logged, is_of_act, one_if, log_texts}
 use Rattle.lobby_desk.specs.Tellings.{Known, is_counted, known_now, pairings_now, open_now, IsTold}
 use Rattle.lobby_table.specs.Owed.{is_number}
-use Rattle.lobby_desk.specs.Who.{View, BeginsView, IsStep, speaker, players_now}
+use Rattle.lobby_desk.specs.Who.{View, BeginsView, IsStep, may_drop, speaker, players_now}
 
 -- one event, the lines that went to the server for it, and what connections were told
 pub record Step : Type 0 where
@@ -173,20 +173,22 @@ abbrev pub IsArbiter : Option Identity → Type 0
 IsArbiter None = ⊥
 IsArbiter (Some who) = who.is_arbiter ≡ true
 
--- a connection that had shown an arbiter's token has said this message, which asks for a drop
+-- a connection that had shown a player's token has said this message, which asks for a drop
 abbrev pub AsksNow : List Player → List Step → DeskInput → ℕ → List ℕ → Type 0
 AsksNow players past (Said d said) c text =
-    (d ≡ c) × (said ≡ text) × IsArbiter (player_in players past c) × (is_message text ≡ true) × (is_drop text ≡ true)
+    (d ≡ c) × (said ≡ text) × (is_some (player_in players past c) ≡ true) × (is_message text ≡ true)
+    × (is_drop text ≡ true)
 AsksNow players past _ c text = ⊥
 
 abbrev pub HasAsked : List Player → List Step → ℕ → List ℕ → Type 0
 HasAsked players [] c text = ⊥
 HasAsked players (s ∷ past) c text = AsksNow players past s.event c text ⊎ HasAsked players past c text
 
--- A drop goes out behind an answer of the server. It is the message of a connection that had shown an arbiter's token
--- when it said it; the answer is the one for which this message waits, and shows the game with an empty seat, so that
--- it waits for its second player; and the drop stands under the name of the player who, as that answer says, has the
--- other seat, which is a name of the protocol. Right behind it is asked how its game stands.
+-- A drop goes out behind an answer of the server. It is the message of a connection that had shown a token when it said
+-- it; the answer is the one for which this message waits, and shows the game with an empty seat, so that it waits for
+-- its second player; and the drop stands under the name of the player who, as that answer says, has the other seat,
+-- which is a name of the protocol. The token that the connection has shown is an arbiter's, or this very player's. Right
+-- behind the drop it is asked how its game stands.
 pub record IsDropOf (players : List Player) (past : List Step) (line : List ℕ) (lines : List (List ℕ)) : Type 0 where
   pub c : ℕ
   pub by : List ℕ
@@ -197,6 +199,7 @@ pub record IsDropOf (players : List Player) (past : List Step) (line : List ℕ)
   pub name : List ℕ
   pub named : IsName name
   pub alone : lone_player (answer (known_in players past).begun line) (rest_of text) ≡ Some name
+  pub may : may_drop (player_in players past c) name ≡ true
   pub acts : ActsUnder (name_in past) lines name
   pub of_text : IsOf (text ∷ notice_lines (game_named text)) lines
 

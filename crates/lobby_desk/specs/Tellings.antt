@@ -1,6 +1,6 @@
 -- What connections are told.
 use Rattle.std.specs.Prelude.{ℕ, ◌≡◌, Bool, true, false, ◌&&◌, ◌||◌, ◌==◌, not, List, [], ◌∷◌, ◌++◌, codes, decimal}
-use Rattle.std.specs.Prelude.{Option, None, Some, if◌then◌else◌}
+use Rattle.std.specs.Prelude.{Option, None, Some, is_some, if◌then◌else◌}
 use Rattle.std.specs.List.{list_any}
 use Rattle.lobby_words.specs.declared.listing.Seat.{Seat}
 use Rattle.lobby_table.specs.declared.watching.Watch.{Watch}
@@ -13,7 +13,8 @@ use Rattle.lobby_words.specs.Words.{is_leave_lobby_sort, u32_in}
 use Rattle.lobby_words.specs.declared.refusals.Refusal.TheVariants as refusals
 use Rattle.lobby_words.specs.Plans.{refusal_text}
 use Rattle.lobby_words.specs.Naming.{takes_name}
-use Rattle.lobby_words.specs.Answers.{left_after, is_whole, answer, is_shown, is_position, is_pgn, is_over, act_game, tells_end}
+use Rattle.lobby_words.specs.Answers.{left_after, is_whole, answer, is_shown, is_position, is_pgn, is_over, act_game}
+use Rattle.lobby_words.specs.Answers.{tells_end, lone_player}
 use Rattle.lobby_table.specs.Watching.{at_table, watch_if, sit_if, unwatched, none_watched, risen, followers}
 use Rattle.lobby_desk.specs.Events.{DeskInput, Opened, Closed, Said, Hurried, Heard, ServerTurned, Renewed, Linked}
 use Rattle.lobby_desk.specs.Events.{MessageValue, to_one, to_one_as}
@@ -90,7 +91,7 @@ watches_now (Said c text) is_open k =
 watches_now (Heard line) is_open k = if is_counted k line then watch_next is_open k.last k.owed k.watches else k.watches
 watches_now _ is_open k = k.watches
 
--- the same of the table: from the answer to its `lobby` until it says `leave lobby` or is gone
+-- A connection is told of the table from the answer to its `lobby` until it says `leave lobby` or is gone.
 abbrev pub table_heard : (ℕ → Bool) → Owed → List ℕ → List ℕ
 table_heard is_open (Asker c ForTable) table = sit_if (is_open c) c table
 table_heard is_open _ table = table
@@ -265,40 +266,41 @@ kind_of _ before now = kinds.Whole
 
 -- A notice of an act, with the answers to `show` and `fen`: to all who watch the game, and to the table where that is
 -- told of the act or the game is over.
-abbrev pub notice : List Watch → List ℕ → ℕ → List ℕ → Bool → List ℕ → List ℕ → MessageValue
-notice watches table game act is_table before now = record {
-  to = followers watches table game (is_table || is_over before);
+abbrev pub notice : Known → ℕ → List ℕ → Bool → List ℕ → MessageValue
+notice k game act is_table now = record {
+  to = followers k.watches k.table game (is_table || is_over k.last);
   kind = position_kind now;
-  text = codes "told " ++ decimal game ++ codes "\n" ++ act ++ before ++ now;
+  text = codes "told " ++ decimal game ++ codes "\n" ++ act ++ k.last ++ now;
 }
 
--- What an arbiter's `drop` is answered that does not go out: where the game is shown, that it does not wait for a
--- second player; else the refusal to show it.
-abbrev pub undropped : List ℕ → List ℕ
-undropped now = if is_shown now then refusal_text refusals.NotWaiting else now
+-- What a `drop` is answered that does not go out, by the answer to `show`: where another waits in its game, that who
+-- asks is no arbiter; else, where the game is shown, that it does not wait for a second player; else the refusal to show
+-- it.
+abbrev pub undropped : List ℕ → List ℕ → List ℕ
+undropped text now =
+    if is_some (lone_player now (rest_of text)) then refusal_text refusals.NotArbiter
+    else (if is_shown now then refusal_text refusals.NotWaiting else now)
 
--- What is told for an answer of the server, by whose it is. What goes to the log is told before the rest.
-abbrev pub IsToldFor : List ℕ → List Watch → List ℕ → List RefusedActs → Owed → List ℕ → List (List ℕ)
-    → List MessageValue → Type 0
-IsToldFor before watches table refused Nobody now lines tells = (lines ≡ []) × (tells ≡ [])
-IsToldFor before watches table refused (Naming name) now lines tells = (lines ≡ []) × (tells ≡ [])
-IsToldFor before watches table refused (Asker c ask) now lines tells =
-    tells ≡ logged_for refused ask now ++ to_one_as c (kind_of ask before now) (made_of ask before now) ∷ []
-IsToldFor before watches table refused (Dropper c by text) now [] tells = tells ≡ to_one c (undropped now) ∷ []
-IsToldFor before watches table refused (Dropper c by text) now (line ∷ lines) tells = tells ≡ []
-IsToldFor before watches table refused (Pairer c by black text) now [] tells =
-    tells ≡ logged_for refused (ForAct by text) now ++ to_one c now ∷ []
-IsToldFor before watches table refused (Pairer c by black text) now (line ∷ lines) tells =
-    tells ≡ logged_for refused (ForAct by text) now
-IsToldFor before watches table refused (Followers game act is_table) now lines tells =
-    (lines ≡ []) × (tells ≡ logged_standing before ++ notice watches table game act is_table before now ∷ [])
-IsToldFor before watches table refused Behind now lines tells = (lines ≡ []) × (tells ≡ [])
+-- What is told for an answer of the server, by whose it is and by what is known before it. What goes to the log is told
+-- before the rest.
+abbrev pub IsToldFor : Known → Owed → List ℕ → List (List ℕ) → List MessageValue → Type 0
+IsToldFor k Nobody now lines tells = (lines ≡ []) × (tells ≡ [])
+IsToldFor k (Naming name) now lines tells = (lines ≡ []) × (tells ≡ [])
+IsToldFor k (Asker c ask) now lines tells =
+    tells ≡ logged_for k.refused ask now ++ to_one_as c (kind_of ask k.last now) (made_of ask k.last now) ∷ []
+IsToldFor k (Dropper c by text) now [] tells = tells ≡ to_one c (undropped text now) ∷ []
+IsToldFor k (Dropper c by text) now (line ∷ lines) tells = tells ≡ []
+IsToldFor k (Pairer c by black text) now [] tells =
+    tells ≡ logged_for k.refused (ForAct by text) now ++ to_one c now ∷ []
+IsToldFor k (Pairer c by black text) now (line ∷ lines) tells = tells ≡ logged_for k.refused (ForAct by text) now
+IsToldFor k (Followers game act is_table) now lines tells =
+    (lines ≡ []) × (tells ≡ logged_standing k.last ++ notice k game act is_table now ∷ [])
+IsToldFor k Behind now lines tells = (lines ≡ []) × (tells ≡ [])
 
--- the same of the first that is owed; what nobody asked for is told to nobody
+-- What is told for an answer of the server to the first that is owed. What nobody asked for is told to nobody.
 abbrev pub IsToldNext : Known → List Owed → List ℕ → List (List ℕ) → List MessageValue → Type 0
 IsToldNext k [] now lines tells = (lines ≡ []) × (tells ≡ [])
-IsToldNext k (o ∷ owed) now lines tells =
-    IsToldFor k.last k.watches k.table k.refused (told_as k.follows o) now lines tells
+IsToldNext k (o ∷ owed) now lines tells = IsToldFor k (told_as k.follows o) now lines tells
 
 abbrev pub IsToldHeard : Bool → Known → List ℕ → List (List ℕ) → List MessageValue → Type 0
 IsToldHeard false k now lines tells = (lines ≡ []) × (tells ≡ [])

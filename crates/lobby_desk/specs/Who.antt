@@ -3,6 +3,7 @@ use Rattle.std.specs.Prelude.{ℕ, ◌≡◌, ◌⊎◌, Bool, true, false, not,
 use Rattle.std.specs.Prelude.{decimal, map, Option, None, Some, is_some, option_and_then, if◌then◌else◌}
 use Rattle.std.specs.BTreeMap.{BTreeMap, get}
 use Rattle.std.specs.Ordering.{nat_cmp}
+use Rattle.std.specs.Str.{bytes_eq}
 use Rattle.std.specs.String.{string_bytes}
 use Rattle.player_name.specs.Name.{IsName}
 use Rattle.lobby_words.specs.declared.planning.Plan.{Plan}
@@ -34,7 +35,7 @@ use Rattle.lobby_table.specs.Pairings.{game_bar, open_bar, join_bar}
 use Rattle.lobby_desk.specs.Pace.{is_too_fast}
 pub use Rattle.lobby_table.specs.Watching.{at_table}
 use Rattle.lobby_desk.specs.Events.{DeskInput, Opened, Closed, Said, Hurried, Heard, ServerTurned, Renewed, Linked}
-use Rattle.lobby_desk.specs.Events.{MessageValue, to_one}
+use Rattle.lobby_desk.specs.Events.{MessageValue, Outgoing, to_one}
 use Rattle.lobby_table.specs.Owed.{ForAct, Owed, Asker, Dropper, Pairer, owed_of, owed_lines}
 use Rattle.lobby_desk.specs.Events.{plan_asker, follower, following, asked_after, follows_heard, told_as}
 use Rattle.lobby_desk.specs.Tellings.{Known, is_counted, open_now, watch_heard, watch_next, table_heard, table_next}
@@ -134,17 +135,6 @@ IsOwnText is_paused players seats is_open acts_for (plans.Leave game) text =
     text ≡ codes "ok leave " ++ decimal game ++ codes "\n"
 IsOwnText is_paused players seats is_open acts_for _ text = Unit {0}
 
-abbrev pub IsAnsweredIf : Bool → Bool → List Player → List Seat → (ℕ → Bool) → (ℕ → Option Identity) → Plan → ℕ
-    → List MessageValue → Type 0
-IsAnsweredIf true is_paused players seats is_open acts_for plan c tells =
-    (text : List ℕ) × IsOwnText is_paused players seats is_open acts_for plan text × (tells ≡ to_one c text ∷ [])
-IsAnsweredIf false is_paused players seats is_open acts_for plan c tells = tells ≡ []
-
-abbrev pub IsAnswered : Bool → List Player → List Seat → (ℕ → Bool) → (ℕ → Option Identity) → Plan → ℕ
-    → List MessageValue → Type 0
-IsAnswered is_paused players seats is_open acts_for plan c tells =
-    IsAnsweredIf (is_own plan) is_paused players seats is_open acts_for plan c tells
-
 abbrev pub known : Desk → Known
 known desk = record {
   owed = map owed_of desk.line.queue.items;
@@ -189,6 +179,15 @@ view desk =
       limits = desk.limits;
       known = known desk;
     }
+
+-- What a connection is told by the plan for its message: such an answer, where nothing goes out; else nothing yet.
+abbrev pub IsAnsweredIf : Bool → List Player → View → Plan → ℕ → List MessageValue → Type 0
+IsAnsweredIf true players v plan c tells =
+    (text : List ℕ) × IsOwnText v.paused players v.known.seats v.is_open v.who plan text × (tells ≡ to_one c text ∷ [])
+IsAnsweredIf false players v plan c tells = tells ≡ []
+
+abbrev pub IsAnswered : List Player → View → Plan → ℕ → List MessageValue → Type 0
+IsAnswered players v plan c tells = IsAnsweredIf (is_own plan) players v plan c tells
 
 -- A desk that begins: no connection has come, and nothing was said. Entries are paused just where it is told so.
 pub record BeginsView (is_paused : Bool) (now : View) : Type 0 where
@@ -281,29 +280,41 @@ pub record IsSaid (players : List Player) (old : View) (c : ℕ) (text : List �
   pub planned : plan ≡ plan_of (is_message text) (sort_of text) standing (u32_in (rest_of text))
   pub named : IsNamed plan
   pub lines_are : lines ≡ lines_of plan old.said text
-  pub answers : IsAnswered old.paused players old.known.seats old.is_open old.who plan c tells
+  pub answers : IsAnswered players old plan c tells
   pub next_is : new.next ≡ old.next
   pub said_is : new.said ≡ said_after plan old.said
   pub here_is : new.here ≡ old.here
   pub paused_is : new.paused ≡ paused_after plan old.paused
   pub who_is : (d : ℕ) → new.who d ≡ (if c == d then who_noted plan (old.who d) else old.who d)
 
--- A drop that waited goes out, under the name of the player who waits in its game for a second one, as the answer to
--- `show` says.
-pub record IsDropped (said : Option (List ℕ)) (now text : List ℕ) (lines : List (List ℕ))
+-- Whether who acts so may drop a game in which this player waits for a second one: an arbiter, or he himself.
+abbrev pub may_drop : Option Identity → List ℕ → Bool
+may_drop None name = false
+may_drop (Some who) name = who.is_arbiter || bytes_eq who.name name
+
+-- The name under which a drop goes out, where this player waits in its game, if one does: his, where who asks may.
+abbrev pub dropped_as : Option Identity → Option (List ℕ) → Option (List ℕ)
+dropped_as who None = None
+dropped_as who (Some name) = if may_drop who name then Some name else None
+
+-- A drop that waited goes out for a connection that acts so, under the name of the player who waits in its game for a
+-- second one, as the answer to `show` says.
+pub record IsDropped (who : Option Identity) (said : Option (List ℕ)) (now text : List ℕ) (lines : List (List ℕ))
     (later : Option (List ℕ)) : Type 0 where
   pub name : List ℕ
   pub named : IsName name
   pub alone : lone_player now (rest_of text) ≡ Some name
+  pub may : may_drop who name ≡ true
   pub lines_are : lines ≡ act_lines said name text (game_named text)
   pub said_is : later ≡ Some name
 
--- Nothing goes out for a drop that waited: nobody has a seat in its game, or no seat of it is empty.
-pub record IsNotDropped (said : Option (List ℕ)) (now text : List ℕ) (lines : List (List ℕ))
-    (later : Option (List ℕ)) : Type 0 where
+-- Nothing goes out for a drop that waited: nobody has a seat in its game, or no seat of it is empty, or who asks may not
+-- drop it.
+pub record IsNotDropped (who : Option Identity) (said : Option (List ℕ)) (now text : List ℕ)
+    (lines : List (List ℕ)) (later : Option (List ℕ)) : Type 0 where
   pub none : lines ≡ []
   pub said_is : later ≡ said
-  pub not_waiting : lone_player now (rest_of text) ≡ None
+  pub not_dropped : dropped_as who (lone_player now (rest_of text)) ≡ None
 
 -- What goes out for the answer to the opening of a pairing: where it names the game, Black joins it.
 abbrev pub IsPaired : Option ℕ → Option (List ℕ) → List ℕ → List (List ℕ) → Option (List ℕ) → Type 0
@@ -311,29 +322,32 @@ IsPaired None said black lines later = (lines ≡ []) × (later ≡ said)
 IsPaired (Some game) said black lines later =
     (lines ≡ act_lines said black (join_line game) None) × (later ≡ Some black) × IsName black
 
--- What goes out for an answer, by whose it is, and the name that was said last then. For the answer to an act it is
--- asked how the game stands that it names, if that was not asked right behind the act; a drop goes out for the answer
--- that it waits for, where a seat is empty, and the join of a pairing for the answer that opens its game; else nothing
--- does.
-abbrev pub IsSentFor : Owed → Option (List ℕ) → List ℕ → List (List ℕ) → Option (List ℕ) → Type 0
-IsSentFor (Asker c (ForAct by text)) said now lines later =
+-- What goes out for an answer, by for whom connections act then, by whose it is, and by the name that was said last. For
+-- the answer to an act it is asked how the game stands that it names, if that was not asked right behind the act; a drop
+-- goes out for the answer that it waits for, where a seat is empty and who asks may drop that game, and the join of a
+-- pairing for the answer that opens its game; else nothing does.
+abbrev pub IsSentFor : (ℕ → Option Identity) → Owed → Option (List ℕ) → List ℕ → List (List ℕ) → Option (List ℕ)
+    → Type 0
+IsSentFor who (Asker c (ForAct by text)) said now lines later =
     (lines ≡ notice_lines (asked_after text (act_game now))) × (later ≡ said)
-IsSentFor (Dropper c by text) said now lines later =
-    IsNotDropped said now text lines later ⊎ IsDropped said now text lines later
-IsSentFor (Pairer c by black text) said now lines later = IsPaired (act_game now) said black lines later
-IsSentFor _ said now lines later = (lines ≡ []) × (later ≡ said)
+IsSentFor who (Dropper c by text) said now lines later =
+    IsNotDropped (who c) said now text lines later ⊎ IsDropped (who c) said now text lines later
+IsSentFor who (Pairer c by black text) said now lines later = IsPaired (act_game now) said black lines later
+IsSentFor who _ said now lines later = (lines ≡ []) × (later ≡ said)
 
-abbrev pub IsSentNext : List Owed → Option (List ℕ) → List ℕ → List (List ℕ) → Option (List ℕ) → Type 0
-IsSentNext [] said now lines later = (lines ≡ []) × (later ≡ said)
-IsSentNext (o ∷ owed) said now lines later = IsSentFor o said now lines later
+abbrev pub IsSentNext : (ℕ → Option Identity) → List Owed → Option (List ℕ) → List ℕ → List (List ℕ)
+    → Option (List ℕ) → Type 0
+IsSentNext who [] said now lines later = (lines ≡ []) × (later ≡ said)
+IsSentNext who (o ∷ owed) said now lines later = IsSentFor who o said now lines later
 
-abbrev pub IsSentHeard : Bool → List Owed → Option (List ℕ) → List ℕ → List (List ℕ) → Option (List ℕ) → Type 0
-IsSentHeard false owed said now lines later = (lines ≡ []) × (later ≡ said)
-IsSentHeard true owed said now lines later = IsSentNext owed said now lines later
+abbrev pub IsSentHeard : (ℕ → Option Identity) → Bool → List Owed → Option (List ℕ) → List ℕ → List (List ℕ)
+    → Option (List ℕ) → Type 0
+IsSentHeard who false owed said now lines later = (lines ≡ []) × (later ≡ said)
+IsSentHeard who true owed said now lines later = IsSentNext who owed said now lines later
 
 -- a line of the server is taken
 pub record IsHeard (old : View) (line : List ℕ) (lines : List (List ℕ)) (new : View) : Type 0 where
-  pub sent : IsSentHeard (is_counted old.known line) old.known.owed old.said
+  pub sent : IsSentHeard old.who (is_counted old.known line) old.known.owed old.said
       (answer old.known.begun line) lines new.said
   pub next_is : new.next ≡ old.next
   pub here_is : new.here ≡ old.here
@@ -389,17 +403,16 @@ pub record IsRenewed (players : List Player) (old : View) (later : List Player) 
   pub paused_is : new.paused ≡ old.paused
   pub who_is : (d : ℕ) → new.who d ≡ renewed players later (old.who d)
 
--- The same for a message, whose plan is an order of an arbiter's: the players from now on are those before, but that
--- the one whom the message names has this token, which nobody had.
+-- The plan for a message is an order of an arbiter's: the players from now on are those before, but that the one whom
+-- the message names has this token, which nobody had.
 pub record IsLinked (players : List Player) (old : View) (c : ℕ) (text : List ℕ) (later : List Player)
-    (token : List ℕ) (lines : List (List ℕ)) (new : View) : Type 0 where
+    (token : List ℕ) : Type 0 where
   pub standing : Standing
   pub who : standing.who ≡ old.who c
   pub link : standing.linked ≡ known_name players (rest_of text)
   pub order : Order
   pub planned : plan_of (is_message text) (sort_of text) standing (u32_in (rest_of text)) ≡ plans.Order order
   pub relinks : IsRelinked (rest_of text) token players later
-  pub renews : IsRenewed players old later lines new
 
 -- what the desk does about an event: the lines that go out, and for whom connections act then
 abbrev pub IsDone : List Player → View → DeskInput → List (List ℕ) → List MessageValue → View → Type 0
@@ -409,7 +422,8 @@ IsDone players old (Said c text) lines tells new = IsSaid players old c text lin
 IsDone players old (Hurried c) lines tells new = IsHurried old lines new
 IsDone players old (Heard line) lines tells new = IsHeard old line lines new
 IsDone players old (Renewed later) lines tells new = IsRenewed players old later lines new
-IsDone players old (Linked c text later token) lines tells new = IsLinked players old c text later token lines new
+IsDone players old (Linked c text later token) lines tells new =
+    IsRenewed players old later lines new × IsLinked players old c text later token
 IsDone players old (ServerTurned is_here) lines tells new = IsTurned old is_here lines new
 
 -- What is known then, where these connections are open before, and the one that has spoken acts for the player of this
@@ -437,7 +451,7 @@ pub record IsStep (players : List Player) (old : View) (event : DeskInput) (line
   pub known : IsKnown event (speaker old.who event) lines old.is_open old.known new.known
   pub told : IsTold event lines tells old.is_open old.known
 
--- The same of the desk, of the bytes that go to the server, and of what connections are told. The time of no other
+-- A step of the desk, with the bytes that go to the server and what connections are told. The time of no other
 -- connection is taken.
 pub record Steps (old : Desk) (event : DeskInput) (before after : List ℕ) (told_before told_after : List MessageValue)
     (new : Desk) : Type 0 where
@@ -449,26 +463,31 @@ pub record Steps (old : Desk) (event : DeskInput) (before after : List ℕ) (tol
   pub players : new.players.items ≡ players_now event old.players.items
   pub untils : (c : ℕ) → is_of event c ≡ false → until_of new c ≡ until_of old c
 
--- a plan for a message is carried out
-pub record Carried (old : Desk) (from : ℕ) (text : List ℕ) (plan : Plan) (until : ℕ) (before after : List ℕ)
-    (told_before told_after : List MessageValue) (new : Desk) : Type 0 where
+-- a message, the plan for it, and until when the time of its connection is taken by it
+pub record Planned : Type 0 where
+  pub from : ℕ
+  pub text : List ℕ
+  pub plan : Plan
+  pub until : ℕ
+
+-- A plan for a message is carried out.
+pub record Carried (message : Planned) (old : Desk) (before after : Outgoing) (new : Desk) : Type 0 where
   pub tells : List MessageValue
-  pub sent : after ≡ before ++ bytes_of (lines_of plan old.line.said text)
-  pub told : told_after ≡ told_before ++ tells
-  pub answers : IsAnswered old.is_paused old.players.items old.line.seats.items (open_of old)
-      (who_of old) plan from tells
-  pub named : IsNamed plan
-  pub said_is : new.line.said ≡ said_after plan old.line.said
+  pub sent : after.wire ≡ before.wire ++ bytes_of (lines_of message.plan old.line.said message.text)
+  pub told : after.told ≡ before.told ++ tells
+  pub answers : IsAnswered old.players.items (view old) message.plan message.from tells
+  pub named : IsNamed message.plan
+  pub said_is : new.line.said ≡ said_after message.plan old.line.said
   pub here_is : new.line.is_here ≡ old.line.is_here
-  pub paused_is : new.is_paused ≡ paused_after plan old.is_paused
+  pub paused_is : new.is_paused ≡ paused_after message.plan old.is_paused
   pub limits_is : new.limits ≡ old.limits
-  pub who_is : (c : ℕ) → who_of new c ≡ (if from == c then who_noted plan (who_of old c) else who_of old c)
-  pub owed : (known new).owed ≡ (known old).owed ++ owed_lines (plan_asker plan from text)
-      (lines_of plan old.line.said text)
-  pub opens : (c : ℕ) → open_of new c ≡ (from == c || open_of old c)
-  pub untils : (c : ℕ) → until_of new c ≡ (if from == c then until else until_of old c)
-  pub watches : new.watches.items ≡ plan_watches plan from old.watches.items
-  pub table : new.table.items ≡ plan_table plan from old.table.items
+  pub who_is : (c : ℕ) → who_of new c ≡ (if message.from == c then who_noted message.plan (who_of old c) else who_of old c)
+  pub owed : (known new).owed ≡ (known old).owed ++ owed_lines (plan_asker message.plan message.from message.text)
+      (lines_of message.plan old.line.said message.text)
+  pub opens : (c : ℕ) → open_of new c ≡ (message.from == c || open_of old c)
+  pub untils : (c : ℕ) → until_of new c ≡ (if message.from == c then message.until else until_of old c)
+  pub watches : new.watches.items ≡ plan_watches message.plan message.from old.watches.items
+  pub table : new.table.items ≡ plan_table message.plan message.from old.table.items
   pub seats : new.line.seats ≡ old.line.seats
   pub pairings : new.line.pairings ≡ old.line.pairings
   pub refused : new.line.refused ≡ old.line.refused
@@ -491,15 +510,13 @@ pub record IsElseSame (old new : Desk) : Type 0 where
   pub next : new.next ≡ old.next
 
 -- An answer of the server is taken, by whose it is; the first that was owed is taken off before.
-pub record AnswersTo (o : Owed) (now : List ℕ) (old : Desk) (before after : List ℕ)
-    (told_before told_after : List MessageValue) (new : Desk) : Type 0 where
+pub record AnswersTo (o : Owed) (now : List ℕ) (old : Desk) (before after : Outgoing) (new : Desk) : Type 0 where
   pub lines : List (List ℕ)
   pub tells : List MessageValue
-  pub sent : after ≡ before ++ bytes_of lines
-  pub told : told_after ≡ told_before ++ tells
-  pub for_whom : IsSentFor o old.line.said now lines new.line.said
-  pub told_whom : IsToldFor (string_bytes old.line.last) old.watches.items old.table.items old.line.refused.items
-      (told_as (following old.line.acted) o) now lines tells
+  pub sent : after.wire ≡ before.wire ++ bytes_of lines
+  pub told : after.told ≡ before.told ++ tells
+  pub for_whom : IsSentFor (who_of old) o old.line.said now lines new.line.said
+  pub told_whom : IsToldFor (known old) (told_as (following old.line.acted) o) now lines tells
   pub owed : (known new).owed ≡ (known old).owed ++ owed_lines (follower o now) lines
   pub watches : new.watches.items ≡ watch_heard (open_of old) (string_bytes old.line.last) o old.watches.items
   pub table : new.table.items ≡ table_heard (open_of old) o old.table.items
@@ -510,14 +527,13 @@ pub record AnswersTo (o : Owed) (now : List ℕ) (old : Desk) (before after : Li
   pub misnamed : new.line.is_misnamed ≡ misnamed_heard o now old.line.is_misnamed
   pub rests : IsElseSame old new
 
--- the same of the first that is owed
-pub record Answered (now : List ℕ) (old : Desk) (before after : List ℕ) (told_before told_after : List MessageValue)
-    (new : Desk) : Type 0 where
+-- An answer of the server is taken, by whose it is of what is owed: the first of that.
+pub record Answered (now : List ℕ) (old : Desk) (before after : Outgoing) (new : Desk) : Type 0 where
   pub lines : List (List ℕ)
   pub tells : List MessageValue
-  pub sent : after ≡ before ++ bytes_of lines
-  pub told : told_after ≡ told_before ++ tells
-  pub for_whom : IsSentNext (known old).owed old.line.said now lines new.line.said
+  pub sent : after.wire ≡ before.wire ++ bytes_of lines
+  pub told : after.told ≡ before.told ++ tells
+  pub for_whom : IsSentNext (who_of old) (known old).owed old.line.said now lines new.line.said
   pub told_whom : IsToldNext (known old) (known old).owed now lines tells
   pub owed : (known new).owed ≡ owed_answered (known old).owed now lines
   pub watches : new.watches.items ≡ watch_next (open_of old) (string_bytes old.line.last)

@@ -1,17 +1,16 @@
 //! What is done by a plan for a message.
-ghost use Rattle.std.specs.Prelude.{ℕ, List, codes, ◌≡◌, ◌++◌, ◌==◌, ◌||◌, IfOk, IfSome, OnOk, map, is_some};
+ghost use Rattle.std.specs.Prelude.{ℕ, codes, ◌≡◌, ◌++◌, ◌==◌, ◌||◌, IfOk, IfSome, OnOk, map, is_some};
 ghost use Rattle.std.specs.Prelude.{if◌then◌else◌};
 ghost use Rattle.std.specs.String.{string_bytes};
 ghost use Rattle.lobby_desk.specs.Lines.{bytes_of, lines_of, said_after, IsNamed};
 ghost use Rattle.lobby_table.specs.Sending.{IsHeardSame};
-ghost use Rattle.lobby_desk.specs.Events.{MessageValue, message_values, plan_asker};
+ghost use Rattle.lobby_desk.specs.Events.{plan_asker};
 ghost use Rattle.lobby_table.specs.Owed.{owed_of, owed_lines};
 ghost use Rattle.lobby_desk.specs.Tellings.{token_told};
 ghost use Rattle.lobby_table.specs.Visitors.{who_in, open_in_map, until_in};
 ghost use Rattle.lobby_desk.specs.Who.{who_noted, plan_watches, plan_table};
-ghost use Rattle.lobby_desk.specs.Who.{paused_after, is_own, IsOwnText, IsAnswered};
+ghost use Rattle.lobby_desk.specs.Who.{paused_after, is_own, IsOwnText};
 
-use crate::telling::{Kind, Message, tell};
 use lobby_table::{
     Due, ServerLine, Visitor, Watch, present_rows, put, rise, unwatch, waiting_act, who_acts,
 };
@@ -34,30 +33,8 @@ pub fn forget(watches: &mut Vec<Watch>, table: &mut Vec<u64>, from: u64, plan: &
     }
 }
 
-/// Answers a connection, where nothing is asked of the server.
-pub fn answer_plan(
-    alloc: Global,
-    is_paused: bool,
-    players: &[Player],
-    seats: &[Seat],
-    visitors: &BTreeMap<u64, Visitor>,
-    from: u64,
-    plan: &Plan,
-    told: &mut Vec<Message>,
-) -> Result<(), AllocError>
-    ensures { OnOk result ((tells : List MessageValue)
-        × (message_values told.new.items ≡ message_values told.old.items ++ tells)
-        × IsAnswered is_paused players.now seats.now (open_in_map visitors.now)
-        (who_in visitors.now) plan.now from tells) }
-{
-    match own_answer(alloc, is_paused, plan, players, seats, visitors)? {
-        None => Ok(()),
-        Some(answer) => tell(alloc, told, from, Kind::Whole, answer),
-    }
-}
-
-// The line that a connection is answered for a plan by which nothing is sent.
-fn own_answer(
+/// The line that a connection is answered for a plan by which nothing is sent.
+pub fn own_answer(
     alloc: Global,
     is_paused: bool,
     plan: &Plan,
@@ -179,6 +156,5 @@ pub fn note(
         ≡ (if from == c then until else until_in visitors.old c)) }
 {
     let before = who_acts(visitors, from);
-    put(visitors, from, who_noted(before, plan), until)?;
-    Ok(())
+    put(visitors, from, who_noted(before, plan), until)
 }

@@ -7,7 +7,7 @@ const COST: u64 = 50;
 
 const AHEAD: u64 = 950;
 
-/// The same, and as before where the message comes too fast.
+/// Until when the time of a connection is taken after a message; as before where that comes too fast.
 pub fn until_after(until: u64, now: u64) -> u64
     ensures { result ≡ until_after until now }
 {

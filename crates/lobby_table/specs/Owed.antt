@@ -30,7 +30,7 @@ pub data Owed : Type 0 where
   Followers : (game : ℕ) → (act : List ℕ) → (is_table : Bool) → Owed
   Behind : Owed
 
--- the same, by the desk's own
+-- for whom an answer is, by what the desk keeps of it
 abbrev pub owed_of : Due → Owed
 owed_of dues.Own = Nobody
 owed_of (dues.Name name) = Naming name

@@ -52,7 +52,7 @@ abbrev pub one_more : Option ℕ → List RefusedActs → List RefusedActs
 one_more None refused = refused
 one_more (Some game) refused = without game refused ++ record { game = game; count = count_in game refused + 1 } ∷ []
 
--- The same behind the answer to an act.
+-- The acts that were refused, behind the answer to one more.
 abbrev pub refused_told : List ℕ → List ℕ → List RefusedActs → List RefusedActs
 refused_told text answer refused =
     if is_entered answer then cleared (act_game answer) refused else one_more (refused_game text answer) refused

@@ -49,12 +49,12 @@ seats_acted by text is_over game seats =
     else (if is_pair text then seats_joined game (black_name text) seats
     else (if ends_wait text then gone game seats else seats_ended is_over game seats)))
 
--- the same, where the act was done in a game
+-- the seats behind an act of this player, which was done in a game or not
 abbrev pub seats_told : List ℕ → List ℕ → Bool → Option ℕ → List Seat → List Seat
 seats_told by text is_over None seats = seats
 seats_told by text is_over (Some game) seats = seats_acted by text is_over game seats
 
--- the same, where a pairing has opened a game for White
+-- the seats where a pairing has opened a game for White
 abbrev pub seats_opened : List ℕ → Option ℕ → List Seat → List Seat
 seats_opened text game seats = behind seats (seat_of game (as_name text) stages.Waits)
 

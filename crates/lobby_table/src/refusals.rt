@@ -87,7 +87,7 @@ fn take_off(refused: &mut Vec<RefusedActs>, game: u32)
     refused.retain(|one| one.game != game);
 }
 
-// The same, if a game is named.
+// No refusal counts any more in a game, if one is named.
 fn clear(refused: &mut Vec<RefusedActs>, game: Option<u32>)
     ensures { refused.new.items ≡ spec.cleared game refused.old.items }
 {

@@ -52,7 +52,7 @@ abbrev pub named_plan : Standing → Identity → Option (List ℕ) → Plan
 named_plan s who None = plans.Refuse refusals.NoPlayer
 named_plan s who (Some name) = entered_plan s (plans.ActAs who name)
 
--- the same, and not without an arbiter's token
+-- an act under the name of another: not without an arbiter's token
 abbrev pub as_plan : Standing → Option Identity → Plan
 as_plan s None = plans.Refuse refusals.NoToken
 as_plan s (Some who) = if who.is_arbiter then named_plan s who s.named else plans.Refuse refusals.NotArbiter
@@ -70,10 +70,10 @@ abbrev pub pair_plan : Standing → Option Identity → Plan
 pair_plan s None = plans.Refuse refusals.NoToken
 pair_plan s (Some who) = if who.is_arbiter then white_plan s who s.named else plans.Refuse refusals.NotArbiter
 
--- a drop: not without an arbiter's token
+-- a drop: not without a token; whether who asks may drop the game, the server's answer to `show` tells
 abbrev pub drop_plan : Standing → Option Identity → ℕ → Plan
 drop_plan s None game = plans.Refuse refusals.NoToken
-drop_plan s (Some who) game = if who.is_arbiter then asked s (plans.Drop who game) else plans.Refuse refusals.NotArbiter
+drop_plan s (Some who) game = asked s (plans.Drop who game)
 
 -- what an arbiter alone may ask for
 abbrev pub arbiter_plan : Option Identity → Plan → Plan

@@ -64,7 +64,7 @@ role_text is_arbiter = if is_arbiter then codes " arbiter " else codes " player 
 abbrev pub player_row : List ℕ → Bool → List ℕ → List ℕ
 player_row name is_arbiter full_name = name ++ role_text is_arbiter ++ full_name ++ codes "\n"
 
--- the same of a player, with the full name in this form
+-- the row of a player, with the full name in this form
 abbrev pub row_in : NameForm → Player → List ℕ
 row_in form player = player_row player.name player.is_arbiter (name_told form (string_bytes player.full_name))
 

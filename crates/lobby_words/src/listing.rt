@@ -109,7 +109,7 @@ fn push_seats(seats: &mut Vec<Seat>, row: &Row) -> Result<(), AllocError>
     push_seat(seats, row.game, row.seats.black, stage)
 }
 
-// The same of a line, if it is a row.
+// Adds the seats in the game that a line tells of, if it is a row.
 fn add_row(seats: &mut Vec<Seat>, line: &str) -> Result<(), AllocError>
     ensures { OnOk result (seats.new.items ≡ seats.old.items ++ spec.seats_row line.now) }
 {

@@ -35,7 +35,7 @@ pub enum Plan {
     ActAs(Identity, Name),
     /// A game is opened under the name of White, and joined under that of Black.
     Pair(Identity, Name, Name),
-    /// Who is seated in the game is asked for, and the message is passed on under a name of theirs.
+    /// Who waits in the game is asked for, and the message is passed on under his name.
     Drop(Identity, u32),
     Login(Identity),
     /// Who the players are.
@@ -206,13 +206,7 @@ fn drop_plan(standing: &Standing, game: u32) -> Plan
 {
     match standing.who {
         None => Plan::Refuse(Refusal::NoToken),
-        Some(who) => {
-            if who.is_arbiter {
-                asked(standing, Plan::Drop(who, game))
-            } else {
-                Plan::Refuse(Refusal::NotArbiter)
-            }
-        }
+        Some(who) => asked(standing, Plan::Drop(who, game)),
     }
 }
 

@@ -3,7 +3,6 @@ ghost use Rattle.std.specs.Prelude.{◌≡◌};
 ghost use Rattle.std.specs.List.{list_all};
 ghost use Rattle.std.specs.Str.{bytes_eq};
 ghost use Rattle.lobby_words.specs.Players.{identity_of, is_token_digit, is_token, or_holder, holder_of_sum, holder_of};
-ghost use Rattle.lobby_words.specs.Players.{is_named};
 
 use crate::Identity;
 use player_name::Name;
@@ -94,14 +93,4 @@ pub fn holder_of(players: &[Player], token: &str) -> Option<Identity>
     }
     let sum = Sha256::digest(token);
     holder_of_sum(players, &sum)
-}
-
-/// Whether it is the player of a name for whom a connection acts.
-pub fn is_named(who: &Option<Identity>, name: &Name) -> bool
-    ensures { result ≡ is_named who.now name.now }
-{
-    match who {
-        None => false,
-        Some(who) => who.name.as_str() == name.as_str(),
-    }
 }

@@ -11,7 +11,7 @@ pub enum Refusal {
     NoToken,
     /// No player has the token.
     BadToken,
-    /// Who asks is no arbiter.
+    /// Who asks is no arbiter, nor the player who waits in the game that is to be dropped.
     NotArbiter,
     /// As many games of the player wait for a second player as may be.
     TooManyOpen,

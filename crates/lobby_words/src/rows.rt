@@ -116,8 +116,8 @@ fn names_seated(alloc: Global, seats: &[Seat]) -> Result<HashSet<String>, AllocE
     Ok(names)
 }
 
-// Whether a player is one of these.
-fn is_among(names: &HashSet<String>, player: &Player) -> bool
+/// Whether a player is one of these.
+pub fn is_among(names: &HashSet<String>, player: &Player) -> bool
     ensures { result ≡ contains_text names.now player.now.name }
 {
     names.contains(player.name.as_str())

@@ -292,7 +292,7 @@ pub fn number_named(text: &str) -> Option<u32>
     text_parts::number_of_32_bits(text)
 }
 
-/// The same, and 0 where a text spells no number.
+/// The number that a text spells, in the spelling of the server's lines, and 0 where it spells none.
 pub fn number_or_0(text: &str) -> u32
     ensures { result ≡ words.number_or_0 text.now }
 {

@@ -10,8 +10,10 @@ use std::alloc::Global;
 use std::mem;
 
 // The players of the desk at first: two, and an arbiter.
-const CLUB: &str =
-    "ann aaaaaaaaaaaaaaaaaaaaaaaaaaaaaaa1 player Ann Lee|bob bbbbbbbbbbbbbbbbbbbbbbbbbbbbbbb1 player Bob|eve eeeeeeeeeeeeeeeeeeeeeeeeeeeeeee1 arbiter Eve Moss";
+const CLUB: &str = "\
+ann aaaaaaaaaaaaaaaaaaaaaaaaaaaaaaa1 player Ann Lee|\
+bob bbbbbbbbbbbbbbbbbbbbbbbbbbbbbbb1 player Bob|\
+eve eeeeeeeeeeeeeeeeeeeeeeeeeeeeeee1 arbiter Eve Moss";
 
 // How many games there may be: few places, so that a short run comes to their last eighth.
 const LIMITS: Limits = Limits {

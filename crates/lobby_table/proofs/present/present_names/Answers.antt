@@ -12,7 +12,8 @@ loop-player-preserved c =
     let test = λ (p : Player). is_present (who_in c.args.visitors.now) c.args.connections.now p.name in
     let item = c.player-item.result in
     c.in_ok-add_if.ensures
-    ∙ (ap (λ (b : Bool). c.loop-player.names.items ++ (if b then item.name ∷ [] else [])) c.is_present-is_here.ensures
+    ∙ (ap (λ (b : Bool). c.loop-player.names.items ++ (if b then item.name ∷ [] else []))
+    (c.is_among-is_here.ensures ∙ c.in_ok-present.ensures item.name)
     ∙ (ap (λ (xs : List (List ℕ)). xs ++ (if test item then item.name ∷ [] else [])) c.loop-player.invariant
     ∙ sym (names_more test c.args.players.now c.loop-player.player-index item c.loop-player-test.true c.player-item.is)))
 
