@@ -1,8 +1,8 @@
 -- Where a connection comes from.
-use Rattle.std.specs.Prelude.{ℕ, ◌≡◌, ◌+◌, ◌*◌, true, List, Some, slice_index}
+use Rattle.std.specs.Prelude.{ℕ, ◌≡◌, ◌↔◌, ◌⊎◌, ◌+◌, ◌*◌, true, List, Option, None, Some, slice_index}
 use Rattle.std.specs.declared.net.ip_addr.IpAddr.{IpAddr}
 use Rattle.std.specs.declared.net.ip_addr.IpAddr.TheVariants.{V4, V6}
-use Rattle.std.specs.Net.Addr.{ipv4_bits, ipv6_segments, IsCanonicalOf}
+use Rattle.std.specs.Net.Addr.{ipv4_bits, ipv6_segments, IsCanonicalOf, MatchIp, IsLoopbackV4, IsLoopbackV6}
 use Rattle.lobby_guests.specs.declared.origin.Origin.{Origin}
 
 -- the first half of an address of IPv6
@@ -19,6 +19,17 @@ number_of (V6 a) = first_half (ipv6_segments a)
 abbrev pub IsPlain : IpAddr → IpAddr → Type 0
 IsPlain (V4 a) plain = plain ≡ V4 a
 IsPlain (V6 a) plain = IsCanonicalOf a plain
+
+-- It is of this machine.
+abbrev pub IsLoopback : IpAddr → Type 0
+IsLoopback address = MatchIp address IsLoopbackV4 IsLoopbackV6
+
+-- Where a peer of this address comes from: it is the trusted proxy's just where that has this address, and it counts for
+-- its address; but the proxy's for none yet, and one of this machine for none.
+pub record IsFrom (proxy : Option IpAddr) (peer : IpAddr) (origin : Origin) : Type 0 where
+  pub trusted : (origin.is_proxy ≡ true) ↔ (proxy ≡ Some peer)
+  pub none : (proxy ≡ Some peer) ⊎ IsLoopback peer → origin.address ≡ None
+  pub other : ¬ (proxy ≡ Some peer) → ¬ (IsLoopback peer) → origin.address ≡ Some (number_of peer)
 
 -- A proxy's connection counts for this address.
 abbrev pub CountsFor : Origin → IpAddr → Type 0

@@ -1,7 +1,10 @@
 -- Who has a place, and who makes room for whom: connections in the order in which they came.
 use Rattle.std.specs.Prelude.{ℕ, ◌≡◌, ◌≤◌, ◌<◌, ◌-◌, ◌⊎◌, ◌==◌, ◌&&◌, ◌||◌, Bool, true, false, List, [], ◌∷◌, Option}
 use Rattle.std.specs.Prelude.{None, Some, length, count_by, nat_le, nat_lt, max, min, if◌then◌else◌}
+use Rattle.std.specs.BTreeMap.{BTreeMap, get}
 use Rattle.std.specs.List.{AllZip}
+use Rattle.std.specs.Map.{count_at}
+use Rattle.std.specs.Ordering.{nat_cmp}
 use Rattle.std.specs.Str.{bytes_eq}
 use Rattle.lobby_guests.specs.declared.places.Place.{Place}
 use Rattle.lobby_guests.specs.declared.places.Role.{Role}
@@ -117,6 +120,10 @@ room_for at q ps = if is_nameless q.role then room_at at q.address ps else ps
 abbrev pub each_room : ℕ → List Place → List Place → List Place
 each_room at [] ps = ps
 each_room at (q ∷ qs) ps = each_room at qs (room_for at q ps)
+
+-- At no address there are more nameless ones than this tells, but that 33 stand for any more.
+abbrev pub IsTallied : BTreeMap ℕ ℕ → List Place → Type 0
+IsTallied tally ps = (a : ℕ) → min 33 (count_of (Some a) Nameless ps) ≤ count_at (get nat_cmp tally) a
 
 -- A newcomer has 20 seconds, from this moment on if he came before it.
 abbrev pub in_time : ℕ → ℕ → List Place → List Place

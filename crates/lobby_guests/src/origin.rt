@@ -1,6 +1,6 @@
 //! Where a connection comes from.
-ghost use Rattle.std.specs.Prelude.{◌≡◌, None, true, false, IfSome};
-ghost use Rattle.lobby_guests.specs.Origins.{number_of, CountsFor};
+ghost use Rattle.std.specs.Prelude.{◌≡◌, ◌↔◌, None, Some, true, false, IsTrue, IfSome};
+ghost use Rattle.lobby_guests.specs.Origins.{number_of, IsPlain, IsFrom, CountsFor};
 
 use std::net::IpAddr;
 
@@ -26,21 +26,41 @@ fn number_of(address: IpAddr) -> u64
     }
 }
 
-impl Origin {
-    /// Of a peer: its address; but none for one of this machine, and none for the trusted proxy, if there is one, until
-    /// it tells another.
-    pub fn of(peer: IpAddr, proxy: Option<IpAddr>) -> Origin
-        ensures untrusted { proxy ≡ None → result.is_proxy ≡ false }
-        ensures untold { result.is_proxy ≡ true → result.address ≡ None }
-    {
-        let peer = peer.to_canonical();
-        let is_proxy = proxy == Some(peer);
-        let address = if is_proxy || peer.is_loopback() {
-            None
-        } else {
-            Some(number_of(peer))
+// Whether this is the address of the trusted proxy, if there is one.
+fn is_proxy(proxy: Option<IpAddr>, peer: IpAddr) -> bool
+    ensures { IsTrue result ↔ (proxy ≡ Some peer) }
+{
+    proxy == Some(peer)
+}
+
+// Where a peer of this plain address comes from.
+fn origin_of(peer: IpAddr, proxy: Option<IpAddr>) -> Origin
+    ensures { IsFrom proxy peer result }
+{
+    if is_proxy(proxy, peer) {
+        return Origin {
+            address: None,
+            is_proxy: true,
         };
-        Origin { address, is_proxy }
+    }
+    let address = if peer.is_loopback() {
+        None
+    } else {
+        Some(number_of(peer))
+    };
+    Origin {
+        address,
+        is_proxy: false,
+    }
+}
+
+impl Origin {
+    /// Of a peer: its address, where one of IPv4 within one of IPv6 is that of IPv4; but none for one of this machine,
+    /// and none for the trusted proxy, if there is one, until it tells another.
+    pub fn of(peer: IpAddr, proxy: Option<IpAddr>) -> Origin
+        ensures { (plain : IpAddr) × IsPlain peer plain × IsFrom proxy plain result }
+    {
+        origin_of(peer.to_canonical(), proxy)
     }
 
     /// The same, once a request says that a proxy asks for this address: that counts of the trusted proxy alone.

@@ -1,11 +1,16 @@
 //! Who has a place, and who makes room for whom.
-ghost use Rattle.std.specs.Prelude.{ℕ, ◌≡◌, ◌-◌, ◌&&◌, None, count_by, IfOk, OnOk};
+ghost use Rattle.std.specs.Prelude.{ℕ, ◌≡◌, ◌≤◌, ◌+◌, ◌-◌, ◌==◌, ◌∷◌, [], None, Some, count_by, min, IfOk, OnOk};
+ghost use Rattle.std.specs.Prelude.{if◌then◌else◌};
+ghost use Rattle.std.specs.BTreeMap.{get};
+ghost use Rattle.std.specs.Map.{count_at};
+ghost use Rattle.std.specs.Ordering.{nat_cmp};
 ghost use Rattle.lobby_guests.specs.Places.{is_gone, is_of, is_at, is_in, counted, count_of, own_room, each_own, leave};
 ghost use Rattle.lobby_guests.specs.Places.{beyond, trim, make_room, room_at, room_for, each_room, in_time};
-ghost use Rattle.lobby_guests.specs.Places.{most_nameless, judged, IsOwned, IsFair};
+ghost use Rattle.lobby_guests.specs.Places.{most_nameless, judged, IsOwned, IsFair, IsTallied};
 
 use player_name::Name;
 use std::alloc::{AllocError, Global};
+use std::collections::BTreeMap;
 
 /// How a connection stands.
 #[derive(Clone, Copy)]
@@ -171,31 +176,84 @@ fn make_room(places: &mut [Place], address: Option<u64>, most: usize, at: u64)
     trim(places, address, &Class::Newcomers, most);
 }
 
-// The same at an address.
-fn room_at(places: &mut [Place], address: Option<u64>, at: u64)
-    ensures { places.new ≡ room_at at address places.old }
+// How many nameless connections of an address are told at most.
+fn told_at(tally: &BTreeMap<u64, u64>, address: u64) -> u64
+    ensures { result ≡ count_at (get nat_cmp tally.now) address }
 {
-    if let Some(address) = address {
-        make_room(places, Some(address), AN_ADDRESS_MOST, at);
+    match tally.get(&address) {
+        Some(most) => *most,
+        None => 0,
     }
 }
 
-// The same at the address of a nameless connection.
-fn room_for(places: &mut [Place], place: &Place, at: u64)
-    ensures { places.new ≡ room_for at place.now places.old }
+// So many are told from now on.
+fn tell_at(tally: &mut BTreeMap<u64, u64>, address: u64, most: u64) -> Result<(), AllocError>
+    ensures { OnOk result ((a : ℕ) → count_at (get nat_cmp tally.new) a
+        ≡ (if address == a then most else count_at (get nat_cmp tally.old) a)) }
 {
-    if is_in(place, &Class::Nameless) {
-        room_at(places, place.address, at);
+    tally.insert(address, most)?;
+    Ok(())
+}
+
+// One more is told where this one is nameless and counts for an address.
+fn tally_one(tally: &mut BTreeMap<u64, u64>, place: &Place) -> Result<(), AllocError>
+    ensures { OnOk result ((a : ℕ) →
+        min 33 (count_at (get nat_cmp tally.old) a + count_of (Some a) Class.Nameless (place.now ∷ []))
+        ≤ count_at (get nat_cmp tally.new) a) }
+{
+    match place.address {
+        None => Ok(()),
+        Some(_) if !is_in(place, &Class::Nameless) => Ok(()),
+        Some(address) => {
+            let most = told_at(tally, address).saturating_add(1);
+            tell_at(tally, address, most)
+        }
     }
 }
 
-// The same at each address.
-fn each_room(places: &mut [Place], all: &[Place], at: u64)
-    ensures { places.new ≡ each_room at all.now places.old }
+// How many are nameless of each address.
+fn tally_of(alloc: Global, places: &[Place]) -> Result<BTreeMap<u64, u64>, AllocError>
+    ensures { IfOk result (λ tally. IsTallied tally places.now) }
 {
+    let mut tally = BTreeMap::new(alloc);
+    for place in places {
+        tally_one(&mut tally, place)?;
+    }
+    Ok(tally)
+}
+
+// Nameless connections at the address of this one, if it is nameless, are to be closed until as many are left as may be.
+// Where no more are told, they are not gone over.
+fn room_for(
+    places: &mut [Place],
+    tally: &mut BTreeMap<u64, u64>,
+    place: &Place,
+    at: u64,
+) -> Result<(), AllocError>
+    requires { IsTallied tally.old places.old }
+    ensures room { OnOk result (places.new ≡ room_for at place.now places.old) }
+    ensures tallied { OnOk result (IsTallied tally.new places.new) }
+{
+    match place.address {
+        None => Ok(()),
+        Some(_) if !is_in(place, &Class::Nameless) => Ok(()),
+        Some(address) if told_at(tally, address) <= AN_ADDRESS_MOST as u64 => Ok(()),
+        Some(address) => {
+            make_room(places, Some(address), AN_ADDRESS_MOST, at);
+            tell_at(tally, address, AN_ADDRESS_MOST as u64)
+        }
+    }
+}
+
+// The same for each of them: an address is gone over once at most, and where more than 32 are of it.
+fn each_room(alloc: Global, places: &mut [Place], all: &[Place], at: u64) -> Result<(), AllocError>
+    ensures { OnOk result (places.new ≡ each_room at all.now places.old) }
+{
+    let mut tally = tally_of(alloc, places)?;
     for place in all {
-        room_for(places, place, at);
+        room_for(places, &mut tally, place, at)?;
     }
+    Ok(())
 }
 
 fn in_time(places: &mut [Place], at: u64, from: u64)
@@ -253,7 +311,7 @@ fn judge_all(alloc: Global, places: &mut [Place], at: u64, from: u64) -> Result<
     let late = count(places, None, &Class::Gone);
     leave_beyond(places, None, &Class::Watchers, WATCHERS_MOST);
     let all = places.to_vec(alloc)?;
-    each_room(places, all.as_slice(), at);
+    each_room(alloc, places, all.as_slice(), at)?;
     let most = most_nameless(count(places, None, &Class::Players));
     make_room(places, None, most, at);
     Ok(count(places, None, &Class::Gone).saturating_sub(late))
