@@ -1,6 +1,5 @@
 pub mod Cuts
 pub mod Keeping
-pub mod Torn
 pub mod Lists
 pub mod Stages
 pub mod Runs

@@ -1,6 +1,7 @@
 -- What an archive keeps.
-use Rattle.std.specs.Prelude.{ℕ, ◌≡◌, List, [], ◌∷◌, Some}
+use Rattle.std.specs.Prelude.{ℕ, ◌≡◌, List, [], ◌∷◌, Some, None, codes}
 use Rattle.night_files.specs.Lines.{IsRecord, AreRecords, text_of}
+use Rattle.night_files.specs.Torn.{torn_fault}
 use Rattle.night_archive.specs.Laws.{IsOnce}
 use Rattle.night_archive.specs.Line.{game_in}
 
@@ -23,3 +24,8 @@ pub record Keeps (safe pending : List ℕ) (games : List ℕ) (lines : List (Lis
   pub settled : pending ≡ []
   pub of : AreLinesOf games lines
   pub once : IsOnce games
+
+-- What stands behind the lines may be cut off: what a kill or the machine's stop may leave of the one line that was
+-- being put, at most 4 MiB, behind whose first byte no other line begins.
+abbrev pub may_be_cut : List ℕ → Type 0
+may_be_cut behind = torn_fault (codes "{\"game\":") 4_194_304 behind ≡ None

@@ -1,6 +1,5 @@
 pub mod Line
 pub mod Archive
-pub mod Behind
 pub mod Steps
 pub mod Files
 pub mod Clerk

@@ -3,20 +3,17 @@
 //! table. The clerk has no files and no sockets: what happened goes in, and what is to be done comes out and is done on
 //! a `Night`.
 //!
-//! Modules: `line` makes a game's line, `reading` reads one, `behind` looks at what stands behind the lines, `archive`
-//! keeps games, `lines` has the lines for those who only read them, `hold` the lock of who keeps games, `opened` an
-//! archive that was opened and its lines, `law` their law. `clerk` decides, `night` does in one look what it decides,
-//! `clerk_laws` has its laws. `proofs/Keeping` shows what a game that is kept makes of an archive, `proofs/Cuts` that a
-//! line is read, `proofs/Torn` finds where one begins behind the lines; `proofs/Runs` that the clerk's laws hold of
-//! each run, `proofs/Stages` has how far games are, `proofs/Lists` fronts of lists.
+//! Modules: `line` makes a game's line, `reading` reads one, `archive` keeps games, `lines` has the lines for those who
+//! only read them, `opened` an archive that was opened and its lines, `law` their law. `clerk` decides, `night` does in
+//! one look what it decides, `clerk_laws` has its laws. `proofs/Keeping` shows what a game that is kept makes of an
+//! archive, `proofs/Cuts` that a line is read; `proofs/Runs` that the clerk's laws hold of each run, `proofs/Stages`
+//! has how far games are, `proofs/Lists` fronts of lists.
 #![tactic(auto)]
 
 mod archive;
-mod behind;
 mod clerk;
 mod clerk_laws;
 mod faults;
-mod hold;
 mod law;
 mod line;
 mod lines;
@@ -24,14 +21,12 @@ mod night;
 mod opened;
 mod reading;
 
-pub use archive::{Archive, games_of};
-pub use behind::look_behind;
+pub use archive::Archive;
 pub use clerk::{Clerk, Stage, is_among};
 pub use clerk_laws::{law_of_decisions, law_of_drops, law_of_games, law_of_safety};
 pub use faults::Fault;
-pub use hold::Hold;
 pub use law::law_of_lines;
-pub use lines::lines_of;
+pub use lines::{lines_of, lines_told};
 pub use night::{Night, look};
 pub use opened::{Opened, open_archive};
 pub use reading::{game_of, pgn_of};

@@ -1,14 +1,11 @@
-//! The lines of an archive's file. Opening an archive cuts off what stands behind its last line, so a file that is no
-//! archive is refused before.
-use crate::archive::games_of;
-use crate::behind::look_behind;
+//! The lines of an archive's file, for those who only read them, and for who is about to open it.
+use crate::archive::games_of_file;
 use crate::reading::game_of;
 use anyhow::{Context, Result};
-use night_files::{AppendedFile, DiskFile, cut_lines, whole_length};
+use night_files::{cut_lines, tell_left_out, whole_length};
 use std::alloc::Global;
 use std::fs;
 use std::rt::Files;
-use text_parts::parts;
 
 // Whether what stands behind the lines is a game's line that lacks only its line feed.
 fn lacks_feed(alloc: Global, bytes: &[u8]) -> Result<bool> {
@@ -19,45 +16,42 @@ fn lacks_feed(alloc: Global, bytes: &[u8]) -> Result<bool> {
     }
 }
 
-// Leaves the whole lines of an archive's bytes, each with its line feed. It fails where more stands behind them than a
-// torn line.
-fn leave_lines(alloc: Global, bytes: &mut Vec<u8>) -> Result<()> {
-    if lacks_feed(alloc, bytes.as_slice())? {
+/// Ends the last line of an archive's bytes where it lacks only its line feed, and answers whether it did.
+pub fn end_last_line(alloc: Global, bytes: &mut Vec<u8>) -> Result<bool> {
+    let lacks = lacks_feed(alloc, bytes.as_slice())?;
+    if lacks {
         bytes.push(b'\n')?;
-    } else {
-        let (_, behind) = cut_lines(bytes.as_slice());
-        look_behind(behind)?;
-        bytes.truncate(whole_length(bytes.as_slice()));
     }
-    Ok(())
+    Ok(lacks)
 }
 
-// Fails where a line is no game's, and where a game has two.
-fn look_at_games(alloc: Global, text: &str) -> Result<()> {
-    let lines = parts(alloc, text, '\n')?;
-    games_of(alloc, lines.as_slice())?;
-    Ok(())
+/// The lines of an archive's bytes, without what stands behind them. It fails where one is no game's, where a game has
+/// two, or where what stands behind them may not be cut off.
+pub fn lines_in(alloc: Global, file: &str, bytes: &[u8]) -> Result<String> {
+    games_of_file(alloc, bytes).context(format_args!("{file} is no archive"))?;
+    let mut lines = Vec::from_slice(alloc, bytes)?;
+    lines.truncate(whole_length(bytes));
+    String::from_utf8(lines).context(format_args!("{file}"))
 }
 
-/// The lines of an archive's file; the last one may lack its line feed. It fails where one is no game's, where a game
-/// has two, or where more stands behind them than a torn line.
-pub fn lines_of<R: Files + AllocGlobal>(rt: &R, file: &str) -> Result<String> {
+// The bytes of an archive's file, whose last line may lack its line feed.
+fn bytes_of<R: Files + AllocGlobal>(rt: &R, file: &str) -> Result<Vec<u8>> {
     let mut bytes = fs::read(rt, file).context(format_args!("reading {file}"))?;
-    leave_lines(rt.alloc(), &mut bytes).context(format_args!("{file} is no archive"))?;
-    let text = String::from_utf8(bytes).context(format_args!("{file}"))?;
-    look_at_games(rt.alloc(), text.as_str()).context(format_args!("{file} is no archive"))?;
-    Ok(text)
+    end_last_line(rt.alloc(), &mut bytes)?;
+    Ok(bytes)
 }
 
-/// Ends the last line of an archive's file where it lacks only its line feed: opening the archive would cut it off.
-pub fn end_last_line<R: Files + AllocGlobal>(
-    rt: &R,
-    path: &str,
-    file: &mut DiskFile,
-) -> Result<()> {
-    let bytes = fs::read(rt, path)?;
-    if lacks_feed(rt.alloc(), bytes.as_slice())? {
-        file.append(b"\n")?;
-    }
-    Ok(())
+/// The lines of an archive's file; the last one may lack its line feed. What stands behind them is left out: another
+/// may be about to put it. It fails as `lines_in` does, and where the file is not read.
+pub fn lines_of<R: Files + AllocGlobal>(rt: &R, file: &str) -> Result<String> {
+    let bytes = bytes_of(rt, file)?;
+    lines_in(rt.alloc(), file, bytes.as_slice())
+}
+
+/// The same, where standard error is told what is left out.
+pub fn lines_told<R: Files + AllocGlobal + Eprint>(rt: &R, file: &str) -> Result<String> {
+    let bytes = bytes_of(rt, file)?;
+    let lines = lines_in(rt.alloc(), file, bytes.as_slice())?;
+    tell_left_out(rt, file, bytes.as_slice());
+    Ok(lines)
 }

@@ -1,9 +1,9 @@
 //! An archive's file that was opened, with the lines that it had.
 use crate::archive::Archive;
-use crate::lines::{end_last_line, lines_of};
+use crate::lines::{end_last_line, lines_in};
 use anyhow::{Context, Result};
-use night_files::DiskFile;
-use std::fs::{self, File};
+use night_files::{AppendedFile, DiskFile, TornFile};
+use std::fs::File;
 use std::rt::Files;
 
 /// An archive, and its lines when it was opened.
@@ -13,27 +13,30 @@ pub struct Opened {
     pub lines: String,
 }
 
-// The archive of a file.
-fn archive_of<R>(rt: &R, path: &str) -> Result<Archive<DiskFile>>
-where
-    R: Files<File = File> + AllocGlobal,
-{
-    let mut file = DiskFile::open(rt, path)?;
-    end_last_line(rt, path, &mut file)?;
-    Ok(Archive::open(rt.alloc(), file)?)
+// The lines of a file, of which the last one is ended where it lacks only its line feed.
+fn lines_ended<R: AllocGlobal>(rt: &R, path: &str, file: &mut DiskFile) -> Result<String> {
+    let mut bytes = Vec::new(rt.alloc());
+    file.read_all(&mut bytes)?;
+    let was_ended = end_last_line(rt.alloc(), &mut bytes)?;
+    let lines = lines_in(rt.alloc(), path, bytes.as_slice())?;
+    if was_ended {
+        file.append(b"\n")?;
+    }
+    Ok(lines)
 }
 
-/// The archive of a file, which is made where there is none, and its lines; the last one is ended where it lacks only
-/// its line feed. It fails where the file is no archive, as `lines_of` does, and then the file is as it was; and where
-/// the system refuses a call.
-pub fn open_archive<R>(rt: &R, path: &str) -> Result<Opened>
+/// The archive of a file, which nobody else has, and its lines; the last one is ended where it lacks only its line
+/// feed, and what else stands behind them goes to `FILE.torn`, and is told. It fails where the file is no archive, as
+/// `lines_of` does, and then the file is as it was; and where the system refuses a call.
+pub fn open_archive<R>(rt: &R, path: &str, file: DiskFile) -> Result<Opened>
 where
-    R: Files<File = File> + AllocGlobal,
+    R: Files<File = File> + AllocGlobal + Eprint,
 {
-    if fs::exists(rt, path)? {
-        lines_of(rt, path)?;
-    }
-    let archive = archive_of(rt, path).context(format_args!("opening {path}"))?;
-    let lines = lines_of(rt, path)?;
+    let mut file = file;
+    let lines = lines_ended(rt, path, &mut file).context(format_args!("opening {path}"))?;
+    let mut torn = TornFile::beside(rt, path);
+    let archive = Archive::open(rt.alloc(), file, &mut torn).context(format_args!(
+        "opening {path}"
+    ))?;
     Ok(Opened { archive, lines })
 }

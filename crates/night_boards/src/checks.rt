@@ -45,7 +45,8 @@ fn check_time(row: usize, seconds: u32) -> Result<()> {
         return Ok(());
     }
     anyhow::bail!(
-        "row {row}: the initial time is {seconds} seconds: 15 minutes are 900. Where seconds are meant, it is given again with --short"
+        "row {row}: the initial time is {seconds} seconds: 15 minutes are 900. Where seconds are meant, it is given \
+        again with --short"
     )
 }
 

@@ -1,6 +1,6 @@
 //! The files that are only read.
-use anyhow::{Context, Result};
-use night_files::whole_length;
+use anyhow::{Context, Result, bail};
+use night_files::{cut_lines, tell_left_out, torn_fault};
 use night_rounds::{Note, Pairing, note_of, read};
 use std::alloc::Global;
 use std::fs;
@@ -14,80 +14,76 @@ pub fn pairings_of<R: Files + AllocGlobal>(rt: &R, file: &str) -> Result<Vec<Pai
 }
 
 // How a note begins.
-const FRONT: &[u8] = b"{\"board\":";
+const BEGINNING: &[u8] = b"{\"board\":";
 
 // More than the line of the longest note has.
 const MOST_BEHIND: usize = 8192;
 
-// Whether what stands behind the lines may be left of the one that was being put: its bytes, or zeros, and a line feed
-// at its end.
-fn is_torn_line(behind: &[u8]) -> bool {
-    let begins_so = behind
-        .iter()
-        .zip(FRONT.iter())
-        .all(|(byte, wanted)| *byte == *wanted || *byte == 0);
-    let (before, _last) = behind.split_at(behind.len().saturating_sub(1));
-    behind.len() <= MOST_BEHIND && begins_so && !before.contains(&b'\n')
-}
-
-// Whether a note begins behind the first byte: where that is cut off, a note may be lost.
-fn hides_note(behind: &[u8]) -> bool {
-    for at in 1..behind.len() {
-        if behind[at..].starts_with(FRONT) {
-            return true;
-        }
+// Fails where what stands behind so many lines may not be cut off.
+fn check_behind(lines: usize, behind: &[u8]) -> Result<()> {
+    match torn_fault(BEGINNING, MOST_BEHIND, behind) {
+        Some(fault) => bail!("behind line {lines}: {fault}"),
+        None => Ok(()),
     }
-    false
 }
 
-// Whether what stands behind the lines may be cut off. It fails where that is more than a torn line.
-fn check_behind(file: &str, behind: &[u8]) -> Result<()> {
-    if hides_note(behind) {
-        anyhow::bail!("{file} has a note behind what is no whole line: see what the disk has lost");
-    }
-    if !is_torn_line(behind) {
-        anyhow::bail!("{file} is no round's file: what stands behind its lines is no note");
-    }
-    Ok(())
-}
-
-// The lines of a round's file.
-fn lines_of<R: Files + AllocGlobal>(rt: &R, file: &str) -> Result<String> {
-    let mut bytes = fs::read(rt, file).context(format_args!("reading {file}"))?;
-    let kept = whole_length(bytes.as_slice());
-    check_behind(file, bytes.get(kept..).unwrap_or(&[]))?;
-    bytes.truncate(kept);
-    String::from_utf8(bytes).context(file)
-}
-
-// The note of a line.
-fn note_in(alloc: Global, file: &str, line: &str) -> Result<Note> {
+// The note of the line of this number, from 1 on.
+fn note_in(alloc: Global, number: usize, line: &str) -> Result<Note> {
     match note_of(alloc, line)? {
         Some(note) => Ok(note),
-        None => anyhow::bail!("{file} is no round's file: it has a line that is no note: {line:?}"),
+        None => bail!("line {number} is no note: {line:?}"),
     }
 }
 
-fn put_notes(notes: &mut Vec<Note>, alloc: Global, file: &str, lines: &[&str]) -> Result<()> {
-    for line in lines {
-        notes.push(note_in(alloc, file, line)?)?;
-    }
-    Ok(())
-}
-
-// The notes of lines.
-fn notes_in(alloc: Global, file: &str, text: &str) -> Result<Vec<Note>> {
-    let lines = parts(alloc, text, '\n')?;
+fn notes_of_lines(alloc: Global, lines: &[&str]) -> Result<Vec<Note>> {
     let mut notes = Vec::new(alloc);
-    put_notes(&mut notes, alloc, file, lines.as_slice())?;
+    for line in lines {
+        let number = notes.len().saturating_add(1);
+        notes.push(note_in(alloc, number, line)?)?;
+    }
     Ok(notes)
 }
 
-/// The notes of a round's file, in their order. It fails where a line is no note's, and where more stands behind the
-/// lines than a torn one.
-pub fn notes_of<R: Files + AllocGlobal>(rt: &R, file: &str) -> Result<Vec<Note>> {
-    let text = lines_of(rt, file)?;
-    notes_in(rt.alloc(), file, text.as_str())
+// Whether the last line is a note's which lacks only its line feed.
+fn lacks_feed(alloc: Global, bytes: &[u8]) -> Result<bool> {
+    let (_, behind) = cut_lines(bytes);
+    match str::from_utf8(behind) {
+        Ok(line) => Ok(note_of(alloc, line)?.is_some()),
+        Err(_) => Ok(false),
+    }
+}
+
+/// Ends the last line of a round's bytes where it lacks only its line feed, and answers whether it did.
+pub fn end_last_line(alloc: Global, bytes: &mut Vec<u8>) -> Result<bool> {
+    let lacks = lacks_feed(alloc, bytes.as_slice())?;
+    if lacks {
+        bytes.push(b'\n')?;
+    }
+    Ok(lacks)
+}
+
+/// The notes of the lines in a round's file, in their order. It fails where a line is no note's, and where what stands
+/// behind the lines may not be cut off.
+pub fn notes_in(alloc: Global, file: &str, bytes: &[u8]) -> Result<Vec<Note>> {
+    notes_of_bytes(alloc, bytes).context(format_args!("{file} is no round's file"))
+}
+
+fn notes_of_bytes(alloc: Global, bytes: &[u8]) -> Result<Vec<Note>> {
+    let (whole, behind) = cut_lines(bytes);
+    let text = str::from_utf8(whole).ok().context("it is not in UTF-8")?;
+    let lines = parts(alloc, text, '\n')?;
+    check_behind(lines.len(), behind)?;
+    notes_of_lines(alloc, lines.as_slice())
+}
+
+// The notes of a round's file, whose last line may lack its line feed. What stands behind its lines is left out, and
+// told on standard error.
+fn notes_of<R: Files + AllocGlobal + Eprint>(rt: &R, file: &str) -> Result<Vec<Note>> {
+    let mut bytes = fs::read(rt, file).context(format_args!("reading {file}"))?;
+    end_last_line(rt.alloc(), &mut bytes)?;
+    let notes = notes_in(rt.alloc(), file, bytes.as_slice())?;
+    tell_left_out(rt, file, bytes.as_slice());
+    Ok(notes)
 }
 
 /// A round: who is paired, and what was noted.
@@ -98,7 +94,11 @@ pub struct Paired {
 }
 
 /// What the files of a round have, its pairings and its notes. It fails where the notes are of other pairings.
-pub fn paired_of<R: Files + AllocGlobal>(rt: &R, pairings: &str, games: &str) -> Result<Paired> {
+pub fn paired_of<R: Files + AllocGlobal + Eprint>(
+    rt: &R,
+    pairings: &str,
+    games: &str,
+) -> Result<Paired> {
     let paired = Paired {
         pairings: pairings_of(rt, pairings)?,
         notes: notes_of(rt, games)?,
@@ -114,7 +114,7 @@ fn check_note(file: &str, note: &Note, pairings: &[Pairing]) -> Result<()> {
     }
     let board = note.board;
     let (white, black) = (note.white.as_str(), note.black.as_str());
-    anyhow::bail!("{file} is of other pairings: it has {white} against {black} at board {board}")
+    bail!("{file} is of other pairings: it has {white} against {black} at board {board}")
 }
 
 /// Whether each note is of a board of these pairings, with its players. It fails at the first that is not.

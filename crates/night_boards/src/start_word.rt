@@ -314,7 +314,7 @@ fn take_said(
 }
 
 // The round's file with what the arbiter said.
-fn file_of<R: Files<File = File> + AllocGlobal>(
+fn file_of<R: Files<File = File> + AllocGlobal + Eprint>(
     rt: &R,
     starting: &Starting<'_>,
     pairings: &[Pairing],

@@ -1,5 +1,5 @@
 //! Files that are made beside another: a link of their name is not followed.
-use std::fs::{self, File, OpenFile, OpenOptions};
+use std::fs::{self, File, Metadata, OpenFile, OpenOptions};
 use std::io::{self, ErrorKind};
 use std::os::unix::fs::{MetadataExt, OpenOptionsExt};
 use std::rt::Files;
@@ -35,6 +35,20 @@ fn is_there<R: Files>(files: &R, path: &str) -> io::Result<bool> {
     }
 }
 
+// Whether these are of one file.
+fn are_one(first: &Metadata, second: &Metadata) -> bool {
+    first.ino() == second.ino() && first.dev() == second.dev()
+}
+
+/// Whether a file that was opened is the one that has this name now.
+pub(crate) fn is_at<R: Files<File = File>>(files: &R, path: &str, file: &File) -> io::Result<bool> {
+    match fs::metadata(files, path) {
+        Ok(found) => Ok(are_one(&file.metadata()?, &found)),
+        Err(error) if error.kind() == ErrorKind::NotFound => Ok(false),
+        Err(error) => Err(error),
+    }
+}
+
 /// Opens a file to read and write it, or makes one of this mode. It fails with `InvalidInput` where a link has the
 /// name.
 pub(crate) fn open_beside<R: Files<File = File>>(
@@ -47,8 +61,7 @@ pub(crate) fn open_beside<R: Files<File = File>>(
     options.read(true).write(true).create_new(is_new).mode(mode);
     let file = options.open(files, path)?;
     // (a link may have been put there since it was looked at)
-    let (opened, found) = (file.metadata()?, fs::symlink_metadata(files, path)?);
-    if opened.ino() != found.ino() || opened.dev() != found.dev() {
+    if !are_one(&file.metadata()?, &fs::symlink_metadata(files, path)?) {
         return Err(link_error());
     }
     Ok(file)

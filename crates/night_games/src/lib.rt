@@ -3,11 +3,10 @@
 //!
 //! Modules: `kept` has the games of an archive's lines, `compared` tells whether a game is the one that was kept,
 //! `halves` finds where kept games of the same two ended, `continued` which games say that they go on in others,
-//! `spreadsheet` makes rows of `cells`; `writing` writes them; `evidence` tells of the log, by `gaps` of what is
-//! missing there.
+//! `spreadsheet` makes rows of them; `writing` writes them; `evidence` tells of the log, by `gaps` of what is missing
+//! there.
 #![tactic(auto)]
 
-mod cells;
 mod compared;
 mod continued;
 mod evidence;
@@ -17,7 +16,6 @@ mod kept;
 mod spreadsheet;
 mod writing;
 
-pub use cells::cell_text;
 pub use compared::has_game;
 pub use evidence::{Evidence, print_evidence};
 pub use halves::push_ended;

@@ -1,7 +1,7 @@
 //! The word that writes the games of an archive.
 use crate::asked::{Exporting, Form};
 use anyhow::Result;
-use night_archive::lines_of;
+use night_archive::lines_told;
 use night_games::{Kept, games_kept, write_games, write_rows};
 use std::io;
 use std::rt::Files;
@@ -16,9 +16,12 @@ fn write<R: AllocGlobal + Print>(rt: &R, form: Form, games: &[Kept]) -> Result<(
 }
 
 /// Writes the games of an archive: the PGN of each, or a row for each. It fails where the file is no
-/// archive, as `lines_of` does, where memory is refused, or the output takes no more.
-pub fn export<R: Files + AllocGlobal + Print>(rt: &R, exporting: &Exporting<'_>) -> Result<()> {
-    let text = lines_of(rt, exporting.archive)?;
+/// archive, as `lines_told` does, where memory is refused, or the output takes no more.
+pub fn export<R>(rt: &R, exporting: &Exporting<'_>) -> Result<()>
+where
+    R: Files + AllocGlobal + Print + Eprint,
+{
+    let text = lines_told(rt, exporting.archive)?;
     let games = games_kept(rt.alloc(), text.as_str())?;
     write(rt, exporting.form, games.as_slice())
 }

@@ -9,9 +9,9 @@ use crate::keeper::{Counts, Done, Keeper, NOTHING, Onlookers};
 use crate::rows::{games_over, rows_of};
 use crate::sources::{Sources, link_to};
 use crate::telling::{Work, go_on};
-use anyhow::Result;
-use night_archive::{Archive, Hold, Opened, look, open_archive};
-use night_files::DiskFile;
+use anyhow::{Context, Result};
+use night_archive::{Archive, Opened, look, open_archive};
+use night_files::{DiskFile, HeldFile};
 use night_links::{Link, Watchers};
 use night_log::in_order;
 use server_answers::Row;
@@ -44,18 +44,22 @@ where
 struct Looking<'a, R> {
     rt: &'a R,
     keeping: &'a Keeping<'a>,
+    // The archive's file, also between looks: which of two that look first would set the Round of a game.
+    held: HeldFile<'a>,
     sources: Sources<'a, R>,
     watchers: Option<Watchers>,
     // Whether the archive was opened: then it is left alone while no game is over.
     has_looked: bool,
 }
 
-impl<'a, R: Files + AllocGlobal + Eprint> Looking<'a, R> {
-    // Nothing was looked at yet.
+impl<'a, R: Files<File = File> + AllocGlobal + Eprint> Looking<'a, R> {
+    // Nothing was looked at yet. It fails where another has the archive.
     fn new(rt: &'a R, keeping: &'a Keeping<'a>) -> Result<Self> {
+        let path = keeping.archive;
         Ok(Looking {
             rt,
             keeping,
+            held: HeldFile::open(rt, path).context(format_args!("opening {path}"))?,
             sources: Sources::open(rt, &keeping.source)?,
             watchers: keeping.lobby.map(|lobby| Watchers::new(rt.alloc(), lobby)),
             has_looked: false,
@@ -131,7 +135,12 @@ where
         }
         // (behind the list, so that they are all there who played its games)
         self.sources.players.renew()?;
-        let opened = open_archive(self.rt, self.keeping.archive)?;
+        let path = self.keeping.archive;
+        let file = self
+            .held
+            .file(self.rt)
+            .context(format_args!("opening {path}"))?;
+        let opened = open_archive(self.rt, path, file)?;
         self.has_looked = true;
         Ok(Some(opened))
     }
@@ -200,7 +209,6 @@ pub fn keep<R>(rt: &R, keeping: &Keeping<'_>) -> Result<()>
 where
     R: Files<File = File> + Net<Stream = TcpStream> + AllocGlobal + Print + Eprint + Clock,
 {
-    let _hold = Hold::of(rt, keeping.archive)?;
     let mut looking = Looking::new(rt, keeping)?;
     let done = go_on(rt, &mut looking, keeping.source.every, "all is well again");
     drop(looking);

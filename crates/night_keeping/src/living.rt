@@ -8,12 +8,11 @@ use crate::sources::{Sources, link_to};
 use crate::telling::{Work, go_on};
 use anyhow::{Context, Result};
 use night_archive::{game_of, lines_of, pgn_of as pgn_in};
-use night_files::{EVERYBODYS_MODE, new_file};
+use night_files::HeldFile;
 use night_links::Link;
 use server_answers::Row;
 use std::alloc::{AllocError, Global};
-use std::fs;
-use std::io::{self, Write};
+use std::fs::{self, File};
 use std::net::{Net, TcpStream};
 use std::rt::{Clock, Files};
 use text_parts::parts;
@@ -30,6 +29,7 @@ struct Board {
 struct Writer<'a, R> {
     rt: &'a R,
     living: &'a Living<'a>,
+    file: HeldFile<'a>,
     sources: Sources<'a, R>,
     link: Option<Link>,
     // The games of the table as they were seen last.
@@ -112,20 +112,6 @@ fn boards_of(alloc: Global, text: &str, date: Option<&str>) -> Result<Vec<Board>
     Ok(boards)
 }
 
-// Makes a file of a text.
-fn write_new<R: Files>(rt: &R, path: &str, text: &[u8]) -> io::Result<()> {
-    let mut file = new_file(rt, path, EVERYBODYS_MODE)?;
-    file.write_all(text)
-}
-
-// Puts a text in a file's place, at once.
-fn put<R: Files + AllocGlobal>(rt: &R, path: &str, text: &[u8]) -> Result<()> {
-    let new = format!(in rt.alloc(); "{path}.new")?;
-    write_new(rt, new.as_str(), text).context(format_args!("writing {new}"))?;
-    fs::rename(rt, new.as_str(), path).context(format_args!("writing {path}"))?;
-    Ok(())
-}
-
 impl<R> Writer<'_, R> {
     // What the file is to have: the PGNs, one behind the other.
     fn text(&self, alloc: Global) -> Result<Vec<u8>> {
@@ -166,20 +152,22 @@ impl<R> Writer<'_, R> {
     }
 }
 
-impl<'a, R: Files + AllocGlobal + Eprint> Writer<'a, R> {
-    // No game was seen yet.
+impl<'a, R: Files<File = File> + AllocGlobal + Eprint> Writer<'a, R> {
+    // No game was seen yet. It fails where another writes the file.
     fn new(rt: &'a R, living: &'a Living<'a>) -> Result<Self> {
-        let alloc = rt.alloc();
+        let (alloc, path) = (rt.alloc(), living.file);
+        let file = HeldFile::open(rt, path).context(format_args!("opening {path}"))?;
         let sources = Sources::open(rt, &living.source)?;
         Ok(Writer {
             rt,
             living,
+            file,
             sources,
             link: None,
             seen: Vec::new(alloc),
             archived: Vec::new(alloc),
             archive_length: 0,
-            written: fs::read(rt, living.file).ok(),
+            written: fs::read(rt, path).ok(),
         })
     }
 
@@ -211,7 +199,7 @@ impl<'a, R: Files + AllocGlobal + Eprint> Writer<'a, R> {
 
 impl<R> Writer<'_, R>
 where
-    R: Files + Net<Stream = TcpStream> + AllocGlobal + Eprint,
+    R: Files<File = File> + Net<Stream = TcpStream> + AllocGlobal + Eprint,
 {
     // The table's games, asked by the connection that there was, or by a new one.
     fn push_told(&mut self, boards: &mut Vec<Board>) -> Result<()> {
@@ -238,14 +226,17 @@ where
 
 impl<R> Work for Writer<'_, R>
 where
-    R: Files + Net<Stream = TcpStream> + AllocGlobal + Eprint,
+    R: Files<File = File> + Net<Stream = TcpStream> + AllocGlobal + Eprint,
 {
     // (the file is written where it has changed)
     fn work(&mut self, _is_once: bool) -> Result<()> {
         self.look()?;
         let text = self.text(self.rt.alloc())?;
         if self.written.as_ref() != Some(&text) {
-            put(self.rt, self.living.file, text.as_slice())?;
+            let path = self.living.file;
+            self.file
+                .replace(self.rt, text.as_slice())
+                .context(format_args!("writing {path}"))?;
             self.written = Some(text);
         }
         Ok(())
@@ -253,11 +244,11 @@ where
 }
 
 /// Writes all games that are played on the server's table, those that are over, and those of the archive to a file:
-/// once, or again and again until it is killed. It fails where the players' file is none, and, where it is done once,
-/// at whatever goes wrong.
+/// once, or again and again until it is killed. It fails where another writes the file, where the players' file is
+/// none, and, where it is done once, at whatever goes wrong.
 pub fn live<R>(rt: &R, living: &Living<'_>) -> Result<()>
 where
-    R: Files + Net<Stream = TcpStream> + AllocGlobal + Eprint + Clock,
+    R: Files<File = File> + Net<Stream = TcpStream> + AllocGlobal + Eprint + Clock,
 {
     let mut writer = Writer::new(rt, living)?;
     let done = go_on(

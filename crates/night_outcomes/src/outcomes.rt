@@ -4,7 +4,7 @@ use anyhow::{Context, Result, bail};
 use command_lines::tell;
 use lobby_players::full_name;
 use lobby_words::Player;
-use night_archive::{game_of, lines_of, pgn_of};
+use night_archive::{game_of, lines_told, pgn_of};
 use night_links::{Link, refused};
 use night_rounds::{Note, Pairing, game_in, last_of};
 use player_name::Name;
@@ -203,11 +203,14 @@ fn games_in(alloc: Global, text: &str) -> Result<Vec<ArchivedGame>, AllocError> 
 }
 
 // The games of an archive, where one is named.
-fn archive_of<R: Files + AllocGlobal>(rt: &R, file: Option<&str>) -> Result<Vec<ArchivedGame>> {
+fn archive_of<R: Files + AllocGlobal + Eprint>(
+    rt: &R,
+    file: Option<&str>,
+) -> Result<Vec<ArchivedGame>> {
     let Some(file) = file else {
         return Ok(Vec::new(rt.alloc()));
     };
-    let text = lines_of(rt, file)?;
+    let text = lines_told(rt, file)?;
     Ok(games_in(rt.alloc(), text.as_str())?)
 }
 
@@ -332,7 +335,7 @@ impl<'a> Outcomes<'a> {
     /// names, or by those of the protocol.
     pub fn open<R>(rt: &R, source: Source<'_>, players: &'a [Player]) -> Result<Outcomes<'a>>
     where
-        R: Files + Net<Stream = TcpStream> + AllocGlobal,
+        R: Files + Net<Stream = TcpStream> + AllocGlobal + Eprint,
     {
         Ok(Outcomes {
             alloc: rt.alloc(),
@@ -560,7 +563,8 @@ impl<'a> Outcomes<'a> {
     pub fn check_names(&self) -> Result<()> {
         if self.has_others {
             bail!(
-                "a game of other names counts for no board: where a full name was changed since, change it in the archive too"
+                "a game of other names counts for no board: where a full name was changed since, change it in the \
+                archive too"
             );
         }
         Ok(())

@@ -91,7 +91,7 @@ fn put_meetings(
 }
 
 // The meetings of a round.
-fn meetings_of<R: Files + AllocGlobal>(
+fn meetings_of<R: Files + AllocGlobal + Eprint>(
     rt: &R,
     round: Round<'_>,
     players: &[&Player],
@@ -104,7 +104,7 @@ fn meetings_of<R: Files + AllocGlobal>(
 }
 
 // The same, where a fault names the file of the pairings.
-fn meetings_with_context<R: Files + AllocGlobal>(
+fn meetings_with_context<R: Files + AllocGlobal + Eprint>(
     rt: &R,
     round: Round<'_>,
     players: &[&Player],
@@ -128,7 +128,7 @@ fn names_of<'a>(alloc: Global, players: &[&'a Player]) -> Result<Vec<&'a str>, A
 }
 
 // The meetings of each round.
-fn rounds_of<R: Files + AllocGlobal>(
+fn rounds_of<R: Files + AllocGlobal + Eprint>(
     rt: &R,
     rounds: &[Round<'_>],
     players: &[&Player],

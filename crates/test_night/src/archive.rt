@@ -1,7 +1,7 @@
 //! The archive's file: nights in memory, with every kill.
 use crate::cuts::CUTS;
 use night_archive::{Archive, Fault, game_of, pgn_of};
-use night_files::{AppendedFile, Fate, MemoryFile};
+use night_files::{AppendedFile, Fate, MemoryFile, MemoryTorn};
 use std::alloc::Global;
 use std::process::Abort;
 
@@ -13,6 +13,11 @@ const GAMES: [(u32, &str); 3] = [
 ];
 
 const NUMBERS: [u32; 3] = [7, 1, 4_294_967_295];
+
+// Opens an archive, of which what is cut off has a place.
+fn open(alloc: Global, file: MemoryFile) -> Result<Archive<MemoryFile>, Fault> {
+    Archive::open(alloc, file, &mut MemoryTorn::new(alloc, false))
+}
 
 // Keeps all games until a call fails. It tells how many calls were answered.
 fn keep_all(alloc: Global, archive: &mut Archive<MemoryFile>) -> usize {
@@ -35,10 +40,10 @@ fn check_games(rt: &impl Abort, alloc: Global, archive: &mut Archive<MemoryFile>
 // An archive that is killed after so many calls, and of which a crash leaves this, has what was answered in its next
 // life, and keeps all once, if it could be opened.
 fn check_killed(rt: &impl Abort, alloc: Global, calls: u32, fates: &[Fate]) {
-    if let Ok(mut archive) = Archive::open(alloc, MemoryFile::new(alloc, Some(calls))) {
+    if let Ok(mut archive) = open(alloc, MemoryFile::new(alloc, Some(calls))) {
         let answered = keep_all(alloc, &mut archive);
         let file = archive.into_file().crash(fates, None).expect(rt, "memory");
-        let mut again = Archive::open(alloc, file).expect(rt, "an archive");
+        let mut again = open(alloc, file).expect(rt, "an archive");
         check_games(rt, alloc, &mut again, answered);
     }
 }
@@ -86,7 +91,7 @@ fn check_kept(rt: &impl Abort, alloc: Global, archive: &mut Archive<MemoryFile>)
 #[test]
 fn keeps_a_text_once_and_tells_what_it_has(rt: HostRuntime) {
     let file = MemoryFile::new(rt.alloc(), None);
-    let mut archive = Archive::open(rt.alloc(), file).expect(&rt, "an archive");
+    let mut archive = open(rt.alloc(), file).expect(&rt, "an archive");
     check_kept(&rt, rt.alloc(), &mut archive);
 }
 
@@ -117,7 +122,7 @@ fn check_refused(rt: &impl Abort, alloc: Global, line: &str) {
     for text in ["{\"game\":1,\"pgn\":\"\"}\n", line, "\n"] {
         file.append(text.as_bytes()).expect(rt, "memory");
     }
-    assert!(rt; matches!(Archive::open(alloc, file), Err(Fault::NotAGame(2))));
+    assert!(rt; matches!(open(alloc, file), Err(Fault::NotAGame(2))));
 }
 
 #[test]
@@ -148,4 +153,29 @@ fn reads_lines(rt: HostRuntime) {
     for (line, game, pgn) in &LINES {
         check_line(&rt, rt.alloc(), line, *game, pgn);
     }
+}
+
+// A file of a game's line, and the beginning of another.
+fn torn_file(rt: &impl Abort, alloc: Global) -> MemoryFile {
+    let mut file = MemoryFile::new(alloc, None);
+    for text in ["{\"game\":1,\"pgn\":\"\"}\n", "{\"game\":2"] {
+        file.append(text.as_bytes()).expect(rt, "memory");
+    }
+    file
+}
+
+#[test]
+fn what_is_cut_off_has_a_place(rt: HostRuntime) {
+    let mut torn = MemoryTorn::new(rt.alloc(), false);
+    let file = torn_file(&rt, rt.alloc());
+    assert!(rt; Archive::open(rt.alloc(), file, &mut torn).is_ok());
+    assert!(rt; torn.bytes() == b"{\"game\":2".as_slice());
+    let mut full = MemoryTorn::new(rt.alloc(), true);
+    let file = torn_file(&rt, rt.alloc());
+    assert!(rt;
+        matches!(
+            Archive::open(rt.alloc(), file, &mut full),
+            Err(Fault::File(_))
+        )
+    );
 }

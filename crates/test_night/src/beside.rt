@@ -1,6 +1,6 @@
-//! What no clause says: of a link that has the name of a file which is made beside another, the file that it names
-//! stays as it is.
-use night_files::{DiskFile, OWNERS_MODE, new_file};
+//! What no clause says of files of the system: of a link that has the name of a file which is made beside another, the
+//! file that it names stays as it is; what is cut off stands behind what stood there; and one has a file at a time.
+use night_files::{HeldFile, OWNERS_MODE, TornFile, TornPlace, new_file};
 use std::fs::{self, File};
 use std::io::{ErrorKind, Write};
 use std::os::unix::fs::{PermissionsExt, symlink};
@@ -13,7 +13,9 @@ const THEIRS: &str = "beside_test/theirs";
 
 const NEW: &str = "beside_test/file.new";
 
-const LOCK: &str = "beside_test/file.lock";
+const FILE: &str = "beside_test/file";
+
+const TORN: &str = "beside_test/file.torn";
 
 // Makes a file of this name, and tells whether it is one of its owner's alone, and the other file as it was.
 fn is_made<R: Files<File = File> + AllocGlobal + Abort>(rt: &R) -> bool {
@@ -27,19 +29,38 @@ fn is_made<R: Files<File = File> + AllocGlobal + Abort>(rt: &R) -> bool {
         && theirs.as_str() == "theirs"
 }
 
+// Cuts off a text, and tells whether that is refused for a link.
+fn cut_off<R: Files<File = File> + AllocGlobal + Eprint>(rt: &R, text: &[u8]) -> Option<ErrorKind> {
+    let kept = TornFile::beside(rt, FILE).keep(b"line\n", text);
+    kept.err().map(|error| error.kind())
+}
+
+// One has a file at a time, also where it put another in its place.
+fn check_held<R: Files<File = File> + AllocGlobal + Abort>(rt: &R) {
+    let mut held = HeldFile::open(rt, FILE).expect(rt, "a file");
+    assert!(rt; HeldFile::open(rt, FILE).is_err());
+    assert!(rt; held.replace(rt, b"first").is_ok() && HeldFile::open(rt, FILE).is_err());
+    assert!(rt; fs::remove_file(rt, FILE).is_ok() && held.replace(rt, b"second").is_ok());
+    assert!(rt; HeldFile::open(rt, FILE).is_err());
+    let text = fs::read_to_string(rt, FILE).expect(rt, "a file");
+    assert!(rt; text.as_str() == "second");
+    drop(held);
+    assert!(rt; HeldFile::open(rt, FILE).is_ok());
+}
+
 #[test]
-fn a_link_is_not_followed(rt: HostRuntime) {
+fn files_are_made_and_had(rt: HostRuntime) {
     let _ = fs::remove_dir_all(&rt, FOLDER);
     assert!(rt; fs::create_dir(&rt, FOLDER).is_ok());
     assert!(rt; fs::write(&rt, THEIRS, "theirs").is_ok());
     assert!(rt; is_made(&rt) && is_made(&rt));
     assert!(rt; fs::remove_file(&rt, NEW).is_ok());
     assert!(rt; symlink(&rt, "theirs", NEW).is_ok() && is_made(&rt));
-    assert!(rt;
-        DiskFile::open_beside(&rt, LOCK).is_ok() && DiskFile::open_beside(&rt, LOCK).is_ok()
-    );
-    assert!(rt; fs::remove_file(&rt, LOCK).is_ok() && symlink(&rt, "theirs", LOCK).is_ok());
-    let refused = DiskFile::open_beside(&rt, LOCK).err();
-    assert!(rt; refused.map(|error| error.kind()) == Some(ErrorKind::InvalidInput));
+    assert!(rt; cut_off(&rt, b"one").is_none() && cut_off(&rt, b"two").is_none());
+    let torn = fs::read_to_string(&rt, TORN).expect(&rt, "what was cut off");
+    assert!(rt; torn.as_str() == "onetwo");
+    assert!(rt; fs::remove_file(&rt, TORN).is_ok() && symlink(&rt, "theirs", TORN).is_ok());
+    assert!(rt; cut_off(&rt, b"three") == Some(ErrorKind::InvalidInput));
+    check_held(&rt);
     assert!(rt; fs::remove_dir_all(&rt, FOLDER).is_ok());
 }
