@@ -4,7 +4,7 @@ use crate::continued::{Halves, halves_of, pgn_continued};
 use crate::kept::Kept;
 use anyhow::Result;
 use std::alloc::{AllocError, Global};
-use text_csv::{Cell, push_header, push_row};
+use night_report::{Cell, push_header, push_row};
 use text_pgn::{is_move, value_of};
 
 // The names of the columns.

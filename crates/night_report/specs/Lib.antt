@@ -1,3 +1,5 @@
 pub mod Cells
 pub mod Report
 pub mod Faults
+pub mod CsvCells
+pub mod CsvRows

@@ -1,7 +1,7 @@
 -- The results of a round as CSV (RFC 4180).
 use Rattle.std.specs.Prelude.{ℕ, List, [], ◌∷◌, ◌++◌, codes, decimal, flat_map, Option, None, Some}
-use Rattle.text_csv.specs.Cells.{cell_text}
-use Rattle.text_csv.specs.Rows as rows
+use Rattle.night_report.specs.CsvCells.{cell_text}
+use Rattle.night_report.specs.CsvRows as rows
 use Rattle.night_rounds.specs.declared.outcomes.Outcome.{Outcome}
 
 abbrev pub columns : List (List ℕ)

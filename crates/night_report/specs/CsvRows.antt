@@ -5,7 +5,7 @@ use Rattle.csv.specs.Writing as kit
 use Rattle.csv.specs.Writing.{default_writer, with_terminator}
 use Rattle.csv.specs.declared.parser.Terminator.TheVariants as term
 use Rattle.csv.specs.declared.writer.WriterBuilder.{WriterBuilder}
-use Rattle.text_csv.specs.declared.cells.Cell.{Cell}
+use Rattle.night_report.specs.declared.csv_cells.Cell.{Cell}
 
 -- with commas between the fields, quotes around those that have a comma, a quote or a line's end, and CR LF at its end
 abbrev pub setup : WriterBuilder

@@ -1,5 +1,5 @@
 use Rattle.std.proofs.Common.{◌≡◌, ◌++◌, drop, map}
-use Rattle.text_csv.proofs.rows.bytes_of_names.Given as goal
+use Rattle.night_report.proofs.csv_rows.bytes_of_names.Given as goal
 
 abbrev pub invariant-loop-name : goal.invariant-loop-name
 invariant-loop-name l =

@@ -1,7 +1,7 @@
 //! The texts of a spreadsheet's cells.
 ghost use Rattle.std.specs.Prelude.{◌≡◌, decimal, [], IfOk};
-ghost use Rattle.text_csv.specs.Cells as spec;
-ghost use Rattle.text_csv.specs.Rows.{bytes_of};
+ghost use Rattle.night_report.specs.CsvCells as spec;
+ghost use Rattle.night_report.specs.CsvRows.{bytes_of};
 
 use std::alloc::{AllocError, Global};
 use text_parts::push_number;

@@ -1,8 +1,8 @@
 //! Rows of CSV.
 ghost use Rattle.std.specs.Prelude.{◌≡◌, ◌++◌, map, IfOk, OnOk};
-ghost use Rattle.text_csv.specs.Rows as spec;
+ghost use Rattle.night_report.specs.CsvRows as spec;
 
-use crate::cells::Cell;
+use crate::csv_cells::Cell;
 use csv::{Error, Terminator, WriterBuilder};
 use std::alloc::{AllocError, Global};
 

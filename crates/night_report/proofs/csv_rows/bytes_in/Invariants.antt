@@ -1,6 +1,6 @@
 use Rattle.std.proofs.Common.{◌≡◌, ◌++◌, drop, map}
-use Rattle.text_csv.specs.Rows as spec
-use Rattle.text_csv.proofs.rows.bytes_in.Given as goal
+use Rattle.night_report.specs.CsvRows as spec
+use Rattle.night_report.proofs.csv_rows.bytes_in.Given as goal
 
 abbrev pub invariant-loop-cell : goal.invariant-loop-cell
 invariant-loop-cell l =
