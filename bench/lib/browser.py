@@ -35,6 +35,9 @@ class Together:
     def __init__(self, *people):
         self.people = people
 
+    def __iter__(self):
+        return iter(self.people)
+
     def __getattr__(self, name):
         def each(*words, **how):
             for person in self.people:
