@@ -12,7 +12,7 @@ import subprocess
 import threading
 import time
 
-from lib.program import Wrong, shared_library
+from lib.program import Wrong, shared_library, wrong_if
 
 PATIENCE = 120                  # seconds after which a run hangs
 SET_PIPE_SIZE, PAGE = 1031, 4096        # F_SETPIPE_SZ of Linux, which Python before 3.10 does not name
@@ -98,8 +98,7 @@ class Program:
         feeder.join()
         process.stdout.close()
         process.stderr.close()
-        if time.monotonic() - begun >= PATIENCE:
-            raise Wrong('it hangs: no end of the run in %d seconds' % PATIENCE)
+        wrong_if(time.monotonic() - begun >= PATIENCE, 'it hangs: no end of the run in %d seconds' % PATIENCE)
         return status, bytes(out), last_line(error)
 
 

@@ -13,7 +13,7 @@ from lib import disk
 from lib.model import rules as model
 from lib.model.rules import Table, coordinate, legal_moves, other
 from lib.net import connect
-from lib.program import Wrong, run
+from lib.program import Wrong, run, wrong_if
 from lib.server import FOR_EVER, Server, fault_of, limits_of
 
 PATIENCE = 60                   # seconds after which an answer does not come
@@ -89,14 +89,12 @@ class Player:
         self.name, self.rest, self.waiting = name, b'', collections.deque()
         self.connection = connect(port, PATIENCE)
         self.connection.sendall(b'name %s\n' % name.encode())
-        if self.connection.recv(4096) != b'ok name %s\n' % name.encode():
-            raise Wrong('no name %s' % name)
+        wrong_if(self.connection.recv(4096) != b'ok name %s\n' % name.encode(), 'no name %s' % name)
 
     def lines(self):
         """The lines that have come."""
         data = self.connection.recv(65536)
-        if not data:
-            raise Wrong('the server has closed the connection of %s' % self.name)
+        wrong_if(not data, 'the server has closed the connection of %s' % self.name)
         *lines, self.rest = (self.rest + data).split(b'\n')
         return [line.decode() for line in lines]
 
@@ -152,15 +150,13 @@ class Seat:
     def answered(self, line, answer):
         """Whether the answer is one to an entry."""
         if self.wanted is None:
-            if not answer.startswith('ok open '):
-                raise Wrong('%r for an answer to %r' % (answer, line))
+            wrong_if(not answer.startswith('ok open '), '%r for an answer to %r' % (answer, line))
             self.number = int(answer.split()[-1])
             self.table = Table(1, self.plies)
             self.table.last = self.number - 1
             self.table.command(0, self.opener, line)
             return True
-        if answer != self.wanted:
-            raise Wrong('%r is answered by %r, and not by %r' % (line, answer, self.wanted))
+        wrong_if(answer != self.wanted, '%r is answered by %r, and not by %r' % (line, answer, self.wanted))
         return answer.startswith('ok ')
 
 
@@ -197,8 +193,7 @@ class Play:
             self.send(seat)
         while self.acked < acts or drained and any(player.waiting for pair in self.players for player in pair):
             found = self.ready.select(PATIENCE)
-            if not found:
-                raise Wrong('no answer in %d seconds' % PATIENCE)
+            wrong_if(not found, 'no answer in %d seconds' % PATIENCE)
             for key, _ in found:
                 for answer in key.data.lines():
                     seat, line = key.data.waiting.popleft()

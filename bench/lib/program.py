@@ -24,6 +24,11 @@ class Wrong(Exception):
     """What is otherwise than it should be."""
 
 
+def wrong_if(is_wrong, why):
+    if is_wrong:
+        raise Wrong(why)
+
+
 # ------------------------------------------------------------------- where they are
 
 @functools.lru_cache(None)
@@ -180,6 +185,11 @@ def is_soon(holds, seconds=4, rest=0.05):
 def stop(why):
     """Ends a bench."""
     sys.exit('%s: %s' % (NAME, why))
+
+
+def stop_if(is_wrong, why):
+    if is_wrong:
+        stop(why)
 
 
 class Closing:

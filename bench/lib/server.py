@@ -4,7 +4,7 @@ import subprocess
 import time
 
 from lib.net import connect, to_end
-from lib.program import PATIENCE, Closing, Wrong, begin, end, fault_of, memory, run, used
+from lib.program import PATIENCE, Closing, begin, end, fault_of, memory, run, used, wrong_if
 
 # `serve` goes on so many turns, which is for ever.
 FOR_EVER = ('--turns', '4294967295')
@@ -29,8 +29,7 @@ def limits_of(games, plies):
 def make(journal, games, plies=60):
     """A new journal."""
     done = run('chess_server', 'format', '--journal', journal, *limits_of(games, plies))
-    if done.returncode:
-        raise Wrong('no journal can be made at %s: %s' % (journal, done.stderr))
+    wrong_if(done.returncode, 'no journal can be made at %s: %s' % (journal, done.stderr))
     return journal
 
 
@@ -46,8 +45,7 @@ def fill(journal, games, plies, lines):
     """A new journal in which these lines are said, of which none may be refused; what was answered."""
     make(journal, games, plies)
     status, said, _ = call('run', '--journal', journal, given='\n'.join(lines) + '\n')
-    if status or '\nno ' in '\n' + said:
-        raise Wrong('the table was not filled: %r' % said[-200:])
+    wrong_if(status or '\nno ' in '\n' + said, 'the table was not filled: %r' % said[-200:])
     return said
 
 
@@ -85,8 +83,7 @@ class Session(Closing):
 
     def __init__(self, to, timeout=None, name=None):
         self.connect(to, timeout)
-        if name and self.say('name ' + name) != 'ok name ' + name:
-            raise Wrong('no session of %s' % name)
+        wrong_if(name and self.say('name ' + name) != 'ok name ' + name, 'no session of %s' % name)
 
     def connect(self, to, timeout=None):
         self.socket, self.rest = connect(to, timeout), bytearray()
@@ -142,8 +139,7 @@ class Session(Closing):
         """Moves of two players, the one whose turn it is first."""
         for ply, text in enumerate(texts):
             answer = self.by(names[ply % 2], 'move %d %d %s' % (number, start + ply, text))
-            if not answer.startswith('ok move'):
-                raise Wrong('a move of game %d: %s' % (number, answer))
+            wrong_if(not answer.startswith('ok move'), 'a move of game %d: %s' % (number, answer))
 
     def fen(self, number):
         return self.say('fen %d' % number).split(' ', 3)[3]
@@ -206,8 +202,7 @@ class Server(Closing):
     close = kill
 
     def session(self, timeout=None, name=None):
-        if self.to is None:
-            raise Wrong('serve does not start')
+        wrong_if(self.to is None, 'serve does not start')
         return Session(self.to, timeout, name)
 
     @property

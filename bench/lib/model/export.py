@@ -5,7 +5,7 @@ archive's games ("Keeping games", "Adjourned games"). Of its other words, and of
 import argparse
 import sys
 from lib.night import ROSTER, game_in, games_in, lines_behind
-from lib.program import Wrong
+from lib.program import Wrong, wrong_if
 
 FRONT = b'{"game":'
 MOST_BEHIND = 4194304
@@ -21,8 +21,7 @@ def games_of(path):
             games.append(game_in(behind.decode()))
         except ValueError:
             look_at_torn(behind)
-    if len(dict(games)) < len(games):
-        raise Wrong('the archive has a game twice')
+    wrong_if(len(dict(games)) < len(games), 'the archive has a game twice')
     return games
 
 

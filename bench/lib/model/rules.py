@@ -783,6 +783,11 @@ class Refused(Exception):
             self.line += ' %d' % ply
 
 
+def refuse_if(holds, number, ply=None):
+    if holds:
+        raise Refused(number, ply)
+
+
 class Fallen(Exception):
     """A flag had fallen, which is the answer."""
 
@@ -804,15 +809,12 @@ class Table:
             line = line[:-1]
         try:
             parsed = parse(line)
-            if parsed is None:
-                raise Refused(1)
-            if at > LAST_MOMENT:
-                raise Refused(23)
+            refuse_if(parsed is None, 1)
+            refuse_if(at > LAST_MOMENT, 23)
             word, f = parsed
             if word == 'name':
                 return ['ok name ' + f['name']]
-            if who is None and word not in READS:
-                raise Refused(2)
+            refuse_if(who is None and word not in READS, 2)
             at = max(at, self.greatest)
             return getattr(self, word)(at, who, f)
         except Refused as refused:
@@ -835,8 +837,7 @@ class Table:
 
     def fields(self, f):
         """Check 3."""
-        if f['game'] not in self.games:
-            raise Refused(3)
+        refuse_if(f['game'] not in self.games, 3)
         return self.games[f['game']].fields()
 
     def end(self, number):
@@ -848,12 +849,9 @@ class Table:
         """Checks 3, 4, 5, 6, fallen: fields and the player's side."""
         g = self.fields(f)
         side = g.seat_of(who)
-        if side is None:
-            raise Refused(4)
-        if g.joined is None:
-            raise Refused(5)
-        if g.ending is not None:
-            raise Refused(6)
+        refuse_if(side is None, 4)
+        refuse_if(g.joined is None, 5)
+        refuse_if(g.ending is not None, 6)
         if g.fallen(at):
             number = f['game']
             self.enter(Entry('fallen', number, at))
@@ -863,38 +861,29 @@ class Table:
     def on_move(self, at, who, f):
         """The same, and checks 7 and 8."""
         g, side = self.running(at, who, f)
-        if f['ply'] != g.ply:
-            raise Refused(7, g.ply)
-        if side != g.side:
-            raise Refused(8)
+        refuse_if(f['ply'] != g.ply, 7, g.ply)
+        refuse_if(side != g.side, 8)
         return g, side
 
     def read(self, g, f):
         """Checks 20 and 9: the move that a text means."""
-        if f['ply'] == self.plies_limit:
-            raise Refused(20)
+        refuse_if(f['ply'] == self.plies_limit, 20)
         m = reads(g.present, f['text'])
-        if m is None:
-            raise Refused(9)
+        refuse_if(m is None, 9)
         return m
 
     # ---- the acts
 
     def open(self, at, who, f):
         period = f['period']
-        if not (1 <= f['initial'] <= 86400 and 0 <= f['increment'] <= 60):
-            raise Refused(18)
-        if period is not None and not (1 <= period[0] <= 255 and 1 <= period[1] <= 86400):
-            raise Refused(18)
+        refuse_if(not (1 <= f['initial'] <= 86400 and 0 <= f['increment'] <= 60), 18)
+        refuse_if(period is not None and not (1 <= period[0] <= 255 and 1 <= period[1] <= 86400), 18)
         start = INITIAL
         if f['fen'] is not None:
             start = fen_read(f['fen'])
-            if start is None or start.full > 9999:
-                raise Refused(17)
-        if not legal_moves(start) or listed_dead(start) or start.half >= 150:
-            raise Refused(24)
-        if len(self.games) >= self.games_limit or self.last == TOP:
-            raise Refused(19)
+            refuse_if(start is None or start.full > 9999, 17)
+        refuse_if(not legal_moves(start) or listed_dead(start) or start.half >= 150, 24)
+        refuse_if(len(self.games) >= self.games_limit or self.last == TOP, 19)
         number = self.last + 1
         self.enter(Entry('open', number, at, who=who, colour=WHITE if f['colour'] == 'white' else BLACK,
                          initial=f['initial'], increment=f['increment'], period=period, start=start))
@@ -902,10 +891,8 @@ class Table:
 
     def join(self, at, who, f):
         g = self.fields(f)
-        if g.joined is not None:
-            raise Refused(15)
-        if g.seat_of(who) is not None:
-            raise Refused(16)
+        refuse_if(g.joined is not None, 15)
+        refuse_if(g.seat_of(who) is not None, 16)
         self.enter(Entry('join', f['game'], at, who=who))
         colour = 'black' if g.opened.colour == WHITE else 'white'
         return ['ok join %d %s' % (f['game'], colour)]
@@ -918,24 +905,20 @@ class Table:
 
     def offer(self, at, who, f):
         g, side = self.running(at, who, f)
-        if g.offers[WHITE] or g.offers[BLACK]:
-            raise Refused(10)
+        refuse_if(g.offers[WHITE] or g.offers[BLACK], 10)
         self.enter(Entry('offer', f['game'], at, side=side))
         return ['ok offer %d' % f['game']]
 
     def accept(self, at, who, f):
         g, side = self.running(at, who, f)
-        if not g.offers[other(side)]:
-            raise Refused(11)
-        if g.ply < 2:
-            raise Refused(12)
+        refuse_if(not g.offers[other(side)], 11)
+        refuse_if(g.ply < 2, 12)
         self.enter(Entry('accept', f['game'], at, side=side))
         return ['ok accept %d%s' % (f['game'], self.end(f['game']))]
 
     def decline(self, at, who, f):
         g, side = self.running(at, who, f)
-        if not g.offers[other(side)]:
-            raise Refused(11)
+        refuse_if(not g.offers[other(side)], 11)
         self.enter(Entry('decline', f['game'], at, side=side))
         return ['ok decline %d' % f['game']]
 
@@ -946,8 +929,7 @@ class Table:
 
     def claim(self, at, who, f):
         g, side = self.on_move(at, who, f)
-        if g.claimed:
-            raise Refused(13)
+        refuse_if(g.claimed, 13)
         m = self.read(g, f) if f['text'] is not None else None
         number = f['game']
         self.enter(Entry('claim', number, at, side=side, fifty=f['fifty'], move=m))
@@ -965,10 +947,8 @@ class Table:
 
     def drop(self, at, who, f):
         g = self.fields(f)
-        if g.seat_of(who) is None:
-            raise Refused(4)
-        if g.joined is not None and g.ending is None:
-            raise Refused(21)
+        refuse_if(g.seat_of(who) is None, 4)
+        refuse_if(g.joined is not None and g.ending is None, 21)
         self.enter(Entry('drop', f['game'], at))
         return ['ok drop %d' % f['game']]
 
