@@ -20,8 +20,8 @@ def make_debian(root, *packages):
 
 
 class Group:
-    """A control group for a machine of a bench's run, in each hierarchy that systemd looks at: two machines in one would each take the
-    other's programs for its own."""
+    """A control group for a machine of a bench's run, in each hierarchy that systemd looks at: two machines in one would
+    each take the other's programs for its own."""
 
     def __init__(self, run, name):
         name = 'bench-%s-%s' % (run, name)
@@ -112,10 +112,12 @@ def alone(names, **environment):
     try:
         return run.wait()
     finally:
+        for number in (signal.SIGTERM, signal.SIGINT, signal.SIGALRM):
+            signal.signal(number, signal.SIG_IGN)
         run.kill()
         run.wait()
         for name in names:
-            is_soon(Group(os.getpid(), name).is_removed, 20)
+            is_soon(Group(os.getpid(), name).is_removed, 60)
 
 
 def make_bridge(address):
@@ -143,7 +145,8 @@ class Joined(Machine):
         sh('ip', 'link', 'add', name, 'type', 'veth', 'peer', 'name', 'eth0', 'netns', name)
         # (so what it tells outlives its end)
         os.makedirs(root + '/var/log/journal', exist_ok=True)
-        super().__init__(root, name, '--network-namespace-path=/run/netns/' + name, f'--bind={srv}:/srv', *words,
+        super().__init__(root, name, '--network-namespace-path=/run/netns/' + name,
+                         '--capability=CAP_NET_ADMIN,CAP_NET_RAW', f'--bind={srv}:/srv', *words,
                          group=Group(os.environ[ALONE], name))
 
     def boot(self):
