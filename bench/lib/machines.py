@@ -20,8 +20,8 @@ def make_debian(root, *packages):
 
 
 class Group:
-    """A control group for a machine of a bench's run, in each hierarchy that systemd looks at: two machines in one would
-    each take the other's programs for its own."""
+    """A control group for a machine of a bench's run, in each hierarchy that systemd looks at: two machines in one
+    would each take the other's programs for its own."""
 
     def __init__(self, run, name):
         name = 'bench-%s-%s' % (run, name)
@@ -74,9 +74,13 @@ class Machine:
             return next(iter(file.read().split()), None)
 
     def said(self, commands, seconds=120):
-        """Commands that are pasted there, in root's folder: the status of the first that fails, and what they say."""
+        """Commands that are pasted there, in root's folder: the status of the first that fails, none where they do not
+        end, and what they say."""
         inside = ['nsenter', '--target', self.leader(), '--all', 'bash', '-e', '-c', 'cd /root\n' + commands]
-        done = subprocess.run(inside, cwd='/', capture_output=True, text=True, timeout=seconds)
+        try:
+            done = subprocess.run(inside, cwd='/', capture_output=True, text=True, timeout=seconds)
+        except subprocess.TimeoutExpired:
+            return None, 'nothing in %d s' % seconds
         return done.returncode, done.stdout + done.stderr
 
     def ends(self):
@@ -103,11 +107,12 @@ def sh(*words):
     subprocess.run(words, check=True, stdout=subprocess.DEVNULL)
 
 
-def alone(names, **environment):
-    """Runs this bench once more, in namespaces of its own for mounts, network and processes: when it ends, however it
-    does, so does all that it has begun there. Its status. Machines of these names may be in there."""
-    words = ['unshare', '--net', '--mount', '--pid', '--fork', '--kill-child', '--mount-proc', sys.executable]
-    run = subprocess.Popen(words + sys.argv, env={**os.environ, **environment, ALONE: str(os.getpid())},
+def alone(names, words, environment):
+    """Runs this bench once more with these words besides, in namespaces of its own for mounts, network and processes:
+    when it ends, however it does, so does all that it has begun there. Its status. Machines of these names may be in
+    there."""
+    how = ['unshare', '--net', '--mount', '--pid', '--fork', '--kill-child', '--mount-proc', sys.executable]
+    run = subprocess.Popen(how + sys.argv + words, env={**os.environ, **environment, ALONE: str(os.getpid())},
                            preexec_fn=die_with_parent)
     try:
         return run.wait()
