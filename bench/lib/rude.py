@@ -1,5 +1,5 @@
-"""Connections that cost a lobby more than they say, in a process of its own: `-m lib.rude PORT KIND COUNT [TOKEN]`. It prints
-`ready`, and once standard input ends how many rounds they made in how many seconds. For bench/speed/lobby."""
+"""Connections that cost a lobby more than they say, in a process of its own: `-m lib.rude PORT KIND COUNT [TOKEN]`. It
+prints `ready`, and once standard input ends how many rounds they made in how many seconds. For bench/speed/lobby."""
 
 import asyncio
 import contextlib

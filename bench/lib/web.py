@@ -1,6 +1,6 @@
 """What benches say to a lobby over HTTP and its WebSocket: by blocking calls (Line, and Guest, who hears answers
-alone), as a player who comes back (Seat), in an asyncio program (Browser), one request (fetch), and the figures of
-/health."""
+alone), as a player who comes back (Seat, and Person, who keeps what was said), in an asyncio program (Browser), one
+request (fetch), and the figures of /health."""
 
 import asyncio
 import base64
@@ -55,10 +55,11 @@ def taken_frame(data):
 
 
 class Line:
-    """A browser's socket, by blocking calls."""
+    """A browser's socket, by blocking calls: to a port of this machine, or to a host and a port."""
 
-    def __init__(self, port, timeout=None):
-        self.begin(connect(port, timeout), handshake('127.0.0.1:%d' % port))
+    def __init__(self, to, timeout=None):
+        host = to if isinstance(to, tuple) else ('127.0.0.1', to)
+        self.begin(connect(host, timeout), handshake('%s:%d' % host))
 
     def begin(self, line, request):
         """Says over a connection what opens a WebSocket; `head` is what is answered."""
@@ -173,6 +174,67 @@ class Seat:
                 raise Gone
             if not text.startswith(('told ', 'server ')):
                 return text
+
+
+class Person(Seat):
+    """Somebody's seat, with all acts that were said from it: each its line, its answer, where that was not lost on the
+    way, and the moments at which it was sent and answered. Without a name it is one who watches."""
+
+    patience, timeout, stays = 90, 15, True
+
+    def __init__(self, port_of, name=None):
+        super().__init__(port_of, name)
+        # (whether the server that the lobby has is that which was lost last)
+        self.acts, self.is_lost = [], False
+
+    def shake_hands(self):
+        self.is_lost = False
+        super().shake_hands()
+
+    def again(self):
+        """Waits for the lobby's server, or comes back to the lobby. It tells whether the connection is another."""
+        if self.is_lost:
+            self.is_lost = False
+            try:
+                time.sleep(0.1)
+                self.wait_for_the_server()
+                return False
+            except (OSError, Gone):
+                pass
+        self.connect()
+        return True
+
+    def say(self, line):
+        answer = super().say(line)
+        if answer.startswith(('lost', 'no 36 ')):
+            self.is_lost = True
+            raise Gone
+        return answer
+
+    def act(self, line):
+        """The answer to an act; none where it was lost on the way."""
+        sent, answer = time.monotonic(), None
+        try:
+            answer = self.say(line).rstrip('\n')
+        except (OSError, Gone):
+            pass
+        self.acts.append((line, answer, sent, time.monotonic()))
+        if answer is None:
+            self.again()
+            return None
+        return answer.split()
+
+    def read(self, line):
+        """The answer to a line that changes nothing."""
+        while True:
+            try:
+                return self.say(line)
+            except (OSError, Gone):
+                self.again()
+
+    def rows(self):
+        """The games of the table."""
+        return [row.split() for row in self.read('list').splitlines()[1:]]
 
 
 class Browser(asyncio.Protocol):
