@@ -3,8 +3,8 @@ use crate::compared::telling_parts;
 use crate::continued::{Halves, halves_of, pgn_continued};
 use crate::kept::Kept;
 use anyhow::Result;
-use std::alloc::{AllocError, Global};
 use night_report::{Cell, push_header, push_row};
+use std::alloc::{AllocError, Global};
 use text_pgn::{is_move, value_of};
 
 // The names of the columns.

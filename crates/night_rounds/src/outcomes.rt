@@ -3,8 +3,8 @@ ghost use Rattle.std.specs.Prelude.{◌≡◌, ◌++◌, IfOk, OnOk};
 ghost use Rattle.night_report.specs.CsvRows.{bytes_of};
 ghost use Rattle.night_rounds.specs.Results as spec;
 
-use std::alloc::{AllocError, Global};
 use night_report::{Cell, push_header, push_row};
+use std::alloc::{AllocError, Global};
 
 /// What came of a board: who plays there, the result as PGN has it (`1-0`, `0-1`, `1/2-1/2`, `*`), the article by which
 /// it ended, and the game.
