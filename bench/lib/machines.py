@@ -15,8 +15,9 @@ SYSTEMD = ('systemd', 'systemd-sysv', 'sudo', 'procps')
 
 def make_debian(root, *packages):
     """A Debian in a new folder, with systemd and these packages."""
-    words = ['debootstrap', '--variant=minbase', '--include=' + ','.join((*SYSTEMD, *packages)), 'bookworm', root]
-    subprocess.run(words, check=True, stdout=subprocess.DEVNULL)
+    # (what it mounts meanwhile is gone with it)
+    words = ['unshare', '--mount', 'debootstrap', '--variant=minbase', '--include=' + ','.join((*SYSTEMD, *packages))]
+    subprocess.run([*words, 'bookworm', root], check=True, stdout=subprocess.DEVNULL)
 
 
 class Group:
