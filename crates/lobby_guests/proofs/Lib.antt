@@ -5,3 +5,4 @@ pub mod Room
 pub mod Seats
 pub mod Due
 pub mod Owing
+mod Wanted

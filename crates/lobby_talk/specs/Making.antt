@@ -53,7 +53,14 @@ IsFinished AtPosition text new = IsWithMoves text new
 IsFinished Line text new = ∥ IsOfLine text new ∥₁
 IsFinished Log text new = new ≡ text
 
--- a message, as it goes out: to the same connections
+-- A text of this kind, as far as it is made: the answer to `line G` may not be there yet, and then the text is as it was.
+abbrev pub IsMade : Kind → List ℕ → Kind → List ℕ → Type 0
+IsMade kind text Line new = (kind ≡ Line) × (new ≡ text)
+IsMade kind text Whole new = IsFinished kind text new
+IsMade kind text AtPosition new = IsFinished kind text new
+IsMade kind text Log new = IsFinished kind text new
+
+-- a message, as it goes out, or as it waits for its answer: to the same connections
 pub record IsMadeOf (told made : Message) : Type 0 where
   pub to : made.to ≡ told.to
-  pub text : IsFinished told.kind (string_bytes told.text) (string_bytes made.text)
+  pub text : IsMade told.kind (string_bytes told.text) made.kind (string_bytes made.text)
