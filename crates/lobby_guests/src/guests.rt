@@ -244,7 +244,7 @@ fn tell_all<S>(
 // The first of two texts that there is.
 fn first_of<'a>(a: Option<&'a str>, b: Option<&'a str>) -> Option<&'a str>
     ensures { option_map (λ text. text.now) result
-        ≡ waiting.first_of (option_map (λ text. text.now) a) (option_map (λ text. text.now) b) }
+        ≡ waiting.first_of (option_map (λ text. text.now) a.entry) (option_map (λ text. text.now) b.entry) }
 {
     match a {
         Some(text) => Some(text),
