@@ -6,3 +6,4 @@ pub mod Seats
 pub mod Due
 pub mod Owing
 mod Wanted
+mod Catching

@@ -271,6 +271,8 @@ IsSaid text old new = (answer : Result (Unit {0}) Unsaid) × SaysTo (Text text) 
 
 -- The message waits behind what does.
 pub record IsPutBehind {S : Type 0} (made : Message) (old new : Guest S) : Type 0 where
+  pub number : new.number ≡ old.number
+  pub stream : new.stream ≡ old.stream
   pub browser : new.browser ≡ old.browser
   pub one : Waiting
   pub copy : IsCopyOf made one

@@ -1,5 +1,5 @@
 -- What waits for a browser.
-use Rattle.std.specs.Prelude.{ℕ, ◌≡◌, Bool, true, false, List, [], ◌∷◌, Option, None, Some}
+use Rattle.std.specs.Prelude.{ℕ, ◌≡◌, Bool, true, false, not, List, [], ◌∷◌, Option, None, Some}
 use Rattle.std.specs.String.{string_bytes}
 use Rattle.lobby_desk.specs.declared.telling.Kind.{Kind}
 use Rattle.lobby_desk.specs.declared.telling.Kind.TheVariants.{Whole, Position, Line, Log}
@@ -33,6 +33,11 @@ IsToldBy false text told = told ≡ text
 abbrev pub AtLine : List Waiting → Type 0
 AtLine [] = Unit {0}
 AtLine (one ∷ ones) = is_line one.kind ≡ true
+
+-- whether the first that waits is whole
+abbrev pub has_whole : List Waiting → Bool
+has_whole [] = false
+has_whole (one ∷ ones) = not (is_line one.kind)
 
 -- the text of the first that waits
 abbrev pub wanted : List Waiting → Option (List ℕ)

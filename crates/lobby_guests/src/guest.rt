@@ -1,6 +1,6 @@
 //! A browser's connection: its socket, what it says, and what it is told.
 ghost use Rattle.std.specs.Prelude.{ℕ, ◌≡◌, ◌<◌, ◌≤◌, ◌+◌, ◌/◌, ◌↔◌, None, Some, [], length, true, false, IsTrue, OnOk};
-ghost use Rattle.std.specs.Prelude.{◌×◌, ◌≢◌};
+ghost use Rattle.std.specs.Prelude.{◌≢◌};
 ghost use Rattle.lobby_desk.specs.Who.{IsReady, at_table};
 ghost use Rattle.lobby_guests.specs.Guests.{has_time, is_beyond, IsNewGuest, IsAsBefore, IsRead};
 ghost use Rattle.lobby_guests.specs.Guests.{IsHeardAs, IsHeard, IsAsked, MaySpeak, IsSaid, IsTold, AreTold, IsWritten};
@@ -472,9 +472,7 @@ impl<S> Guest<S> {
 
     // A message waits behind what does. One for which too many wait is let go.
     fn put_behind(&mut self, alloc: Global, made: &Message) -> Result<(), AllocError>
-        ensures put { OnOk result (IsPutBehind made.now self.old self.new) }
-        ensures number { OnOk result (self.new.number ≡ self.old.number) }
-        ensures stream { OnOk result (self.new.stream ≡ self.old.stream) }
+        ensures { OnOk result (IsPutBehind made.now self.old self.new) }
     {
         let one = Waiting::copy_of(alloc, made)?;
         self.waits.push(one)?;
@@ -551,20 +549,25 @@ impl<S> Guest<S> {
         Some(self.waits.first()?.text.as_str())
     }
 
+    // Whether what waits first is whole.
+    fn has_whole(&self) -> bool
+        ensures { result ≡ waiting.has_whole self.now.waits.items }
+    {
+        match self.waits.first() {
+            None => false,
+            Some(one) => !one.is_line(),
+        }
+    }
+
     // What waits first is told, where that is not to be made. It tells whether it was.
     fn tell_whole(&mut self, counts: &mut Counts) -> bool
         ensures told { result ≡ true → (one : WaitingValue) × IsNextTold one self.old self.new }
-        ensures none { result ≡ false → IsAsBefore self.old self.new }
+        ensures none { result ≡ false → self.new ≡ self.old }
         ensures line { result ≡ false → AtLine self.old.waits.items }
         ensures logins { counts.new.logins_refused ≡ counts.old.logins_refused }
     {
-        match self.waits.first() {
-            None => return false,
-            Some(one) => {
-                if one.is_line() {
-                    return false;
-                }
-            }
+        if !self.has_whole() {
+            return false;
         }
         let one = self.waits.remove(0);
         self.tell(one.text.as_str(), counts);

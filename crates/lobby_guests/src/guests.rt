@@ -307,7 +307,7 @@ pub fn deliver<S>(
     ensures desk { OnOk result (talk.new.desk ≡ talk.old.desk) }
     ensures wire { OnOk result (talk.new.wire ≡ talk.old.wire) }
     ensures next { OnOk result (talk.new.next ≡ talk.old.next) }
-    ensures replays { OnOk result (∥ (next : Option (List ℕ)) × IsReplayed next talk.old.replay talk.new.replay ∥₁) }
+    ensures replays { OnOk result (∥ ((next : Option (List ℕ)) × IsReplayed next talk.old.replay talk.new.replay) ∥₁) }
     ensures more { IfOk result (λ more. more
         ≡ (is_some talk.new.replay || is_some (first_wanted guests.new.items))) }
     ensures logins { OnOk result (CountsLogins talk.old.told.items guests.old.items counts.old.logins_refused
@@ -318,7 +318,8 @@ pub fn deliver<S>(
     tell_all(alloc, guests, talk.told.as_slice(), counts)?;
     talk.told.clear();
     answer_waiting(guests, talk, counts)?;
-    Ok(talk.is_replaying() || first_wanted(guests.as_slice()).is_some())
+    let has_first = first_wanted(guests.as_slice()).is_some();
+    Ok(talk.is_replaying() | has_first)
 }
 
 // Writes to each that acts for a player what it takes.
