@@ -175,7 +175,7 @@ no_rest : (rest : List MessageValue) → AllZip IsWaitingAs rest [] → rest ≡
 no_rest [] none = refl
 no_rest (t ∷ rest) none_such = absurd none_such
 
-any_waits : List Waiting → Bool
+abbrev any_waits : List Waiting → Bool
 any_waits [] = false
 any_waits (one ∷ ones) = true
 
@@ -212,7 +212,7 @@ told_past steps out c t p waits is told = record {
 told_further : (steps : List Step) (out : List MessageValue) (c : ℕ) (t : MessageValue) (text : List ℕ) (p q : List Doing)
     (waits : List Waiting) → texts_told q ≡ texts_told p ++ text ∷ [] → waits ≡ [] → at_table t.to c ≡ true → IsToldAs t text →
     IsToldOf steps out c p waits → IsToldOf steps (out ++ t ∷ []) c q waits
-told_further steps out c t text p q waits are none is as told =
+told_further steps out c t text p q waits are none is so told =
     let rest : told.rest ≡ [] = no_rest told.rest (subst (λ (l : List Waiting). AllZip IsWaitingAs told.rest l) none told.waiting) in
     let whole : told_for c told.since ≡ told.front ++ [] = told.parts ∙ ap (λ (l : List MessageValue). told.front ++ l) rest in
     record {
@@ -224,7 +224,7 @@ told_further steps out c t text p q waits are none is as told =
       rest = [];
       parts = for_both c told.since told.front [] (t ∷ []) t whole (for_it c t is) ∙ sym (append-nil (told.front ++ t ∷ []));
       told = subst (λ (l : List (List ℕ)). AllZip IsToldAs (told.front ++ t ∷ []) l) (sym are)
-          (zip_both IsToldAs told.front (t ∷ []) (texts_told p) (text ∷ []) told.told (as, tt));
+          (zip_both IsToldAs told.front (t ∷ []) (texts_told p) (text ∷ []) told.told (so, tt));
       waiting = subst (λ (l : List Waiting). AllZip IsWaitingAs [] l) (sym none) tt;
     }
 
@@ -232,7 +232,7 @@ told_further steps out c t text p q waits are none is as told =
 told_behind : (steps : List Step) (out : List MessageValue) (c : ℕ) (t : MessageValue) (p : List Doing) (waits later : List Waiting)
     (one : Waiting) → later ≡ waits ++ one ∷ [] → at_table t.to c ≡ true → IsWaitingAs t one → IsToldOf steps out c p waits →
     IsToldOf steps (out ++ t ∷ []) c p later
-told_behind steps out c t p waits later one are is as told = record {
+told_behind steps out c t p waits later one are is so told = record {
   before = told.before;
   since = told.since ++ t ∷ [];
   split = ap (λ (l : List MessageValue). l ++ t ∷ []) told.split ∙ append_assoc told.before told.since (t ∷ []);
@@ -242,7 +242,7 @@ told_behind steps out c t p waits later one are is as told = record {
   parts = for_both c told.since told.front told.rest (t ∷ []) t told.parts (for_it c t is);
   told = told.told;
   waiting = subst (λ (l : List Waiting). AllZip IsWaitingAs (told.rest ++ t ∷ []) l) (sym are)
-      (zip_both IsWaitingAs told.rest (t ∷ []) waits (one ∷ []) told.waiting (as, tt));
+      (zip_both IsWaitingAs told.rest (t ∷ []) waits (one ∷ []) told.waiting (so, tt));
 }
 
 -- What waits was made so far, and is told by what is there now.
@@ -265,11 +265,11 @@ next_told : (c : ℕ) (since front rest : List MessageValue) (texts : List (List
     told_for c since ≡ front ++ rest → AllZip IsToldAs front texts → AllZip IsWaitingAs rest (one ∷ waits) →
     IsTextToldBy (is_line one.kind) (string_bytes one.text) text → Next c since (texts ++ text ∷ []) waits
 next_told c since front [] texts one waits text parts told none_such by = absurd none_such
-next_told c since front (t ∷ rest) texts one waits text parts told (as, are) by = record {
+next_told c since front (t ∷ rest) texts one waits text parts told (so, are) by = record {
   first = front ++ t ∷ [];
   later = rest;
   parts = parts ∙ sym (append_assoc front (t ∷ []) rest);
-  told = zip_both IsToldAs front (t ∷ []) texts (text ∷ []) told (told_as t.kind one.kind t.text (string_bytes one.text) text as by, tt);
+  told = zip_both IsToldAs front (t ∷ []) texts (text ∷ []) told (told_as t.kind one.kind t.text (string_bytes one.text) text so by, tt);
   waiting = are;
 }
 

@@ -1,12 +1,13 @@
 -- The first that waits is told as it is.
-use Rattle.std.proofs.Common.{◌≡◌, ◌∷◌, ◌∙◌, true, ap, sym}
+use Rattle.std.proofs.Common.{◌≡◌, ◌∷◌, ◌∙◌, true, ap, sym, arith}
 use Rattle.lobby_guests.specs.Waiting.{has_whole}
 use Rattle.lobby_guests.proofs.Catching.{first_there, whole_there, at_line, told_whole}
 use Rattle.lobby_guests.proofs.guest.Guest.tell_whole.Goals as goal
 
 pub remove-one-requires : goal.remove-one-requires
 remove-one-requires g c =
-    whole_there c.args.self.now.waits.items (sym c.has_whole.ensures ∙ c.if-not-has_whole.false)
+    let some = whole_there c.args.self.now.waits.items (sym c.has_whole.ensures ∙ c.if-not-has_whole.false) in
+    omega (arith, some, c.args.self.now.waits.ok.0)
 
 pub returns-then-not-has_whole-clause-line : goal.returns-then-not-has_whole-clause-line
 returns-then-not-has_whole-clause-line g c =
