@@ -490,7 +490,12 @@ impl<S> Guest<S> {
     }
 
     // It is told a message, or that waits. A login that it refuses is noted.
-    fn pass_on(&mut self, alloc: Global, made: &Message, counts: &mut Counts) -> Result<(), AllocError>
+    fn pass_on(
+        &mut self,
+        alloc: Global,
+        made: &Message,
+        counts: &mut Counts,
+    ) -> Result<(), AllocError>
         requires { is_for self.old.number made.now.to.items ≡ true }
         ensures told { OnOk result (IsTold made.now self.old self.new) }
         ensures logins { OnOk result (counts.new.logins_refused
@@ -507,7 +512,12 @@ impl<S> Guest<S> {
     }
 
     // It is told a message, if that goes to it.
-    fn be_told(&mut self, alloc: Global, made: &Message, counts: &mut Counts) -> Result<(), AllocError>
+    fn be_told(
+        &mut self,
+        alloc: Global,
+        made: &Message,
+        counts: &mut Counts,
+    ) -> Result<(), AllocError>
         ensures told { OnOk result (IsTold made.now self.old self.new) }
         ensures logins { OnOk result (counts.new.logins_refused
             ≡ counted_up counts.old.logins_refused (one_if (refuses self.old.number made.now))) }

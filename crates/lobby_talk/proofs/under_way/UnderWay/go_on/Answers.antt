@@ -44,6 +44,7 @@ returns-in-Whole c =
 pub returns-in_ok-lost-in-NoGame : goal.returns-in_ok-lost-in-NoGame
 returns-in_ok-lost-in-NoGame c =
     let text = string_bytes c.args.self.pgn in
-    ∥∥₁_map c.args.self.under_way (λ u.
-    (ap string_bytes c.in_ok-lost-in-NoGame.ensures,
-    inr (rw c.in-NoGame.is at c.in_ok-replay.ensures c.args.self.game (lines_behind text) u.under_way)))
+    ∥∥₁_map c.args.self.under_way (λ u. (
+      ap string_bytes c.in_ok-lost-in-NoGame.ensures,
+      inr (rw c.in-NoGame.is at c.in_ok-replay.ensures c.args.self.game (lines_behind text) u.under_way),
+    ))
