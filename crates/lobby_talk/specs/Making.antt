@@ -12,7 +12,6 @@ use Rattle.lobby_positions.specs.Pgn.{TellsGame}
 use Rattle.lobby_positions.specs.Answer.{IsLineAnswer}
 use Rattle.lobby_desk.specs.declared.telling.Kind.{Kind}
 use Rattle.lobby_desk.specs.declared.telling.Kind.TheVariants.{Whole, Position as AtPosition, Line, Log}
-use Rattle.lobby_desk.specs.declared.telling.Message.{Message}
 
 -- what stands behind the first line of a text
 abbrev pub lines_behind : List ℕ → List ℕ
@@ -59,8 +58,3 @@ IsMade kind text Line new = (kind ≡ Line) × (new ≡ text)
 IsMade kind text Whole new = IsFinished kind text new
 IsMade kind text AtPosition new = IsFinished kind text new
 IsMade kind text Log new = IsFinished kind text new
-
--- a message, as it goes out, or as it waits for its answer: to the same connections
-pub record IsMadeOf (told made : Message) : Type 0 where
-  pub to : made.to ≡ told.to
-  pub text : IsMade told.kind (string_bytes told.text) made.kind (string_bytes made.text)

@@ -1,8 +1,7 @@
 //! The answers to `line G` that were made, as long as the server tells the same PGN: each is made once.
 ghost use Rattle.std.specs.Prelude.{◌≡◌, ◌≤◌, ◌+◌, IfSome, [], IfOk, OnOk};
 ghost use Rattle.std.specs.String.{string_bytes};
-ghost use Rattle.lobby_talk.specs.Making.{IsOfLine};
-ghost use Rattle.lobby_talk.specs.Keeping.{size_of_all, kept_most, shown};
+ghost use Rattle.lobby_talk.specs.Keeping.{size_of_all, kept_most, shown, HasKept};
 
 use crate::kept_answer::KeptAnswer;
 use std::alloc::{AllocError, Global};
@@ -70,7 +69,7 @@ impl KeptAnswers {
 
     /// The answer that was made of this PGN, if it is kept.
     pub fn find(&self, pgn: &str) -> Option<&str>
-        ensures { IfSome result (λ answer. ∥ IsOfLine pgn.now answer.now ∥₁) }
+        ensures { IfSome result (λ answer. HasKept self.now.answers.items pgn.now answer.now) }
     {
         for one in &self.answers {
             if let Some(answer) = one.answer_of(pgn) {

@@ -65,7 +65,8 @@ impl KeptAnswer {
 
     /// The answer, where it is of this PGN.
     pub fn answer_of(&self, pgn: &str) -> Option<&str>
-        ensures { IfSome result (λ answer. ∥ IsOfLine pgn.now answer.now ∥₁) }
+        ensures { IfSome result (λ answer. (string_bytes self.now.pgn ≡ pgn.now)
+            × (string_bytes self.now.answer ≡ answer.now)) }
     {
         if self.pgn.as_str() == pgn {
             Some(self.answer.as_str())

@@ -3,7 +3,8 @@ ghost use Rattle.std.specs.Prelude.{◌≡◌, ◌++◌, ◌∷◌, [], OnOk};
 ghost use Rattle.std.specs.List.{AllZip};
 ghost use Rattle.std.specs.String.{string_bytes};
 ghost use Rattle.lobby_words.specs.Words.{rest_of};
-ghost use Rattle.lobby_talk.specs.Making.{IsWithMoves, IsMadeOf};
+ghost use Rattle.lobby_talk.specs.Making.{IsWithMoves};
+ghost use Rattle.lobby_talk.specs.Keeping.{IsMadeOf};
 ghost use Rattle.lobby_desk.specs.declared.telling.Kind.TheVariants.{Line};
 ghost use Rattle.lobby_talk.specs.Replays.{IsNumberIn};
 ghost use Rattle.lobby_talk.specs.Making as making;
@@ -77,7 +78,7 @@ pub(crate) fn game_in(text: &str) -> u32
 // A message whose answer to `line G` was made before is whole by that; another is left as it is.
 fn finish_line(alloc: Global, one: &mut Message, kept: &KeptAnswers) -> Result<(), AllocError>
     requires { one.old.kind ≡ Line }
-    ensures { OnOk result (IsMadeOf one.old one.new) }
+    ensures { OnOk result (IsMadeOf kept.now.answers.items one.old one.new) }
 {
     match kept.find(one.text.as_str()) {
         None => Ok(()),
@@ -91,7 +92,7 @@ fn finish_line(alloc: Global, one: &mut Message, kept: &KeptAnswers) -> Result<(
 
 // A message, as it goes out, or as it waits for its answer.
 fn finish(alloc: Global, one: &mut Message, kept: &KeptAnswers) -> Result<(), AllocError>
-    ensures { OnOk result (IsMadeOf one.old one.new) }
+    ensures { OnOk result (IsMadeOf kept.now.answers.items one.old one.new) }
 {
     match one.kind {
         Kind::Whole | Kind::Log => Ok(()),
@@ -106,7 +107,7 @@ pub(crate) fn finish_all(
     told: &mut Vec<Message>,
     kept: &KeptAnswers,
 ) -> Result<(), AllocError>
-    ensures { OnOk result (AllZip IsMadeOf told.old.items told.new.items) }
+    ensures { OnOk result (AllZip (IsMadeOf kept.now.answers.items) told.old.items told.new.items) }
 {
     for one in told.iter_mut() {
         finish(alloc, one, kept)?;
