@@ -22,7 +22,7 @@ use Rattle.lobby_guests.specs.declared.rounds.Others.TheVariants.{Newcomers, Str
 use Rattle.lobby_talk.specs.declared.talk.Talk.{Talk}
 use Rattle.lobby_talk.specs.Talking.{Moves, Opens, IsTextSaid, acts_at}
 use Rattle.lobby_talk.specs.Counting.{is_for}
-use Rattle.lobby_talk.specs.Making.{IsMadeOf}
+use Rattle.lobby_talk.specs.Keeping.{IsMadeOf}
 use Rattle.lobby_talk.specs.declared.kept_answer.KeptAnswer.{KeptAnswer}
 use Rattle.lobby_guests.specs.declared.waiting.Waiting.{Waiting}
 use Rattle.lobby_guests.specs.Waiting.{IsCopyOf, is_line, must_wait, IsToldBy, AtLine, wanted, first_of}
@@ -332,9 +332,9 @@ first_wanted (guest ∷ guests) = first_of (wanted guest.waits.items) (first_wan
 -- behind an answer that is not there yet they wait. Then some are told what waited for an answer, and what stands behind
 -- it, up to the next such. One whose socket may say nothing is told nothing, and one for which there is no room or memory
 -- has its socket ended.
-pub record AreDelivered {S : Type 0} (told : List Message) (old new : List (Guest S)) : Type 0 where
+pub record AreDelivered {S : Type 0} (kept : List KeptAnswer) (told : List Message) (old new : List (Guest S)) : Type 0 where
   pub made : List Message
-  pub are_made : AllZip IsMadeOf told made
+  pub are_made : AllZip (IsMadeOf kept) told made
   pub first : List (Guest S)
   pub are_told : AllZip (AreTold made) old first
   pub caught_up : AllZip IsCaughtUp first new

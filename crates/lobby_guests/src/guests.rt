@@ -302,7 +302,8 @@ pub fn deliver<S>(
     talk: &mut Talk,
     counts: &mut Counts,
 ) -> Result<bool, AllocError>
-    ensures guests { OnOk result (AreDelivered talk.old.told.items guests.old.items guests.new.items) }
+    ensures guests { OnOk result (AreDelivered talk.old.kept.answers.items talk.old.told.items
+        guests.old.items guests.new.items) }
     ensures none { OnOk result (talk.new.told.items ≡ []) }
     ensures desk { OnOk result (talk.new.desk ≡ talk.old.desk) }
     ensures wire { OnOk result (talk.new.wire ≡ talk.old.wire) }
@@ -310,8 +311,8 @@ pub fn deliver<S>(
     ensures replays { OnOk result (∥ ((next : Option (List ℕ)) × IsReplayed next talk.old.replay talk.new.replay) ∥₁) }
     ensures more { IfOk result (λ more. more
         ≡ (is_some talk.new.replay || is_some (first_wanted guests.new.items))) }
-    ensures logins { OnOk result (CountsLogins talk.old.told.items guests.old.items counts.old.logins_refused
-        counts.new.logins_refused) }
+    ensures logins { OnOk result (CountsLogins talk.old.kept.answers.items talk.old.told.items guests.old.items
+        counts.old.logins_refused counts.new.logins_refused) }
     ensures kept { OnOk result (AreKept talk.new.kept.answers.items) }
 {
     talk.make_told()?;

@@ -1088,7 +1088,7 @@ module _ {S : Type 0} (remaining contents : S → Option (List ℕ)) (site : Sit
 module _ {S : Type 0} (remaining contents : S → Option (List ℕ)) (players : List Player) (is_paused : Bool) (came : Before S) where
   -- what went out is delivered, and a front of what is to go to the server is written
   gone_out : (site : Site) (former : List (Guest S)) (out : List MessageValue) (base : Traffic) (front : List ℕ) (said : Talk) (desk : Desk)
-      (wire : List ℕ) (guests told : List (Guest S)) → AreDelivered said.told.items guests told → said.wire.items ≡ front ++ wire →
+      (wire : List ℕ) (guests told : List (Guest S)) → AreDelivered said.kept.answers.items said.told.items guests told → said.wire.items ≡ front ++ wire →
       desk ≡ said.desk →
       IsAt players is_paused base out (AreKept remaining contents site came former out guests) said.desk said.wire.items
       (message_values said.told.items) →
@@ -1106,7 +1106,7 @@ module _ {S : Type 0} (remaining contents : S → Option (List ℕ)) (players : 
         (λ steps x y one was. served_caught_up remaining contents site came steps (out ++ message_values said.told.items) x y one was)
         (λ x y one. caught_number x y one) delivers.first told delivers.caught_up so_far.steps
         (kept_zip remaining contents site came former out (message_values said.told.items) (AreTold delivers.made)
-        (λ steps x y one was. served_told remaining contents site came steps out said.told.items delivers.made x y
+        (λ steps x y one was. served_told remaining contents site came steps out said.kept.answers.items said.told.items delivers.made x y
         delivers.are_made one was) (λ x y one. told_number delivers.made x y one) guests delivers.first delivers.are_told so_far.steps
         so_far.holds);
   }

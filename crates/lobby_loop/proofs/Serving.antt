@@ -17,7 +17,9 @@ use Rattle.lobby_web.specs.Browsing.{pending}
 use Rattle.lobby_guests.specs.declared.guest.Guest.{Guest}
 use Rattle.lobby_desk.specs.declared.telling.Kind.{Kind}
 use Rattle.lobby_desk.specs.declared.telling.Kind.TheVariants.{Whole, Position as AtPosition, Line, Log}
-use Rattle.lobby_talk.specs.Making.{IsOfLine, IsFinished, IsMade, IsMadeOf}
+use Rattle.lobby_talk.specs.Making.{IsOfLine, IsFinished, IsMade}
+use Rattle.lobby_talk.specs.Keeping.{IsMadeOf}
+use Rattle.lobby_talk.specs.declared.kept_answer.KeptAnswer.{KeptAnswer}
 use Rattle.lobby_guests.specs.declared.waiting.Waiting.{Waiting}
 use Rattle.lobby_guests.specs.Waiting.{is_line, must_wait, IsToldBy as IsTextToldBy}
 use Rattle.lobby_talk.specs.Talking.{Saying, InTime, TooFast, WithLink, saying}
@@ -600,17 +602,17 @@ module _ {S : Type 0} (remaining contents : S → Option (List ℕ)) (site : Sit
       (subst (λ (s : S). Served steps out n (record { stage = old.browser.stage; stream = s; waits = new.waits.items })) (sym stream) was)
 
   -- one message goes out of the desk's hands, which is for it
-  passed_on : (steps : List Step) (out : List MessageValue) (c : ℕ) (told made : Message) (old new : Guest S) (waits : Bool) →
-      must_wait old.waits.items made.kind ≡ waits → at_table (message_value told).to c ≡ true → IsMadeOf told made →
+  passed_on : (steps : List Step) (out : List MessageValue) (kept : List KeptAnswer) (c : ℕ) (told made : Message) (old new : Guest S) (waits : Bool) →
+      must_wait old.waits.items made.kind ≡ waits → at_table (message_value told).to c ≡ true → IsMadeOf kept told made →
       new.stream ≡ old.stream → IsPassedOn true waits made old new → Served steps out (Some c) (spot old) →
       Served steps (out ++ message_value told ∷ []) (Some c) (spot new)
-  passed_on steps out c told made old new false must to is stream (said, same) was =
+  passed_on steps out kept c told made old new false must to is stream (said, same) was =
       said_more steps out (out ++ message_value told ∷ []) c (string_bytes made.text) old new stream said was
       (λ q texts. subst (λ v. IsToldOf steps (out ++ message_value told ∷ []) c q v.items) (sym same)
       (told_further steps out c (message_value told) (string_bytes made.text) was.past q old.waits.items texts
       (nothing_waits old.waits.items made.kind must) to
       (is_whole old.waits.items made.kind told.kind (string_bytes told.text) (string_bytes made.text) must is.text) was.told))
-  passed_on steps out c told made old new true must to is stream put was =
+  passed_on steps out kept c told made old new true must to is stream put was =
       moved_to steps (out ++ message_value told ∷ []) (Some c) old new put.browser stream
       (waits_more steps out (out ++ message_value told ∷ []) c (spot old) new.waits.items was
       (told_behind steps out c (message_value told) was.past old.waits.items new.waits.items put.one put.waits to
@@ -618,18 +620,18 @@ module _ {S : Type 0} (remaining contents : S → Option (List ℕ)) (site : Sit
       (subst (λ (l : List ℕ). IsMade told.kind (string_bytes told.text) made.kind l) (sym put.copy.text) is.text)) was.told))
 
   -- one message goes out of the desk's hands
-  served_one : (n : Option ℕ) (steps : List Step) (out : List MessageValue) (told : Message) (made : Message) (old new : Guest S) →
-      IsMadeOf told made → new.stream ≡ old.stream →
+  served_one : (n : Option ℕ) (steps : List Step) (out : List MessageValue) (kept : List KeptAnswer) (told : Message) (made : Message) (old new : Guest S) →
+      IsMadeOf kept told made → new.stream ≡ old.stream →
       IsPassedOn (is_for n made.to.items) (must_wait old.waits.items made.kind) made old new → Served steps out n (spot old) →
       Served steps (out ++ message_value told ∷ []) n (spot new)
-  served_one None steps out told made old new is stream (same, still) was =
+  served_one None steps out kept told made old new is stream (same, still) was =
       let so = stays_at steps out None old new same stream still was in
       told_anew steps steps out (out ++ message_value told ∷ []) None (spot new) so so.said so.told
-  served_one (Some c) steps out told made old new is stream passed was =
+  served_one (Some c) steps out kept told made old new is stream passed was =
       let to : at_table made.to.items c ≡ at_table (message_value told).to c = ap (λ l. at_table l.items c) is.to in
       let waits = must_wait old.waits.items made.kind in
       elim (cases_Bool (at_table made.to.items c)) [
-        | inl for_c ↦ passed_on steps out c told made old new waits refl (sym to ∙ for_c) is stream
+        | inl for_c ↦ passed_on steps out kept c told made old new waits refl (sym to ∙ for_c) is stream
             (subst (λ (u : Bool). IsPassedOn u waits made old new) for_c passed) was
         | inr not_for_c ↦
             let same = subst (λ (u : Bool). IsPassedOn u waits made old new) not_for_c passed in
@@ -657,20 +659,20 @@ module _ {S : Type 0} (remaining contents : S → Option (List ℕ)) (site : Sit
       Served steps out old.number (spot old) → Served steps out new.number (spot new)
   served_caught_up steps out old new up was = served_caught steps out up.front old new up.are was
 
-  pub served_told : (steps : List Step) (out : List MessageValue) (told : List Message) (made : List Message) (old new : Guest S) →
-      AllZip IsMadeOf told made → AreTold made old new → Served steps out old.number (spot old) →
+  pub served_told : (steps : List Step) (out : List MessageValue) (kept : List KeptAnswer) (told : List Message) (made : List Message) (old new : Guest S) →
+      AllZip IsMadeOf kept told made → AreTold made old new → Served steps out old.number (spot old) →
       Served steps (out ++ message_values told) new.number (spot new)
-  served_told steps out [] [] old new none same was =
+  served_told steps out kept [] [] old new none same was =
       subst (λ (l : List MessageValue). Served steps l new.number (spot new)) (sym (append-nil out))
       (subst (λ (g : Guest S). Served steps out g.number (spot g)) (sym same) was)
-  served_told steps out [] (m ∷ made) old new none_such are was = absurd none_such
-  served_told steps out (t ∷ told) [] old new none_such are was = absurd none_such
-  served_told steps out (t ∷ told) (m ∷ made) old new (one, all) (between, is, are) was =
+  served_told steps out kept [] (m ∷ made) old new none_such are was = absurd none_such
+  served_told steps out kept (t ∷ told) [] old new none_such are was = absurd none_such
+  served_told steps out kept (t ∷ told) (m ∷ made) old new (one, all) (between, is, are) was =
       let mid : Served steps (out ++ message_value t ∷ []) between.number (spot between) =
       subst (λ (n : Option ℕ). Served steps (out ++ message_value t ∷ []) n (spot between)) (sym is.number)
-      (served_one old.number steps out t m old between one is.stream is.passed was) in
+      (served_one old.number steps out kept t m old between one is.stream is.passed was) in
       subst (λ (l : List MessageValue). Served steps l new.number (spot new)) (append_assoc out (message_value t ∷ []) (message_values told))
-      (served_told steps (out ++ message_value t ∷ []) told made between new all are mid)
+      (served_told steps (out ++ message_value t ∷ []) kept told made between new all are mid)
 
   -- ---- all of them
 
