@@ -660,7 +660,7 @@ module _ {S : Type 0} (remaining contents : S → Option (List ℕ)) (site : Sit
   served_caught_up steps out old new up was = served_caught steps out up.front old new up.are was
 
   pub served_told : (steps : List Step) (out : List MessageValue) (kept : List KeptAnswer) (told : List Message) (made : List Message) (old new : Guest S) →
-      AllZip IsMadeOf kept told made → AreTold made old new → Served steps out old.number (spot old) →
+      AllZip (IsMadeOf kept) told made → AreTold made old new → Served steps out old.number (spot old) →
       Served steps (out ++ message_values told) new.number (spot new)
   served_told steps out kept [] [] old new none same was =
       subst (λ (l : List MessageValue). Served steps l new.number (spot new)) (sym (append-nil out))
