@@ -12,7 +12,8 @@ abbrev pub refusals_in : {S : Type 0} → List Message → List (Guest S) → �
 refusals_in made guests = sum_by (λ guest. refusals_of made guest.number) guests
 
 -- Of the messages that go out so, each that refuses a login of a browser is counted once, and nothing else is.
-pub record CountsLogins {S : Type 0} (kept : List KeptAnswer) (told : List Message) (guests : List (Guest S)) (old new : ℕ) : Type 0 where
+pub record CountsLogins {S : Type 0} (kept : List KeptAnswer) (told : List Message) (guests : List (Guest S))
+    (old new : ℕ) : Type 0 where
   pub made : List Message
   pub are_made : AllZip (IsMadeOf kept) told made
   pub counted : new ≡ counted_up old (refusals_in made guests)

@@ -97,7 +97,8 @@ paid_after at until count = if count == 0 then until else taken_until at until (
 
 -- At most 1,024 bytes of one are read, for which its time is taken; of one that acts for nobody none while something of
 -- it may wait to be heard.
-pub record IsPaid {S : Type 0} (remaining : S → Option (List ℕ)) (acts : Bool) (at : ℕ) (old new : Guest S) : Type 0 where
+pub record IsPaid {S : Type 0} (remaining : S → Option (List ℕ)) (acts : Bool) (at : ℕ)
+    (old new : Guest S) : Type 0 where
   pub taken : List ℕ
   pub consumed : Consumes (remaining old.stream) (remaining new.stream) taken
   pub few : length taken ≤ 1024
@@ -110,8 +111,8 @@ owed_after None None until = until
 owed_after None (Some c) until = 0
 owed_after (Some c) number until = until
 
--- Where it is not lost then, nothing waits for it and the desk takes what comes next of it, it is asked for that at once:
--- what is whole of it is not left to a later turn.
+-- Where it is not lost then, nothing waits for it and the desk takes what comes next of it, it is asked for that at
+-- once: what is whole of it is not left to a later turn.
 pub record IsServed {S : Type 0} (remaining : S → Option (List ℕ)) (site : Site) (at : ℕ) (old new : Guest S)
     (talk after : Talk) : Type 0 where
   pub attended : IsAttended remaining site at old new talk after
@@ -328,11 +329,12 @@ abbrev pub first_wanted : {S : Type 0} → List (Guest S) → Option (List ℕ)
 first_wanted [] = None
 first_wanted (guest ∷ guests) = first_of (wanted guest.waits.items) (first_wanted guests)
 
--- Each browser is told those of these messages that are for its connection, whole and in their order, as they go out; but
--- behind an answer that is not there yet they wait. Then some are told what waited for an answer, and what stands behind
--- it, up to the next such. One whose socket may say nothing is told nothing, and one for which there is no room or memory
--- has its socket ended.
-pub record AreDelivered {S : Type 0} (kept : List KeptAnswer) (told : List Message) (old new : List (Guest S)) : Type 0 where
+-- Each browser is told those of these messages that are for its connection, whole and in their order, as they go out;
+-- but behind an answer that is not there yet they wait. Then some are told what waited for an answer, and what stands
+-- behind it, up to the next such. One whose socket may say nothing is told nothing, and one for which there is no room
+-- or memory has its socket ended.
+pub record AreDelivered {S : Type 0} (kept : List KeptAnswer) (told : List Message)
+    (old new : List (Guest S)) : Type 0 where
   pub made : List Message
   pub are_made : AllZip (IsMadeOf kept) told made
   pub first : List (Guest S)

@@ -48,8 +48,8 @@ const AHEAD: u64 = 1_000;
 /// The same for one that acts for a player.
 const AHEAD_OF_PLAYERS: u64 = 10_000;
 
-/// So many bytes that come of one take a millisecond of its time, whatever they are, beside one for each time that it is
-/// read: a page's load has some 30 requests of 700 bytes, and takes half a second.
+/// So many bytes that come of one take a millisecond of its time, whatever they are, beside one for each time that it
+/// is read: a page's load has some 30 requests of 700 bytes, and takes half a second.
 const COME_A_MILLISECOND: u64 = 40;
 
 /// So many bytes of one are read in a turn at most: more than the head of a browser's request has.
@@ -534,8 +534,8 @@ impl<S> Guest<S> {
         }
     }
 
-    /// It is told those of these messages that go to it, in their order; but what comes behind an answer that is not there
-    /// yet waits, as that does. It fails where memory is refused.
+    /// It is told those of these messages that go to it, in their order; but what comes behind an answer that is not
+    /// there yet waits, as that does. It fails where memory is refused.
     pub fn be_told_all(
         &mut self,
         alloc: Global,
@@ -614,8 +614,8 @@ impl<S> Guest<S> {
         }
     }
 
-    /// Where the first message that waits is to be made by this answer, and somebody more may be told one, it is told that,
-    /// and what waits behind it, up to the next that is to be made.
+    /// Where the first message that waits is to be made by this answer, and somebody more may be told one, it is told
+    /// that, and what waits behind it, up to the next that is to be made.
     pub fn be_answered(&mut self, answer: &KeptAnswer, left: &mut usize, counts: &mut Counts)
         ensures up { IsCaughtUp self.old self.new }
         ensures logins { counts.new.logins_refused ≡ counts.old.logins_refused }
@@ -718,7 +718,8 @@ impl<S: Read + Write> Guest<S> {
         }
     }
 
-    /// Writes what the socket takes at once of what waits to be written, at most 16,384 bytes, if it is its turn. It tells whether that was anything.
+    /// Writes what the socket takes at once of what waits to be written, at most 16,384 bytes, if it is its turn. It
+    /// tells whether that was anything.
     pub fn write_out(&mut self, site: &Site, is_turn: bool) -> bool
         ensures { IsWritten S.contents site.now self.old self.new }
     {

@@ -295,7 +295,8 @@ fn answer_waiting<S>(
 }
 
 /// Those who are told something are told it, or it waits behind an answer to `line G` that is not there yet; and the
-/// replay by which such an answer is made goes on by at most 16 plies. It tells whether there is more to be done at once.
+/// replay by which such an answer is made goes on by at most 16 plies. It tells whether there is more to be done at
+/// once.
 pub fn deliver<S>(
     alloc: Global,
     guests: &mut Vec<Guest<S>>,

@@ -2,8 +2,8 @@
 //! has a place.
 //!
 //! Modules: `guest` has one browser's connection, `waiting` what waits for it, `guests` what is done for all of them,
-//! `rounds` whose turn it is, `places` who has a place and who makes room, `seating` the places of all, `origin` where a connection comes from.
-//! `proofs/EachGuest` has browsers that are attended one after another.
+//! `rounds` whose turn it is, `places` who has a place and who makes room, `seating` the places of all, `origin` where
+//! a connection comes from. `proofs/EachGuest` has browsers that are attended one after another.
 #![tactic(auto)]
 
 mod guest;

@@ -183,9 +183,10 @@ abbrev pub IsWaitingAs : MessageValue → Waiting → Type 0
 IsWaitingAs t one = IsMade t.kind t.text one.kind (string_bytes one.text)
 
 -- Of what went out of the desk's hands this connection was to be told each message that is for it, once and in their
--- order, as it goes out, and nothing else: of all but a front of which nothing was told since it came; and what of it was
--- not told, behind all that was, waits for it.
-pub record IsToldOf (steps : List Step) (out : List MessageValue) (c : ℕ) (past : List Doing) (waits : List Waiting) : Type 0 where
+-- order, as it goes out, and nothing else: of all but a front of which nothing was told since it came; and what of it
+-- was not told, behind all that was, waits for it.
+pub record IsToldOf (steps : List Step) (out : List MessageValue) (c : ℕ) (past : List Doing)
+    (waits : List Waiting) : Type 0 where
   pub before : List MessageValue
   pub since : List MessageValue
   pub split : out ≡ before ++ since

@@ -52,7 +52,8 @@ IsFinished AtPosition text new = IsWithMoves text new
 IsFinished Line text new = ∥ IsOfLine text new ∥₁
 IsFinished Log text new = new ≡ text
 
--- A text of this kind, as far as it is made: the answer to `line G` may not be there yet, and then the text is as it was.
+-- A text of this kind, as far as it is made: the answer to `line G` may not be there yet, and then the text is as it
+-- was.
 abbrev pub IsMade : Kind → List ℕ → Kind → List ℕ → Type 0
 IsMade kind text Line new = (kind ≡ Line) × (new ≡ text)
 IsMade kind text Whole new = IsFinished kind text new

@@ -29,8 +29,8 @@ abbrev pub IsSet : Going → Option UnderWay → Option KeptAnswer → Type 0
 IsSet (More one) replay answer = (replay ≡ Some one) × (answer ≡ None)
 IsSet (Whole one) replay answer = (replay ≡ None) × (answer ≡ Some one)
 
--- In a turn the replay that is under way goes on, and where none is, one may begin for this text, or the answer to it is
--- there at once: it is kept, or the text has no start. No other is played.
+-- In a turn the replay that is under way goes on, and where none is, one may begin for this text, or the answer to it
+-- is there at once: it is kept, or the text has no start. No other is played.
 abbrev pub Replays : Option (List ℕ) → Option UnderWay → Option UnderWay → Option KeptAnswer → Type 0
 Replays next (Some old) (Some new) None = GoesOn old (More new)
 Replays next (Some old) None (Some answer) = GoesOn old (Whole answer)

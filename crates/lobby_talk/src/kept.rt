@@ -93,7 +93,8 @@ impl KeptAnswers {
         }
     }
 
-    /// Keeps an answer, in the place of the one that was kept of its game. The oldest go where there are too many bytes.
+    /// Keeps an answer, in the place of the one that was kept of its game. The oldest go where there are too many
+    /// bytes.
     pub fn keep(&mut self, one: KeptAnswer) -> Result<(), AllocError> {
         put(&mut self.answers, one)
     }

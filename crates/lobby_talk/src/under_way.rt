@@ -46,7 +46,8 @@ impl UnderWay {
         }
     }
 
-    /// Plays at most 16 plies more. Where its text tells no game the answer is `lost`. It fails where memory is refused.
+    /// Plays at most 16 plies more. Where its text tells no game the answer is `lost`. It fails where memory is
+    /// refused.
     pub fn go_on(self, alloc: Global) -> Result<Going, AllocError>
         ensures { IfOk result (λ going. ∥ GoesOn self going ∥₁) }
     {

@@ -770,8 +770,8 @@ fn has_said(lab: &Lab, piece: usize) -> bool {
     }
 }
 
-// A stranger asks for a game, of which 16 plies are played in a turn: an act of ann's, who comes when the first are, is on
-// its way before the stranger has the answer, and the stranger's next message is heard behind that.
+// A stranger asks for a game, of which 16 plies are played in a turn: an act of ann's, who comes when the first are, is
+// on its way before the stranger has the answer, and the stranger's next message is heard behind that.
 fn a_line_is_played_in_parts(rt: &impl Abort, lab: &mut Lab) {
     lab.begin(rt, &(LINE_ASKER, GAME, How::Plainly));
     lab.hall
