@@ -157,15 +157,17 @@ where
     fn turn<L: ActLog>(&mut self, lobby: &mut Lobby, log: &mut L, at: u64) -> Result<()> {
         self.table.look(self.rt, lobby, at)?;
         self.health.look(lobby, &self.table, at)?;
+        let mut live_rest = None;
         if let Some(live) = &mut self.live {
             live.look(self.rt, lobby, at)?;
+            live_rest = live.rest();
         }
         let turned = lobby.turn(self.rt, at, log, &mut self.links)?;
         self.telling.tell_server(lobby.has_server());
         self.telling.tell_turned_away(lobby.turned_away(), at);
         self.telling
             .tell_logins_refused(lobby.counts().logins_refused, at);
-        lobby.rest(within(turned, self.table.rest(at)))?;
+        lobby.rest(within(within(turned, self.table.rest(at)), live_rest))?;
         Ok(())
     }
 }
