@@ -64,12 +64,12 @@ fn is_due(reading: u64, last: u64, every: u64) -> bool
 /// The clock of a server that keeps its moments over restarts, by beats in a file beside its journal, and stands still
 /// while another file is there.
 #[derive(Drop)]
-pub struct ServingClock<'a, R, D: Device> {
-    steady: SteadyClock<'a, R>,
-    rt: &'a R,
+pub struct ServingClock<'r, 't, 'b, R, D: Device> {
+    steady: SteadyClock<'r, R>,
+    rt: &'r R,
     alloc: Global,
-    teller: &'a Teller<'a, R>,
-    beside: &'a Beside,
+    teller: &'t Teller<'t, R>,
+    beside: &'b Beside,
     beats: Option<Beats<D>>,
     /// The readings at the last beat and the last look.
     beaten: u64,
@@ -84,14 +84,14 @@ fn last_of<D: Device>(beats: &Option<Beats<D>>) -> Option<Beat> {
     }
 }
 
-impl<'a, R: Files + Clock + Eprint, D: Device + Drop> ServingClock<'a, R, D> {
+impl<'r, 't, 'b, R: Files + Clock + Eprint, D: Device + Drop> ServingClock<'r, 't, 'b, R, D> {
     /// Begins at the first moment of a life, by that of the journal's last entry, where it has one, and the last beat.
     /// For how long no clock ran is told.
     pub fn new(
-        rt: &'a R,
+        rt: &'r R,
         alloc: Global,
-        teller: &'a Teller<'a, R>,
-        beside: &'a Beside,
+        teller: &'t Teller<'t, R>,
+        beside: &'b Beside,
         entry: Option<u64>,
         beats: Option<Beats<D>>,
     ) -> Self {
@@ -172,7 +172,7 @@ impl<'a, R: Files + Clock + Eprint, D: Device + Drop> ServingClock<'a, R, D> {
     }
 }
 
-impl<R: Files + Clock + Eprint, D: Device + Drop> TurnMoments for ServingClock<'_, R, D> {
+impl<R: Files + Clock + Eprint, D: Device + Drop> TurnMoments for ServingClock<'_, '_, '_, R, D> {
     ghost moment = { λ clock. clock.steady.pace.moment };
 
     fn next(&mut self) -> u64 {

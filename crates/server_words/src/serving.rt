@@ -202,10 +202,10 @@ where
 }
 
 // The same at the moments that stand still while nothing is served.
-fn serve_keeping<'x, R, D: Device + Drop>(
-    rt: &'x R,
+fn serve_keeping<R, D: Device + Drop>(
+    rt: &R,
     alloc: Global,
-    teller: &'x Teller<'x, R>,
+    teller: &Teller<'_, R>,
     serving: &Serving<'_>,
     opened: FoundStore<D>,
 ) -> Result<(), Fault>
@@ -228,10 +228,10 @@ where
 }
 
 // Serves players over the games of the journal on a device, whose opening began then.
-fn serve_on<'x, R, D: Device + Drop>(
-    rt: &'x R,
+fn serve_on<R, D: Device + Drop>(
+    rt: &R,
     alloc: Global,
-    teller: &'x Teller<'x, R>,
+    teller: &Teller<'_, R>,
     serving: &Serving<'_>,
     device: D,
     begun: Option<Instant>,
@@ -256,10 +256,10 @@ where
 }
 
 // The same of the journal in a file.
-fn serve_journal<'x, R>(
-    rt: &'x R,
+fn serve_journal<R>(
+    rt: &R,
     alloc: Global,
-    teller: &'x Teller<'x, R>,
+    teller: &Teller<'_, R>,
     serving: &Serving<'_>,
 ) -> Result<(), Fault>
 where
