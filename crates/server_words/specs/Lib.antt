@@ -5,4 +5,3 @@ pub mod Blank
 pub mod JournalFaults
 pub mod Games
 pub mod PlayFaults
-pub mod Entry
