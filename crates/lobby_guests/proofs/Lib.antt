@@ -6,3 +6,5 @@ pub mod Tally
 pub mod Seats
 pub mod Due
 pub mod Owing
+mod Wanted
+mod Catching

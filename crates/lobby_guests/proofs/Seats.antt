@@ -172,7 +172,7 @@ fair_length at from old new fair = sym (length_all_zip IsKeptOrClosed old new fa
 module _ {S : Type 0} (desk : Desk) where
   all_as_before : (guests : List (Guest S)) → AllZip IsAsBefore guests guests
   all_as_before [] = tt
-  all_as_before (guest ∷ guests) = (record { number = refl; stream = refl; browser = refl }, all_as_before guests)
+  all_as_before (guest ∷ guests) = (record { number = refl; stream = refl; browser = refl; waits = refl }, all_as_before guests)
 
   pub seated_not : (at from : ℕ) (guests : List (Guest S)) → AreSeatedIf false at from desk guests guests
   seated_not at from guests = record { before = all_as_before guests; seats = λ is. absurd (cc); same = λ is. refl }

@@ -1,6 +1,6 @@
 -- What happens at a browser's connection.
-use Rattle.std.specs.Prelude.{ℕ, ◌≡◌, ◌≤◌, ◌<◌, ◌+◌, ◌-◌, ◌/◌, ◌^◌, ◌⊎◌, ◌&&◌, ◌||◌, ◌==◌, nat_le, nat_lt, min, max, Bool, true, false, not}
-use Rattle.std.specs.Prelude.{count_by, if◌then◌else◌, is_some, List, [], ◌∷◌, Option, None, Some, Result, length, take, filter}
+use Rattle.std.specs.Prelude.{ℕ, ◌≡◌, ◌≢◌, ◌≤◌, ◌<◌, ◌+◌, ◌-◌, ◌/◌, ◌^◌, ◌⊎◌, ◌&&◌, ◌||◌, ◌==◌, nat_le, nat_lt, min, max, Bool, true, false, not}
+use Rattle.std.specs.Prelude.{count_by, if◌then◌else◌, is_some, List, [], ◌∷◌, ◌++◌, Option, None, Some, Result, length, take, filter}
 use Rattle.std.specs.List.{AllZip}
 use Rattle.std.specs.Io.KnownBytes.{Consumes, Appends}
 use Rattle.std.specs.String.{string_bytes}
@@ -22,19 +22,24 @@ use Rattle.lobby_guests.specs.declared.rounds.Others.TheVariants.{Newcomers, Str
 use Rattle.lobby_talk.specs.declared.talk.Talk.{Talk}
 use Rattle.lobby_talk.specs.Talking.{Moves, Opens, IsTextSaid, acts_at}
 use Rattle.lobby_talk.specs.Counting.{is_for}
-use Rattle.lobby_talk.specs.Making.{IsMadeOf}
+use Rattle.lobby_talk.specs.Keeping.{IsMadeOf}
+use Rattle.lobby_talk.specs.declared.kept_answer.KeptAnswer.{KeptAnswer}
+use Rattle.lobby_guests.specs.declared.waiting.Waiting.{Waiting}
+use Rattle.lobby_guests.specs.Waiting.{IsCopyOf, is_line, must_wait, IsToldBy, AtLine, wanted, first_of}
 
 -- A connection that begins: nothing came of it, and it has no number.
 pub record IsNewGuest {S : Type 0} (stream : S) (guest : Guest S) : Type 0 where
   pub new : IsNew guest.browser.stage
   pub number : guest.number ≡ None
   pub stream_is : guest.stream ≡ stream
+  pub waits : guest.waits.items ≡ []
 
 -- Nothing came, and nothing went.
 pub record IsAsBefore {S : Type 0} (old new : Guest S) : Type 0 where
   pub number : new.number ≡ old.number
   pub stream : new.stream ≡ old.stream
   pub browser : new.browser ≡ old.browser
+  pub waits : new.waits ≡ old.waits
 
 -- ---- what comes
 
@@ -42,6 +47,7 @@ pub record IsAsBefore {S : Type 0} (old new : Guest S) : Type 0 where
 -- more come. Or nothing came.
 pub record IsRead {S : Type 0} (remaining : S → Option (List ℕ)) (site : Site) (old new : Guest S) : Type 0 where
   pub number : new.number ≡ old.number
+  pub waits : new.waits ≡ old.waits
   pub taken : List ℕ
   pub consumed : Consumes (remaining old.stream) (remaining new.stream) taken
   pub takes : (new.browser ≡ old.browser) × (taken ≡ [])
@@ -63,6 +69,7 @@ pub record IsAsked {S : Type 0} (at : ℕ) (old new : Guest S) (talk after : Tal
   pub gives : HearsNext old.browser.stage new.browser.stage heard
   pub told : IsHeardAs heard at old.number new.number talk after
   pub stream : new.stream ≡ old.stream
+  pub waits : new.waits ≡ old.waits
 
 -- It is asked, or not: then nothing changes.
 abbrev pub IsHeard : {S : Type 0} → ℕ → Guest S → Guest S → Talk → Talk → Type 0
@@ -88,13 +95,14 @@ taken_until at until millis = min (max until at + millis) (2 ^ 64 - 1)
 abbrev pub paid_after : ℕ → ℕ → ℕ → ℕ
 paid_after at until count = if count == 0 then until else taken_until at until (1 + count / 40)
 
--- One is read that acts for nobody: at most 1,024 bytes, for which its time is taken, and none while something of it
--- may wait to be heard.
-pub record IsPaid {S : Type 0} (remaining : S → Option (List ℕ)) (at : ℕ) (old new : Guest S) : Type 0 where
+-- At most 1,024 bytes of one are read, for which its time is taken; of one that acts for nobody none while something of
+-- it may wait to be heard.
+pub record IsPaid {S : Type 0} (remaining : S → Option (List ℕ)) (acts : Bool) (at : ℕ)
+    (old new : Guest S) : Type 0 where
   pub taken : List ℕ
   pub consumed : Consumes (remaining old.stream) (remaining new.stream) taken
   pub few : length taken ≤ 1024
-  pub waits : old.has_more ≡ true → length taken ≡ 0
+  pub waits : acts ≡ false → old.has_more ≡ true → length taken ≡ 0
   pub paid : new.paid_until ≡ paid_after at old.paid_until (length taken)
 
 -- the same once its socket has opened: nothing is owed then
@@ -103,14 +111,15 @@ owed_after None None until = until
 owed_after None (Some c) until = 0
 owed_after (Some c) number until = until
 
--- Where it is not lost then and the desk takes what comes next of it, it is asked for that at once: what is whole of it
--- is not left to a later turn.
+-- Where it is not lost then, nothing waits for it and the desk takes what comes next of it, it is asked for that at
+-- once: what is whole of it is not left to a later turn.
 pub record IsServed {S : Type 0} (remaining : S → Option (List ℕ)) (site : Site) (at : ℕ) (old new : Guest S)
     (talk after : Talk) : Type 0 where
   pub attended : IsAttended remaining site at old new talk after
-  pub asks : attended.read.is_lost ≡ false → MaySpeak talk.desk attended.read.number
+  pub asks : attended.read.is_lost ≡ false → attended.read.waits.items ≡ [] → MaySpeak talk.desk attended.read.number
       → IsAsked at attended.read new talk after
-  pub pays : acts_at talk.desk old.number ≡ false → IsPaid remaining at old attended.read
+  pub waits : length attended.read.waits.items ≢ 0 → (new ≡ attended.read) × (after ≡ talk)
+  pub pays : IsPaid remaining (acts_at talk.desk old.number) at old attended.read
   pub owes : new.paid_until ≡ owed_after attended.read.number new.number attended.read.paid_until
 
 -- Each takes 12 seconds of a connection's time for that, and where more than 48 are taken at its moment it is one too
@@ -125,7 +134,8 @@ InTurn {A = A} {B = B} does (one ∷ ones) after old new =
     (next : A) × (rest : List A) × (between : B) × (after ≡ next ∷ rest)
     × does one next old between × InTurn does ones rest between new
 
--- whether the time of one that acts for a player is not taken too far ahead, 10 seconds, by what it was told
+-- whether the time of one that acts for a player is not taken too far ahead, 10 seconds, by what came of it and by what
+-- it was told
 abbrev pub has_time : ℕ → ℕ → Bool
 has_time at until = nat_le (until - at) 10000
 
@@ -139,7 +149,7 @@ abbrev pub IsPlayersTurn : {S : Type 0} → (S → Option (List ℕ)) → Site �
 IsPlayersTurn remaining site at old new talk after =
     IsServedIf (acts_at talk.desk old.number && has_time at old.paid_until) remaining site at old new talk after
 
--- The same of one that acts for nobody, one second, by what came of it and by what it was told.
+-- The same of one that acts for nobody, one second.
 abbrev pub is_in_time : ℕ → ℕ → Bool
 is_in_time at until = nat_le (until - at) 1000
 
@@ -151,9 +161,11 @@ MayHave guest = (guest.has_more ≡ true) ⊎ ((guest.can_read ≡ true) × Want
 abbrev pub is_fresh : {S : Type 0} → Guest S → Bool
 is_fresh guest = not (is_some guest.number) || guest.paid_until == 0
 
--- One that acts for nobody is due: something may have come of it for which its time is not taken too far ahead.
+-- One that acts for nobody is due: something may have come of it for which its time is not taken too far ahead, and
+-- nothing waits for it.
 pub record IsDue {S : Type 0} (among_fresh : Bool) (at : ℕ) (guest : Guest S) : Type 0 where
   pub stays : guest.is_lost ≡ false
+  pub free : guest.waits.items ≡ []
   pub in_time : is_in_time at guest.paid_until ≡ true
   pub fresh : is_fresh guest ≡ among_fresh
   pub may_have : MayHave guest
@@ -197,11 +209,6 @@ is_other Strangers desk (Some c) = not (acts desk c)
 abbrev pub may_call : Others → Desk → Bool
 may_call Newcomers desk = true
 may_call Strangers desk = not (strangers_wait desk)
-
--- The same at a moment: who acts for nobody waits besides until this one, behind an answer that took long.
-abbrev pub is_called_at : Others → Desk → ℕ → ℕ → Bool
-is_called_at Newcomers desk from at = true
-is_called_at Strangers desk from at = nat_le from at && not (strangers_wait desk)
 
 -- the desk, and how many more are attended in this turn
 pub record Room : Type 0 where
@@ -263,33 +270,85 @@ pub record AreAttended {S : Type 0} (remaining : S → Option (List ℕ)) (site 
 abbrev pub IsSaid : List ℕ → Browser → Browser → Type 0
 IsSaid text old new = (answer : Result (Unit {0}) Unsaid) × SaysTo (Text text) old.stage new.stage answer
 
-abbrev pub IsSaidIf : Bool → List ℕ → Browser → Browser → Type 0
-IsSaidIf false text old new = new ≡ old
-IsSaidIf true text old new = IsSaid text old new
+-- The message waits behind what does.
+pub record IsPutBehind {S : Type 0} (made : Message) (old new : Guest S) : Type 0 where
+  pub number : new.number ≡ old.number
+  pub stream : new.stream ≡ old.stream
+  pub browser : new.browser ≡ old.browser
+  pub one : Waiting
+  pub copy : IsCopyOf made one
+  pub waits : new.waits.items ≡ old.waits.items ++ one ∷ []
 
--- A browser is told a message if it is for its connection, and else nothing.
+-- A message is passed on where it is for the browser: it is said to it, or has to wait.
+abbrev pub IsPassedOn : {S : Type 0} → Bool → Bool → Message → Guest S → Guest S → Type 0
+IsPassedOn false waits made old new = (new.browser ≡ old.browser) × (new.waits ≡ old.waits)
+IsPassedOn true false made old new =
+    IsSaid (string_bytes made.text) old.browser new.browser × (new.waits ≡ old.waits)
+IsPassedOn true true made old new = IsPutBehind made old new
+
+-- A browser is told a message if it is for its connection, and else nothing. Where something waits for it, or the
+-- message's answer is not there yet, the message waits behind that.
 pub record IsTold {S : Type 0} (made : Message) (old new : Guest S) : Type 0 where
   pub number : new.number ≡ old.number
   pub stream : new.stream ≡ old.stream
-  pub said : IsSaidIf (is_for old.number made.to.items) (string_bytes made.text) old.browser new.browser
+  pub passed : IsPassedOn (is_for old.number made.to.items) (must_wait old.waits.items made.kind) made old new
 
 -- all of these, in their order
 abbrev pub AreTold : {S : Type 0} → List Message → Guest S → Guest S → Type 0
 AreTold [] old new = new ≡ old
 AreTold {S = S} (one ∷ made) old new = (between : Guest S) × IsTold one old between × AreTold made between new
 
--- Each browser is told those of these messages that are for its connection, whole and in their order, as they go out.
--- One whose socket may say nothing is told nothing, and one for which there is no room or memory has its socket ended.
-pub record AreDelivered {S : Type 0} (told : List Message) (old new : List (Guest S)) : Type 0 where
-  pub made : List Message
-  pub are_made : AllZip IsMadeOf told made
-  pub are_told : AllZip (AreTold made) old new
+-- The first message that waits is told, by the answer that is there now or as it is.
+pub record IsNextTold {S : Type 0} (one : Waiting) (old new : Guest S) : Type 0 where
+  pub number : new.number ≡ old.number
+  pub stream : new.stream ≡ old.stream
+  pub first : old.waits.items ≡ one ∷ new.waits.items
+  pub text : List ℕ
+  pub told : IsToldBy (is_line one.kind) (string_bytes one.text) text
+  pub said : IsSaid text old.browser new.browser
 
--- What was written stood in front of what waits, and its connection goes on behind it. Or nothing was.
+-- These in front are told, the last first; the others wait.
+abbrev pub AreNextTold : {S : Type 0} → List Waiting → Guest S → Guest S → Type 0
+AreNextTold [] old new = IsAsBefore old new
+AreNextTold {S = S} (one ∷ before) old new =
+    (between : Guest S) × AreNextTold before old between × IsNextTold one between new
+
+-- The first that waits is what this answer was made of.
+abbrev pub IsFirst : KeptAnswer → List Waiting → Type 0
+IsFirst answer [] = ⊥
+IsFirst answer (one ∷ ones) = (is_line one.kind ≡ true) × (string_bytes one.text ≡ string_bytes answer.pgn)
+
+-- A browser is told some of what waits for it, in front.
+pub record IsCaughtUp {S : Type 0} (old new : Guest S) : Type 0 where
+  pub front : List Waiting
+  pub are : AreNextTold front old new
+  pub at_line : AtLine old.waits.items → AtLine new.waits.items
+
+-- the text of the first that waits for the first of these browsers for which something does
+abbrev pub first_wanted : {S : Type 0} → List (Guest S) → Option (List ℕ)
+first_wanted [] = None
+first_wanted (guest ∷ guests) = first_of (wanted guest.waits.items) (first_wanted guests)
+
+-- Each browser is told those of these messages that are for its connection, whole and in their order, as they go out;
+-- but behind an answer that is not there yet they wait. Then some are told what waited for an answer, and what stands
+-- behind it, up to the next such. One whose socket may say nothing is told nothing, and one for which there is no room
+-- or memory has its socket ended.
+pub record AreDelivered {S : Type 0} (kept : List KeptAnswer) (told : List Message)
+    (old new : List (Guest S)) : Type 0 where
+  pub made : List Message
+  pub are_made : AllZip (IsMadeOf kept) told made
+  pub first : List (Guest S)
+  pub are_told : AllZip (AreTold made) old first
+  pub caught_up : AllZip IsCaughtUp first new
+
+-- What was written stood in front of what waits to be written, at most 16,384 bytes of it, and its connection goes on
+-- behind it. Or nothing was.
 pub record IsWritten {S : Type 0} (contents : S → Option (List ℕ)) (site : Site) (old new : Guest S) : Type 0 where
   pub number : new.number ≡ old.number
+  pub waits : new.waits ≡ old.waits
   pub count : ℕ
   pub within : count ≤ length (pending old.browser.stage)
+  pub few : count ≤ 16384
   pub written : Appends (contents old.stream) (contents new.stream) (take count (pending old.browser.stage))
   pub goes : (new.browser ≡ old.browser) × (count ≡ 0) ⊎ Writes site count old.browser.stage new.browser.stage
 
@@ -297,6 +356,7 @@ pub record IsWritten {S : Type 0} (contents : S → Option (List ℕ)) (site : S
 pub record IsLookedAfter {S : Type 0} (old new : Guest S) : Type 0 where
   pub number : new.number ≡ old.number
   pub stream : new.stream ≡ old.stream
+  pub waits : new.waits ≡ old.waits
   pub said : (new.browser ≡ old.browser) ⊎ ((answer : Result (Unit {0}) Unsaid)
       × SaysTo (Ping []) old.browser.stage new.browser.stage answer)
 

@@ -4,3 +4,4 @@ pub mod Origins
 pub mod Roles
 pub mod Seating
 pub mod Counting
+pub mod Waiting

@@ -1,8 +1,16 @@
 //! A browser's connection: its socket, what it says, and what it is told.
-ghost use Rattle.std.specs.Prelude.{ℕ, ◌≡◌, ◌<◌, ◌≤◌, ◌+◌, ◌/◌, ◌↔◌, None, Some, true, false, IsTrue, OnOk};
+ghost use Rattle.std.specs.Prelude.{ℕ, ◌≡◌, ◌<◌, ◌≤◌, ◌+◌, ◌/◌, ◌↔◌, None, Some, [], length, true, false, IsTrue, OnOk};
+ghost use Rattle.std.specs.Prelude.{◌≢◌};
 ghost use Rattle.lobby_desk.specs.Who.{IsReady, at_table};
 ghost use Rattle.lobby_guests.specs.Guests.{has_time, is_beyond, IsNewGuest, IsAsBefore, IsRead};
 ghost use Rattle.lobby_guests.specs.Guests.{IsHeardAs, IsHeard, IsAsked, MaySpeak, IsSaid, IsTold, AreTold, IsWritten};
+ghost use Rattle.lobby_guests.specs.Guests.{IsPutBehind, IsNextTold, IsCaughtUp, IsFirst};
+ghost use Rattle.lobby_guests.specs.Waiting.{must_wait, AtLine};
+ghost use Rattle.lobby_guests.specs.declared.waiting.Waiting.{Waiting as WaitingValue};
+ghost use Rattle.std.specs.String.{string_bytes};
+ghost use Rattle.std.specs.Option.{option_map};
+ghost use Rattle.lobby_talk.specs.Counting.{is_for};
+ghost use Rattle.lobby_guests.specs.Waiting as waiting;
 ghost use Rattle.lobby_guests.specs.Guests.{IsLookedAfter, is_in_time, taken_until, MayHave, may_have, is_fresh, IsDue};
 ghost use Rattle.lobby_guests.specs.Guests.{due_at, ahead_at, is_unheard, IsPaid, owed_after};
 ghost use Rattle.lobby_web.specs.Browsing.{WantsBytes};
@@ -12,10 +20,11 @@ ghost use Rattle.lobby_guests.specs.Roles.{role_at};
 
 use crate::origin::Origin;
 use crate::places::{Place, Role, is_gone};
-use lobby_desk::Message;
+use crate::waiting::{Waiting, is_line};
+use lobby_desk::{Kind, Message};
 use lobby_talk::{
-    Asked, Coming, Counts, Gone, KeepsLinks, PIECE_ROOM, Talk, is_refused_login, say_to_desk,
-    write_piece,
+    Asked, Coming, Counts, Gone, KeepsLinks, KeptAnswer, PIECE_ROOM, Talk, is_refused_login,
+    say_to_desk, write_piece,
 };
 use lobby_web::{Browser, Heard, Site, Unsaid};
 use player_name::Name;
@@ -39,12 +48,15 @@ const AHEAD: u64 = 1_000;
 /// The same for one that acts for a player.
 const AHEAD_OF_PLAYERS: u64 = 10_000;
 
-/// So many bytes that come of one which acts for nobody take a millisecond of its time, whatever they are, beside one
-/// for each time that it is read: a page's load has some 30 requests of 700 bytes, and takes half a second.
+/// So many bytes that come of one take a millisecond of its time, whatever they are, beside one for each time that it
+/// is read: a page's load has some 30 requests of 700 bytes, and takes half a second.
 const COME_A_MILLISECOND: u64 = 40;
 
-/// So many bytes of one that acts for nobody are read in a turn at most: more than the head of a browser's request has.
-const ROOM_OF_OTHERS: usize = 1_024;
+/// So many bytes of one are read in a turn at most: more than the head of a browser's request has.
+const READ_MOST: usize = 1_024;
+
+/// One for which more messages wait than these is let go.
+const WAITING_MOST: usize = 1_024;
 
 /// A login that is refused takes so many milliseconds of a connection's time for that, and where so many are taken
 /// already it is one too many: five at once, and five a minute.
@@ -76,11 +88,13 @@ pub struct Guest<S> {
     is_asked: bool,
     /// When its messages were taken that are not answered.
     asked: Asked,
-    /// Until when its time is taken by the answers that it was told, and while it acts for nobody by what came of it; 0
-    /// where nothing was read yet, and once its socket opens.
+    /// Until when its time is taken by what came of it and by the answers that it was told; 0 where nothing was read
+    /// yet, and once its socket opens.
     paid_until: u64,
     /// The same by logins that were refused.
     logins_until: u64,
+    /// What it is told once the answer to `line G` is there that the first of these waits for.
+    waits: Vec<Waiting>,
 }
 
 // Whether a connection is among these.
@@ -88,15 +102,6 @@ fn is_among(connections: &[u64], number: u64) -> bool
     ensures { result ≡ at_table connections.now number }
 {
     connections.iter().any(|one| *one == number)
-}
-
-// So many bytes of one are read in a turn at most that acts for a player, or for nobody.
-fn room_of(acts: bool) -> usize
-    ensures some { 0 < result }
-    ensures within { result ≤ PIECE_ROOM }
-    ensures few { acts ≡ false → result ≡ ROOM_OF_OTHERS }
-{
-    if acts { PIECE_ROOM } else { ROOM_OF_OTHERS }
 }
 
 // What a connection of this number is to the lobby.
@@ -140,6 +145,7 @@ impl<S> Guest<S> {
             asked: Asked::new(),
             paid_until: 0,
             logins_until: 0,
+            waits: Vec::new(alloc),
         }
     }
 
@@ -183,12 +189,14 @@ impl<S> Guest<S> {
         self.number.is_none() || self.paid_until == 0
     }
 
-    /// Whether something may have come of one that acts for nobody for which its time is not taken too far ahead: of one
-    /// that has no socket yet, or has it, and nothing of its time was taken since; or of another.
+    /// Whether something may have come of one that acts for nobody for which its time is not taken too far ahead, and
+    /// nothing waits for it: of one that has no socket yet, or has it, and nothing of its time was taken since; or of
+    /// another.
     pub fn is_due(&self, among_fresh: bool, at: u64) -> bool
         ensures { IsTrue result ↔ IsDue among_fresh at self.now }
     {
         !self.is_lost
+            && self.waits.is_empty()
             && self.is_in_time(at)
             && self.is_fresh() == among_fresh
             && self.has_something()
@@ -201,7 +209,7 @@ impl<S> Guest<S> {
         self.can_read && self.number.is_none() && self.paid_until == 0 && !self.is_lost
     }
 
-    /// Whether the time of one that acts for a player is not taken too far ahead by what it was told.
+    /// Whether the time of one that acts for a player is not taken too far ahead.
     pub fn has_time(&self, at: u64) -> bool
         ensures { result ≡ has_time at self.now.paid_until }
     {
@@ -339,6 +347,7 @@ impl<S> Guest<S> {
         ensures told { OnOk result (IsHeardAs (Some heard.now) at self.old.number self.new.number talk.old talk.new) }
         ensures browser { OnOk result (self.new.browser ≡ self.old.browser) }
         ensures stream { OnOk result (self.new.stream ≡ self.old.stream) }
+        ensures waits { OnOk result (self.new.waits ≡ self.old.waits) }
         ensures owes { OnOk result (self.new.paid_until ≡ owed_after self.old.number self.new.number self.old.paid_until) }
     {
         match heard {
@@ -371,7 +380,7 @@ impl<S> Guest<S> {
     }
 
     /// What came next of it is said to the desk: that its socket is open, or a message, once the one before it is
-    /// answered. It tells whether there was any, or more may be read that could not be before.
+    /// answered and nothing waits for it. It tells whether there was any, or more may be read that could not be before.
     #[tactic(auto, using(crate::proofs::Owing::owed_same))]
     pub(crate) fn hear<K: KeepsLinks>(
         &mut self,
@@ -381,11 +390,13 @@ impl<S> Guest<S> {
         coming: &mut Coming,
     ) -> Result<bool, AllocError>
         ensures heard { OnOk result (IsHeard at self.old self.new talk.old talk.new) }
-        ensures asks { OnOk result (self.old.is_lost ≡ false → MaySpeak talk.old.desk self.old.number →
-            IsAsked at self.old self.new talk.old talk.new) }
+        ensures asks { OnOk result (self.old.is_lost ≡ false → self.old.waits.items ≡ [] →
+            MaySpeak talk.old.desk self.old.number → IsAsked at self.old self.new talk.old talk.new) }
+        ensures waits { OnOk result (length self.old.waits.items ≢ 0 →
+            (self.new ≡ self.old) × (talk.new ≡ talk.old)) }
         ensures owes { OnOk result (self.new.paid_until ≡ owed_after self.old.number self.new.number self.old.paid_until) }
     {
-        if self.is_lost || !self.may_speak(talk) {
+        if self.is_lost || !self.waits.is_empty() || !self.may_speak(talk) {
             return Ok(false);
         }
         match self.browser.next() {
@@ -404,6 +415,7 @@ impl<S> Guest<S> {
         ensures said { IsSaid text.now self.old.browser self.new.browser }
         ensures number { self.new.number ≡ self.old.number }
         ensures stream { self.new.stream ≡ self.old.stream }
+        ensures waits { self.new.waits ≡ self.old.waits }
     {
         match self.browser.say(text.as_bytes()) {
             Ok(()) => {}
@@ -444,34 +456,173 @@ impl<S> Guest<S> {
         }
     }
 
+    // It is told a text, and its time is taken where that is an answer.
+    fn tell(&mut self, text: &str, counts: &mut Counts)
+        ensures said { IsSaid text.now self.old.browser self.new.browser }
+        ensures number { self.new.number ≡ self.old.number }
+        ensures stream { self.new.stream ≡ self.old.stream }
+        ensures waits { self.new.waits ≡ self.old.waits }
+        ensures logins { counts.new.logins_refused ≡ counts.old.logins_refused }
+    {
+        self.be_told_text(text);
+        if counts.told(text, &mut self.asked) {
+            self.pay(counts.at, text.len());
+        }
+    }
+
+    // A message waits behind what does. One for which too many wait is let go.
+    fn put_behind(&mut self, alloc: Global, made: &Message) -> Result<(), AllocError>
+        ensures { OnOk result (IsPutBehind made.now self.old self.new) }
+    {
+        let one = Waiting::copy_of(alloc, made)?;
+        self.waits.push(one)?;
+        if self.waits.len() > WAITING_MOST {
+            self.is_lost = true;
+        }
+        Ok(())
+    }
+
+    // Whether a message of this kind has to wait.
+    fn must_wait(&self, kind: Kind) -> bool
+        ensures { result ≡ must_wait self.now.waits.items kind }
+    {
+        !self.waits.is_empty() || is_line(kind)
+    }
+
+    // It is told a message, or that waits. A login that it refuses is noted.
+    fn pass_on(
+        &mut self,
+        alloc: Global,
+        made: &Message,
+        counts: &mut Counts,
+    ) -> Result<(), AllocError>
+        requires { is_for self.old.number made.now.to.items ≡ true }
+        ensures told { OnOk result (IsTold made.now self.old self.new) }
+        ensures logins { OnOk result (counts.new.logins_refused
+            ≡ counted_up counts.old.logins_refused (one_if (refuses_login (string_bytes made.now.text)))) }
+    {
+        counts.note_login(made.text.as_str());
+        self.note_login(counts.at, made.text.as_str());
+        if self.must_wait(made.kind) {
+            self.put_behind(alloc, made)
+        } else {
+            self.tell(made.text.as_str(), counts);
+            Ok(())
+        }
+    }
+
     // It is told a message, if that goes to it.
-    fn be_told(&mut self, made: &Message, counts: &mut Counts)
-        ensures told { IsTold made.now self.old self.new }
-        ensures logins { counts.new.logins_refused
-            ≡ counted_up counts.old.logins_refused (one_if (refuses self.old.number made.now)) }
+    fn be_told(
+        &mut self,
+        alloc: Global,
+        made: &Message,
+        counts: &mut Counts,
+    ) -> Result<(), AllocError>
+        ensures told { OnOk result (IsTold made.now self.old self.new) }
+        ensures logins { OnOk result (counts.new.logins_refused
+            ≡ counted_up counts.old.logins_refused (one_if (refuses self.old.number made.now))) }
     {
         match self.number {
-            None => {}
+            None => Ok(()),
             Some(number) => {
                 if is_among(made.to.as_slice(), number) {
-                    self.be_told_text(made.text.as_str());
-                    if counts.told(made.text.as_str(), &mut self.asked) {
-                        self.pay(counts.at, made.text.len());
-                        self.note_login(counts.at, made.text.as_str());
-                    }
+                    self.pass_on(alloc, made, counts)
+                } else {
+                    Ok(())
                 }
             }
         }
     }
 
-    /// It is told those of these messages that go to it, in their order.
-    pub fn be_told_all(&mut self, made: &[Message], counts: &mut Counts)
-        ensures told { AreTold made.now self.old self.new }
-        ensures logins { counts.new.logins_refused
-            ≡ counted_up counts.old.logins_refused (refusals_of made.now self.old.number) }
+    /// It is told those of these messages that go to it, in their order; but what comes behind an answer that is not
+    /// there yet waits, as that does. It fails where memory is refused.
+    pub fn be_told_all(
+        &mut self,
+        alloc: Global,
+        made: &[Message],
+        counts: &mut Counts,
+    ) -> Result<(), AllocError>
+        ensures told { OnOk result (AreTold made.now self.old self.new) }
+        ensures logins { OnOk result (counts.new.logins_refused
+            ≡ counted_up counts.old.logins_refused (refusals_of made.now self.old.number)) }
     {
         for one in made {
-            self.be_told(one, counts);
+            self.be_told(alloc, one, counts)?;
+        }
+        Ok(())
+    }
+
+    /// The server's answer to `pgn G` of which the first message that waits is to be made.
+    pub fn wanted(&self) -> Option<&str>
+        ensures { option_map (λ text. text.now) result ≡ waiting.wanted self.now.waits.items }
+    {
+        Some(self.waits.first()?.text.as_str())
+    }
+
+    // Whether what waits first is whole.
+    fn has_whole(&self) -> bool
+        ensures { result ≡ waiting.has_whole self.now.waits.items }
+    {
+        match self.waits.first() {
+            None => false,
+            Some(one) => !one.is_line(),
+        }
+    }
+
+    // What waits first is told, where that is not to be made. It tells whether it was.
+    fn tell_whole(&mut self, counts: &mut Counts) -> bool
+        ensures told { result ≡ true → (one : WaitingValue) × IsNextTold one self.old self.new }
+        ensures none { result ≡ false → self.new ≡ self.old }
+        ensures line { result ≡ false → AtLine self.old.waits.items }
+        ensures logins { counts.new.logins_refused ≡ counts.old.logins_refused }
+    {
+        if !self.has_whole() {
+            return false;
+        }
+        let one = self.waits.remove(0);
+        self.tell(one.text.as_str(), counts);
+        true
+    }
+
+    // What waits first is told by this answer.
+    fn tell_answer(&mut self, answer: &KeptAnswer, counts: &mut Counts)
+        requires { IsFirst answer.now self.old.waits.items }
+        ensures told { (one : WaitingValue) × IsNextTold one self.old self.new }
+        ensures logins { counts.new.logins_refused ≡ counts.old.logins_refused }
+    {
+        drop(self.waits.remove(0));
+        self.tell(answer.answer(), counts);
+    }
+
+    // What waits first is told by this answer, and then what stands behind it.
+    fn catch_up(&mut self, answer: &KeptAnswer, counts: &mut Counts)
+        requires { IsFirst answer.now self.old.waits.items }
+        ensures up { IsCaughtUp self.old self.new }
+        ensures logins { counts.new.logins_refused ≡ counts.old.logins_refused }
+    {
+        self.tell_answer(answer, counts);
+        while self.tell_whole(counts) {}
+    }
+
+    // Whether the first that waits is what this answer was made of.
+    fn is_first(&self, answer: &KeptAnswer) -> bool
+        ensures { result ≡ true → IsFirst answer.now self.now.waits.items }
+    {
+        match self.waits.first() {
+            None => false,
+            Some(one) => one.is_line() && one.text.as_str() == answer.pgn(),
+        }
+    }
+
+    /// Where the first message that waits is to be made by this answer, and somebody more may be told one, it is told
+    /// that, and what waits behind it, up to the next that is to be made.
+    pub fn be_answered(&mut self, answer: &KeptAnswer, left: &mut usize, counts: &mut Counts)
+        ensures up { IsCaughtUp self.old self.new }
+        ensures logins { counts.new.logins_refused ≡ counts.old.logins_refused }
+    {
+        if *left > 0 && self.is_first(answer) {
+            *left -= 1;
+            self.catch_up(answer, counts);
         }
     }
 
@@ -513,20 +664,19 @@ impl<S: Read + Write> Guest<S> {
         may && self.browser.wants_read()
     }
 
-    // Bytes of it came, for which its time is taken where it acts for nobody.
-    fn note_bytes(&mut self, acts: bool, at: u64, count: usize)
+    // Bytes of it came, for which its time is taken.
+    fn note_bytes(&mut self, at: u64, count: usize)
         ensures before { IsAsBefore self.old self.new }
-        ensures paid { acts ≡ false → self.new.paid_until ≡ taken_until at self.old.paid_until (1 + count / 40) }
+        ensures paid { self.new.paid_until ≡ taken_until at self.old.paid_until (1 + count / 40) }
     {
         self.heard_at = at;
         self.is_asked = false;
         self.has_more = true;
-        if !acts {
-            self.take_time(at, 1 + count as u64 / COME_A_MILLISECOND);
-        }
+        self.take_time(at, 1 + count as u64 / COME_A_MILLISECOND);
     }
 
-    /// Reads a piece, if bytes are wanted, of one that acts for a player or for nobody. It tells whether anything came.
+    /// Reads at most 1,024 bytes, if they are wanted, of one that acts for a player or for nobody. It tells whether
+    /// anything came.
     pub(crate) fn read_in(
         &mut self,
         acts: bool,
@@ -536,12 +686,12 @@ impl<S: Read + Write> Guest<S> {
         coming: &mut Coming,
     ) -> bool
         ensures read { IsRead S.remaining site.now self.old self.new }
-        ensures paid { acts ≡ false → IsPaid S.remaining at self.old self.new }
+        ensures paid { IsPaid S.remaining acts at self.old self.new }
     {
         if !self.is_to_read(acts) {
             return false;
         }
-        let piece = &mut piece[..room_of(acts)];
+        let piece = &mut piece[..READ_MOST];
         match read_piece(&mut self.stream, piece) {
             Came::Nothing => {
                 self.can_read = false;
@@ -552,7 +702,7 @@ impl<S: Read + Write> Guest<S> {
                 coming.take(&piece[..count]);
                 self.browser.take(site, &piece[..count]);
                 self.origin = self.origin.told(self.browser.forwarded());
-                self.note_bytes(acts, at, count);
+                self.note_bytes(at, count);
                 true
             }
             Came::End => {
@@ -568,7 +718,8 @@ impl<S: Read + Write> Guest<S> {
         }
     }
 
-    /// Writes what the socket takes at once of what waits, if it is its turn. It tells whether that was anything.
+    /// Writes what the socket takes at once of what waits to be written, at most 16,384 bytes, if it is its turn. It
+    /// tells whether that was anything.
     pub fn write_out(&mut self, site: &Site, is_turn: bool) -> bool
         ensures { IsWritten S.contents site.now self.old self.new }
     {

@@ -1,23 +1,30 @@
 //! All browsers that are connected, by the names of their sockets, which grow.
 #![tactic(auto, using(lobby_talk::proofs::Each::zipped_none, lobby_talk::proofs::Each::zipped_vec))]
 
-ghost use Rattle.std.specs.Prelude.{ℕ, Bool, true, false, ◌≡◌, ◌++◌, ◌∷◌, [], List, Option, OnOk, count_by};
+ghost use Rattle.std.specs.Prelude.{ℕ, Bool, true, false, ◌≡◌, ◌++◌, ◌∷◌, [], List, Option, OnOk, IfOk, count_by, is_some, ◌||◌};
+ghost use Rattle.std.specs.Option.{option_map};
 ghost use Rattle.std.specs.List.{AllZip};
 ghost use Rattle.lobby_guests.specs.Counting.{refusals_in, CountsLogins};
 ghost use Rattle.lobby_talk.specs.Counting.{counted_up};
 ghost use Rattle.lobby_guests.specs.Guests as guests;
 ghost use Rattle.lobby_guests.specs.Guests.{IsAsBefore, IsServed, IsPlayersTurn, IsOthersTurn, InTurn, Room, full_room};
 ghost use Rattle.lobby_guests.specs.Guests.{AreAttended, AreTold, AreDelivered, IsWritten, IsLookedAfter, IsClosedIf};
-ghost use Rattle.lobby_guests.specs.Guests.{AreClosed, AreParted};
+ghost use Rattle.lobby_guests.specs.Guests.{AreClosed, AreParted, IsCaughtUp, first_wanted};
+ghost use Rattle.lobby_guests.specs.Waiting as waiting;
+ghost use Rattle.lobby_talk.specs.Replaying.{IsReplayed};
+ghost use Rattle.lobby_talk.specs.Talking.{IsTalkAsBefore};
 ghost use Rattle.lobby_talk.specs.Keeping.{AreKept};
 
 use crate::guest::Guest;
 use crate::rounds::{ATTENDED_MOST, Others, Round, Rounds};
 use lobby_desk::Message;
-use lobby_talk::{Coming, Counts, KeepsLinks, PIECE_ROOM, Talk};
+use lobby_talk::{Coming, Counts, KeepsLinks, KeptAnswer, PIECE_ROOM, Talk};
 use lobby_web::Site;
-use std::alloc::AllocError;
+use std::alloc::{AllocError, Global};
 use std::io::{Read, Write};
+
+/// So many browsers are told an answer to `line G` in a turn at most: each may be long.
+const ANSWERED_MOST: usize = 4;
 
 // Reads for a browser, and says to the desk what came next of it. It tells whether there was anything.
 fn attend<S: Read + Write, K: KeepsLinks>(
@@ -87,13 +94,12 @@ fn is_other(others: Others, number: Option<u64>, talk: &Talk) -> bool
 }
 
 // Whether one of these others may be attended now.
-fn may_call(others: Others, talk: &Talk, at: u64) -> bool
-    ensures may { result ≡ true → guests.may_call others talk.now.desk ≡ true }
-    ensures when { result ≡ guests.is_called_at others talk.now.desk talk.now.strangers_at at }
+fn may_call(others: Others, talk: &Talk) -> bool
+    ensures { result ≡ guests.may_call others talk.now.desk }
 {
     match others {
         Others::Newcomers => true,
-        Others::Strangers => at >= talk.strangers_at() && !talk.strangers_wait(),
+        Others::Strangers => !talk.strangers_wait(),
     }
 }
 
@@ -119,7 +125,7 @@ fn attend_other<S: Read + Write, K: KeepsLinks>(
     {
         return Ok(false);
     }
-    if !may_call(others, talk, at) {
+    if !may_call(others, talk) {
         round.shut();
         return Ok(false);
     }
@@ -218,36 +224,104 @@ pub fn attend_all<S: Read + Write, K: KeepsLinks>(
     Ok(players | newcomers | fresh | other)
 }
 
-// Each is told the messages that go to it.
-fn tell_all<S>(guests: &mut Vec<Guest<S>>, made: &[Message], counts: &mut Counts)
-    ensures told { AllZip (AreTold made.now) guests.old.items guests.new.items }
-    ensures logins { counts.new.logins_refused
-        ≡ counted_up counts.old.logins_refused (refusals_in made.now guests.old.items) }
+// Each is told the messages that go to it, or they wait.
+fn tell_all<S>(
+    alloc: Global,
+    guests: &mut Vec<Guest<S>>,
+    made: &[Message],
+    counts: &mut Counts,
+) -> Result<(), AllocError>
+    ensures told { OnOk result (AllZip (AreTold made.now) guests.old.items guests.new.items) }
+    ensures logins { OnOk result (counts.new.logins_refused
+        ≡ counted_up counts.old.logins_refused (refusals_in made.now guests.old.items)) }
 {
     for guest in guests.iter_mut() {
-        guest.be_told_all(made, counts);
+        guest.be_told_all(alloc, made, counts)?;
+    }
+    Ok(())
+}
+
+// The first of two texts that there is.
+fn first_of<'a>(a: Option<&'a str>, b: Option<&'a str>) -> Option<&'a str>
+    ensures { option_map (λ text. text.now) result
+        ≡ waiting.first_of (option_map (λ text. text.now) a.entry) (option_map (λ text. text.now) b.entry) }
+{
+    match a {
+        Some(text) => Some(text),
+        None => b,
     }
 }
 
-/// Those who are told something are told it.
-pub fn deliver<S>(
+// The server's answer to `pgn G` that is to be made next: the first that waits of the first browser of which one does.
+fn first_wanted<S>(guests: &[Guest<S>]) -> Option<&str>
+    ensures { option_map (λ text. text.now) result ≡ first_wanted guests.now }
+{
+    let mut first: Option<&str> = None;
+    for guest in guests {
+        first = first_of(first, guest.wanted());
+    }
+    first
+}
+
+// Those are told this answer who wait for it first, some in a turn.
+fn answer_all<S>(guests: &mut Vec<Guest<S>>, answer: &KeptAnswer, counts: &mut Counts)
+    ensures up { AllZip IsCaughtUp guests.old.items guests.new.items }
+    ensures logins { counts.new.logins_refused ≡ counts.old.logins_refused }
+{
+    let mut left = ANSWERED_MOST;
+    for guest in guests.iter_mut() {
+        guest.be_answered(answer, &mut left, counts);
+    }
+}
+
+// A replay goes on for the first who waits. Where its answer is there, some who wait for it are told it.
+fn answer_waiting<S>(
     guests: &mut Vec<Guest<S>>,
     talk: &mut Talk,
     counts: &mut Counts,
 ) -> Result<(), AllocError>
-    ensures guests { OnOk result (AreDelivered talk.old.told.items guests.old.items guests.new.items) }
+    ensures up { OnOk result (AllZip IsCaughtUp guests.old.items guests.new.items) }
+    ensures replays { OnOk result (∥ IsReplayed (first_wanted guests.old.items) talk.old.replay talk.new.replay ∥₁) }
+    ensures rest { OnOk result (IsTalkAsBefore talk.old talk.new) }
+    ensures logins { OnOk result (counts.new.logins_refused ≡ counts.old.logins_refused) }
+{
+    match talk.replay_on(first_wanted(guests.as_slice()))? {
+        None => Ok(()),
+        Some(answer) => {
+            answer_all(guests, &answer, counts);
+            talk.keep(answer)
+        }
+    }
+}
+
+/// Those who are told something are told it, or it waits behind an answer to `line G` that is not there yet; and the
+/// replay by which such an answer is made goes on by at most 16 plies. It tells whether there is more to be done at
+/// once.
+pub fn deliver<S>(
+    alloc: Global,
+    guests: &mut Vec<Guest<S>>,
+    talk: &mut Talk,
+    counts: &mut Counts,
+) -> Result<bool, AllocError>
+    ensures guests { OnOk result (AreDelivered talk.old.kept.answers.items talk.old.told.items
+        guests.old.items guests.new.items) }
     ensures none { OnOk result (talk.new.told.items ≡ []) }
     ensures desk { OnOk result (talk.new.desk ≡ talk.old.desk) }
     ensures wire { OnOk result (talk.new.wire ≡ talk.old.wire) }
     ensures next { OnOk result (talk.new.next ≡ talk.old.next) }
-    ensures logins { OnOk result (CountsLogins talk.old.told.items guests.old.items counts.old.logins_refused
-        counts.new.logins_refused) }
+    ensures replays { OnOk result (∥ ((next : Option (List ℕ)) × IsReplayed next talk.old.replay talk.new.replay) ∥₁) }
+    ensures more { IfOk result (λ more. more
+        ≡ (is_some talk.new.replay || is_some (first_wanted guests.new.items))) }
+    ensures logins { OnOk result (CountsLogins talk.old.kept.answers.items talk.old.told.items guests.old.items
+        counts.old.logins_refused counts.new.logins_refused) }
     ensures kept { OnOk result (AreKept talk.new.kept.answers.items) }
 {
-    talk.make_told(counts.at)?;
-    tell_all(guests, talk.told.as_slice(), counts);
+    talk.make_told()?;
+    tell_all(alloc, guests, talk.told.as_slice(), counts)?;
     talk.told.clear();
-    Ok(())
+    answer_waiting(guests, talk, counts)?;
+    let has_first = first_wanted(guests.as_slice()).is_some();
+    Ok(talk.is_replaying() | has_first)
 }
 
 // Writes to each that acts for a player what it takes.

@@ -1,9 +1,9 @@
 //! The lobby's browsers: the connection of each, a stream that does not wait, what a turn does for each of them, and who
 //! has a place.
 //!
-//! Modules: `guest` has one browser's connection, `guests` what is done for all of them, `rounds` whose turn it is,
-//! `places` who has a place and who makes room, `seating` the places of all, `origin` where a connection comes from.
-//! `proofs/EachGuest` has browsers that are attended one after another.
+//! Modules: `guest` has one browser's connection, `waiting` what waits for it, `guests` what is done for all of them,
+//! `rounds` whose turn it is, `places` who has a place and who makes room, `seating` the places of all, `origin` where
+//! a connection comes from. `proofs/EachGuest` has browsers that are attended one after another.
 #![tactic(auto)]
 
 mod guest;
@@ -12,6 +12,7 @@ mod origin;
 mod places;
 mod rounds;
 mod seating;
+mod waiting;
 
 pub use guest::Guest;
 pub use guests::{
@@ -22,3 +23,4 @@ pub use origin::Origin;
 pub use places::{Place, Role};
 pub use rounds::Rounds;
 pub use seating::seat_if;
+pub use waiting::Waiting;

@@ -22,19 +22,20 @@ use Rattle.lobby_web.specs.declared.site.File.{File}
 use Rattle.lobby_web.specs.declared.socket.Heard.{Heard as HeardOf}
 use Rattle.lobby_web.specs.declared.socket.Heard.TheVariants as heards
 use Rattle.lobby_guests.specs.declared.guest.Guest.{Guest}
+use Rattle.lobby_guests.specs.declared.waiting.Waiting.{Waiting}
 use Rattle.lobby_loop.specs.declared.hall.Hall.{Hall}
 use Rattle.lobby_talk.specs.declared.link.Link.{Link}
 use Rattle.lobby_talk.specs.declared.talk.Talk.{Talk}
 use Rattle.lobby_talk.specs.Talking.{Saying, InTime, TooFast, WithLink, saying, Moves}
 use Rattle.lobby_guests.specs.declared.rounds.Others.TheVariants.{Newcomers, Strangers}
 use Rattle.lobby_guests.proofs.Attending.{players_pass, others_pass}
-use Rattle.lobby_guests.specs.Guests.{IsNewGuest, IsHeardAs, IsAsBefore, IsAttended, InTurn, full_room, IsLookedAfter, AreTold, AreDelivered, IsWritten, IsClosedIf, AreClosed}
+use Rattle.lobby_guests.specs.Guests.{IsNewGuest, IsHeardAs, IsAsBefore, IsAttended, InTurn, full_room, IsLookedAfter, AreTold, AreNextTold, IsCaughtUp, AreDelivered, IsWritten, IsClosedIf, AreClosed}
 use Rattle.lobby_talk.specs.Lines.{bytes_of as bytes_before, AreHeard}
 use Rattle.lobby_talk.specs.Held.{HoldsNoLine, IsKept}
 use Rattle.lobby_loop.specs.Turning.{BeginsHall, Admits, ServerComes, IsServerAsBefore, HearsServer, bytes_heard, PartsFromServer, TellsServer, HasTurned, texts_put, AreAdmitted, IsReached, IsLobbyTurn}
 use Rattle.lobby_loop.specs.Doing.{Gave, Spot, spot, DoesAt, all_tells, IsServed, AreServed, WereServed, Before}
 use Rattle.lobby_loop.specs.Living.{Happening, Came, Woke, ServerCame, Turned, IsWoken, IsLife, written_in, taken_in, put_in, lost_if, presences_in, kept, sent_in, line_more, lines_heard, presence_more, presences_told, IsHeld, IsOther, HasNone, IsOneOf, AreKnown, IsOwn, AreOwn, numbers, NoLineWaits, IsRightLife, Passing, TurnAt, Rested, IsLobbyLife, Filed, Files, before_in, Changed, Relisted, Renews, Enrolled}
-use Rattle.lobby_loop.proofs.Serving.{IsApart, ApartFrom, AreApart, served_before, served_read, served_looked, served_written, served_told, gave_nothing, gave_again, gave_early, gave_opened, gave_text, all_served_on, all_served_zip, all_served_filter, all_served_more, all_came, served_new, ClosedIf, AllClosed, closed_if_on, all_were_on, all_were_out, all_were_came, all_let_go, came_more, site_more, all_filed, all_were_filed}
+use Rattle.lobby_loop.proofs.Serving.{IsApart, ApartFrom, AreApart, served_before, served_read, served_looked, served_written, served_told, served_caught_up, gave_nothing, gave_again, gave_early, gave_opened, gave_text, all_served_on, all_served_zip, all_served_filter, all_served_more, all_came, served_new, ClosedIf, AllClosed, closed_if_on, all_were_on, all_were_out, all_were_came, all_let_go, came_more, site_more, all_filed, all_were_filed}
 
 -- ---- the desk's steps
 
@@ -557,18 +558,18 @@ module _ {S : Type 0} (remaining contents : S → Option (List ℕ)) (site : Sit
 
   heard_as : (done rest : List (Guest S)) (heard : Option HeardOf) (at : ℕ) (number after : Option ℕ) (a b : Spot S) (s t : Talk) →
       OwnBefore s.next done (number ∷ numbers rest) → IsOwn s.next number (numbers rest) → AreOwn s.next (numbers rest) →
-      IsTalkAt players is_paused traffic out (Three done rest number a) s → DoesAt remaining contents (Gave heard) a b →
-      IsHeardAs heard at number after s t →
+      IsTalkAt players is_paused traffic out (Three done rest number a) s → b.waits ≡ a.waits →
+      DoesAt remaining contents (Gave heard) a b → IsHeardAs heard at number after s t →
       IsTalkAt players is_paused traffic out (Three done rest after b) t × Numbered s.next number after t.next
-  heard_as done rest None at number after a b s t before own owns so_far does (same_number, same) =
+  heard_as done rest None at number after a b s t before own owns so_far waits does (same_number, same) =
       let so = same_talk players is_paused traffic out (Three done rest number a) s t so_far same in (
         subst (λ (n : Option ℕ). IsTalkAt players is_paused traffic out (Three done rest n b) t) (sym same_number)
             (at_with players is_paused traffic out (Three done rest number a) (Three done rest number b) t.desk t.wire.items
             (message_values t.told.items) (with_one done rest number a b
-            (λ steps was. gave_nothing remaining contents site came steps out number a b does was)) so.0),
+            (λ steps was. gave_nothing remaining contents site came steps out number a b waits does was)) so.0),
         inl (same_number, so.1),
       )
-  heard_as done rest (Some heards.Opened) at None after a b s t before own owns so_far does (c, is, opens) = (
+  heard_as done rest (Some heards.Opened) at None after a b s t before own owns so_far waits does (c, is, opens) = (
     subst (λ (n : Option ℕ). IsTalkAt players is_paused traffic out (Three done rest n b) t) (sym is)
         (at_more players is_paused traffic out (Three done rest None a) (Three done rest (Some c) b) _ _ _ _ s.desk t.desk (Opened c)
         (λ bytes. refl) (λ steps step event tells three. record {
@@ -577,7 +578,7 @@ module _ {S : Type 0} (remaining contents : S → Option (List ℕ)) (site : Sit
               (opened_before s.next c (numbers done) (None ∷ numbers rest) opens.fresh before.0))
               (subst (λ (e : DeskInput). AreApart (numbers former) e) (sym event)
               (opened_before s.next c (numbers former) (None ∷ numbers rest) opens.fresh before.1)) three.before;
-          one = gave_opened remaining contents site came steps step out (message_values s.told.items) c a b event tells does three.one;
+          one = gave_opened remaining contents site came steps step out (message_values s.told.items) c a b waits event tells does three.one;
           behind = all_served_on remaining contents site came step steps out rest
               (subst (λ (e : DeskInput). AreApart (numbers rest) e) (sym event)
               (opened_behind s.next c (numbers rest) opens.fresh owns)) three.behind;
@@ -586,23 +587,23 @@ module _ {S : Type 0} (remaining contents : S → Option (List ℕ)) (site : Sit
         }) so_far opens.steps),
     inr (c, is, opens.fresh, opens.next),
   )
-  heard_as done rest (Some heards.Opened) at (Some d) after a b s t before own owns so_far does (is, same) =
+  heard_as done rest (Some heards.Opened) at (Some d) after a b s t before own owns so_far waits does (is, same) =
       let so = same_talk players is_paused traffic out (Three done rest (Some d) a) s t so_far same in (
         subst (λ (n : Option ℕ). IsTalkAt players is_paused traffic out (Three done rest n b) t) (sym is)
             (at_with players is_paused traffic out (Three done rest (Some d) a) (Three done rest (Some d) b) t.desk t.wire.items
             (message_values t.told.items) (with_one done rest (Some d) a b
-            (λ steps was. gave_again remaining contents site came steps out d a b does was)) so.0),
+            (λ steps was. gave_again remaining contents site came steps out d a b waits does was)) so.0),
         inl (is, so.1),
       )
-  heard_as done rest (Some (heards.Text text)) at None after a b s t before own owns so_far does (is, same) =
+  heard_as done rest (Some (heards.Text text)) at None after a b s t before own owns so_far waits does (is, same) =
       let so = same_talk players is_paused traffic out (Three done rest None a) s t so_far same in (
         subst (λ (n : Option ℕ). IsTalkAt players is_paused traffic out (Three done rest n b) t) (sym is)
             (at_with players is_paused traffic out (Three done rest None a) (Three done rest None b) t.desk t.wire.items
             (message_values t.told.items) (with_one done rest None a b
-            (λ steps was. gave_early remaining contents site came steps out text a b does was)) so.0),
+            (λ steps was. gave_early remaining contents site came steps out text a b waits does was)) so.0),
         inl (is, so.1),
       )
-  heard_as done rest (Some (heards.Text text)) at (Some d) after a b s t before own owns so_far does
+  heard_as done rest (Some (heards.Text text)) at (Some d) after a b s t before own owns so_far waits does
       (is, (shown, a_text, no_text, says)) =
       let how = says.how in
       let so = moved players is_paused traffic out (Three done rest (Some d) a) (Three done rest (Some d) b) s t (saying how d shown)
@@ -612,7 +613,7 @@ module _ {S : Type 0} (remaining contents : S → Option (List ℕ)) (site : Sit
             (said_before s.next d how shown (numbers done) (numbers rest) before.0))
             (subst (λ (e : DeskInput). AreApart (numbers former) e) (sym event)
             (said_before s.next d how shown (numbers former) (numbers rest) before.1)) three.before;
-        one = gave_text remaining contents site came steps step out d how text shown a b event a_text no_text does three.one;
+        one = gave_text remaining contents site came steps step out d how text shown a b waits event a_text no_text does three.one;
         behind = all_served_on remaining contents site came step steps out rest
             (subst (λ (e : DeskInput). AreApart (numbers rest) e) (sym event) (said_behind d how shown (numbers rest) own.1))
             three.behind;
@@ -672,7 +673,7 @@ module _ {S : Type 0} (remaining contents : S → Option (List ℕ)) (site : Sit
             let so = heard_as done rest asked.heard at one.read.number next.number (spot one.read) (spot next) s t
             (subst (λ (n : Option ℕ). OwnBefore s.next done (n ∷ numbers rest)) (sym one.reads.number) before)
             (subst (λ (n : Option ℕ). IsOwn s.next n (numbers rest)) (sym one.reads.number) own) owns read
-            (asked.stream, asked.gives) asked.told in
+            (ap (λ v. v.items) asked.waits) (asked.stream, asked.gives) asked.told in
             (ended t so.0, subst (λ (n : Option ℕ). Numbered s.next n next.number t.next) one.reads.number so.1)
         | inr same ↦
             let here : IsTalkAt players is_paused traffic out (Three done rest next.number (spot next)) s =
@@ -732,6 +733,13 @@ module _ {S : Type 0} where
   told_number : (made : List Message) (old new : Guest S) → AreTold made old new → new.number ≡ old.number
   told_number [] old new same = ap (λ (g : Guest S). g.number) same
   told_number (one ∷ made) old new (between, told, are) = told_number made between new are ∙ told.number
+
+  next_number : (front : List Waiting) (old new : Guest S) → AreNextTold front old new → new.number ≡ old.number
+  next_number [] old new same = same.number
+  next_number (one ∷ before) old new (between, are, is) = is.number ∙ next_number before old between are
+
+  caught_number : (old new : Guest S) → IsCaughtUp old new → new.number ≡ old.number
+  caught_number old new up = next_number up.front old new up.are
 
   none_more : (c : ℕ) (guests : List (Guest S)) (guest : Guest S) → guest.number ≡ None → HasNone c (numbers guests) →
       HasNone c (numbers (guests ++ guest ∷ []))
@@ -1080,7 +1088,7 @@ module _ {S : Type 0} (remaining contents : S → Option (List ℕ)) (site : Sit
 module _ {S : Type 0} (remaining contents : S → Option (List ℕ)) (players : List Player) (is_paused : Bool) (came : Before S) where
   -- what went out is delivered, and a front of what is to go to the server is written
   gone_out : (site : Site) (former : List (Guest S)) (out : List MessageValue) (base : Traffic) (front : List ℕ) (said : Talk) (desk : Desk)
-      (wire : List ℕ) (guests told : List (Guest S)) → AreDelivered said.told.items guests told → said.wire.items ≡ front ++ wire →
+      (wire : List ℕ) (guests told : List (Guest S)) → AreDelivered said.kept.answers.items said.told.items guests told → said.wire.items ≡ front ++ wire →
       desk ≡ said.desk →
       IsAt players is_paused base out (AreKept remaining contents site came former out guests) said.desk said.wire.items
       (message_values said.told.items) →
@@ -1094,10 +1102,13 @@ module _ {S : Type 0} (remaining contents : S → Option (List ℕ)) (players : 
     heard = so_far.heard;
     presences = so_far.presences;
     tells = so_far.tells ∙ sym (append-nil (out ++ message_values said.told.items));
-    holds = kept_zip remaining contents site came former out (message_values said.told.items) (AreTold delivers.made)
-        (λ steps x y one was. served_told remaining contents site came steps out said.told.items delivers.made x y
-        delivers.are_made one was) (λ x y one. told_number delivers.made x y one) guests told delivers.are_told so_far.steps
-        so_far.holds;
+    holds = kept_same remaining contents site came former (out ++ message_values said.told.items) IsCaughtUp
+        (λ steps x y one was. served_caught_up remaining contents site came steps (out ++ message_values said.told.items) x y one was)
+        (λ x y one. caught_number x y one) delivers.first told delivers.caught_up so_far.steps
+        (kept_zip remaining contents site came former out (message_values said.told.items) (AreTold delivers.made)
+        (λ steps x y one was. served_told remaining contents site came steps out said.kept.answers.items said.told.items delivers.made x y
+        delivers.are_made one was) (λ x y one. told_number delivers.made x y one) guests delivers.first delivers.are_told so_far.steps
+        so_far.holds);
   }
 
   -- What holds behind a turn, of the desk and of browsers' numbers, where this was so before.
@@ -1200,9 +1211,10 @@ module _ {S : Type 0} (remaining contents : S → Option (List ℕ)) (players : 
       same_numbers IsAsBefore (λ x y one. one.number) t.hands.written settled t.hands.parted_from.settles
       ∙ (same_numbers (IsWritten contents site) (λ x y one. one.number) t.hands.first t.hands.written writes
       ∙ (same_numbers (IsWritten contents site) (λ x y one. one.number) t.hands.told t.hands.first writes_first
-      ∙ (same_numbers (AreTold t.hands.delivers.made) (λ x y one. told_number t.hands.delivers.made x y one) t.between.guests.items t.hands.told
-      t.hands.delivers.are_told
-      ∙ same_numbers IsLookedAfter (λ x y one. one.number) t.takes.attended t.between.guests.items t.takes.looks))) in
+      ∙ (same_numbers IsCaughtUp (λ x y one. caught_number x y one) t.hands.delivers.first t.hands.told t.hands.delivers.caught_up
+      ∙ (same_numbers (AreTold t.hands.delivers.made) (λ x y one. told_number t.hands.delivers.made x y one) t.between.guests.items
+      t.hands.delivers.first t.hands.delivers.are_told
+      ∙ same_numbers IsLookedAfter (λ x y one. one.number) t.takes.attended t.between.guests.items t.takes.looks)))) in
       let own_said : AreOwn t.between.talk.next (numbers (former ++ t.takes.attended)) = said.1 in
       let own_settled : AreOwn t.between.talk.next (numbers ((gone_of settled ++ former) ++ stay_of settled)) =
       own_parted t.between.talk.next former settled (own_as t.between.talk.next former t.takes.attended settled same own_said) in

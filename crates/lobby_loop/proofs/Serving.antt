@@ -15,12 +15,18 @@ use Rattle.lobby_web.specs.declared.site.Site.{Site}
 use Rattle.lobby_web.specs.declared.socket.Heard.TheVariants as heards
 use Rattle.lobby_web.specs.Browsing.{pending}
 use Rattle.lobby_guests.specs.declared.guest.Guest.{Guest}
-use Rattle.lobby_talk.specs.Making.{IsMadeOf}
+use Rattle.lobby_desk.specs.declared.telling.Kind.{Kind}
+use Rattle.lobby_desk.specs.declared.telling.Kind.TheVariants.{Whole, Position as AtPosition, Line, Log}
+use Rattle.lobby_talk.specs.Making.{IsOfLine, IsFinished, IsMade}
+use Rattle.lobby_talk.specs.Keeping.{IsMadeOf}
+use Rattle.lobby_talk.specs.declared.kept_answer.KeptAnswer.{KeptAnswer}
+use Rattle.lobby_guests.specs.declared.waiting.Waiting.{Waiting}
+use Rattle.lobby_guests.specs.Waiting.{is_line, must_wait, IsToldBy as IsTextToldBy}
 use Rattle.lobby_talk.specs.Talking.{Saying, InTime, TooFast, WithLink, saying}
 use Rattle.lobby_talk.specs.Counting.{is_for}
-use Rattle.lobby_guests.specs.Guests.{IsNewGuest, IsAsBefore, IsRead, IsSaidIf, AreTold, IsWritten, IsLookedAfter}
+use Rattle.lobby_guests.specs.Guests.{IsNewGuest, IsAsBefore, IsRead, IsSaid, IsPassedOn, AreTold, IsNextTold, AreNextTold, IsCaughtUp, IsWritten, IsLookedAfter}
 use Rattle.lobby_loop.specs.Living.{numbers}
-use Rattle.lobby_loop.specs.Doing.{Doing, Took, Tried, Gave, WasTold, Wrote, Spot, spot, DoesAt, IsAt, AreAt, IsAmong, Before, has_opened, texts_more, texts_given, texts_told, AreLate, message_of, messages_of, IsSaidAs, IsSaidBy, all_tells, told_for, is_opening, before_opening, IsToldAs, IsToldOf, IsToldBy, IsServed, WasClosed, WereServed, AreServed}
+use Rattle.lobby_loop.specs.Doing.{Doing, Took, Tried, Gave, WasTold, Wrote, Spot, spot, DoesAt, HasDone, IsAt, AreAt, IsAmong, Before, has_opened, texts_more, texts_given, texts_told, AreLate, message_of, messages_of, IsSaidAs, IsSaidBy, all_tells, told_for, is_opening, before_opening, IsToldAs, IsWaitingAs, IsToldOf, IsToldBy, IsServed, WasClosed, WereServed, AreServed}
 
 -- ---- events of other connections
 
@@ -70,16 +76,20 @@ said_on (Some c) s steps past apart (opened, said) = (
       (sym (message_apart c s.event (messages_of c steps) apart)) said,
 )
 
-told_on : (n : Option ℕ) (s : Step) (steps : List Step) (out : List MessageValue) (past : List Doing) → ApartFrom n s.event →
-    IsToldBy steps out n past → IsToldBy (s ∷ steps) out n past
-told_on None s steps out past apart told = told
-told_on (Some c) s steps out past apart told = record {
+told_on : (n : Option ℕ) (s : Step) (steps : List Step) (out : List MessageValue) (past : List Doing) (waits : List Waiting) →
+    ApartFrom n s.event → IsToldBy steps out n past waits → IsToldBy (s ∷ steps) out n past waits
+told_on None s steps out past waits apart told = told
+told_on (Some c) s steps out past waits apart told = record {
   before = told.before;
   since = told.since;
   split = told.split;
   early = subst (λ (b : Bool). length told.before ≤ length (all_tells (if b then steps else before_opening c steps)))
       (sym (opening_apart c s.event apart)) told.early;
+  front = told.front;
+  rest = told.rest;
+  parts = told.parts;
   told = told.told;
+  waiting = told.waiting;
 }
 
 -- ---- what changes nothing of what was said and told
@@ -92,15 +102,19 @@ said_same (Some c) steps p q opened texts (was, said) = (
   subst (λ (l : List (List ℕ)). AllZip IsSaidAs l (messages_of c steps)) (sym texts) said,
 )
 
-told_same : (n : Option ℕ) (steps : List Step) (out : List MessageValue) (p q : List Doing) → texts_told q ≡ texts_told p →
-    IsToldBy steps out n p → IsToldBy steps out n q
-told_same None steps out p q texts told = texts ∙ told
-told_same (Some c) steps out p q texts told = record {
+told_same : (n : Option ℕ) (steps : List Step) (out : List MessageValue) (p q : List Doing) (waits : List Waiting) →
+    texts_told q ≡ texts_told p → IsToldBy steps out n p waits → IsToldBy steps out n q waits
+told_same None steps out p q waits texts told = (texts ∙ told.0, told.1)
+told_same (Some c) steps out p q waits texts told = record {
   before = told.before;
   since = told.since;
   split = told.split;
   early = told.early;
-  told = subst (λ (l : List (List ℕ)). AllZip IsToldAs (told_for c told.since) l) (sym texts) told.told;
+  front = told.front;
+  rest = told.rest;
+  parts = told.parts;
+  told = subst (λ (l : List (List ℕ)). AllZip IsToldAs told.front l) (sym texts) told.told;
+  waiting = told.waiting;
 }
 
 -- what says nothing to the desk, and tells no text
@@ -144,26 +158,140 @@ zip_both R [] us (y ∷ ys) vs none_such all = absurd none_such
 zip_both R (x ∷ xs) us [] vs none_such all = absurd none_such
 zip_both R (x ∷ xs) us (y ∷ ys) vs (one, more) all = (one, zip_both R xs us ys vs more all)
 
--- one message more went out, which the connection was told, if it is for it
-told_further : (steps : List Step) (out : List MessageValue) (c : ℕ) (t : MessageValue) (texts : List (List ℕ)) (p q : List Doing) →
-    texts_told q ≡ texts_told p ++ texts → AllZip IsToldAs (told_for c (t ∷ [])) texts → IsToldOf steps out c p →
-    IsToldOf steps (out ++ t ∷ []) c q
-told_further steps out c t texts p q are new told = record {
+-- what is for a connection of these and of one more
+for_both : (c : ℕ) (since front rest more : List MessageValue) (t : MessageValue) → told_for c since ≡ front ++ rest →
+    told_for c (t ∷ []) ≡ more → told_for c (since ++ t ∷ []) ≡ front ++ (rest ++ more)
+for_both c since front rest more t parts is =
+    told_for_both c since (t ∷ [])
+    ∙ (ap (λ (l : List MessageValue). l ++ told_for c (t ∷ [])) parts
+    ∙ (ap (λ (l : List MessageValue). (front ++ rest) ++ l) is
+    ∙ append_assoc front rest more))
+
+for_it : (c : ℕ) (t : MessageValue) → at_table t.to c ≡ true → told_for c (t ∷ []) ≡ t ∷ []
+for_it c t is = ap (λ (b : Bool). if b then t ∷ [] else []) is
+
+not_for_it : (c : ℕ) (t : MessageValue) → at_table t.to c ≡ false → told_for c (t ∷ []) ≡ []
+not_for_it c t is = ap (λ (b : Bool). if b then t ∷ [] else []) is
+
+no_rest : (rest : List MessageValue) → AllZip IsWaitingAs rest [] → rest ≡ []
+no_rest [] none = refl
+no_rest (t ∷ rest) none_such = absurd none_such
+
+abbrev any_waits : List Waiting → Bool
+any_waits [] = false
+any_waits (one ∷ ones) = true
+
+-- a message that need not wait is whole, and nothing waits
+nothing_waits : (waits : List Waiting) (kind : Kind) → must_wait waits kind ≡ false → waits ≡ []
+nothing_waits [] kind is = refl
+nothing_waits (one ∷ ones) kind is = absurd (false≢true (sym is))
+
+is_whole : (waits : List Waiting) (kind of : Kind) (text new : List ℕ) → must_wait waits kind ≡ false → IsMade of text kind new →
+    IsFinished of text new
+is_whole (one ∷ ones) kind of text new is made = absurd (false≢true (sym is))
+is_whole [] Whole of text new is made = made
+is_whole [] AtPosition of text new is made = made
+is_whole [] Line of text new is made = absurd (false≢true (sym is))
+is_whole [] Log of text new is made = made
+
+-- one message more went out, which is not for the connection
+told_past : (steps : List Step) (out : List MessageValue) (c : ℕ) (t : MessageValue) (p : List Doing) (waits : List Waiting) →
+    at_table t.to c ≡ false → IsToldOf steps out c p waits → IsToldOf steps (out ++ t ∷ []) c p waits
+told_past steps out c t p waits is told = record {
   before = told.before;
   since = told.since ++ t ∷ [];
   split = ap (λ (l : List MessageValue). l ++ t ∷ []) told.split ∙ append_assoc told.before told.since (t ∷ []);
   early = told.early;
-  told = subst (λ (l : List (List ℕ)). AllZip IsToldAs (told_for c (told.since ++ t ∷ [])) l) (sym are)
-      (subst (λ (l : List MessageValue). AllZip IsToldAs l (texts_told p ++ texts)) (sym (told_for_both c told.since (t ∷ [])))
-      (zip_both IsToldAs (told_for c told.since) (told_for c (t ∷ [])) (texts_told p) texts told.told new));
+  front = told.front;
+  rest = told.rest;
+  parts = for_both c told.since told.front told.rest [] t told.parts (not_for_it c t is)
+      ∙ ap (λ (l : List MessageValue). told.front ++ l) (append-nil told.rest);
+  told = told.told;
+  waiting = told.waiting;
 }
 
-for_it : (c : ℕ) (t : MessageValue) (text : List ℕ) → at_table t.to c ≡ true → IsToldAs t text →
-    AllZip IsToldAs (told_for c (t ∷ [])) (text ∷ [])
-for_it c t text is made = subst (λ (b : Bool). AllZip IsToldAs (if b then t ∷ [] else []) (text ∷ [])) (sym is) (made, tt)
+-- one that it was told, where nothing waits
+told_further : (steps : List Step) (out : List MessageValue) (c : ℕ) (t : MessageValue) (text : List ℕ) (p q : List Doing)
+    (waits : List Waiting) → texts_told q ≡ texts_told p ++ text ∷ [] → waits ≡ [] → at_table t.to c ≡ true → IsToldAs t text →
+    IsToldOf steps out c p waits → IsToldOf steps (out ++ t ∷ []) c q waits
+told_further steps out c t text p q waits are none is so told =
+    let rest : told.rest ≡ [] = no_rest told.rest (subst (λ (l : List Waiting). AllZip IsWaitingAs told.rest l) none told.waiting) in
+    let whole : told_for c told.since ≡ told.front ++ [] = told.parts ∙ ap (λ (l : List MessageValue). told.front ++ l) rest in
+    record {
+      before = told.before;
+      since = told.since ++ t ∷ [];
+      split = ap (λ (l : List MessageValue). l ++ t ∷ []) told.split ∙ append_assoc told.before told.since (t ∷ []);
+      early = told.early;
+      front = told.front ++ t ∷ [];
+      rest = [];
+      parts = for_both c told.since told.front [] (t ∷ []) t whole (for_it c t is) ∙ sym (append-nil (told.front ++ t ∷ []));
+      told = subst (λ (l : List (List ℕ)). AllZip IsToldAs (told.front ++ t ∷ []) l) (sym are)
+          (zip_both IsToldAs told.front (t ∷ []) (texts_told p) (text ∷ []) told.told (so, tt));
+      waiting = subst (λ (l : List Waiting). AllZip IsWaitingAs [] l) (sym none) tt;
+    }
 
-not_for_it : (c : ℕ) (t : MessageValue) → at_table t.to c ≡ false → AllZip IsToldAs (told_for c (t ∷ [])) []
-not_for_it c t is = subst (λ (b : Bool). AllZip IsToldAs (if b then t ∷ [] else []) []) (sym is) tt
+-- one that waits
+told_behind : (steps : List Step) (out : List MessageValue) (c : ℕ) (t : MessageValue) (p : List Doing) (waits later : List Waiting)
+    (one : Waiting) → later ≡ waits ++ one ∷ [] → at_table t.to c ≡ true → IsWaitingAs t one → IsToldOf steps out c p waits →
+    IsToldOf steps (out ++ t ∷ []) c p later
+told_behind steps out c t p waits later one are is so told = record {
+  before = told.before;
+  since = told.since ++ t ∷ [];
+  split = ap (λ (l : List MessageValue). l ++ t ∷ []) told.split ∙ append_assoc told.before told.since (t ∷ []);
+  early = told.early;
+  front = told.front;
+  rest = told.rest ++ t ∷ [];
+  parts = for_both c told.since told.front told.rest (t ∷ []) t told.parts (for_it c t is);
+  told = told.told;
+  waiting = subst (λ (l : List Waiting). AllZip IsWaitingAs (told.rest ++ t ∷ []) l) (sym are)
+      (zip_both IsWaitingAs told.rest (t ∷ []) waits (one ∷ []) told.waiting (so, tt));
+}
+
+-- What waits was made so far, and is told by what is there now.
+told_as : (of kind : Kind) (text was new : List ℕ) → IsMade of text kind was → IsTextToldBy (is_line kind) was new → IsFinished of text new
+told_as of Whole text was new made told = subst (λ (l : List ℕ). IsFinished of text l) (sym told) made
+told_as of AtPosition text was new made told = subst (λ (l : List ℕ). IsFinished of text l) (sym told) made
+told_as of Line text was new (is, same) told =
+    subst (λ (k : Kind). IsFinished k text new) (sym is) (subst (λ (l : List ℕ). ∥ IsOfLine l new ∥₁) same told)
+told_as of Log text was new made told = subst (λ (l : List ℕ). IsFinished of text l) (sym told) made
+
+-- the first that waits is told
+record Next (c : ℕ) (since : List MessageValue) (texts : List (List ℕ)) (waits : List Waiting) : Type 0 where
+  first : List MessageValue
+  later : List MessageValue
+  parts : told_for c since ≡ first ++ later
+  told : AllZip IsToldAs first texts
+  waiting : AllZip IsWaitingAs later waits
+
+next_told : (c : ℕ) (since front rest : List MessageValue) (texts : List (List ℕ)) (one : Waiting) (waits : List Waiting) (text : List ℕ) →
+    told_for c since ≡ front ++ rest → AllZip IsToldAs front texts → AllZip IsWaitingAs rest (one ∷ waits) →
+    IsTextToldBy (is_line one.kind) (string_bytes one.text) text → Next c since (texts ++ text ∷ []) waits
+next_told c since front [] texts one waits text parts told none_such by = absurd none_such
+next_told c since front (t ∷ rest) texts one waits text parts told (so, are) by = record {
+  first = front ++ t ∷ [];
+  later = rest;
+  parts = parts ∙ sym (append_assoc front (t ∷ []) rest);
+  told = zip_both IsToldAs front (t ∷ []) texts (text ∷ []) told (told_as t.kind one.kind t.text (string_bytes one.text) text so by, tt);
+  waiting = are;
+}
+
+told_next : (steps : List Step) (out : List MessageValue) (c : ℕ) (p q : List Doing) (one : Waiting) (waits later : List Waiting)
+    (text : List ℕ) → texts_told q ≡ texts_told p ++ text ∷ [] → waits ≡ one ∷ later →
+    IsTextToldBy (is_line one.kind) (string_bytes one.text) text → IsToldOf steps out c p waits → IsToldOf steps out c q later
+told_next steps out c p q one waits later text are is by told =
+    let next = next_told c told.since told.front told.rest (texts_told p) one later text told.parts told.told
+    (subst (λ (l : List Waiting). AllZip IsWaitingAs told.rest l) is told.waiting) by in
+    record {
+      before = told.before;
+      since = told.since;
+      split = told.split;
+      early = told.early;
+      front = next.first;
+      rest = next.later;
+      parts = next.parts;
+      told = subst (λ (l : List (List ℕ)). AllZip IsToldAs next.first l) (sym are) next.told;
+      waiting = next.waiting;
+    }
 
 -- ---- a connection that is gone
 
@@ -218,9 +346,9 @@ module _ {S : Type 0} (remaining contents : S → Option (List ℕ)) (site : Sit
   abbrev Served : List Step → List MessageValue → Option ℕ → Spot S → Type 0
   Served steps out number now = IsServed remaining contents site came steps out number now
 
-  done_more : (steps : List Step) (out : List MessageValue) (n : Option ℕ) (d : Doing) (a b : Spot S) →
+  done_more : (steps : List Step) (out : List MessageValue) (n : Option ℕ) (d : Doing) (a b : Spot S) → b.waits ≡ a.waits →
       ((past : List Doing) → IsQuiet d past) → IsAt site d → DoesAt remaining contents d a b → Served steps out n a → Served steps out n b
-  done_more steps out n d a b quiet at does was = record {
+  done_more steps out n d a b same quiet at does was = record {
     first = was.first;
     new = was.new;
     among = was.among;
@@ -229,37 +357,39 @@ module _ {S : Type 0} (remaining contents : S → Option (List ℕ)) (site : Sit
     sites = at_more site came.sites d was.past at was.sites;
     late = (quiet was.past).late was.late;
     said = said_same n steps was.past (d ∷ was.past) (quiet was.past).opened (quiet was.past).given was.said;
-    told = told_same n steps out was.past (d ∷ was.past) (quiet was.past).told was.told;
+    told = subst (λ (l : List Waiting). IsToldBy steps out n (d ∷ was.past) l) (sym same)
+        (told_same n steps out was.past (d ∷ was.past) a.waits (quiet was.past).told was.told);
   }
 
   -- where its socket was tried for nothing
   tried_more : (steps : List Step) (out : List MessageValue) (n : Option ℕ) (old new : Guest S) → new.browser ≡ old.browser →
-      Consumes (remaining old.stream) (remaining new.stream) [] ⊎ Appends (contents old.stream) (contents new.stream) [] →
+      new.waits ≡ old.waits → Consumes (remaining old.stream) (remaining new.stream) [] ⊎ Appends (contents old.stream) (contents new.stream) [] →
       Served steps out n (spot old) → Served steps out n (spot new)
-  tried_more steps out n old new browser tried was =
-      done_more steps out n Tried (spot old) (spot new) (λ past. record { opened = refl; given = refl; told = refl; late = λ so_far. so_far }) tt
+  tried_more steps out n old new browser waits tried was =
+      done_more steps out n Tried (spot old) (spot new) (ap (λ v. v.items) waits) (λ past. record { opened = refl; given = refl; told = refl; late = λ so_far. so_far }) tt
       (ap (λ (b : Browser). b.stage) browser, tried) was
 
   -- where its connection and its socket are as they were
   stays_at : (steps : List Step) (out : List MessageValue) (n : Option ℕ) (old new : Guest S) → new.browser ≡ old.browser →
-      new.stream ≡ old.stream → Served steps out n (spot old) → Served steps out n (spot new)
-  stays_at steps out n old new browser stream was =
-      subst (λ (b : Browser). Served steps out n (record { stage = b.stage; stream = new.stream })) (sym browser)
-      (subst (λ (s : S). Served steps out n (record { stage = old.browser.stage; stream = s })) (sym stream) was)
+      new.stream ≡ old.stream → new.waits ≡ old.waits → Served steps out n (spot old) → Served steps out n (spot new)
+  stays_at steps out n old new browser stream waits was =
+      subst (λ (b : Browser). Served steps out n (record { stage = b.stage; stream = new.stream; waits = new.waits.items })) (sym browser)
+      (subst (λ (s : S). Served steps out n (record { stage = old.browser.stage; stream = s; waits = new.waits.items })) (sym stream)
+      (subst (λ v. Served steps out n (record { stage = old.browser.stage; stream = old.stream; waits = v.items })) (sym waits) was))
 
   pub served_before : (steps : List Step) (out : List MessageValue) (old new : Guest S) → IsAsBefore old new →
       Served steps out old.number (spot old) → Served steps out new.number (spot new)
   served_before steps out old new same was =
       subst (λ (n : Option ℕ). Served steps out n (spot new)) (sym same.number)
-      (stays_at steps out old.number old new same.browser same.stream was)
+      (stays_at steps out old.number old new same.browser same.stream same.waits was)
 
   pub served_read : (steps : List Step) (out : List MessageValue) (old new : Guest S) → IsRead remaining site old new →
       Served steps out old.number (spot old) → Served steps out new.number (spot new)
   served_read steps out old new reads was =
       subst (λ (n : Option ℕ). Served steps out n (spot new)) (sym reads.number) (elim reads.takes [
-        | inl none ↦ tried_more steps out old.number old new none.0
+        | inl none ↦ tried_more steps out old.number old new none.0 reads.waits
             (inl (subst (λ (l : List ℕ). Consumes (remaining old.stream) (remaining new.stream) l) none.1 reads.consumed)) was
-        | inr takes ↦ done_more steps out old.number (Took site reads.taken) (spot old) (spot new)
+        | inr takes ↦ done_more steps out old.number (Took site reads.taken) (spot old) (spot new) (ap (λ v. v.items) reads.waits)
             (λ past. record { opened = refl; given = refl; told = refl; late = λ so_far. so_far }) refl (reads.consumed, takes.0, takes.1) was
       ])
 
@@ -267,8 +397,8 @@ module _ {S : Type 0} (remaining contents : S → Option (List ℕ)) (site : Sit
       Served steps out old.number (spot old) → Served steps out new.number (spot new)
   served_looked steps out old new looks was =
       subst (λ (n : Option ℕ). Served steps out n (spot new)) (sym looks.number) (elim looks.said [
-        | inl same ↦ stays_at steps out old.number old new same looks.stream was
-        | inr pings ↦ done_more steps out old.number (WasTold (Ping []) pings.0) (spot old) (spot new)
+        | inl same ↦ stays_at steps out old.number old new same looks.stream looks.waits was
+        | inr pings ↦ done_more steps out old.number (WasTold (Ping []) pings.0) (spot old) (spot new) (ap (λ v. v.items) looks.waits)
             (λ past. record { opened = refl; given = refl; told = append-nil (texts_told past); late = λ so_far. (inl refl, so_far) }) tt (looks.stream, refl, pings.1) was
       ])
 
@@ -276,22 +406,23 @@ module _ {S : Type 0} (remaining contents : S → Option (List ℕ)) (site : Sit
       Served steps out old.number (spot old) → Served steps out new.number (spot new)
   served_written steps out old new written was =
       subst (λ (n : Option ℕ). Served steps out n (spot new)) (sym written.number) (elim written.goes [
-        | inl none ↦ tried_more steps out old.number old new none.0
+        | inl none ↦ tried_more steps out old.number old new none.0 written.waits
             (inr (subst (λ (k : ℕ). Appends (contents old.stream) (contents new.stream) (take k (pending old.browser.stage))) none.1 written.written)) was
         | inr writes ↦ done_more steps out old.number (Wrote site (take written.count (pending old.browser.stage))) (spot old) (spot new)
+            (ap (λ v. v.items) written.waits)
             (λ past. record { opened = refl; given = refl; told = refl; late = λ so_far. so_far }) refl
             (written.count, written.within, refl, written.written, writes) was
       ])
 
   -- what it gave next, and what the desk was told of that
-  pub gave_nothing : (steps : List Step) (out : List MessageValue) (n : Option ℕ) (a b : Spot S) →
+  pub gave_nothing : (steps : List Step) (out : List MessageValue) (n : Option ℕ) (a b : Spot S) → b.waits ≡ a.waits →
       DoesAt remaining contents (Gave None) a b → Served steps out n a → Served steps out n b
-  gave_nothing steps out n a b does was =
-      done_more steps out n (Gave None) a b (λ past. record { opened = refl; given = refl; told = refl; late = λ so_far. so_far }) tt does was
+  gave_nothing steps out n a b same does was =
+      done_more steps out n (Gave None) a b same (λ past. record { opened = refl; given = refl; told = refl; late = λ so_far. so_far }) tt does was
 
-  pub gave_again : (steps : List Step) (out : List MessageValue) (c : ℕ) (a b : Spot S) →
+  pub gave_again : (steps : List Step) (out : List MessageValue) (c : ℕ) (a b : Spot S) → b.waits ≡ a.waits →
       DoesAt remaining contents (Gave (Some heards.Opened)) a b → Served steps out (Some c) a → Served steps out (Some c) b
-  gave_again steps out c a b does was = record {
+  gave_again steps out c a b same does was = record {
     first = was.first;
     new = was.new;
     among = was.among;
@@ -300,12 +431,13 @@ module _ {S : Type 0} (remaining contents : S → Option (List ℕ)) (site : Sit
     sites = at_more site came.sites (Gave (Some heards.Opened)) was.past tt was.sites;
     late = was.late;
     said = (refl, was.said.1);
-    told = told_same (Some c) steps out was.past (Gave (Some heards.Opened) ∷ was.past) refl was.told;
+    told = subst (λ (l : List Waiting). IsToldOf steps out c (Gave (Some heards.Opened) ∷ was.past) l) (sym same)
+        (told_same (Some c) steps out was.past (Gave (Some heards.Opened) ∷ was.past) a.waits refl was.told);
   }
 
-  pub gave_early : (steps : List Step) (out : List MessageValue) (text : Vec ℕ Global) (a b : Spot S) →
+  pub gave_early : (steps : List Step) (out : List MessageValue) (text : Vec ℕ Global) (a b : Spot S) → b.waits ≡ a.waits →
       DoesAt remaining contents (Gave (Some (heards.Text text))) a b → Served steps out None a → Served steps out None b
-  gave_early steps out text a b does was = record {
+  gave_early steps out text a b same does was = record {
     first = was.first;
     new = was.new;
     among = was.among;
@@ -314,13 +446,13 @@ module _ {S : Type 0} (remaining contents : S → Option (List ℕ)) (site : Sit
     sites = at_more site came.sites (Gave (Some (heards.Text text))) was.past tt was.sites;
     late = was.late;
     said = was.said;
-    told = was.told;
+    told = (was.told.0, same ∙ was.told.1);
   }
 
-  pub gave_opened : (steps : List Step) (s : Step) (out t : List MessageValue) (c : ℕ) (a b : Spot S) → s.event ≡ Opened c →
-      all_tells steps ≡ out ++ t → DoesAt remaining contents (Gave (Some heards.Opened)) a b → Served steps out None a →
+  pub gave_opened : (steps : List Step) (s : Step) (out t : List MessageValue) (c : ℕ) (a b : Spot S) → b.waits ≡ a.waits →
+      s.event ≡ Opened c → all_tells steps ≡ out ++ t → DoesAt remaining contents (Gave (Some heards.Opened)) a b → Served steps out None a →
       Served (s ∷ steps) out (Some c) b
-  gave_opened steps s out t c a b is tells does was =
+  gave_opened steps s out t c a b same is tells does was =
       let own : is_opening c s.event ≡ true = ap (is_opening c) is ∙ eq-eqb c c refl in
       let none : message_of c s.event (messages_of c steps) ≡ [] =
       ap (λ (e : DeskInput). message_of c e (messages_of c steps)) is
@@ -344,7 +476,11 @@ module _ {S : Type 0} (remaining contents : S → Option (List ℕ)) (site : Sit
           since = [];
           split = sym (append-nil out);
           early = subst (λ (u : Bool). length out ≤ length (all_tells (if u then steps else before_opening c steps))) (sym own) whole;
-          told = subst (λ (l : List (List ℕ)). AllZip IsToldAs [] l) (sym was.told) tt;
+          front = [];
+          rest = [];
+          parts = refl;
+          told = subst (λ (l : List (List ℕ)). AllZip IsToldAs [] l) (sym was.told.0) tt;
+          waiting = subst (λ (l : List Waiting). AllZip IsWaitingAs [] l) (sym (same ∙ was.told.1)) tt;
         };
       }
 
@@ -366,10 +502,10 @@ module _ {S : Type 0} (remaining contents : S → Option (List ℕ)) (site : Sit
   not_opening InTime c shown = refl
 
   pub gave_text : (steps : List Step) (s : Step) (out : List MessageValue) (c : ℕ) (how : Saying) (text : Vec ℕ Global) (shown : List ℕ)
-      (a b : Spot S) → s.event ≡ saying how c shown → (IsUtf8 text.items → shown ≡ text.items) →
+      (a b : Spot S) → b.waits ≡ a.waits → s.event ≡ saying how c shown → (IsUtf8 text.items → shown ≡ text.items) →
       (¬ IsUtf8 text.items → shown ≡ []) → DoesAt remaining contents (Gave (Some (heards.Text text))) a b →
       Served steps out (Some c) a → Served (s ∷ steps) out (Some c) b
-  gave_text steps s out c how text shown a b is text_is text_is_not does was =
+  gave_text steps s out c how text shown a b same is text_is text_is_not does was =
       let (opened, said) = was.said in
       let other : is_opening c s.event ≡ false = ap (is_opening c) is ∙ not_opening how c shown in
       record {
@@ -393,13 +529,17 @@ module _ {S : Type 0} (remaining contents : S → Option (List ℕ)) (site : Sit
           split = was.told.split;
           early = subst (λ (u : Bool). length was.told.before ≤ length (all_tells (if u then steps else before_opening c steps)))
               (sym other) was.told.early;
+          front = was.told.front;
+          rest = was.told.rest;
+          parts = was.told.parts;
           told = was.told.told;
+          waiting = subst (λ (l : List Waiting). AllZip IsWaitingAs was.told.rest l) (sym same) was.told.waiting;
         };
       }
 
   -- where what was done at it is the same, and what the desk heard and what went out is other
   told_anew : (steps later : List Step) (out more : List MessageValue) (n : Option ℕ) (now : Spot S) (was : Served steps out n now) →
-      IsSaidBy later n was.past → IsToldBy later more n was.past → Served later more n now
+      IsSaidBy later n was.past → IsToldBy later more n was.past now.waits → Served later more n now
   told_anew steps later out more n now was said told = record {
     first = was.first;
     new = was.new;
@@ -412,54 +552,127 @@ module _ {S : Type 0} (remaining contents : S → Option (List ℕ)) (site : Sit
     told = told;
   }
 
+  -- a text is said to it, which it was to be told, and so what waits may be other
+  said_more : (steps : List Step) (out more : List MessageValue) (c : ℕ) (text : List ℕ) (old new : Guest S) →
+      new.stream ≡ old.stream → IsSaid text old.browser new.browser → (was : Served steps out (Some c) (spot old)) →
+      ((q : List Doing) → texts_told q ≡ texts_told was.past ++ text ∷ [] → IsToldOf steps more c q new.waits.items) →
+      Served steps more (Some c) (spot new)
+  said_more steps out more c text old new stream (answer, says) was told = record {
+    first = was.first;
+    new = was.new;
+    among = was.among;
+    past = WasTold (Text text) answer ∷ was.past;
+    done = (spot old, was.done, (stream, refl, says));
+    sites = at_more site came.sites (WasTold (Text text) answer) was.past tt was.sites;
+    late = (inr was.said.0, was.late);
+    said = was.said;
+    told = told (WasTold (Text text) answer ∷ was.past) refl;
+  }
+
+  -- where nothing was done, and something more waits
+  done_waits : (first now : Spot S) (past : List Doing) (waits : List Waiting) → HasDone remaining contents first past now →
+      HasDone remaining contents first past (record { stage = now.stage; stream = now.stream; waits = waits })
+  done_waits first now [] waits done = done
+  done_waits first now (Took at bytes ∷ past) waits done = done
+  done_waits first now (Tried ∷ past) waits done = done
+  done_waits first now (Gave heard ∷ past) waits done = done
+  done_waits first now (WasTold content answer ∷ past) waits done = done
+  done_waits first now (Wrote at bytes ∷ past) waits done = done
+
+  waits_more : (steps : List Step) (out more : List MessageValue) (c : ℕ) (now : Spot S) (waits : List Waiting)
+      (was : Served steps out (Some c) now) → IsToldOf steps more c was.past waits →
+      Served steps more (Some c) (record { stage = now.stage; stream = now.stream; waits = waits })
+  waits_more steps out more c now waits was told = record {
+    first = was.first;
+    new = was.new;
+    among = was.among;
+    past = was.past;
+    done = done_waits was.first now was.past waits was.done;
+    sites = was.sites;
+    late = was.late;
+    said = was.said;
+    told = told;
+  }
+
+  moved_to : (steps : List Step) (out : List MessageValue) (n : Option ℕ) (old new : Guest S) → new.browser ≡ old.browser →
+      new.stream ≡ old.stream → Served steps out n (record { stage = old.browser.stage; stream = old.stream; waits = new.waits.items }) →
+      Served steps out n (spot new)
+  moved_to steps out n old new browser stream was =
+      subst (λ (b : Browser). Served steps out n (record { stage = b.stage; stream = new.stream; waits = new.waits.items })) (sym browser)
+      (subst (λ (s : S). Served steps out n (record { stage = old.browser.stage; stream = s; waits = new.waits.items })) (sym stream) was)
+
+  -- one message goes out of the desk's hands, which is for it
+  passed_on : (steps : List Step) (out : List MessageValue) (kept : List KeptAnswer) (c : ℕ) (told made : Message) (old new : Guest S) (waits : Bool) →
+      must_wait old.waits.items made.kind ≡ waits → at_table (message_value told).to c ≡ true → IsMadeOf kept told made →
+      new.stream ≡ old.stream → IsPassedOn true waits made old new → Served steps out (Some c) (spot old) →
+      Served steps (out ++ message_value told ∷ []) (Some c) (spot new)
+  passed_on steps out kept c told made old new false must to is stream (said, same) was =
+      said_more steps out (out ++ message_value told ∷ []) c (string_bytes made.text) old new stream said was
+      (λ q texts. subst (λ v. IsToldOf steps (out ++ message_value told ∷ []) c q v.items) (sym same)
+      (told_further steps out c (message_value told) (string_bytes made.text) was.past q old.waits.items texts
+      (nothing_waits old.waits.items made.kind must) to
+      (is_whole old.waits.items made.kind told.kind (string_bytes told.text) (string_bytes made.text) must is.text) was.told))
+  passed_on steps out kept c told made old new true must to is stream put was =
+      moved_to steps (out ++ message_value told ∷ []) (Some c) old new put.browser stream
+      (waits_more steps out (out ++ message_value told ∷ []) c (spot old) new.waits.items was
+      (told_behind steps out c (message_value told) was.past old.waits.items new.waits.items put.one put.waits to
+      (subst (λ (k : Kind). IsMade told.kind (string_bytes told.text) k (string_bytes put.one.text)) (sym put.copy.kind)
+      (subst (λ (l : List ℕ). IsMade told.kind (string_bytes told.text) made.kind l) (sym put.copy.text) is.text)) was.told))
+
   -- one message goes out of the desk's hands
-  served_one : (n : Option ℕ) (steps : List Step) (out : List MessageValue) (told : Message) (made : Message) (old new : Guest S) →
-      IsMadeOf told made → new.stream ≡ old.stream →
-      IsSaidIf (is_for n made.to.items) (string_bytes made.text) old.browser new.browser → Served steps out n (spot old) →
+  served_one : (n : Option ℕ) (steps : List Step) (out : List MessageValue) (kept : List KeptAnswer) (told : Message) (made : Message) (old new : Guest S) →
+      IsMadeOf kept told made → new.stream ≡ old.stream →
+      IsPassedOn (is_for n made.to.items) (must_wait old.waits.items made.kind) made old new → Served steps out n (spot old) →
       Served steps (out ++ message_value told ∷ []) n (spot new)
-  served_one None steps out told made old new is stream same was =
-      let so = stays_at steps out None old new same stream was in
+  served_one None steps out kept told made old new is stream (same, still) was =
+      let so = stays_at steps out None old new same stream still was in
       told_anew steps steps out (out ++ message_value told ∷ []) None (spot new) so so.said so.told
-  served_one (Some c) steps out told made old new is stream said was =
+  served_one (Some c) steps out kept told made old new is stream passed was =
       let to : at_table made.to.items c ≡ at_table (message_value told).to c = ap (λ l. at_table l.items c) is.to in
+      let waits = must_wait old.waits.items made.kind in
       elim (cases_Bool (at_table made.to.items c)) [
-        | inl for_c ↦
-            let (answer, says) = subst (λ (u : Bool). IsSaidIf u (string_bytes made.text) old.browser new.browser) for_c said in
-            record {
-              first = was.first;
-              new = was.new;
-              among = was.among;
-              past = WasTold (Text (string_bytes made.text)) answer ∷ was.past;
-              done = (spot old, was.done, (stream, refl, says));
-              sites = at_more site came.sites (WasTold (Text (string_bytes made.text)) answer) was.past tt was.sites;
-              late = (inr was.said.0, was.late);
-              said = was.said;
-              told = told_further steps out c (message_value told) (string_bytes made.text ∷ []) was.past
-                  (WasTold (Text (string_bytes made.text)) answer ∷ was.past) refl
-                  (for_it c (message_value told) (string_bytes made.text) (sym to ∙ for_c) is.text) was.told;
-            }
+        | inl for_c ↦ passed_on steps out kept c told made old new waits refl (sym to ∙ for_c) is stream
+            (subst (λ (u : Bool). IsPassedOn u waits made old new) for_c passed) was
         | inr not_for_c ↦
-            let same = subst (λ (u : Bool). IsSaidIf u (string_bytes made.text) old.browser new.browser) not_for_c said in
-            let so = stays_at steps out (Some c) old new same stream was in
+            let same = subst (λ (u : Bool). IsPassedOn u waits made old new) not_for_c passed in
+            let so = stays_at steps out (Some c) old new same.0 stream same.1 was in
             told_anew steps steps out (out ++ message_value told ∷ []) (Some c) (spot new) so so.said
-            (told_further steps out c (message_value told) [] so.past so.past (sym (append-nil (texts_told so.past)))
-            (not_for_it c (message_value told) (sym to ∙ not_for_c)) so.told)
+            (told_past steps out c (message_value told) so.past new.waits.items (sym to ∙ not_for_c) so.told)
       ]
 
-  pub served_told : (steps : List Step) (out : List MessageValue) (told : List Message) (made : List Message) (old new : Guest S) →
-      AllZip IsMadeOf told made → AreTold made old new → Served steps out old.number (spot old) →
+  -- what waits first is told
+  served_next : (n : Option ℕ) (steps : List Step) (out : List MessageValue) (one : Waiting) (old new : Guest S) →
+      IsNextTold one old new → Served steps out n (spot old) → Served steps out n (spot new)
+  served_next None steps out one old new is was = absurd (false≢true (sym (ap any_waits (sym is.first ∙ was.told.1))))
+  served_next (Some c) steps out one old new is was =
+      said_more steps out out c is.text old new is.stream is.said was
+      (λ q texts. told_next steps out c was.past q one old.waits.items new.waits.items is.text texts is.first is.told was.told)
+
+  served_caught : (steps : List Step) (out : List MessageValue) (front : List Waiting) (old new : Guest S) →
+      AreNextTold front old new → Served steps out old.number (spot old) → Served steps out new.number (spot new)
+  served_caught steps out [] old new same was = served_before steps out old new same was
+  served_caught steps out (one ∷ before) old new (between, are, is) was =
+      subst (λ (n : Option ℕ). Served steps out n (spot new)) (sym is.number)
+      (served_next between.number steps out one between new is (served_caught steps out before old between are was))
+
+  pub served_caught_up : (steps : List Step) (out : List MessageValue) (old new : Guest S) → IsCaughtUp old new →
+      Served steps out old.number (spot old) → Served steps out new.number (spot new)
+  served_caught_up steps out old new up was = served_caught steps out up.front old new up.are was
+
+  pub served_told : (steps : List Step) (out : List MessageValue) (kept : List KeptAnswer) (told : List Message) (made : List Message) (old new : Guest S) →
+      AllZip (IsMadeOf kept) told made → AreTold made old new → Served steps out old.number (spot old) →
       Served steps (out ++ message_values told) new.number (spot new)
-  served_told steps out [] [] old new none same was =
+  served_told steps out kept [] [] old new none same was =
       subst (λ (l : List MessageValue). Served steps l new.number (spot new)) (sym (append-nil out))
       (subst (λ (g : Guest S). Served steps out g.number (spot g)) (sym same) was)
-  served_told steps out [] (m ∷ made) old new none_such are was = absurd none_such
-  served_told steps out (t ∷ told) [] old new none_such are was = absurd none_such
-  served_told steps out (t ∷ told) (m ∷ made) old new (one, all) (between, is, are) was =
+  served_told steps out kept [] (m ∷ made) old new none_such are was = absurd none_such
+  served_told steps out kept (t ∷ told) [] old new none_such are was = absurd none_such
+  served_told steps out kept (t ∷ told) (m ∷ made) old new (one, all) (between, is, are) was =
       let mid : Served steps (out ++ message_value t ∷ []) between.number (spot between) =
       subst (λ (n : Option ℕ). Served steps (out ++ message_value t ∷ []) n (spot between)) (sym is.number)
-      (served_one old.number steps out t m old between one is.stream is.said was) in
+      (served_one old.number steps out kept t m old between one is.stream is.passed was) in
       subst (λ (l : List MessageValue). Served steps l new.number (spot new)) (append_assoc out (message_value t ∷ []) (message_values told))
-      (served_told steps (out ++ message_value t ∷ []) told made between new all are mid)
+      (served_told steps (out ++ message_value t ∷ []) kept told made between new all are mid)
 
   -- ---- all of them
 
@@ -469,7 +682,7 @@ module _ {S : Type 0} (remaining contents : S → Option (List ℕ)) (site : Sit
   pub served_on : (s : Step) (steps : List Step) (out : List MessageValue) (n : Option ℕ) (now : Spot S) → ApartFrom n s.event →
       Served steps out n now → Served (s ∷ steps) out n now
   served_on s steps out n now apart was =
-      told_anew steps (s ∷ steps) out out n now was (said_on n s steps was.past apart was.said) (told_on n s steps out was.past apart was.told)
+      told_anew steps (s ∷ steps) out out n now was (said_on n s steps was.past apart was.said) (told_on n s steps out was.past now.waits apart was.told)
 
   pub all_served_zip : (steps : List Step) (out after : List MessageValue) (R : Guest S → Guest S → Type 0) →
       ((x y : Guest S) → R x y → Served steps out x.number (spot x) → Served steps after y.number (spot y)) →
@@ -570,11 +783,11 @@ module _ {S : Type 0} (remaining contents : S → Option (List ℕ)) (site : Sit
         new = is.new;
         among = inl is.stream_is;
         past = [];
-        done = refl;
+        done = (refl, refl);
         sites = at_none site came.sites;
         late = tt;
         said = refl;
-        told = refl;
+        told = (refl, is.waits);
       })
 
   -- ---- browsers that were let go

@@ -435,7 +435,7 @@ begins_at At.Over never = absurd never
 module _ {S : Type 0} (remaining contents : S → Option (List ℕ)) (first : Spot S) (new : IsNew first.stage) where
   stands_at : (past : List Doing) (now : Spot S) → HasDone remaining contents first past now → AreLate past →
       Stands past now.stage
-  stands_at [] now same late = subst (λ (s : Spot S). Stands [] s.stage) (sym same) (begins_at first.stage new)
+  stands_at [] now (same, still) late = subst (λ (s : Stage). Stands [] s) (sym same) (begins_at first.stage new)
   stands_at (Took site bytes ∷ past) now (before, done, (consumed, wants, takes)) late =
       took_on site bytes past before.stage now.stage (takes.wanted wants) (stands_at past before done late)
   stands_at (Tried ∷ past) now (before, done, (same, nothing)) late =

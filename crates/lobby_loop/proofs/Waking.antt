@@ -11,7 +11,7 @@ use Rattle.lobby_loop.specs.Living.{IsWoken}
 module _ {S : Type 0} where
   pub all_as_before : (guests : List (Guest S)) → AllZip IsAsBefore guests guests
   all_as_before [] = tt
-  all_as_before (guest ∷ guests) = (record { number = refl; stream = refl; browser = refl }, all_as_before guests)
+  all_as_before (guest ∷ guests) = (record { number = refl; stream = refl; browser = refl; waits = refl }, all_as_before guests)
 
   as_before_twice : (xs ys zs : List (Guest S)) → AllZip IsAsBefore xs ys → AllZip IsAsBefore ys zs → AllZip IsAsBefore xs zs
   as_before_twice [] [] [] none all = tt
@@ -20,7 +20,12 @@ module _ {S : Type 0} where
   as_before_twice (x ∷ xs) [] zs none_such all = absurd none_such
   as_before_twice (x ∷ xs) (y ∷ ys) [] all none_such = absurd none_such
   as_before_twice (x ∷ xs) (y ∷ ys) (z ∷ zs) (one, all) (next, more) = (
-    record { number = next.number ∙ one.number; stream = next.stream ∙ one.stream; browser = next.browser ∙ one.browser },
+    record {
+      number = next.number ∙ one.number;
+      stream = next.stream ∙ one.stream;
+      browser = next.browser ∙ one.browser;
+      waits = next.waits ∙ one.waits;
+    },
     as_before_twice xs ys zs all more,
   )
 

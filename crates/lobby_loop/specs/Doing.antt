@@ -3,6 +3,7 @@ use Rattle.std.specs.Prelude.{ℕ, ◌≡◌, ◌≤◌, ◌⊎◌, ◌==◌, Bo
 use Rattle.std.specs.Prelude.{None, Some, IsUtf8, Result, if◌then◌else◌}
 use Rattle.std.specs.List.{AllZip}
 use Rattle.std.specs.Io.KnownBytes.{Consumes, Appends}
+use Rattle.std.specs.String.{string_bytes}
 use Rattle.websocket.specs.Content.{Content}
 use Rattle.lobby_desk.specs.Events.{DeskInput, Opened, Closed, Said, Hurried, Linked, MessageValue}
 use Rattle.lobby_desk.specs.Who.{at_table}
@@ -15,7 +16,8 @@ use Rattle.lobby_web.specs.declared.socket.Unsaid.{Unsaid}
 use Rattle.lobby_web.specs.Browsing.{IsNew, pending, WantsBytes, Takes, HearsNext, SaysTo, Writes}
 use Rattle.lobby_web.specs.Happening.{text_of, is_close}
 use Rattle.lobby_guests.specs.declared.guest.Guest.{Guest}
-use Rattle.lobby_talk.specs.Making.{IsFinished}
+use Rattle.lobby_guests.specs.declared.waiting.Waiting.{Waiting}
+use Rattle.lobby_talk.specs.Making.{IsFinished, IsMade}
 
 -- Bytes came of its socket, none where it is told that no more come; the socket was tried for nothing; it was asked
 -- what came next, and gave this; it was to be told this, and that became of it; these bytes were written. Where bytes
@@ -27,13 +29,14 @@ pub data Doing : Type 0 where
   WasTold : (content : Content) → (answer : Result (Unit {0}) Unsaid) → Doing
   Wrote : (site : Site) → (bytes : List ℕ) → Doing
 
--- where its connection stands, and its socket
+-- where its connection stands, its socket, and what waits for it
 pub record Spot (S : Type 0) : Type 0 where
   pub stage : Stage
   pub stream : S
+  pub waits : List Waiting
 
 abbrev pub spot : {S : Type 0} → Guest S → Spot S
-spot guest = record { stage = guest.browser.stage; stream = guest.stream }
+spot guest = record { stage = guest.browser.stage; stream = guest.stream; waits = guest.waits.items }
 
 -- The bytes that its socket gave, where they are wanted, are taken by its connection, and what is written stood in
 -- front of what waits there. The lobby does not begin to close it.
@@ -52,10 +55,10 @@ DoesAt remaining contents (Wrote site bytes) old new =
     (count : ℕ) × (count ≤ length (pending old.stage)) × (bytes ≡ take count (pending old.stage))
     × Appends (contents old.stream) (contents new.stream) bytes × Writes site count old.stage new.stage
 
--- all that was done, the newest first
+-- all that was done, the newest first; of what waits it says nothing
 abbrev pub HasDone : {S : Type 0} → (S → Option (List ℕ)) → (S → Option (List ℕ)) → Spot S → List Doing → Spot S
     → Type 0
-HasDone remaining contents first [] now = now ≡ first
+HasDone remaining contents first [] now = (now.stage ≡ first.stage) × (now.stream ≡ first.stream)
 HasDone {S} remaining contents first (d ∷ past) now =
     (before : Spot S) × HasDone remaining contents first past before × DoesAt remaining contents d before now
 
@@ -175,18 +178,28 @@ before_opening c (s ∷ past) = if is_opening c s.event then past else before_op
 abbrev pub IsToldAs : MessageValue → List ℕ → Type 0
 IsToldAs t text = IsFinished t.kind t.text text
 
+-- a message of the desk, as it waits for an answer that is not there yet, its own or that of one before it
+abbrev pub IsWaitingAs : MessageValue → Waiting → Type 0
+IsWaitingAs t one = IsMade t.kind t.text one.kind (string_bytes one.text)
+
 -- Of what went out of the desk's hands this connection was to be told each message that is for it, once and in their
--- order, as it goes out, and nothing else: of all but a front of which nothing was told since it came.
-pub record IsToldOf (steps : List Step) (out : List MessageValue) (c : ℕ) (past : List Doing) : Type 0 where
+-- order, as it goes out, and nothing else: of all but a front of which nothing was told since it came; and what of it
+-- was not told, behind all that was, waits for it.
+pub record IsToldOf (steps : List Step) (out : List MessageValue) (c : ℕ) (past : List Doing)
+    (waits : List Waiting) : Type 0 where
   pub before : List MessageValue
   pub since : List MessageValue
   pub split : out ≡ before ++ since
   pub early : length before ≤ length (all_tells (before_opening c steps))
-  pub told : AllZip IsToldAs (told_for c since) (texts_told past)
+  pub front : List MessageValue
+  pub rest : List MessageValue
+  pub parts : told_for c since ≡ front ++ rest
+  pub told : AllZip IsToldAs front (texts_told past)
+  pub waiting : AllZip IsWaitingAs rest waits
 
-abbrev pub IsToldBy : List Step → List MessageValue → Option ℕ → List Doing → Type 0
-IsToldBy steps out None past = texts_told past ≡ []
-IsToldBy steps out (Some c) past = IsToldOf steps out c past
+abbrev pub IsToldBy : List Step → List MessageValue → Option ℕ → List Doing → List Waiting → Type 0
+IsToldBy steps out None past waits = (texts_told past ≡ []) × (waits ≡ [])
+IsToldBy steps out (Some c) past waits = IsToldOf steps out c past waits
 
 -- ---- a browser that is connected
 
@@ -201,7 +214,8 @@ pub record Before (S : Type 0) : Type 0 where
   pub sites : List Site
 
 -- A browser with this number, at this place: it came by one of these streams, with nothing done; and of all that was
--- done since, while these sites were served, the desk has what it said, and it was told what went out for it.
+-- done since, while these sites were served, the desk has what it said, and it was told what went out for it, but what
+-- waits for it.
 pub record IsServed {S : Type 0} (remaining contents : S → Option (List ℕ)) (site : Site) (came : Before S)
     (steps : List Step)
     (out : List MessageValue) (number : Option ℕ) (now : Spot S) : Type 0 where
@@ -213,7 +227,7 @@ pub record IsServed {S : Type 0} (remaining contents : S → Option (List ℕ)) 
   pub sites : AreAt site came.sites past
   pub late : AreLate past
   pub said : IsSaidBy steps number past
-  pub told : IsToldBy steps out number past
+  pub told : IsToldBy steps out number past now.waits
 
 abbrev pub AreServed : {S : Type 0} → (S → Option (List ℕ)) → (S → Option (List ℕ)) → Site → Before S → List Step
     → List MessageValue
@@ -240,7 +254,7 @@ WasClosed steps until None = Unit {0}
 WasClosed steps until (Some c) = IsClosedBehind steps until c
 
 -- A browser that had this number and stood at this place when it was let go. Until then it was served: it was told what
--- had gone out for it; and all that the desk has of its number it has said.
+-- had gone out for it, but what waited for it then; and all that the desk has of its number it has said.
 pub record WasServed {S : Type 0} (remaining contents : S → Option (List ℕ)) (site : Site) (came : Before S)
     (steps : List Step)
     (out : List MessageValue) (number : Option ℕ) (last : Spot S) : Type 0 where

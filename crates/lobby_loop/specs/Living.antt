@@ -227,8 +227,8 @@ NoLineWaits (Some link) = HoldsNoLine link
 -- server is there or gone just where it was. What the desk told connections went out of its hands, and the rest of it
 -- is to go; of what went out the log has all texts for it, each once and in their order. Of all browsers that came,
 -- those that were let go too, no two have one connection's number, and the desk was told of no connection but theirs;
--- the desk has, under its number, all that a browser said, and of what went out it was told all that is for its number.
--- Its requests have the answers of the sites that were served.
+-- the desk has, under its number, all that a browser said, and of what went out all that is for its number was told it
+-- or waits for it behind that. Its requests have the answers of the sites that were served.
 pub record IsRightLife {S : Type 0} (remaining contents : S → Option (List ℕ)) (players : List Player)
     (is_paused : Bool)
     (past : List (Happening S)) (now : Hall S) : Type 0 where

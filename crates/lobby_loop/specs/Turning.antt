@@ -12,6 +12,7 @@ use Rattle.lobby_talk.specs.declared.talk.Talk.{Talk}
 use Rattle.lobby_talk.specs.Talking.{Begins, MovesAnew}
 use Rattle.lobby_guests.specs.Guests.{IsNewGuest, AreAttended, AreDelivered, IsWritten, IsLookedAfter, AreParted}
 use Rattle.lobby_talk.specs.Held.{TakesIn, HandsOn, IsKept}
+use Rattle.lobby_talk.specs.Replaying.{IsReplayed}
 use Rattle.lobby_guests.specs.Seating.{AreSeated}
 use Rattle.lobby_loop.specs.declared.hall.Hall.{Hall}
 
@@ -115,14 +116,16 @@ pub record TakesAllIn {S : Type 0} (remaining : S → Option (List ℕ)) (at : �
   pub away : new.away_at ≡ away_after (is_some new.server) old.away_at at
   pub site : new.site ≡ old.site
 
--- What is to go is handed out: what the desk told is delivered, and what is to go is written, to the server and to each
+-- What is to go is handed out: what the desk told is delivered, for which of all replays the one that is under way goes
+-- on by at most 16 plies, and what is to go is written, to the server and to each
 -- browser; and the desk is told who is let go.
 pub record HandsAllOut {S : Type 0} (contents : S → Option (List ℕ)) (old new : Hall S) : Type 0 where
   pub told : List (Guest S)
-  pub delivers : AreDelivered old.talk.told.items old.guests.items told
+  pub delivers : AreDelivered old.talk.kept.answers.items old.talk.told.items old.guests.items told
   pub rest : Talk
   pub desk : rest.desk ≡ old.talk.desk
   pub next : rest.next ≡ old.talk.next
+  pub replays : ∥ ((next : Option (List ℕ)) × IsReplayed next old.talk.replay rest.replay) ∥₁
   pub none : rest.told.items ≡ []
   pub front : List ℕ
   pub tells : TellsServer contents front old.server new.server old.talk.wire.items rest.wire.items

@@ -4,3 +4,4 @@ pub mod Taking
 pub mod Saying
 pub mod Logging
 pub mod Keeping
+mod Replaying

@@ -5,3 +5,5 @@ pub mod Talking
 pub mod Lines
 pub mod Counting
 pub mod Keeping
+pub mod Replays
+pub mod Replaying

@@ -12,7 +12,6 @@ use Rattle.lobby_positions.specs.Pgn.{TellsGame}
 use Rattle.lobby_positions.specs.Answer.{IsLineAnswer}
 use Rattle.lobby_desk.specs.declared.telling.Kind.{Kind}
 use Rattle.lobby_desk.specs.declared.telling.Kind.TheVariants.{Whole, Position as AtPosition, Line, Log}
-use Rattle.lobby_desk.specs.declared.telling.Message.{Message}
 
 -- what stands behind the first line of a text
 abbrev pub lines_behind : List ℕ → List ℕ
@@ -53,7 +52,10 @@ IsFinished AtPosition text new = IsWithMoves text new
 IsFinished Line text new = ∥ IsOfLine text new ∥₁
 IsFinished Log text new = new ≡ text
 
--- a message, as it goes out: to the same connections
-pub record IsMadeOf (told made : Message) : Type 0 where
-  pub to : made.to ≡ told.to
-  pub text : IsFinished told.kind (string_bytes told.text) (string_bytes made.text)
+-- A text of this kind, as far as it is made: the answer to `line G` may not be there yet, and then the text is as it
+-- was.
+abbrev pub IsMade : Kind → List ℕ → Kind → List ℕ → Type 0
+IsMade kind text Line new = (kind ≡ Line) × (new ≡ text)
+IsMade kind text Whole new = IsFinished kind text new
+IsMade kind text AtPosition new = IsFinished kind text new
+IsMade kind text Log new = IsFinished kind text new

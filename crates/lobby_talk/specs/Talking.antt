@@ -11,6 +11,13 @@ use Rattle.lobby_desk.specs.Pace.{is_too_fast}
 use Rattle.lobby_desk.specs.Who.{Begins as BeginsDesk, Steps, order_asked, said_event, until_of}
 use Rattle.lobby_talk.specs.declared.talk.Talk.{Talk}
 
+-- Nothing was said, and nothing is told or is to go but what was.
+pub record IsTalkAsBefore (old new : Talk) : Type 0 where
+  pub desk : new.desk ≡ old.desk
+  pub wire : new.wire ≡ old.wire
+  pub told : new.told ≡ old.told
+  pub next : new.next ≡ old.next
+
 -- A desk that begins, with entries paused or not: nothing was said, nothing is to go, and no number was given.
 pub record Begins (players : List Player) (is_paused : Bool) (now : Talk) : Type 0 where
   pub desk : BeginsDesk is_paused now.desk

@@ -153,14 +153,20 @@ impl Counts {
         }
     }
 
-    /// A browser that asked at these moments is told a text: an answer, or a notice, which is not counted. It tells
-    /// whether it is an answer.
-    pub fn told(&mut self, text: &str, asked: &mut Asked) -> bool
+    /// A text is for a browser: a login that it refuses is counted.
+    pub fn note_login(&mut self, text: &str)
         ensures { self.new.logins_refused ≡ counted_up self.old.logins_refused (one_if (refuses_login text.now)) }
     {
         if is_refused_login(text) {
             count(&mut self.logins_refused);
         }
+    }
+
+    /// A browser that asked at these moments is told a text: an answer, or a notice, which is not counted. It tells
+    /// whether it is an answer.
+    pub fn told(&mut self, text: &str, asked: &mut Asked) -> bool
+        ensures { self.new.logins_refused ≡ self.old.logins_refused }
+    {
         match first_word(text) {
             "ok" => {
                 count(&mut self.ok);

@@ -1,7 +1,7 @@
 //! The answers to `line G` that were made, as long as the server tells the same PGN: each is made once.
-ghost use Rattle.std.specs.Prelude.{◌≡◌, ◌≤◌, ◌+◌, IfSome, [], OnOk};
-ghost use Rattle.lobby_talk.specs.Making.{IsOfLine};
-ghost use Rattle.lobby_talk.specs.Keeping.{size_of_all, kept_most, shown};
+ghost use Rattle.std.specs.Prelude.{◌≡◌, ◌≤◌, ◌+◌, IfSome, [], IfOk, OnOk};
+ghost use Rattle.std.specs.String.{string_bytes};
+ghost use Rattle.lobby_talk.specs.Keeping.{size_of_all, kept_most, shown, HasKept};
 
 use crate::kept_answer::KeptAnswer;
 use std::alloc::{AllocError, Global};
@@ -14,8 +14,6 @@ const KEPT_MOST: usize = 16_777_216;
 pub struct KeptAnswers {
     alloc: Global,
     answers: Vec<KeptAnswer>,
-    // So many bytes of answers were made and not told of.
-    made: usize,
     ghost within: { size_of_all answers.items ≤ kept_most },
 }
 
@@ -42,10 +40,11 @@ fn let_go_beyond(answers: &mut Vec<KeptAnswer>, most: usize)
 
 // Puts one of a game in the place of the one that there was of it, behind the others, of which the oldest go where
 // there are too many bytes. One that alone has too many is not kept.
-fn put(answers: &mut Vec<KeptAnswer>, game: u32, one: KeptAnswer) -> Result<(), AllocError>
+fn put(answers: &mut Vec<KeptAnswer>, one: KeptAnswer) -> Result<(), AllocError>
     ensures { size_of_all answers.new.items ≤ kept_most }
 {
-    answers.retain(|kept| !kept.is_of(game));
+    let game = one.game();
+    answers.retain(|kept| kept.game() != game);
     match KEPT_MOST.checked_sub(one.size()) {
         None => {
             let_go_beyond(answers, KEPT_MOST);
@@ -65,20 +64,12 @@ impl KeptAnswers {
         KeptAnswers {
             alloc,
             answers: Vec::new(alloc),
-            made: 0,
         }
-    }
-
-    /// How many bytes of answers were made since it was asked that last.
-    pub fn take_made(&mut self) -> usize {
-        let made = self.made;
-        self.made = 0;
-        made
     }
 
     /// The answer that was made of this PGN, if it is kept.
     pub fn find(&self, pgn: &str) -> Option<&str>
-        ensures { IfSome result (λ answer. ∥ IsOfLine pgn.now answer.now ∥₁) }
+        ensures { IfSome result (λ answer. HasKept self.now.answers.items pgn.now answer.now) }
     {
         for one in &self.answers {
             if let Some(answer) = one.answer_of(pgn) {
@@ -88,13 +79,23 @@ impl KeptAnswers {
         None
     }
 
-    /// Keeps the answer that was made of this PGN of a game, in the place of the one that was kept of it. The oldest go
-    /// where there are too many bytes.
-    pub fn keep(&mut self, game: u32, pgn: &str, answer: &str) -> Result<(), AllocError>
-        requires { ∥ IsOfLine pgn.now answer.now ∥₁ }
+    /// The same, in memory of its own.
+    pub fn copy_of(&self, game: u32, pgn: &str) -> Result<Option<KeptAnswer>, AllocError>
+        ensures { IfOk result (λ found. IfSome found (λ answer. string_bytes answer.pgn ≡ pgn.now)) }
     {
-        let one = KeptAnswer::new(self.alloc, game, pgn, answer)?;
-        self.made = self.made.saturating_add(answer.len());
-        put(&mut self.answers, game, one)
+        match self.find(pgn) {
+            None => Ok(None),
+            Some(answer) => {
+                let answer = String::from_str(self.alloc, answer)?;
+                let pgn = String::from_str(self.alloc, pgn)?;
+                Ok(Some(KeptAnswer::new(game, pgn, answer)))
+            }
+        }
+    }
+
+    /// Keeps an answer, in the place of the one that was kept of its game. The oldest go where there are too many
+    /// bytes.
+    pub fn keep(&mut self, one: KeptAnswer) -> Result<(), AllocError> {
+        put(&mut self.answers, one)
     }
 }

@@ -15,23 +15,45 @@ pub struct KeptAnswer {
 }
 
 impl KeptAnswer {
-    ghost use Rattle.std.specs.Prelude.{◌≡◌};
+    ghost use Rattle.std.specs.Prelude.{◌≡◌, IfOk};
+    ghost use Rattle.lobby_positions.specs.Pgn.{TellsNone};
+    ghost use Rattle.lobby_talk.specs.Making.{lines_behind};
     ghost use Rattle.lobby_talk.specs.Keeping.{size_of, shown};
 
     /// The answer that was made of this PGN of a game.
-    pub fn new(alloc: Global, game: u32, pgn: &str, answer: &str) -> Result<KeptAnswer, AllocError>
-        requires { ∥ IsOfLine pgn.now answer.now ∥₁ }
+    pub fn new(game: u32, pgn: String, answer: String) -> KeptAnswer
+        requires { ∥ IsOfLine (string_bytes pgn) (string_bytes answer) ∥₁ }
+        ensures { result.pgn ≡ pgn }
     {
-        Ok(KeptAnswer {
-            game,
-            pgn: String::from_str(alloc, pgn)?,
-            answer: String::from_str(alloc, answer)?,
-        })
+        KeptAnswer { game, pgn, answer }
     }
 
-    /// Whether it is of this game.
-    pub fn is_of(&self, game: u32) -> bool {
-        self.game == game
+    /// The answer `lost`, of a PGN that tells no game. It fails where memory is refused.
+    pub fn lost(alloc: Global, game: u32, pgn: String) -> Result<KeptAnswer, AllocError>
+        requires { TellsNone (lines_behind (string_bytes pgn)) }
+        ensures { IfOk result (λ answer. answer.pgn ≡ pgn) }
+    {
+        let answer = String::from_str(alloc, "lost\n")?;
+        Ok(KeptAnswer::new(game, pgn, answer))
+    }
+
+    /// The number of its game.
+    pub fn game(&self) -> u32 {
+        self.game
+    }
+
+    /// The server's answer to `pgn G` of which it was made.
+    pub fn pgn(&self) -> &str
+        ensures { result.now ≡ string_bytes self.now.pgn }
+    {
+        self.pgn.as_str()
+    }
+
+    /// The answer to `line G`.
+    pub fn answer(&self) -> &str
+        ensures { result.now ≡ string_bytes self.now.answer }
+    {
+        self.answer.as_str()
     }
 
     /// How many bytes it takes.
@@ -43,7 +65,8 @@ impl KeptAnswer {
 
     /// The answer, where it is of this PGN.
     pub fn answer_of(&self, pgn: &str) -> Option<&str>
-        ensures { IfSome result (λ answer. ∥ IsOfLine pgn.now answer.now ∥₁) }
+        ensures { IfSome result (λ answer. (string_bytes self.now.pgn ≡ pgn.now)
+            × (string_bytes self.now.answer ≡ answer.now)) }
     {
         if self.pgn.as_str() == pgn {
             Some(self.answer.as_str())

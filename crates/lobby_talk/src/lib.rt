@@ -3,9 +3,10 @@
 //! players' links is a trait.
 //!
 //! Modules: `talk` has the desk with what goes from it, `said` a browser's message as the desk takes it, `lines` the
-//! lines of the server, `made` the messages as they go out, `kept` and `kept_answer` answers that were made, `link` the
-//! connection to the server, `pieces` one write, `links` who changes players' links, `counts` what is counted beside
-//! that. `proofs/Each` has what is done to each of a list, `proofs/Taking` lines one after another.
+//! lines of the server, `made` the messages as they go out, `kept` and `kept_answer` answers that were made,
+//! `under_way` the replay by which one more is, `link` the connection to the server, `pieces` one write, `links` who
+//! changes players' links, `counts` what is counted beside that. `proofs/Each` has what is done to each of a list,
+//! `proofs/Taking` lines one after another.
 #![tactic(auto)]
 
 mod counts;
@@ -18,8 +19,10 @@ mod made;
 mod pieces;
 mod said;
 mod talk;
+mod under_way;
 
 pub use counts::{ACTS, Asked, BOUNDS, Coming, Counts, is_refused_login};
+pub use kept_answer::KeptAnswer;
 pub use link::Link;
 pub use links::{KeepsLinks, NoLinks};
 pub use pieces::{Gone, PIECE_ROOM, write_piece};

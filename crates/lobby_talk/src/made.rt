@@ -1,14 +1,17 @@
 //! Messages as browsers get them: what the desk told, with what the positions say.
-ghost use Rattle.std.specs.Prelude.{ℕ, ◌≡◌, ◌<◌, ◌^◌, ◌++◌, ◌∷◌, [], decimal, IfOk, OnOk};
+ghost use Rattle.std.specs.Prelude.{◌≡◌, ◌++◌, ◌∷◌, [], OnOk};
 ghost use Rattle.std.specs.List.{AllZip};
 ghost use Rattle.std.specs.String.{string_bytes};
-ghost use Rattle.lobby_words.specs.Words.{word_of, rest_of};
-ghost use Rattle.lobby_talk.specs.Making.{IsWithMoves, IsOfLine, IsFinished, IsMadeOf};
+ghost use Rattle.lobby_words.specs.Words.{rest_of};
+ghost use Rattle.lobby_talk.specs.Making.{IsWithMoves};
+ghost use Rattle.lobby_talk.specs.Keeping.{IsMadeOf};
+ghost use Rattle.lobby_desk.specs.declared.telling.Kind.TheVariants.{Line};
+ghost use Rattle.lobby_talk.specs.Replays.{IsNumberIn};
 ghost use Rattle.lobby_talk.specs.Making as making;
 
 use crate::kept::KeptAnswers;
 use lobby_desk::{Kind, Message};
-use lobby_positions::{line_answer, moves_line};
+use lobby_positions::moves_line;
 use std::alloc::{AllocError, Global};
 use text_parts::{before, behind};
 
@@ -62,8 +65,8 @@ fn add_moves(alloc: Global, text: &mut String) -> Result<(), AllocError>
 }
 
 // The number of the game in `ok pgn G K`; 0 where there is none.
-fn game_in(text: &str) -> u32
-    ensures { (n : ℕ) → n < 2 ^ 32 → word_of (rest_of (rest_of text.now)) ≡ decimal n → result ≡ n }
+pub(crate) fn game_in(text: &str) -> u32
+    ensures { IsNumberIn text.now result }
 {
     let word = before(rest_of(rest_of(text)), ' ');
     match word.parse::<u32>() {
@@ -72,63 +75,39 @@ fn game_in(text: &str) -> u32
     }
 }
 
-// The answer to `line G`, of the server's answer to `pgn G`; `lost` where that has no game.
-fn as_positions(alloc: Global, text: &str) -> Result<String, AllocError>
-    ensures { IfOk result (λ made. IsOfLine text.now (string_bytes made)) }
+// A message whose answer to `line G` was made before is whole by that; another is left as it is.
+fn finish_line(alloc: Global, one: &mut Message, kept: &KeptAnswers) -> Result<(), AllocError>
+    requires { one.old.kind ≡ Line }
+    ensures { OnOk result (IsMadeOf kept.now.answers.items one.old one.new) }
 {
-    match line_answer(alloc, game_in(text), behind(text, '\n'))? {
-        Some(answer) => Ok(answer),
-        None => Ok(String::from_str(alloc, "lost\n")?),
-    }
-}
-
-// The same, as it was made before, or made and kept now.
-fn made_or_kept(alloc: Global, text: &str, kept: &mut KeptAnswers) -> Result<String, AllocError>
-    ensures { IfOk result (λ made. ∥ IsOfLine text.now (string_bytes made) ∥₁) }
-{
-    match kept.find(text) {
-        Some(answer) => String::from_str(alloc, answer),
-        None => {
-            let answer = as_positions(alloc, text)?;
-            kept.keep(game_in(text), text, answer.as_str())?;
-            Ok(answer)
-        }
-    }
-}
-
-// A text of this kind, as it goes out.
-fn finish_text(
-    alloc: Global,
-    kind: Kind,
-    text: &mut String,
-    kept: &mut KeptAnswers,
-) -> Result<(), AllocError>
-    ensures { OnOk result (IsFinished kind (string_bytes text.old) (string_bytes text.new)) }
-{
-    match kind {
-        Kind::Whole | Kind::Log => Ok(()),
-        Kind::Position => add_moves(alloc, text),
-        Kind::Line => {
-            *text = made_or_kept(alloc, text.as_str(), kept)?;
+    match kept.find(one.text.as_str()) {
+        None => Ok(()),
+        Some(answer) => {
+            one.text = String::from_str(alloc, answer)?;
+            one.kind = Kind::Whole;
             Ok(())
         }
     }
 }
 
-// A message, as it goes out.
-fn finish(alloc: Global, one: &mut Message, kept: &mut KeptAnswers) -> Result<(), AllocError>
-    ensures { OnOk result (IsMadeOf one.old one.new) }
+// A message, as it goes out, or as it waits for its answer.
+fn finish(alloc: Global, one: &mut Message, kept: &KeptAnswers) -> Result<(), AllocError>
+    ensures { OnOk result (IsMadeOf kept.now.answers.items one.old one.new) }
 {
-    finish_text(alloc, one.kind, &mut one.text, kept)
+    match one.kind {
+        Kind::Whole | Kind::Log => Ok(()),
+        Kind::Position => add_moves(alloc, &mut one.text),
+        Kind::Line => finish_line(alloc, one, kept),
+    }
 }
 
-// Messages, as they go out: each in its own place.
+/// Messages, as they go out or wait for their answers: each in its own place.
 pub(crate) fn finish_all(
     alloc: Global,
     told: &mut Vec<Message>,
-    kept: &mut KeptAnswers,
+    kept: &KeptAnswers,
 ) -> Result<(), AllocError>
-    ensures { OnOk result (AllZip IsMadeOf told.old.items told.new.items) }
+    ensures { OnOk result (AllZip (IsMadeOf kept.now.answers.items) told.old.items told.new.items) }
 {
     for one in told.iter_mut() {
         finish(alloc, one, kept)?;

@@ -3,7 +3,7 @@ ghost use Rattle.lobby_talk.specs.Pieces.{HasGone};
 
 use std::io::{ErrorKind, Write};
 
-/// The most bytes that one read takes.
+/// The most bytes that one read or write takes.
 pub const PIECE_ROOM: usize = 16_384;
 
 /// What a write took.
@@ -19,11 +19,12 @@ pub enum Gone {
     Fault,
 }
 
-/// Writes what the writer takes of these bytes at once.
+/// Writes what the writer takes of these bytes at once, at most `PIECE_ROOM`.
 pub fn write_piece<W: Write>(writer: &mut W, bytes: &[u8]) -> Gone
     ensures { HasGone (W.contents writer.old) (W.contents writer.new) bytes.now result }
 {
-    match writer.write(bytes) {
+    let piece = &bytes[..bytes.len().min(PIECE_ROOM)];
+    match writer.write(piece) {
         Ok(0) => Gone::Fault,
         Ok(count) => Gone::Bytes(count),
         Err(error) => match error.kind() {

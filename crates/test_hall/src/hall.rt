@@ -751,6 +751,43 @@ fn players_come_before_strangers(rt: &impl Abort, lab: &mut Lab) {
     assert!(rt; lab.is_asked(b"name ann\nopen white 300 2\nfen 1\nshow 1\nfen 1\nfen 3\nfen 2\n"));
 }
 
+// One who shows no token and asks for a game of 40 plies, and its server.
+const LINE_ASKER: &[u8] = b"UP~~~~\x81\x86\0\0\0\0line 1\x81\x83\0\0\0\0who";
+
+const GAME: &[u8] =
+    b"~~~~~~~~ok pgn 1 2\n1. Nf3 Nf6 2. Ng1 Ng8 3. Nf3 Nf6 4. Ng1 Ng8 5. Nf3 Nf6 6. Ng1 Ng8 7. Nf3 Nf6 8. Ng1 Ng8 9. Nf3 Nf6 10. Ng1 Ng8\n\
+11. Nf3 Nf6 12. Ng1 Ng8 13. Nf3 Nf6 14. Ng1 Ng8 15. Nf3 Nf6 16. Ng1 Ng8 17. Nf3 Nf6 18. Ng1 Ng8 19. Nf3 Nf6 20. Ng1 Ng8\n";
+
+const LAST_ROWS: &[u8] =
+    b"\n39 Ng1 f3g1 rnbqkb1r/pppppppp/5n2/8/8/8/PPPPPPPP/RNBQKBNR b KQkq - 39 20\n\
+40 Ng8 f6g8 rnbqkbnr/pppppppp/8/8/8/8/PPPPPPPP/RNBQKBNR w KQkq - 40 21\n\x81\x0eok who open 0\n";
+
+// What comes of the server stands in this piece, and was read.
+fn has_said(lab: &Lab, piece: usize) -> bool {
+    match lab.hall.server_stream() {
+        Some(peer) => peer.reads > piece,
+        None => false,
+    }
+}
+
+// A stranger asks for a game, of which 16 plies are played in a turn: an act of ann's, who comes when the first are, is
+// on its way before the stranger has the answer, and the stranger's next message is heard behind that.
+fn a_line_is_played_in_parts(rt: &impl Abort, lab: &mut Lab) {
+    lab.begin(rt, &(LINE_ASKER, GAME, How::Plainly));
+    lab.hall
+        .admit(Peer::new(lab.alloc, LATE, 1_000), 3, NEAR, 0);
+    let mut is_between = false;
+    for at in 0..90 {
+        lab.turn_alone(rt, at);
+        let has_acted = lab.is_asked(b"pgn 1\nname ann\nopen white 300 2\n");
+        is_between |= has_said(lab, 8) && has_acted && !lab.is_told(LAST_ROWS);
+        lab.hall.wake(2);
+        lab.hall.wake(3);
+        lab.hall.wake_server();
+    }
+    assert!(rt; is_between && lab.is_told(LAST_ROWS));
+}
+
 // So many bytes were read of the first browser that had always more.
 fn is_read(lab: &Lab, count: usize) -> bool {
     match lab.hall.guest_stream() {
@@ -854,6 +891,7 @@ fn halls(rt: HostRuntime) {
     who_has_another_link_acts_no_more(&rt, &mut lab);
     that_entries_are_paused_is_kept_before_the_log_is_told(&rt, &mut lab);
     players_come_before_strangers(&rt, &mut lab);
+    a_line_is_played_in_parts(&rt, &mut lab);
     what_comes_of_strangers_is_paid(&rt, &mut lab);
     a_move_goes_out_beside_requests_without_end(&rt, &mut lab);
     who_was_read_keeps_nobody_out(&rt, &mut lab);

@@ -7,7 +7,7 @@ use Rattle.lobby_guests.proofs.guest.Guest.be_told_all.Goals as goal
 
 pub loop-one-preserved : goal.loop-one-preserved
 loop-one-preserved g c =
-    let told : IsTold c.one-item.result c.loop-one.self c.be_told.new.self = c.be_told.ensures.told in
+    let told : IsTold c.one-item.result c.loop-one.self c.be_told.new.self = c.in_ok-be_told.ensures.told in
     let made = c.args.made.now in
     let i = c.loop-one.one-index in
     let d = c.one-item.result in
@@ -21,7 +21,7 @@ loop-one-preserved g c =
       logins =
           counted_more c.args.counts.now.logins_refused before (refusals_of (take i made) number)
           (one_if (refuses number (get_or made i d))) c.be_told.new.counts.logins_refused c.loop-one.invariant.logins
-          (c.be_told.ensures.logins
+          (c.in_ok-be_told.ensures.logins
           ∙ ap (λ (b : Bool). counted_up before (one_if b))
           (ap (λ n. refuses n d) c.loop-one.invariant.number ∙ ap (refuses number) c.one-item.is))
           ∙ ap (counted_up c.args.counts.now.logins_refused) (sym (refusals_more made number i d c.loop-one-test.true));

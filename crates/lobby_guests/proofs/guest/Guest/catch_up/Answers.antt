@@ -1,0 +1,32 @@
+-- One more is told, or none is left in front of the next answer.
+use Rattle.std.proofs.Common.{[], ◌∷◌, ◌∙◌, sym, subst}
+use Rattle.lobby_guests.specs.declared.guest.Guest.{Guest}
+use Rattle.lobby_guests.specs.Guests.{AreNextTold}
+use Rattle.lobby_guests.specs.Waiting.{AtLine}
+use Rattle.lobby_guests.proofs.Catching.{same_guest}
+use Rattle.lobby_guests.proofs.guest.Guest.catch_up.Goals as goal
+
+pub loop-init : goal.loop-init
+loop-init g c = record {
+  front = c.tell_answer.ensures.told.0 ∷ [];
+  are = (c.args.self.now, same_guest c.args.self.now, c.tell_answer.ensures.told.1);
+  logins = c.tell_answer.ensures.logins;
+}
+
+pub loop-preserved : goal.loop-preserved
+loop-preserved g c =
+    let told = c.tell_whole.ensures.told c.loop-test.true in
+    record {
+      front = told.0 ∷ c.loop.invariant.front;
+      are = (c.loop.self, c.loop.invariant.are, told.1);
+      logins = c.tell_whole.ensures.logins ∙ c.loop.invariant.logins;
+    }
+
+pub returns-clause-up : goal.returns-clause-up
+returns-clause-up g c =
+    let same = sym (c.tell_whole.ensures.none c.loop-test.false) in
+    record {
+      front = c.loop.invariant.front;
+      are = subst (λ (guest : Guest g.row.S.Denot). AreNextTold c.loop.invariant.front c.args.self.now guest) same c.loop.invariant.are;
+      at_line = λ at. subst (λ (guest : Guest g.row.S.Denot). AtLine guest.waits.items) same (c.tell_whole.ensures.line c.loop-test.false);
+    }

@@ -1,0 +1,15 @@
+-- So many in front are told, and the others wait.
+use Rattle.std.proofs.Common.{◌≡◌, List, length}
+use Rattle.lobby_guests.specs.declared.waiting.Waiting.{Waiting}
+use Rattle.lobby_guests.specs.Guests.{AreNextTold}
+use Rattle.lobby_guests.proofs.guest.Guest.catch_up.Given as goal
+
+abbrev pub invariant-loop : goal.invariant-loop
+invariant-loop g l = record {
+  front : List Waiting;
+  are : AreNextTold front l.fn.self l.self;
+  logins : l.counts.logins_refused ≡ l.fn.counts.logins_refused;
+}
+
+abbrev pub decreases-loop : goal.decreases-loop
+decreases-loop g l = length l.self.waits.items

@@ -1,0 +1,21 @@
+-- The first that waits is told by the answer.
+use Rattle.std.proofs.Common.{◌≡◌, ◌∷◌, ◌∙◌, ap, sym}
+use Rattle.lobby_guests.proofs.Catching.{first_there, answer_there, told_answer}
+use Rattle.lobby_guests.proofs.guest.Guest.tell_answer.Goals as goal
+
+pub returns-clause-told : goal.returns-clause-told
+returns-clause-told g c =
+    let waits = c.args.self.now.waits.items in
+    let one = c.remove.result in
+    let first : waits ≡ one ∷ c.remove.new.self.items = first_there waits one (answer_there c.args.answer.now waits c.requires) c.remove.ensures.value
+    ∙ ap (λ l. one ∷ l) (sym c.remove.ensures.items) in (
+      one,
+      record {
+        number = c.tell.ensures.number;
+        stream = c.tell.ensures.stream;
+        first = first ∙ ap (λ v. one ∷ v.items) (sym c.tell.ensures.waits);
+        text = c.answer.result.now;
+        told = told_answer waits one c.remove.new.self.items c.answer.result.now c.args.answer.now first c.requires c.answer.ensures;
+        said = c.tell.ensures.said;
+      },
+    )

@@ -1,0 +1,44 @@
+//! A message that waits for a browser.
+ghost use Rattle.std.specs.Prelude.{◌≡◌, IfOk};
+ghost use Rattle.lobby_guests.specs.Waiting.{IsCopyOf};
+ghost use Rattle.lobby_guests.specs.Waiting as waiting;
+
+use lobby_desk::{Kind, Message};
+use std::alloc::{AllocError, Global};
+
+/// A message whose answer to `line G` is not there yet, or one that came behind such a message.
+#[derive(Drop)]
+pub struct Waiting {
+    pub kind: Kind,
+    pub text: String,
+}
+
+impl Waiting {
+    /// A message, in memory of its own. It fails where memory is refused.
+    pub fn copy_of(alloc: Global, made: &Message) -> Result<Waiting, AllocError>
+        ensures { IfOk result (IsCopyOf made.now) }
+    {
+        let text = String::from_str(alloc, made.text.as_str())?;
+        Ok(Waiting {
+            kind: made.kind,
+            text,
+        })
+    }
+
+    /// Whether its answer is not there yet.
+    pub fn is_line(&self) -> bool
+        ensures { result ≡ waiting.is_line self.now.kind }
+    {
+        is_line(self.kind)
+    }
+}
+
+/// Whether a message of this kind is not whole: it is told by an answer that is not there yet.
+pub fn is_line(kind: Kind) -> bool
+    ensures { result ≡ waiting.is_line kind }
+{
+    match kind {
+        Kind::Line => true,
+        Kind::Whole | Kind::Position | Kind::Log => false,
+    }
+}

@@ -1,0 +1,14 @@
+-- What is kept is an answer.
+use Rattle.std.proofs.Common.{List, ℕ, subst, sym}
+use Rattle.std.specs.String.{string_bytes}
+use Rattle.lobby_talk.specs.Keeping.{HasKept}
+use Rattle.lobby_talk.proofs.Keeping.{kept_of_line}
+use Rattle.lobby_talk.proofs.kept.KeptAnswers.copy_of.Goals as goal
+
+pub new-requires : goal.new-requires
+new-requires c =
+    let kept = c.args.self.now.answers.items in
+    let new = string_bytes c.in_ok-answer-in-Some.answer in
+    kept_of_line kept (string_bytes c.in_ok-pgn-in-Some.pgn) new
+    (subst (λ (l : List ℕ). HasKept kept l new) (sym c.in_ok-pgn-in-Some.ensures.ok)
+    (subst (λ (l : List ℕ). HasKept kept c.args.pgn.now l) (sym c.in_ok-answer-in-Some.ensures.ok) c.in-Some.ensures))

@@ -1,0 +1,18 @@
+-- What begins is under way, of the lines behind the first.
+use Rattle.std.proofs.Common.{List, ℕ, subst, sym}
+use Rattle.lobby_positions.specs.Replaying.{IsUnderWay}
+use Rattle.lobby_talk.specs.Making.{lines_behind}
+use Rattle.lobby_talk.specs.Replays.{IsReplayOf}
+use Rattle.lobby_talk.proofs.under_way.UnderWay.begin.Goals as goal
+
+pub invariant_of-result : goal.invariant_of-result
+invariant_of-result c =
+    let game = c.args.game in
+    let replay = c.in-Some.replay in
+    let begun = rw c.in-Some.is at c.in_ok-begin.ensures.some in
+    let under : IsUnderWay game (lines_behind c.args.text.now) replay =
+    subst (λ (l : List ℕ). IsUnderWay game l replay) c.behind.ensures begun in
+    record {
+      under_way = ∣ subst (λ (l : List ℕ). IsReplayOf l game replay) (sym c.in_ok-pgn.ensures.ok)
+          (record { named = c.requires; under_way = under }) ∣₁;
+    }

@@ -1,0 +1,50 @@
+-- What a part brings, whatever the start and the moves so far.
+use Rattle.std.proofs.Common.{inl, inr, refl, ap}
+use Rattle.std.proofs.Math.Logic.{∥∥₁_map}
+use Rattle.std.proofs.lemmas.Grind.{not_there}
+use Rattle.std.specs.String.{string_bytes}
+use Rattle.lobby_talk.specs.Making.{lines_behind}
+use Rattle.lobby_talk.proofs.Replaying.{whole_of_line}
+use Rattle.lobby_talk.proofs.under_way.UnderWay.go_on.Goals as goal
+
+pub invariant_of-result : goal.invariant_of-result
+invariant_of-result c =
+    let text = string_bytes c.args.self.pgn in
+    record {
+      under_way = ∥∥₁_map c.args.self.under_way (λ u. record {
+        named = u.named;
+        under_way = (rw c.in-More.is at c.in_ok-replay.ensures c.args.self.game (lines_behind text) u.under_way).0;
+      });
+    }
+
+pub new-requires : goal.new-requires
+new-requires c =
+    let text = string_bytes c.args.self.pgn in
+    ∥∥₁_map c.args.self.under_way (λ u. whole_of_line text (string_bytes c.in-Whole.text) c.args.self.game u.named
+    (rw c.in-Whole.is at c.in_ok-replay.ensures c.args.self.game (lines_behind text) u.under_way).1)
+
+pub lost-requires : goal.lost-requires
+lost-requires c =
+    let text = string_bytes c.args.self.pgn in
+    λ start moves tells. not_there c.args.self.under_way (λ u.
+    (rw c.in-NoGame.is at c.in_ok-replay.ensures c.args.self.game (lines_behind text) u.under_way) start moves tells)
+
+pub returns-in-More : goal.returns-in-More
+returns-in-More c =
+    let text = string_bytes c.args.self.pgn in
+    ∥∥₁_map c.args.self.under_way (λ u.
+    (refl, (rw c.in-More.is at c.in_ok-replay.ensures c.args.self.game (lines_behind text) u.under_way).1))
+
+pub returns-in-Whole : goal.returns-in-Whole
+returns-in-Whole c =
+    let text = string_bytes c.args.self.pgn in
+    ∥∥₁_map c.args.self.under_way (λ u.
+    (ap string_bytes c.new.ensures, inl (rw c.in-Whole.is at c.in_ok-replay.ensures c.args.self.game (lines_behind text) u.under_way).0))
+
+pub returns-in_ok-lost-in-NoGame : goal.returns-in_ok-lost-in-NoGame
+returns-in_ok-lost-in-NoGame c =
+    let text = string_bytes c.args.self.pgn in
+    ∥∥₁_map c.args.self.under_way (λ u. (
+      ap string_bytes c.in_ok-lost-in-NoGame.ensures,
+      inr (rw c.in-NoGame.is at c.in_ok-replay.ensures c.args.self.game (lines_behind text) u.under_way),
+    ))

@@ -1,0 +1,44 @@
+-- Replays by which `line G` is answered: a part in each turn.
+use Rattle.std.specs.Prelude.{ℕ, ◌≡◌, ◌≤◌, ◌+◌, ◌⊎◌, List, Option, None, Some}
+use Rattle.std.specs.String.{string_bytes}
+use Rattle.lobby_positions.specs.Pgn.{TellsNone}
+use Rattle.lobby_positions.specs.Replaying.{left}
+use Rattle.lobby_talk.specs.declared.kept_answer.KeptAnswer.{KeptAnswer}
+use Rattle.lobby_talk.specs.declared.under_way.UnderWay.{UnderWay}
+use Rattle.lobby_talk.specs.declared.under_way.Going.{Going}
+use Rattle.lobby_talk.specs.declared.under_way.Going.TheVariants.{More, Whole}
+use Rattle.lobby_talk.specs.Replays.{plies_most}
+use Rattle.lobby_talk.specs.Making.{lines_behind}
+
+-- What a turn brings of a replay of this text: where more plies are left than a turn may play, it has played just so
+-- many; else the answer, also where the text tells no game.
+abbrev pub GoesOn : UnderWay → Going → Type 0
+GoesOn old (More new) =
+    (string_bytes new.pgn ≡ string_bytes old.pgn) × (left new.replay + plies_most ≡ left old.replay)
+GoesOn old (Whole answer) =
+    (string_bytes answer.pgn ≡ string_bytes old.pgn)
+    × ((left old.replay ≤ plies_most) ⊎ TellsNone (lines_behind (string_bytes old.pgn)))
+
+-- A replay of this text begins, of which nothing is played; or the text has no start, and that is the answer.
+abbrev pub BeginsOf : List ℕ → Going → Type 0
+BeginsOf text (More new) = string_bytes new.pgn ≡ text
+BeginsOf text (Whole answer) = string_bytes answer.pgn ≡ text
+
+-- what is under way then, and the answer
+abbrev pub IsSet : Going → Option UnderWay → Option KeptAnswer → Type 0
+IsSet (More one) replay answer = (replay ≡ Some one) × (answer ≡ None)
+IsSet (Whole one) replay answer = (replay ≡ None) × (answer ≡ Some one)
+
+-- In a turn the replay that is under way goes on, and where none is, one may begin for this text, or the answer to it
+-- is there at once: it is kept, or the text has no start. No other is played.
+abbrev pub Replays : Option (List ℕ) → Option UnderWay → Option UnderWay → Option KeptAnswer → Type 0
+Replays next (Some old) (Some new) None = GoesOn old (More new)
+Replays next (Some old) None (Some answer) = GoesOn old (Whole answer)
+Replays (Some text) None (Some new) None = string_bytes new.pgn ≡ text
+Replays (Some text) None None (Some answer) = string_bytes answer.pgn ≡ text
+Replays None None None None = Unit {0}
+Replays _ _ _ _ = ⊥
+
+-- the same, whatever the answer
+abbrev pub IsReplayed : Option (List ℕ) → Option UnderWay → Option UnderWay → Type 0
+IsReplayed next old new = (answer : Option KeptAnswer) × Replays next old new answer
