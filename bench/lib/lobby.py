@@ -5,7 +5,6 @@ import hashlib
 import os
 import queue
 import signal
-import socket
 import subprocess
 import threading
 import time
@@ -45,10 +44,6 @@ class Lobby(Closing):
     def __init__(self, club, server_port, *words, errors=subprocess.DEVNULL, port=0, program=None):
         self.club, self.server_port, self.words, self.errors, self.port = club, server_port, words, errors, port
         self.program = program or path_of('chess_club')
-        if not port and '0.0.0.0' in words:
-            # (at all addresses the lobby prints those of --host, which have not its port)
-            with socket.create_server(('', 0)) as door:
-                self.port = door.getsockname()[1]
         self.start()
 
     def start(self):

@@ -17,6 +17,7 @@ use Rattle.lobby_web.specs.declared.socket.Heard.TheVariants as heards
 use Rattle.lobby_web.specs.declared.socket.Unsaid.{Unsaid}
 use Rattle.lobby_web.specs.Browsing.{IsNew, pending, WantsBytes, Takes, HearsNext, SaysTo, Writes}
 use Rattle.lobby_guests.specs.declared.guest.Guest.{Guest}
+use Rattle.lobby_guests.specs.declared.origin.Origin.{Origin}
 use Rattle.lobby_guests.specs.declared.rounds.Others.{Others}
 use Rattle.lobby_guests.specs.declared.rounds.Others.TheVariants.{Newcomers, Strangers}
 use Rattle.lobby_talk.specs.declared.talk.Talk.{Talk}
@@ -33,6 +34,16 @@ pub record IsNewGuest {S : Type 0} (stream : S) (guest : Guest S) : Type 0 where
   pub number : guest.number ≡ None
   pub stream_is : guest.stream ≡ stream
   pub waits : guest.waits.items ≡ []
+
+-- It has this socket's name, comes from there, and came at this moment. Its socket may be ready, and nothing of its
+-- time is taken.
+pub record ComesFrom {S : Type 0} (key : ℕ) (origin : Origin) (at : ℕ) (guest : Guest S) : Type 0 where
+  pub key_is : guest.key ≡ key
+  pub origin_is : guest.origin ≡ origin
+  pub came : (guest.came_at ≡ at) × (guest.heard_at ≡ at)
+  pub ready : (guest.can_read ≡ true) × (guest.can_write ≡ true)
+  pub stays : guest.is_lost ≡ false
+  pub unpaid : (guest.paid_until ≡ 0) × (guest.logins_until ≡ 0)
 
 -- Nothing came, and nothing went.
 pub record IsAsBefore {S : Type 0} (old new : Guest S) : Type 0 where

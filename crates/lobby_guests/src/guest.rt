@@ -2,7 +2,7 @@
 ghost use Rattle.std.specs.Prelude.{ℕ, ◌≡◌, ◌<◌, ◌≤◌, ◌+◌, ◌/◌, ◌↔◌, None, Some, [], length, true, false, IsTrue, OnOk};
 ghost use Rattle.std.specs.Prelude.{◌≢◌};
 ghost use Rattle.lobby_desk.specs.Who.{IsReady, at_table};
-ghost use Rattle.lobby_guests.specs.Guests.{has_time, is_beyond, IsNewGuest, IsAsBefore, IsRead};
+ghost use Rattle.lobby_guests.specs.Guests.{has_time, is_beyond, IsNewGuest, ComesFrom, IsAsBefore, IsRead};
 ghost use Rattle.lobby_guests.specs.Guests.{IsHeardAs, IsHeard, IsAsked, MaySpeak, IsSaid, IsTold, AreTold, IsWritten};
 ghost use Rattle.lobby_guests.specs.Guests.{IsPutBehind, IsNextTold, IsCaughtUp, IsFirst};
 ghost use Rattle.lobby_guests.specs.Waiting.{must_wait, AtLine};
@@ -118,7 +118,8 @@ fn role_at(talk: &Talk, number: u64) -> Role
 }
 
 impl<S> Guest<S> {
-    /// A connection that begins. The keys are for the names of headers, which the peer chooses.
+    /// A connection that begins, with a socket of this name, from this origin, at a moment in milliseconds. The keys
+    /// are for the names of headers, which the peer chooses.
     pub fn new(
         alloc: Global,
         keys: RandomState,
@@ -127,7 +128,8 @@ impl<S> Guest<S> {
         origin: Origin,
         at: u64,
     ) -> Guest<S>
-        ensures { IsNewGuest stream result }
+        ensures begins { IsNewGuest stream result }
+        ensures comes { ComesFrom key origin at result }
     {
         Guest {
             stream,

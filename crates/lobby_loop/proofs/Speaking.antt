@@ -16,11 +16,13 @@ use Rattle.lobby_web.specs.declared.socket.Heard.{Heard}
 use Rattle.lobby_web.specs.declared.socket.Heard.TheVariants as heards
 use Rattle.lobby_web.specs.declared.socket.Unsaid.{Unsaid}
 use Rattle.lobby_web.specs.declared.socket.Unsaid.TheVariants.{NotOpen, NotText, Slow, Memory}
-use Rattle.lobby_web.specs.Browsing.{web_config, pending, AreAnswered, Serves, Answers, IsNew, TakesBytes, HearsNext, SaysTo, Writes}
+use Rattle.lobby_web.specs.Browsing.{web_config, pending, AreAnswered, Serves, Answers, Stays, AnswersIf, IsNew, TakesBytes, HearsNext, SaysTo, Writes}
+use Rattle.lobby_web.specs.Heading.{heading_of, is_read}
 use Rattle.lobby_web.specs.Frames.{frames_bytes}
 use Rattle.lobby_web.specs.Happening.{SocketStep, came, asked, said, wrote, Does, Happen, KeepsOpen, AllKeepOpen, Heeds, text_of, is_close}
 use Rattle.lobby_web.specs.Happening as life
 use Rattle.lobby_web.specs.Talking.{IsFresh, Hears, Says, may_say}
+use Rattle.http_server.proofs.Theorems.{always_served}
 use Rattle.lobby_web.proofs.LifeLemmas.{heeded}
 use Rattle.lobby_web.proofs.SayingLemmas.{uttered}
 use Rattle.lobby_web.proofs.ShutLemmas.{stays-shut, unsaid-shut}
@@ -255,13 +257,43 @@ answers_on site q c old At.Over is joins among received sent silent any = silent
 
 -- ---- one thing more that was done
 
-took_on : (site : Site) (bytes : List ℕ) (past : List Doing) (a b : Stage) → TakesBytes site bytes a b → Stands past a →
+-- what came by HTTP is not read yet
+stays_on : (site : Site) (bytes : List ℕ) (past : List Doing) (c : Connection) (b : Stage) →
+    Stays (config_of c) (after_read (history c) bytes) b → Stands past (At.Http c) → Stands (Took site bytes ∷ past) b
+stays_on site bytes past c (At.Http next) (config, same) (is, http, silent) = (
+  config ∙ is,
+  record {
+    served = inr (subst (λ (k : Config). ∥ IsServed k (history next) ∥₁) (config ∙ is) (always_served next));
+    answered = (
+      (history c).calls,
+      [],
+      ap (λ (h : History). h.calls) same ∙ sym (append-nil (history c).calls),
+      http.answered,
+      tt,
+    );
+    received = ap (λ (h : History). h.received) same ∙ ap (λ (l : List ℕ). l ++ bytes) http.received;
+    sent = ap (λ (h : History). h.sent) same ∙ http.sent;
+  },
+  record { closed = silent.closed; given = silent.given; told = silent.told; said = silent.said },
+)
+stays_on site bytes past c (At.Socket socket) stays was = absurd stays
+stays_on site bytes past c At.Over stays (is, http, silent) =
+    record { closed = silent.closed; given = silent.given; told = silent.told; said = silent.said }
+
+took_http : (is_read : Bool) (site : Site) (bytes : List ℕ) (past : List Doing) (c : Connection) (b : Stage) →
+    AnswersIf is_read (config_of c) site (after_read (history c) bytes) b → Stands past (At.Http c) →
     Stands (Took site bytes ∷ past) b
-took_on site bytes past (At.Http c) b takes (is, http, silent) =
+took_http false site bytes past c b stays was = stays_on site bytes past c b stays was
+took_http true site bytes past c b takes (is, http, silent) =
     answers_on site (Took site bytes ∷ past) c (after_read (history c) bytes) b is
     (λ new calls so more. ((history c).calls, calls, so, http.answered, more)) (inl refl)
     (ap (λ (l : List ℕ). l ++ bytes) http.received) http.sent
     (record { closed = silent.closed; given = silent.given; told = silent.told; said = silent.said }) takes
+
+took_on : (site : Site) (bytes : List ℕ) (past : List Doing) (a b : Stage) → TakesBytes site bytes a b → Stands past a →
+    Stands (Took site bytes ∷ past) b
+took_on site bytes past (At.Http c) b takes was =
+    took_http (is_read (heading_of (history c).received) bytes) site bytes past c b takes was
 took_on site bytes past (At.Socket old) b (new, is, takes) was =
     subst (λ (s : Stage). Stands (Took site bytes ∷ past) s) (sym is)
     (on_more past (Took site bytes) (came bytes) old new tt takes (record {

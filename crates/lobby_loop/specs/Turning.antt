@@ -1,6 +1,7 @@
 -- One turn of all that are connected.
-use Rattle.std.specs.Prelude.{ℕ, ◌≡◌, ◌⊎◌, ◌||◌, Bool, true, false, List, [], ◌∷◌, ◌++◌, Option, None, Some, is_some}
-use Rattle.std.specs.Prelude.{if◌then◌else◌}
+use Rattle.std.specs.Prelude.{ℕ, ◌≡◌, ◌⊎◌, ◌||◌, ◌+◌, ◌-◌, ◌^◌, ◌==◌, nat_le, Bool, true, false, List, [], ◌∷◌, ◌++◌}
+use Rattle.std.specs.Prelude.{Option, None, Some, is_some, length, if◌then◌else◌}
+use Rattle.std.specs.declared.net.ip_addr.IpAddr.{IpAddr}
 use Rattle.std.specs.List.{AllZip}
 use Rattle.lobby_words.specs.declared.players.Player.{Player}
 use Rattle.lobby_desk.specs.Events.{Gone, Here, message_values}
@@ -10,7 +11,9 @@ use Rattle.lobby_guests.specs.declared.guest.Guest.{Guest}
 use Rattle.lobby_talk.specs.declared.link.Link.{Link}
 use Rattle.lobby_talk.specs.declared.talk.Talk.{Talk}
 use Rattle.lobby_talk.specs.Talking.{Begins, MovesAnew}
-use Rattle.lobby_guests.specs.Guests.{IsNewGuest, AreAttended, AreDelivered, IsWritten, IsLookedAfter, AreParted}
+use Rattle.lobby_guests.specs.Origins.{IsPlain, IsFrom}
+use Rattle.lobby_guests.specs.Guests.{IsNewGuest, ComesFrom, AreAttended, AreDelivered, IsWritten, IsLookedAfter}
+use Rattle.lobby_guests.specs.Guests.{AreParted}
 use Rattle.lobby_talk.specs.Held.{TakesIn, HandsOn, IsKept}
 use Rattle.lobby_talk.specs.Replaying.{IsReplayed}
 use Rattle.lobby_guests.specs.Seating.{AreSeated}
@@ -78,6 +81,22 @@ pub record Admits {S : Type 0} (stream : S) (old new : Hall S) : Type 0 where
   pub talk : new.talk ≡ old.talk
   pub server : new.server ≡ old.server
   pub site : new.site ≡ old.site
+
+-- Whoever comes has this socket's name, comes from a peer of this address, and came at this moment.
+abbrev pub ComesBy : {S : Type 0} → ℕ → IpAddr → ℕ → Hall S → Hall S → Type 0
+ComesBy {S} key peer at old new =
+    (new.guests.items ≡ old.guests.items)
+    ⊎ ((guest : Guest S) × (plain : IpAddr) × IsPlain peer plain × IsFrom old.proxy plain guest.origin
+    × ComesFrom key guest.origin at guest × (new.guests.items ≡ old.guests.items ++ guest ∷ []))
+
+-- nobody more is taken: 1,104 are there, or no name for a socket is left
+abbrev pub is_full : {S : Type 0} → Hall S → Bool
+is_full hall = nat_le 1104 (length hall.guests.items) || hall.next_key == 2 ^ 64 - 1
+
+-- The name for the next socket is one that none had before: each is one more than the last.
+abbrev pub NamesNext : {S : Type 0} → Option ℕ → Hall S → Hall S → Type 0
+NamesNext None old new = (is_full old ≡ true) × (new.next_key ≡ old.next_key)
+NamesNext (Some key) old new = (is_full old ≡ false) × (key ≡ old.next_key) × (new.next_key ≡ key + 1)
 
 -- The server is there, by a connection on which nothing was said and of which nothing came.
 pub record ServerComes {S : Type 0} (stream : S) (old new : Hall S) : Type 0 where

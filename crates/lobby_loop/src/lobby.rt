@@ -1,5 +1,5 @@
 //! The sockets of a lobby, and what wakes it.
-ghost use Rattle.std.specs.Prelude.{◌≡◌, ◌≤◌, false, List, None, Some, IfOk, OnOk, OnErr, is_some};
+ghost use Rattle.std.specs.Prelude.{◌≡◌, ◌≤◌, false, List, None, Some, IfOk, OnOk, OnErr, is_some, length};
 ghost use Rattle.mio.specs.declared.net.stream.TcpStream.{TcpStream};
 ghost use Rattle.mio.specs.declared.net.uds.stream.UnixStream.{UnixStream};
 ghost use Rattle.either.specs.declared.Either.{Either};
@@ -165,17 +165,23 @@ impl Lobby {
     }
 
     /// How many connections were turned away since it began; at most 2^64 - 1.
-    pub fn turned_away(&self) -> u64 {
+    pub fn turned_away(&self) -> u64
+        ensures { result ≡ self.now.hall.turned_away }
+    {
         self.hall.turned_away()
     }
 
     /// How many browsers are connected.
-    pub fn connections(&self) -> usize {
+    pub fn connections(&self) -> usize
+        ensures { result ≡ length self.now.hall.guests.items }
+    {
         self.hall.len()
     }
 
     /// What was counted since it began.
-    pub fn counts(&self) -> &Counts {
+    pub fn counts(&self) -> &Counts
+        ensures { result.now ≡ self.now.hall.counts }
+    {
         self.hall.counts()
     }
 

@@ -1,10 +1,13 @@
 //! How many games the server has, as its answer to `list` tells.
-use lobby_words::{Stage, cut_word, is_list, number_named, seat_of};
+ghost use Rattle.std.specs.Prelude.{◌≡◌};
+ghost use Rattle.lobby_serving.specs.Listing.{waits, first_told, row_told};
+
+use server_answers::{Row, list_head_of, row_of};
 use std::alloc::{AllocError, Global};
 use std::str;
 
-/// How many games are on the server's table, and how many of these wait for a second player: rows with a number, of
-/// which one seat alone is empty and a name stands in the other.
+/// How many games are on the server's table, and how many of these wait for a second player: of their two seats one
+/// alone is empty.
 #[derive(Clone, Copy, PartialEq, Eq)]
 pub struct Games {
     pub all: u64,
@@ -17,7 +20,7 @@ pub enum Told {
     /// The answer is not whole yet.
     Nothing,
     Games(Games),
-    /// It is no list.
+    /// It is no list: its first line is another, or one behind it is no row.
     NoList,
 }
 
@@ -34,23 +37,38 @@ pub struct Listing {
     rows: u64,
 }
 
-// The number of rows that the first line of a list says; none of another line.
-fn rows_of(first: &str) -> Option<u64> {
-    if !is_list(first) {
-        return None;
+// Whether a game waits: one seat alone is empty.
+fn waits(row: &Row) -> bool
+    ensures { result ≡ waits row.now }
+{
+    match (&row.seats.white, &row.seats.black) {
+        (None, Some(_)) | (Some(_), None) => true,
+        (None, None) | (Some(_), Some(_)) => false,
     }
-    let (_, rest) = cut_word(first);
-    let (_, rest) = cut_word(rest);
-    Some(u64::from(number_named(rest)?))
 }
 
-// Whether a row `G WHITE BLACK ..` is of a game that waits: one seat alone is empty, and a name stands in the other.
-fn is_waiting(row: &str) -> bool {
-    let (number, rest) = cut_word(row);
-    let (white, rest) = cut_word(rest);
-    let (black, _) = cut_word(rest);
-    let seated = if white == "-" { black } else { white };
-    (white == "-" || black == "-") && seat_of(number_named(number), seated, Stage::Waits).is_some()
+// What the first line of an answer tells, where it is a list's.
+fn first_told(first: &str) -> Option<Games>
+    ensures { result ≡ first_told first.now }
+{
+    let rows = list_head_of(first)?;
+    Some(Games {
+        all: u64::from(rows),
+        waiting: 0,
+    })
+}
+
+// What is told once a line more has come, where it is a row.
+fn row_told(before: Games, line: &str) -> Option<Games>
+    ensures { result ≡ row_told before line.now }
+{
+    match row_of(line) {
+        Some(row) => Some(Games {
+            all: before.all,
+            waiting: before.waiting.saturating_add(u64::from(waits(&row))),
+        }),
+        None => None,
+    }
 }
 
 impl Listing {
@@ -68,19 +86,15 @@ impl Listing {
         let Ok(line) = str::from_utf8(self.held.as_slice()) else {
             return Told::NoList;
         };
-        let games = match self.games {
-            None => match rows_of(line) {
-                Some(all) => Games { all, waiting: 0 },
-                None => return Told::NoList,
-            },
+        let told = match self.games {
+            None => first_told(line),
             Some(before) => {
                 self.rows = self.rows.saturating_add(1);
-                let waits = is_waiting(line);
-                Games {
-                    all: before.all,
-                    waiting: before.waiting.saturating_add(u64::from(waits)),
-                }
+                row_told(before, line)
             }
+        };
+        let Some(games) = told else {
+            return Told::NoList;
         };
         self.held.clear();
         self.games = Some(games);

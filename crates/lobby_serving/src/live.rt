@@ -4,7 +4,7 @@ use bytes::Bytes;
 use lobby_loop::Lobby;
 use lobby_web::{File, Kind};
 use std::alloc::{AllocError, Global};
-use std::fs::{self, OpenFile, OpenOptions};
+use std::fs::{self, File as DiskFile, OpenFile, OpenOptions};
 use std::io;
 use std::io::{ErrorKind, Read};
 use std::rt::Files;
@@ -29,28 +29,74 @@ fn opened<R: Files>(rt: &R, file: &str) -> io::Result<R::File> {
     }
 }
 
-// What a regular file has that is not too long. (It may have grown since it was looked at: one byte more tells.)
-fn read_regular<R: Files + AllocGlobal>(rt: &R, file: &str) -> io::Result<Vec<u8>> {
-    let opened = opened(rt, file)?;
-    let found = opened.metadata()?;
+/// So many bytes a read takes, and so many reads a turn: a long file is read in several.
+const PIECE: usize = 65_536;
+
+const READS: u32 = 8;
+
+// A file that is being read, and how it stood when that began.
+#[derive(Drop)]
+struct Reading {
+    file: DiskFile,
+    mark: Mark,
+    bytes: Vec<u8>,
+}
+
+// Begins to read a regular file that is not too long.
+fn begun<R: Files<File = DiskFile> + AllocGlobal>(
+    rt: &R,
+    file: &str,
+    mark: Mark,
+) -> io::Result<Reading> {
+    let file = opened(rt, file)?;
+    let found = file.metadata()?;
     if !found.is_file() {
         return Err(io::Error::from(ErrorKind::InvalidInput));
     }
     if found.len() > BYTES_MOST {
         return Err(io::Error::from(ErrorKind::FileTooLarge));
     }
-    let mut bytes = Vec::new(rt.alloc());
-    opened.take(BYTES_MOST + 1).read_to_end(&mut bytes)?;
-    if bytes.len() as u64 > BYTES_MOST {
-        return Err(io::Error::from(ErrorKind::FileTooLarge));
-    }
-    Ok(bytes)
+    Ok(Reading {
+        file,
+        mark,
+        bytes: Vec::new(rt.alloc()),
+    })
 }
 
-// Bytes are served from now on.
-fn serve(alloc: Global, lobby: &mut Lobby, bytes: Vec<u8>) -> Result<(), AllocError> {
+impl Reading {
+    // Reads one piece. It tells whether that was the file's end. (It may have grown since it was looked at.)
+    fn read(&mut self, piece: &mut [u8; PIECE]) -> io::Result<bool> {
+        let count = match self.file.read(piece) {
+            Ok(count) => count,
+            Err(error) if error.kind() == ErrorKind::Interrupted => return Ok(false),
+            Err(error) => return Err(error),
+        };
+        self.bytes.extend_from_slice(&piece[..count])?;
+        if self.bytes.len() as u64 > BYTES_MOST {
+            return Err(io::Error::from(ErrorKind::FileTooLarge));
+        }
+        Ok(count == 0)
+    }
+
+    // Reads on, as much as a turn may. It tells whether the file's end was reached.
+    fn go_on(&mut self) -> io::Result<bool> {
+        let mut piece = [0u8; PIECE];
+        for _ in 0..READS {
+            if self.read(&mut piece)? {
+                return Ok(true);
+            }
+        }
+        Ok(false)
+    }
+}
+
+// The file that is served of what was read. Its tag is made of its mark: of the bytes it would take a pass over all of
+// them, in one turn.
+fn served_of(alloc: Global, reading: Reading) -> Result<File, AllocError> {
+    let mark = reading.mark.to_bytes(alloc)?;
     let path = PATH.to_vec(alloc)?;
-    lobby.put_file(File::new(alloc, path, Kind::Pgn, Bytes::from_vec(bytes)?)?)
+    let bytes = Bytes::from_vec(reading.bytes)?;
+    File::marked(alloc, path, Kind::Pgn, bytes, mark.as_slice())
 }
 
 /// The file, and what was seen of it last.
@@ -59,6 +105,8 @@ pub struct Live<'a> {
     file: &'a str,
     seen: Option<Mark>,
     next_at: u64,
+    // What was read of it where that is not done.
+    reading: Option<Reading>,
     // Whether it was told that the file is too long.
     is_told: bool,
 }
@@ -70,6 +118,7 @@ impl<'a> Live<'a> {
             file,
             seen: None,
             next_at: 0,
+            reading: None,
             is_told: false,
         }
     }
@@ -83,37 +132,72 @@ impl<'a> Live<'a> {
         self.is_told = is_long;
     }
 
-    // What the file has is served from now on; nothing where it cannot be read, or is too long.
-    fn read<R: Files + AllocGlobal + Eprint>(
+    // Nothing is served: the file cannot be read, or is too long.
+    fn fail<R: Eprint>(&mut self, rt: &R, lobby: &mut Lobby, error: &io::Error) {
+        let is_long = error.kind() == ErrorKind::FileTooLarge;
+        self.tell(rt, is_long);
+        // (one that is too long is looked at again where it has changed)
+        if !is_long {
+            self.seen = None;
+        }
+        lobby.take_off_file(PATH);
+    }
+
+    // Begins to read the file.
+    fn begin<R>(&mut self, rt: &R, lobby: &mut Lobby, mark: Mark)
+    where
+        R: Files<File = DiskFile> + AllocGlobal + Eprint,
+    {
+        match begun(rt, self.file, mark) {
+            Ok(reading) => self.reading = Some(reading),
+            Err(error) => self.fail(rt, lobby, &error),
+        }
+    }
+
+    // What was read is served from now on; where the file has changed meanwhile it is read again at the next look.
+    fn end<R: Files + AllocGlobal + Eprint>(
         &mut self,
         rt: &R,
         lobby: &mut Lobby,
+        reading: Reading,
     ) -> Result<(), AllocError> {
-        match read_regular(rt, self.file) {
-            Ok(bytes) => {
-                self.tell(rt, false);
-                serve(rt.alloc(), lobby, bytes)
+        if mark_of(rt, self.file) != Some(reading.mark) {
+            self.seen = None;
+            return Ok(());
+        }
+        self.tell(rt, false);
+        lobby.put_file(served_of(rt.alloc(), reading)?)
+    }
+
+    // Reads on.
+    fn go_on<R: Files + AllocGlobal + Eprint>(
+        &mut self,
+        rt: &R,
+        lobby: &mut Lobby,
+        mut reading: Reading,
+    ) -> Result<(), AllocError> {
+        match reading.go_on() {
+            Ok(true) => self.end(rt, lobby, reading),
+            Ok(false) => {
+                self.reading = Some(reading);
+                Ok(())
             }
             Err(error) => {
-                let is_long = error.kind() == ErrorKind::FileTooLarge;
-                self.tell(rt, is_long);
-                // (one that is too long is looked at again where it has changed)
-                if !is_long {
-                    self.seen = None;
-                }
-                lobby.take_off_file(PATH);
+                self.fail(rt, lobby, &error);
                 Ok(())
             }
         }
     }
 
-    /// Looks at the file, where the last look was a second ago, and reads it where it has changed.
-    pub fn look<R: Files + AllocGlobal + Eprint>(
-        &mut self,
-        rt: &R,
-        lobby: &mut Lobby,
-        at: u64,
-    ) -> Result<(), AllocError> {
+    /// Looks at the file, where the last look was a second ago, and reads it where it has changed: in each turn a part,
+    /// and what was read is served once all of it is there.
+    pub fn look<R>(&mut self, rt: &R, lobby: &mut Lobby, at: u64) -> Result<(), AllocError>
+    where
+        R: Files<File = DiskFile> + AllocGlobal + Eprint,
+    {
+        if let Some(reading) = self.reading.take() {
+            return self.go_on(rt, lobby, reading);
+        }
         if at < self.next_at {
             return Ok(());
         }
@@ -123,10 +207,19 @@ impl<'a> Live<'a> {
             return Ok(());
         }
         self.seen = found;
-        if found.is_none() {
-            lobby.take_off_file(PATH);
-            return Ok(());
+        match found {
+            Some(mark) => self.begin(rt, lobby, mark),
+            None => lobby.take_off_file(PATH),
         }
-        self.read(rt, lobby)
+        Ok(())
+    }
+
+    /// After so many milliseconds it is to be looked at again, though no socket is ready; none where that is no matter.
+    pub fn rest(&self) -> Option<u64> {
+        if self.reading.is_some() {
+            Some(0)
+        } else {
+            None
+        }
     }
 }

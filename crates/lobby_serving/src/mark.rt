@@ -1,4 +1,7 @@
 //! Whether a file has changed.
+ghost use Rattle.std.specs.Prelude.{◌≡◌, IfOk};
+
+use std::alloc::{AllocError, Global};
 use std::fs;
 use std::os::unix::fs::MetadataExt;
 use std::rt::Files;
@@ -10,6 +13,22 @@ pub struct Mark {
     size: u64,
     seconds: i64,
     nanoseconds: i64,
+}
+
+impl Mark {
+    ghost use Rattle.lobby_serving.specs.Marks.{mark_bytes};
+
+    /// The bytes of its four numbers, by which a tag is made: another mark has others.
+    pub fn to_bytes(&self, alloc: Global) -> Result<Vec<u8>, AllocError>
+        ensures { IfOk result (λ bytes. bytes.items ≡ mark_bytes self.now) }
+    {
+        let mut bytes = Vec::new(alloc);
+        bytes.extend_from_slice(&self.node.to_be_bytes())?;
+        bytes.extend_from_slice(&self.size.to_be_bytes())?;
+        bytes.extend_from_slice(&self.seconds.to_be_bytes())?;
+        bytes.extend_from_slice(&self.nanoseconds.to_be_bytes())?;
+        Ok(bytes)
+    }
 }
 
 /// How a file stands; none where it is not there, or is no regular file: to read of a pipe may last for ever.

@@ -61,8 +61,8 @@ fn push_host(hosts: &mut Vec<Vec<u8>>, alloc: Global, host: &str, port: u16) -> 
     Ok(())
 }
 
-// Whether a port stands behind a host: a colon that is none of an address in brackets.
-fn has_port(name: &str) -> bool {
+/// Whether a port stands behind a host: a colon that is none of an address in brackets.
+pub fn has_port(name: &str) -> bool {
     match name.rsplit_once(':') {
         Some((_, port)) => !port.ends_with(']'),
         None => false,

@@ -4,7 +4,7 @@ use crate::health::Health;
 use crate::links::FileLinks;
 use crate::live::Live;
 use crate::log::FileLog;
-use crate::page::site_of;
+use crate::page::{has_port, site_of};
 use crate::players::Players;
 use crate::table::Table;
 use anyhow::{Context, Result};
@@ -157,31 +157,46 @@ where
     fn turn<L: ActLog>(&mut self, lobby: &mut Lobby, log: &mut L, at: u64) -> Result<()> {
         self.table.look(self.rt, lobby, at)?;
         self.health.look(lobby, &self.table, at)?;
+        let mut live_rest = None;
         if let Some(live) = &mut self.live {
             live.look(self.rt, lobby, at)?;
+            live_rest = live.rest();
         }
         let turned = lobby.turn(self.rt, at, log, &mut self.links)?;
         self.telling.tell_server(lobby.has_server());
         self.telling.tell_turned_away(lobby.turned_away(), at);
         self.telling
             .tell_logins_refused(lobby.counts().logins_refused, at);
-        lobby.rest(within(turned, self.table.rest(at)))?;
+        lobby.rest(within(within(turned, self.table.rest(at)), live_rest))?;
         Ok(())
     }
 }
 
-// Prints the page's address; where all of this machine's are listened at, those by which browsers may come.
-fn tell_address<R: Print + Eprint>(rt: &R, address: SocketAddr, hosts: &[&str]) -> Result<()> {
-    if !address.ip().is_unspecified() {
-        println!(rt; "http://{address}/")?;
-    } else if hosts.is_empty() {
+// Prints the addresses by which browsers may come to a port of all addresses of this machine: each host, with the port
+// where it names none; without a host that of the machine itself.
+fn tell_hosts<R: Print + Eprint>(rt: &R, port: u16, hosts: &[&str]) -> Result<()> {
+    if hosts.is_empty() {
+        println!(rt; "http://127.0.0.1:{port}/")?;
         eprintln!(rt;
             "no --host names an address by which other devices come: their browsers are refused"
         )?;
-    } else {
-        for host in hosts {
+    }
+    for host in hosts {
+        if has_port(host) {
             println!(rt; "http://{host}/")?;
+        } else {
+            println!(rt; "http://{host}:{port}/")?;
         }
+    }
+    Ok(())
+}
+
+// Prints the page's address, or where all of this machine's are listened at those of its hosts.
+fn tell_address<R: Print + Eprint>(rt: &R, address: SocketAddr, hosts: &[&str]) -> Result<()> {
+    if address.ip().is_unspecified() {
+        tell_hosts(rt, address.port(), hosts)?;
+    } else {
+        println!(rt; "http://{address}/")?;
     }
     if !address.ip().is_loopback() {
         eprintln!(rt; "the line is not encrypted: whoever is on the way reads along, links too")?;

@@ -10,6 +10,8 @@ pub mod ServeLemmas
 pub mod LifeLemmas
 pub mod SayingLemmas
 pub mod RoomLemmas
+pub mod HeadingLemmas
+pub mod EndLemmas
 pub mod HoldingLemmas
 pub mod ShutLemmas
 pub mod PutLemmas

@@ -15,6 +15,8 @@ use Rattle.lobby_web.specs.declared.socket.Unsaid.TheVariants.{NotOpen}
 use Rattle.lobby_web.specs.declared.browser.Stage.{Stage}
 use Rattle.lobby_web.specs.declared.browser.Stage.TheVariants as At
 use Rattle.lobby_web.specs.Answering.{IsAnswer, IsGranted}
+use Rattle.lobby_web.specs.declared.heading.Heading.{Heading}
+use Rattle.lobby_web.specs.Heading.{heading_of, is_read}
 use Rattle.lobby_web.specs.Talking.{IsFresh, Keeps, TakesIn, Hears, Says, may_say}
 
 -- heads of at most 16,384 bytes, and requests without a body
@@ -86,10 +88,23 @@ IsOver (At.Http connection) = (history connection).state ≢ Open
 IsOver (At.Socket socket) = socket.is_over ≡ true
 IsOver At.Over = ⊤
 
--- What becomes of bytes that came where bytes are wanted.
+-- Nothing was done by HTTP but this. Where memory is refused it is over.
+abbrev pub Stays : Config → History → Stage → Type 0
+Stays config now (At.Http connection) = (config_of connection ≡ config) × (history connection ≡ now)
+Stays config now (At.Socket socket) = ⊥
+Stays config now At.Over = ⊤
+
+-- The site answers, or nothing is done yet.
+abbrev pub AnswersIf : Bool → Config → Site → History → Stage → Type 0
+AnswersIf true config site now new = Answers config site now new
+AnswersIf false config site now new = Stays config now new
+
+-- What becomes of bytes that came where bytes are wanted. By HTTP what came is read once a head ends among them, which
+-- is when a request may be whole.
 abbrev pub TakesBytes : Site → List ℕ → Stage → Stage → Type 0
 TakesBytes site bytes (At.Http connection) new =
-    Answers (config_of connection) site (after_read (history connection) bytes) new
+    AnswersIf (is_read (heading_of (history connection).received) bytes) (config_of connection) site
+    (after_read (history connection) bytes) new
 TakesBytes site bytes (At.Socket old) new = (socket : Socket) × (new ≡ At.Socket socket) × TakesIn bytes old socket
 TakesBytes site bytes At.Over new = ⊥
 
@@ -125,3 +140,12 @@ abbrev pub IsNew : Stage → Type 0
 IsNew (At.Http connection) = (config_of connection ≡ web_config) × (history connection ≡ new_history)
 IsNew (At.Socket socket) = ⊥
 IsNew At.Over = ⊥
+
+-- how far the head is of the request that comes next; behind HTTP that is no matter
+abbrev pub heading_at : Stage → Heading → Heading
+heading_at (At.Http connection) heading = heading_of (history connection).received
+heading_at (At.Socket socket) heading = heading
+heading_at At.Over heading = heading
+
+abbrev pub IsHeaded : Stage → Heading → Type 0
+IsHeaded stage heading = heading ≡ heading_at stage heading

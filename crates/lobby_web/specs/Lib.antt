@@ -10,3 +10,4 @@ pub mod Talking
 pub mod Browsing
 pub mod Happening
 pub mod Holding
+pub mod Heading

@@ -7,18 +7,17 @@ use Rattle.lobby_web.specs.declared.site.Site.{Site}
 use Rattle.lobby_web.specs.declared.site.File.{File}
 use Rattle.lobby_web.specs.declared.site.Kind.{Kind}
 use Rattle.hex.specs.Hex.{encode_lower}
-use Rattle.sha2.specs.Sha256.{sha256}
 
--- the entity tag of bytes: their SHA-256 as hex digits, in quotes
+-- the entity tag by this mark: its hex digits, in quotes
 abbrev pub tag_of : List ℕ → List ℕ
-tag_of bytes = 34 ∷ encode_lower (sha256 bytes) ++ 34 ∷ []
+tag_of mark = 34 ∷ encode_lower mark ++ 34 ∷ []
 
--- The file is of this path, this kind and these bytes, with their tag.
-pub record IsFile (place : List ℕ) (sort : Kind) (content : List ℕ) (file : File) : Type 0 where
+-- The file is of this path, this kind and these bytes, with the tag by this mark.
+pub record IsFile (place : List ℕ) (sort : Kind) (content mark : List ℕ) (file : File) : Type 0 where
   pub path : file.path.items ≡ place
   pub kind : file.kind ≡ sort
   pub bytes : file.bytes ≡ content
-  pub tag : file.tag.items ≡ tag_of content
+  pub tag : file.tag.items ≡ tag_of mark
 
 -- a host without this port behind it, as `:80`
 abbrev pub without_port : List ℕ → List ℕ → List ℕ

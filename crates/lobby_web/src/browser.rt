@@ -6,9 +6,12 @@ ghost use Rattle.http_server.specs.History.{after_read};
 ghost use Rattle.websocket.specs.CloseCode.{is_allowed};
 ghost use Rattle.websocket.specs.Content.{text as Text, ping as Ping, close as Close};
 ghost use Rattle.lobby_web.specs.Browsing.{web_config, pending, Answers, WantsBytes, IsOver, is_open, Takes};
-ghost use Rattle.lobby_web.specs.Browsing.{TakesBytes, Writes, HearsNext, SaysTo, IsNew};
+ghost use Rattle.lobby_web.specs.Browsing.{TakesBytes, Writes, HearsNext, SaysTo, IsNew, IsHeaded};
+ghost use Rattle.lobby_web.specs.declared.browser.Stage.TheVariants as At;
+ghost use Rattle.lobby_web.specs.Heading.{heading_of};
 
 use crate::answer::Asked;
+use crate::heading::{Heading, MOST_IN_HEAD};
 use crate::site::Site;
 use crate::socket::{Heard, Socket, Unsaid};
 use http_server::{Config, Connection, State};
@@ -35,8 +38,11 @@ pub enum Stage {
 pub struct Browser {
     alloc: Global,
     stage: Stage,
+    // How far the head is of the request that comes next.
+    heading: Heading,
     // For whom the last request that said it said that a proxy asks.
     forwarded: Option<IpAddr>,
+    ghost headed: { IsHeaded stage heading },
 }
 
 // The limits of HTTP: heads of 16,384 bytes, and requests without a body.
@@ -45,7 +51,7 @@ fn web_config() -> Config
 {
     Config {
         limits: Limits {
-            max_head_len: 16_384,
+            max_head_len: MOST_IN_HEAD,
             max_extensions_len: 0,
             max_trailers_len: 1_024,
         },
@@ -93,31 +99,47 @@ fn takes_all(connection: &mut Connection, bytes: &[u8]) -> bool
     }
 }
 
-// The connection once these bytes came by HTTP.
+// The connection once these bytes came by HTTP. What came is read where a head ends among them, and not before.
 fn read_http(
     alloc: Global,
     site: &Site,
     mut connection: Connection,
     bytes: &[u8],
+    heading: &mut Heading,
     told: &mut Option<IpAddr>,
 ) -> Stage
-    ensures { Answers (config_of connection) site.now (after_read (history connection) bytes.now) result }
+    requires { heading.old ≡ heading_of (history connection).received }
+    ensures takes { TakesBytes site.now bytes.now (At.Http connection) result }
+    ensures headed { IsHeaded result heading.new }
 {
-    if takes_all(&mut connection, bytes) {
+    let is_read = heading.is_read(bytes);
+    if !takes_all(&mut connection, bytes) {
+        drop(connection);
+        return Stage::Over;
+    }
+    if is_read {
         answered(alloc, site, connection, told)
     } else {
-        drop(connection);
-        Stage::Over
+        Stage::Http(connection)
     }
 }
 
 // The connection once these bytes came, where bytes are wanted.
-fn taken(alloc: Global, site: &Site, stage: Stage, bytes: &[u8], told: &mut Option<IpAddr>) -> Stage
-    requires { WantsBytes stage }
-    ensures { TakesBytes site.now bytes.now stage result }
+fn taken(
+    alloc: Global,
+    site: &Site,
+    stage: Stage,
+    bytes: &[u8],
+    heading: &mut Heading,
+    told: &mut Option<IpAddr>,
+) -> Stage
+    requires wanted { WantsBytes stage }
+    requires headed { IsHeaded stage heading.old }
+    ensures takes { TakesBytes site.now bytes.now stage result }
+    ensures headed { IsHeaded result heading.new }
 {
     match stage {
-        Stage::Http(connection) => read_http(alloc, site, connection, bytes, told),
+        Stage::Http(connection) => read_http(alloc, site, connection, bytes, heading, told),
         Stage::Socket(mut socket) => {
             socket.take(bytes);
             Stage::Socket(socket)
@@ -165,6 +187,7 @@ impl Browser {
         Browser {
             alloc,
             stage: Stage::Http(Connection::new(alloc, keys, web_config())),
+            heading: Heading::new(),
             forwarded: None,
         }
     }
@@ -220,7 +243,8 @@ impl Browser {
         let wanted = self.wants_read();
         let stage = mem::replace(&mut self.stage, Stage::Over);
         if wanted {
-            let stage = taken(self.alloc, site, stage, bytes, &mut self.forwarded);
+            let (heading, told) = (&mut self.heading, &mut self.forwarded);
+            let stage = taken(self.alloc, site, stage, bytes, heading, told);
             put(&mut self.stage, stage);
         } else {
             drop(stage);

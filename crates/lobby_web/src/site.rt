@@ -60,25 +60,41 @@ fn push_quoted(to: &mut Vec<u8>, text: &[u8]) -> Result<(), AllocError>
     Ok(to.push(b'"')?)
 }
 
-// The entity tag of bytes: their SHA-256 as 64 hex digits, in quotes.
-fn tag_of(alloc: Global, bytes: &[u8]) -> Result<Vec<u8>, AllocError>
-    ensures { IfOk result (λ tag. tag.items ≡ tag_of bytes.now) }
+// The entity tag by a mark: its hex digits, in quotes.
+fn tag_of(alloc: Global, mark: &[u8]) -> Result<Vec<u8>, AllocError>
+    ensures { IfOk result (λ tag. tag.items ≡ tag_of mark.now) }
 {
-    let digits = hex::encode(alloc, Sha256::digest(bytes).as_slice())?;
+    let digits = hex::encode(alloc, mark)?;
     let mut tag = Vec::new(alloc);
     push_quoted(&mut tag, digits.as_bytes())?;
     Ok(tag)
 }
 
 impl File {
+    ghost use Rattle.sha2.specs.Sha256.{sha256};
     ghost use Rattle.lobby_web.specs.Pages.{IsFile};
 
     /// A file with its entity tag, the SHA-256 of its bytes as 64 hex digits in quotes, by which who has these bytes
     /// already is not sent them again (RFC 9110, 8.8.3 and 13.1.2). It fails only where memory is refused.
     pub fn new(alloc: Global, path: Vec<u8>, kind: Kind, bytes: Bytes) -> Result<File, AllocError>
-        ensures { IfOk result (IsFile path.items kind bytes) }
+        ensures { IfOk result (IsFile path.items kind bytes (sha256 bytes)) }
     {
-        let tag = tag_of(alloc, &bytes)?;
+        let sum = Sha256::digest(&bytes);
+        File::marked(alloc, path, kind, bytes, sum.as_slice())
+    }
+
+    /// The same with the tag by a mark, as its hex digits in quotes: for who has a tag by this mark these bytes are
+    /// those that he has, so other bytes at this path have another mark. It is made without a look at the bytes.
+    pub fn marked(
+        alloc: Global,
+        path: Vec<u8>,
+        kind: Kind,
+        bytes: Bytes,
+        mark: &[u8],
+    ) -> Result<File, AllocError>
+        ensures { IfOk result (IsFile path.items kind bytes mark.now) }
+    {
+        let tag = tag_of(alloc, mark)?;
         Ok(File {
             path,
             kind,

@@ -6,7 +6,7 @@ use std::process::Abort;
 /// A request, how its answer begins and ends, and whether the connection is over then.
 type Request = (&'static [u8], &'static [u8], &'static [u8], bool);
 
-const REQUESTS: [Request; 26] = [
+const REQUESTS: [Request; 31] = [
     (
         b"GET / HTTP/1.1\r\nHost: a:1\r\n\r\n",
         b"HTTP/1.1 200 OK\r\n",
@@ -87,6 +87,24 @@ const REQUESTS: [Request; 26] = [
         false,
     ),
     (b"GET / HTTP/1.1\r\nHost: a:1\r\n", b"", b"", false),
+    // what is no request waits for its end, but not where it begins as no head does
+    (b"what is this\r\n", b"", b"", false),
+    (b"what is this\r\n\r\n", b"HTTP/1.1 400 ", b"", true),
+    (b"\x16\x03\x01", b"HTTP/1.1 400 ", b"", true),
+    // lines end in both
+    (
+        b"GET / HTTP/1.1\nHost: a:1\n\n",
+        b"HTTP/1.1 400 ",
+        b"",
+        true,
+    ),
+    // empty lines stand in front
+    (
+        b"\r\n\r\nGET / HTTP/1.1\r\nHost: a:1\r\n\r\n",
+        b"HTTP/1.1 200 OK\r\n",
+        b"",
+        false,
+    ),
     (
         b"\x16\x03\x01\x02\0\x01\0\x01\xfc\x03\x03\r\n\r\n",
         b"HTTP/1.1 400 ",

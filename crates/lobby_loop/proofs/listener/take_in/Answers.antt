@@ -5,5 +5,5 @@ use Rattle.lobby_loop.proofs.listener.take_in.Goals as goal
 pub returns-then-watch : goal.returns-then-watch
 returns-then-watch g c = (
   c.watch.new.stream,
-  admits_behind c.watch.new.stream c.args.hall.now c.next_key.new.self c.admit.new.self c.next_key.ensures c.admit.ensures,
+  admits_behind c.watch.new.stream c.args.hall.now c.next_key.new.self c.admit.new.self c.next_key.ensures.before c.admit.ensures.admits,
 )

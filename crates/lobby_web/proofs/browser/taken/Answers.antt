@@ -2,4 +2,5 @@ use Rattle.std.proofs.Common.{refl}
 use Rattle.lobby_web.proofs.browser.taken.Goals as goal
 
 pub returns-in-Socket : goal.returns-in-Socket
-returns-in-Socket c = rw c.in-Socket.is (c.take.new.self, refl, c.take.ensures)
+returns-in-Socket c =
+    rw c.in-Socket.is (record { takes = (c.take.new.self, refl, c.take.ensures); headed = refl })
