@@ -1,7 +1,5 @@
 pub mod Guests
-pub mod Places
 pub mod Origins
-pub mod Roles
-pub mod Seating
+pub mod Place
 pub mod Counting
 pub mod Waiting

@@ -15,11 +15,10 @@ ghost use Rattle.lobby_guests.specs.Guests.{IsLookedAfter, is_in_time, taken_unt
 ghost use Rattle.lobby_guests.specs.Guests.{due_at, ahead_at, is_unheard, IsPaid, owed_after};
 ghost use Rattle.lobby_web.specs.Browsing.{WantsBytes};
 ghost use Rattle.lobby_talk.specs.Counting.{refuses_login, counted_up, one_if, refuses, refusals_of};
-ghost use Rattle.lobby_guests.specs.Seating.{role_of, player_of, place_of, Yields};
-ghost use Rattle.lobby_guests.specs.Roles.{role_at};
+ghost use Rattle.lobby_guests.specs.Place.{role_at, role_of, player_of, place_of, Yields};
 
 use crate::origin::Origin;
-use crate::places::{Place, Role, is_gone};
+use crate::place::{Place, Role, is_gone};
 use crate::waiting::{Waiting, is_line};
 use lobby_desk::{Kind, Message};
 use lobby_talk::{

@@ -1,17 +1,15 @@
-//! The lobby's browsers: the connection of each, a stream that does not wait, what a turn does for each of them, and who
-//! has a place.
+//! The lobby's browsers: the connection of each, a stream that does not wait, and what a turn does for each of them.
 //!
-//! Modules: `guest` has one browser's connection, `waiting` what waits for it, `guests` what is done for all of them,
-//! `rounds` whose turn it is, `places` who has a place and who makes room, `seating` the places of all, `origin` where
-//! a connection comes from. `proofs/EachGuest` has browsers that are attended one after another.
+//! Modules: `guest` has one browser's connection, `waiting` what waits for it, `origin` where it comes from, `place`
+//! what its place is among all of them, `guests` what is done for all, `rounds` whose turn it is. `proofs/EachGuest` has
+//! browsers that are attended one after another.
 #![tactic(auto)]
 
 mod guest;
 mod guests;
 mod origin;
-mod places;
+mod place;
 mod rounds;
-mod seating;
 mod waiting;
 
 pub use guest::Guest;
@@ -20,7 +18,6 @@ pub use guests::{
     wake_all, write_all,
 };
 pub use origin::Origin;
-pub use places::{Place, Role};
+pub use place::{Place, Role, is_gone};
 pub use rounds::Rounds;
-pub use seating::seat_if;
 pub use waiting::Waiting;

@@ -2,4 +2,7 @@ pub mod Serving
 pub mod Living
 pub mod Waking
 pub mod Speaking
-pub mod Seating
+pub mod Room
+pub mod Tally
+pub mod Seats
+pub mod Placing

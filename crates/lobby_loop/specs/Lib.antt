@@ -1,4 +1,6 @@
 pub mod Logging
+pub mod Places
+pub mod Seating
 pub mod Turning
 pub mod Doing
 pub mod Speaking

@@ -16,7 +16,7 @@ use Rattle.lobby_guests.specs.Guests.{IsNewGuest, ComesFrom, AreAttended, AreDel
 use Rattle.lobby_guests.specs.Guests.{AreParted}
 use Rattle.lobby_talk.specs.Held.{TakesIn, HandsOn, IsKept}
 use Rattle.lobby_talk.specs.Replaying.{IsReplayed}
-use Rattle.lobby_guests.specs.Seating.{AreSeated}
+use Rattle.lobby_loop.specs.Seating.{AreSeated}
 use Rattle.lobby_loop.specs.declared.hall.Hall.{Hall}
 
 -- What the server says is taken, where it is there.

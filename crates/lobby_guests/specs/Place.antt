@@ -1,0 +1,53 @@
+-- A connection's place, as the desk has it, and who gives it up.
+use Rattle.std.specs.Prelude.{ℕ, ◌≡◌, ◌||◌, Bool, true, false, List, Option, None, Some}
+use Rattle.lobby_desk.specs.declared.desk.Desk.{Desk}
+use Rattle.lobby_desk.specs.Roles.{acts, is_watcher}
+use Rattle.lobby_desk.specs.Strangers.{player_at}
+use Rattle.lobby_guests.specs.declared.guest.Guest.{Guest}
+use Rattle.lobby_guests.specs.declared.place.Place.{Place}
+use Rattle.lobby_guests.specs.declared.place.Role.{Role}
+use Rattle.lobby_guests.specs.declared.place.Role.TheVariants.{Gone, Player, Watcher, Newcomer}
+use Rattle.lobby_guests.specs.Guests.{IsAsBefore}
+
+-- it is to be closed
+abbrev pub is_gone : Role → Bool
+is_gone Gone = true
+is_gone Player = false
+is_gone Watcher = false
+is_gone Newcomer = false
+
+-- what a connection is to the lobby that acts for a player or not, and watches or not
+abbrev pub role_by : Bool → Bool → Role
+role_by true watches = Player
+role_by false true = Watcher
+role_by false false = Newcomer
+
+abbrev pub role_at : Desk → ℕ → Role
+role_at desk c = role_by (acts desk c) (is_watcher desk c)
+
+-- what a connection is that is to be closed or not, and has this number at the desk
+abbrev pub role_of : Desk → Bool → Option ℕ → Role
+role_of desk true number = Gone
+role_of desk false None = Newcomer
+role_of desk false (Some c) = role_at desk c
+
+-- the player for whom it acts
+abbrev pub player_of : Desk → Option ℕ → Option (List ℕ)
+player_of desk None = None
+player_of desk (Some c) = player_at desk c
+
+-- a connection's place
+abbrev pub place_of : {S : Type 0} → Desk → Guest S → Place
+place_of desk guest = record {
+  address = guest.origin.address;
+  role = role_of desk guest.is_lost guest.number;
+  player = player_of desk guest.number;
+  since = guest.came_at;
+}
+
+-- A connection goes where its place has nobody any more; nothing else changes.
+pub record Yields {S : Type 0} (place : Place) (old new : Guest S) : Type 0 where
+  pub before : IsAsBefore old new
+  pub lost : new.is_lost ≡ (old.is_lost || is_gone place.role)
+  pub origin : new.origin ≡ old.origin
+  pub came : new.came_at ≡ old.came_at

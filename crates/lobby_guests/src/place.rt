@@ -1,0 +1,37 @@
+//! A connection's place among all of them.
+ghost use Rattle.std.specs.Prelude.{◌≡◌};
+ghost use Rattle.lobby_guests.specs.Place.{is_gone};
+
+use player_name::Name;
+
+/// How a connection stands.
+#[derive(Clone, Copy)]
+pub enum Role {
+    /// It is to be closed.
+    Gone,
+    /// It acts for a player.
+    Player,
+    /// It acts for nobody, and watches a game or is told of the table.
+    Watcher,
+    /// It acts for nobody, and watches nothing.
+    Newcomer,
+}
+
+/// A connection's place.
+#[derive(Clone, Copy)]
+pub struct Place {
+    /// The address that it counts for, if for any.
+    pub address: Option<u64>,
+    pub role: Role,
+    /// The player for whom it acts, if for any.
+    pub player: Option<Name>,
+    /// When it came, in milliseconds.
+    pub since: u64,
+}
+
+/// Whether a connection is to be closed.
+pub fn is_gone(role: Role) -> bool
+    ensures { result ≡ is_gone role }
+{
+    matches!(role, Role::Gone)
+}

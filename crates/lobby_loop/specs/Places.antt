@@ -1,0 +1,180 @@
+-- Who has a place, and who makes room for whom: connections in the order in which they came.
+use Rattle.std.specs.Prelude.{ℕ, ◌≡◌, ◌≤◌, ◌<◌, ◌-◌, ◌⊎◌, ◌==◌, ◌&&◌, ◌||◌, Bool, true, false, List, [], ◌∷◌, Option}
+use Rattle.std.specs.Prelude.{None, Some, length, count_by, nat_le, nat_lt, max, min, if◌then◌else◌}
+use Rattle.std.specs.BTreeMap.{BTreeMap, get}
+use Rattle.std.specs.List.{AllZip}
+use Rattle.std.specs.Map.{count_at}
+use Rattle.std.specs.Ordering.{nat_cmp}
+use Rattle.std.specs.Str.{bytes_eq}
+use Rattle.lobby_guests.specs.declared.place.Place.{Place}
+use Rattle.lobby_guests.specs.declared.place.Role.{Role}
+use Rattle.lobby_guests.specs.declared.place.Role.TheVariants as roles
+use Rattle.lobby_guests.specs.Place.{is_gone}
+use Rattle.lobby_loop.specs.declared.places.Class.{Class}
+use Rattle.lobby_loop.specs.declared.places.Class.TheVariants.{Gone, Players, Nameless, Watchers, Newcomers, Aged}
+use Rattle.lobby_loop.specs.declared.places.Class.TheVariants.{Own}
+
+-- ---- which connections are counted
+
+abbrev pub is_player : Role → Bool
+is_player roles.Gone = false
+is_player roles.Player = true
+is_player roles.Watcher = false
+is_player roles.Newcomer = false
+
+abbrev pub is_watcher : Role → Bool
+is_watcher roles.Gone = false
+is_watcher roles.Player = false
+is_watcher roles.Watcher = true
+is_watcher roles.Newcomer = false
+
+abbrev pub is_newcomer : Role → Bool
+is_newcomer roles.Gone = false
+is_newcomer roles.Player = false
+is_newcomer roles.Watcher = false
+is_newcomer roles.Newcomer = true
+
+-- It acts for nobody.
+abbrev pub is_nameless : Role → Bool
+is_nameless role = is_watcher role || is_newcomer role
+
+-- It acts for the player of this name.
+abbrev pub is_of : List ℕ → Option (List ℕ) → Bool
+is_of name None = false
+is_of name (Some player) = bytes_eq player name
+
+abbrev pub is_in : Class → Place → Bool
+is_in Gone p = is_gone p.role
+is_in Players p = is_player p.role
+is_in Nameless p = is_nameless p.role
+is_in Watchers p = is_watcher p.role
+is_in Newcomers p = is_newcomer p.role
+is_in (Aged at age) p = is_newcomer p.role && nat_le age (at - p.since)
+is_in (Own name) p = is_player p.role && is_of name p.player
+
+-- It counts for this address; without one all do.
+abbrev pub has_address : ℕ → Option ℕ → Bool
+has_address a None = false
+has_address a (Some b) = b == a
+
+abbrev pub is_at : Option ℕ → Place → Bool
+is_at None p = true
+is_at (Some a) p = has_address a p.address
+
+abbrev pub counted : Option ℕ → Class → Place → Bool
+counted address class p = is_at address p && is_in class p
+
+-- how many of a class are there, at an address or in all
+abbrev pub count_of : Option ℕ → Class → List Place → ℕ
+count_of address class ps = count_by (counted address class) ps
+
+-- ---- who is to be closed
+
+abbrev pub gone : Place → Place
+gone p = record p { role = roles.Gone }
+
+-- the first of them, so many at most
+abbrev pub leave : (Place → Bool) → ℕ → List Place → List Place
+leave P n [] = []
+leave P n (p ∷ ps) = if nat_lt 0 n && P p then gone p ∷ leave P (n - 1) ps else p ∷ leave P n ps
+
+-- For one player 16 connections act at most: who came first makes room.
+abbrev pub own_room : Option (List ℕ) → List Place → List Place
+own_room None ps = ps
+own_room (Some name) ps = leave (counted None (Own name)) (count_of None (Own name) ps - 16) ps
+
+abbrev pub each_own : List Place → List Place → List Place
+each_own [] ps = ps
+each_own (q ∷ qs) ps = each_own qs (own_room q.player ps)
+
+-- all but the first of them, so many at most
+abbrev pub beyond : (Place → Bool) → ℕ → List Place → List Place
+beyond P n [] = []
+beyond P n (p ∷ ps) =
+    if P p then (if nat_lt 0 n then p ∷ beyond P (n - 1) ps else gone p ∷ beyond P n ps)
+    else p ∷ beyond P n ps
+
+-- the first of a class, as many as are nameless beyond so many
+abbrev pub trim : Option ℕ → Class → ℕ → List Place → List Place
+trim address class most ps = leave (counted address class) (count_of address Nameless ps - most) ps
+
+-- Nameless connections make room until so many are left: first newcomers who came 5 seconds ago or before, then
+-- watchers, then the other newcomers; of each who came first.
+abbrev pub make_room : Option ℕ → ℕ → ℕ → List Place → List Place
+make_room address most at ps =
+    trim address Newcomers most (trim address Watchers most (trim address (Aged at 5000) most ps))
+
+-- An address has at most 32 nameless ones.
+abbrev pub room_at : ℕ → Option ℕ → List Place → List Place
+room_at at None ps = ps
+room_at at (Some a) ps = make_room (Some a) 32 at ps
+
+abbrev pub room_for : ℕ → Place → List Place → List Place
+room_for at q ps = if is_nameless q.role then room_at at q.address ps else ps
+
+abbrev pub each_room : ℕ → List Place → List Place → List Place
+each_room at [] ps = ps
+each_room at (q ∷ qs) ps = each_room at qs (room_for at q ps)
+
+-- At no address there are more nameless ones than this tells, but that 33 stand for any more.
+abbrev pub IsTallied : BTreeMap ℕ ℕ → List Place → Type 0
+IsTallied tally ps = (a : ℕ) → min 33 (count_of (Some a) Nameless ps) ≤ count_at (get nat_cmp tally) a
+
+-- A newcomer has 20 seconds, from this moment on if he came before it.
+abbrev pub in_time : ℕ → ℕ → List Place → List Place
+in_time at from ps = if nat_le 20000 (at - from) then leave (counted None (Aged at 20000)) (length ps) ps else ps
+
+-- Of a thousand places 600 at most are for nameless ones, those that no player has; but 40 at least.
+abbrev pub most_nameless : ℕ → ℕ
+most_nameless players = max 40 (min 600 (1000 - players))
+
+-- all of it, at a moment
+abbrev pub judged : ℕ → ℕ → List Place → List Place
+judged at from ps =
+    let late = in_time at from ps in
+    let watched = beyond (counted None Watchers) 500 late in
+    let spread = each_room at watched watched in
+    make_room None (most_nameless (count_of None Players spread)) at spread
+
+-- ---- what is promised of it
+
+-- It is as it was, or it is to be closed.
+abbrev pub IsKeptOrGone : Place → Place → Type 0
+IsKeptOrGone old new = (new ≡ old) ⊎ (new ≡ gone old)
+
+-- Each is as it was, or to be closed, who acts for a player; and for each player 16 act at most.
+pub record IsOwned (old new : List Place) : Type 0 where
+  pub kept : AllZip (λ (p q : Place). (q ≡ p) ⊎ ((is_player p.role ≡ true) × (q ≡ gone p))) old new
+  pub few : (name : List ℕ) → count_of None (Own name) new ≤ 16
+
+-- It is as it was, or it is to be closed, which befalls who is nameless alone.
+abbrev pub IsKeptOrClosed : Place → Place → Type 0
+IsKeptOrClosed old new = (new ≡ old) ⊎ ((is_nameless old.role ≡ true) × (new ≡ gone old))
+
+-- a newcomer who came less than 5 seconds ago
+abbrev pub IsYoung : ℕ → Place → Type 0
+IsYoung at p = (is_newcomer p.role ≡ true) × (at - p.since < 5000)
+
+-- Among these 32 nameless ones are of an address.
+abbrev pub HasCrowd : Option ℕ → List Place → Type 0
+HasCrowd None behind = ⊥
+HasCrowd (Some a) behind = 32 ≤ count_of (Some a) Nameless behind
+
+-- It stays; or behind it so many nameless ones came as may be there, in all or from its address.
+abbrev pub HasChance : ℕ → Place → List Place → Place → Type 0
+HasChance most old behind new = (new ≡ old) ⊎ ((most ≤ count_of None Nameless behind) ⊎ HasCrowd old.address behind)
+
+-- So it is of each newcomer who came less than 5 seconds ago: in that time he may show a token.
+abbrev pub HaveChance : ℕ → ℕ → List Place → List Place → Type 0
+HaveChance at most [] new = Unit {0}
+HaveChance at most (p ∷ ps) [] = ⊥
+HaveChance at most (p ∷ ps) (q ∷ qs) = (IsYoung at p → HasChance most p ps q) × HaveChance at most ps qs
+
+-- what holds of the connections that stay
+pub record IsFair (at from : ℕ) (old new : List Place) : Type 0 where
+  pub kept : AllZip IsKeptOrClosed old new
+  pub nameless : count_of None Nameless new ≤ most_nameless (count_of None Players new)
+  pub watchers : count_of None Watchers new ≤ 500
+  pub addresses : (a : ℕ) → count_of (Some a) Nameless new ≤ 32
+  pub chance : HaveChance at (most_nameless (count_of None Players new)) old new
+  pub in_time : 20000 ≤ at - from → count_of None (Aged at 20000) new ≡ 0

@@ -1,0 +1,299 @@
+//! Who has a place, and who makes room for whom.
+ghost use Rattle.std.specs.Prelude.{ℕ, ◌≡◌, ◌≤◌, ◌+◌, ◌-◌, ◌==◌, ◌∷◌, [], None, Some, count_by, min, IfOk, OnOk};
+ghost use Rattle.std.specs.Prelude.{if◌then◌else◌};
+ghost use Rattle.std.specs.BTreeMap.{get};
+ghost use Rattle.std.specs.Map.{count_at};
+ghost use Rattle.std.specs.Ordering.{nat_cmp};
+ghost use Rattle.lobby_loop.specs.Places.{is_of, is_at, is_in, counted, count_of, own_room, each_own, leave};
+ghost use Rattle.lobby_loop.specs.Places.{beyond, trim, make_room, room_at, room_for, each_room, in_time};
+ghost use Rattle.lobby_loop.specs.Places.{most_nameless, judged, IsOwned, IsFair, IsTallied};
+
+use lobby_guests::{Place, Role, is_gone};
+use player_name::Name;
+use std::alloc::{AllocError, Global};
+use std::collections::BTreeMap;
+
+// Which connections are counted.
+#[derive(Clone, Copy)]
+enum Class {
+    Gone,
+    Players,
+    Nameless,
+    Watchers,
+    Newcomers,
+    /// Newcomers at a moment who came so many milliseconds before it.
+    Aged(u64, u64),
+    /// Who acts for this player.
+    Own(Name),
+}
+
+// A newcomer who is no watcher has so many milliseconds.
+const PATIENCE: u64 = 20_000;
+
+// One who came so many milliseconds ago makes room before a watcher does.
+const CHANCE: u64 = 5_000;
+
+const WATCHERS_MOST: usize = 500;
+
+const AN_ADDRESS_MOST: usize = 32;
+
+// So many connections act for one player at most.
+const A_PLAYER_MOST: usize = 16;
+
+// So many nameless connections may be there beside so many that act for players.
+fn most_nameless(players: usize) -> usize
+    ensures { result ≡ most_nameless players }
+{
+    1_000usize.saturating_sub(players).min(600).max(40)
+}
+
+fn is_at(place: &Place, address: Option<u64>) -> bool
+    ensures { result ≡ is_at address place.now }
+{
+    match (address, place.address) {
+        (None, _) => true,
+        (Some(wanted), Some(found)) => found == wanted,
+        (Some(_), None) => false,
+    }
+}
+
+// Whether it acts for this player.
+fn is_of(place: &Place, name: &Name) -> bool
+    ensures { result ≡ is_of name.now place.now.player }
+{
+    match &place.player {
+        None => false,
+        Some(player) => player.as_str() == name.as_str(),
+    }
+}
+
+fn is_in(place: &Place, class: &Class) -> bool
+    ensures { result ≡ is_in class.now place.now }
+{
+    match class {
+        Class::Gone => is_gone(place.role),
+        Class::Players => matches!(place.role, Role::Player),
+        Class::Nameless => matches!(place.role, Role::Watcher | Role::Newcomer),
+        Class::Watchers => matches!(place.role, Role::Watcher),
+        Class::Newcomers => matches!(place.role, Role::Newcomer),
+        Class::Aged(at, age) => {
+            matches!(place.role, Role::Newcomer) && (*at).saturating_sub(place.since) >= *age
+        }
+        Class::Own(name) => matches!(place.role, Role::Player) && is_of(place, name),
+    }
+}
+
+fn is_counted(place: &Place, address: Option<u64>, class: &Class) -> bool
+    ensures { result ≡ counted address class.now place.now }
+{
+    is_at(place, address) && is_in(place, class)
+}
+
+fn count(places: &[Place], address: Option<u64>, class: &Class) -> usize
+    ensures { result ≡ count_by (counted address class.now) places.now }
+{
+    places
+        .iter()
+        .filter(|place| is_counted(place, address, class))
+        .count()
+}
+
+// The first of them, so many at most, are to be closed.
+fn leave(places: &mut [Place], address: Option<u64>, class: &Class, count: usize)
+    ensures { places.new ≡ leave (counted address class.now) count places.old }
+{
+    let mut left = count;
+    for place in places.iter_mut() {
+        if left > 0 && is_counted(place, address, class) {
+            place.role = Role::Gone;
+            left -= 1;
+        }
+    }
+}
+
+// All but the first of them, so many at most, are to be closed.
+fn leave_beyond(places: &mut [Place], address: Option<u64>, class: &Class, most: usize)
+    ensures { places.new ≡ beyond (counted address class.now) most places.old }
+{
+    let mut left = most;
+    for place in places.iter_mut() {
+        if is_counted(place, address, class) {
+            if left > 0 {
+                left -= 1;
+            } else {
+                place.role = Role::Gone;
+            }
+        }
+    }
+}
+
+// The first of a class are to be closed, as many as are nameless beyond so many.
+fn trim(places: &mut [Place], address: Option<u64>, class: &Class, most: usize)
+    ensures { places.new ≡ trim address class.now most places.old }
+{
+    let excess = count(places, address, &Class::Nameless).saturating_sub(most);
+    leave(places, address, class, excess);
+}
+
+// Nameless connections are to be closed until so many are left: first newcomers who had their chance, then watchers,
+// then the other newcomers; of each who came first.
+fn make_room(places: &mut [Place], address: Option<u64>, most: usize, at: u64)
+    ensures { places.new ≡ make_room address most at places.old }
+{
+    trim(places, address, &Class::Aged(at, CHANCE), most);
+    trim(places, address, &Class::Watchers, most);
+    trim(places, address, &Class::Newcomers, most);
+}
+
+// How many nameless connections of an address are told at most.
+fn told_at(tally: &BTreeMap<u64, u64>, address: u64) -> u64
+    ensures { result ≡ count_at (get nat_cmp tally.now) address }
+{
+    match tally.get(&address) {
+        Some(most) => *most,
+        None => 0,
+    }
+}
+
+// So many are told from now on.
+fn tell_at(tally: &mut BTreeMap<u64, u64>, address: u64, most: u64) -> Result<(), AllocError>
+    ensures { OnOk result ((a : ℕ) → count_at (get nat_cmp tally.new) a
+        ≡ (if address == a then most else count_at (get nat_cmp tally.old) a)) }
+{
+    tally.insert(address, most)?;
+    Ok(())
+}
+
+// One more is told where this one is nameless and counts for an address.
+fn tally_one(tally: &mut BTreeMap<u64, u64>, place: &Place) -> Result<(), AllocError>
+    ensures { OnOk result ((a : ℕ) →
+        min 33 (count_at (get nat_cmp tally.old) a + count_of (Some a) Class.Nameless (place.now ∷ []))
+        ≤ count_at (get nat_cmp tally.new) a) }
+{
+    match place.address {
+        None => Ok(()),
+        Some(_) if !is_in(place, &Class::Nameless) => Ok(()),
+        Some(address) => {
+            let most = told_at(tally, address).saturating_add(1);
+            tell_at(tally, address, most)
+        }
+    }
+}
+
+// How many are nameless of each address.
+fn tally_of(alloc: Global, places: &[Place]) -> Result<BTreeMap<u64, u64>, AllocError>
+    ensures { IfOk result (λ tally. IsTallied tally places.now) }
+{
+    let mut tally = BTreeMap::new(alloc);
+    for place in places {
+        tally_one(&mut tally, place)?;
+    }
+    Ok(tally)
+}
+
+// Nameless connections at the address of this one, if it is nameless, are to be closed until as many are left as may be.
+// Where no more are told, they are not gone over.
+fn room_for(
+    places: &mut [Place],
+    tally: &mut BTreeMap<u64, u64>,
+    place: &Place,
+    at: u64,
+) -> Result<(), AllocError>
+    requires { IsTallied tally.old places.old }
+    ensures room { OnOk result (places.new ≡ room_for at place.now places.old) }
+    ensures tallied { OnOk result (IsTallied tally.new places.new) }
+{
+    match place.address {
+        None => Ok(()),
+        Some(_) if !is_in(place, &Class::Nameless) => Ok(()),
+        Some(address) if told_at(tally, address) <= AN_ADDRESS_MOST as u64 => Ok(()),
+        Some(address) => {
+            make_room(places, Some(address), AN_ADDRESS_MOST, at);
+            tell_at(tally, address, AN_ADDRESS_MOST as u64)
+        }
+    }
+}
+
+// The same for each of them: an address is gone over once at most, and where more than 32 are of it.
+fn each_room(alloc: Global, places: &mut [Place], all: &[Place], at: u64) -> Result<(), AllocError>
+    ensures { OnOk result (places.new ≡ each_room at all.now places.old) }
+{
+    let mut tally = tally_of(alloc, places)?;
+    for place in all {
+        room_for(places, &mut tally, place, at)?;
+    }
+    Ok(())
+}
+
+fn in_time(places: &mut [Place], at: u64, from: u64)
+    ensures { places.new ≡ in_time at from places.old }
+{
+    if at.saturating_sub(from) >= PATIENCE {
+        leave(places, None, &Class::Aged(at, PATIENCE), places.len());
+    }
+}
+
+// Of those who act for a player who came first are to be closed, until so many are left as may be.
+fn own_room(places: &mut [Place], player: Option<Name>)
+    ensures { places.new ≡ own_room player places.old }
+{
+    if let Some(name) = player {
+        let excess = count(places, None, &Class::Own(name)).saturating_sub(A_PLAYER_MOST);
+        leave(places, None, &Class::Own(name), excess);
+    }
+}
+
+// The same for the player of each.
+fn each_own(places: &mut [Place], all: &[Place])
+    ensures { places.new ≡ each_own all.now places.old }
+{
+    for place in all {
+        own_room(places, place.player);
+    }
+}
+
+// These connections: of those who act for one player who came first are to be closed, until 16 are left.
+fn own_all(alloc: Global, all: &[Place]) -> Result<Vec<Place>, AllocError>
+    ensures { IfOk result (λ places. places.items ≡ each_own all.now all.now) }
+{
+    let mut places = all.to_vec(alloc)?;
+    each_own(places.as_mut_slice(), all);
+    Ok(places)
+}
+
+/// These connections, in the order in which they came: of those who act for one player who came first are to be closed,
+/// until 16 are left.
+pub fn own(alloc: Global, all: &[Place]) -> Result<Vec<Place>, AllocError>
+    ensures owned { IfOk result (λ places. places.items ≡ each_own all.now all.now) }
+    ensures few { IfOk result (λ places. IsOwned all.now places.items) }
+{
+    own_all(alloc, all)
+}
+
+// Which of these connections are to be closed, and how many of them for want of room.
+fn judge_all(alloc: Global, places: &mut [Place], at: u64, from: u64) -> Result<usize, AllocError>
+    ensures judged { OnOk result (places.new ≡ judged at from places.old) }
+    ensures count { IfOk result (λ count. count ≡ count_of None Class.Gone places.new
+        - count_of None Class.Gone (in_time at from places.old)) }
+{
+    in_time(places, at, from);
+    let late = count(places, None, &Class::Gone);
+    leave_beyond(places, None, &Class::Watchers, WATCHERS_MOST);
+    let all = places.to_vec(alloc)?;
+    each_room(alloc, places, all.as_slice(), at)?;
+    let most = most_nameless(count(places, None, &Class::Players));
+    make_room(places, None, most, at);
+    Ok(count(places, None, &Class::Gone).saturating_sub(late))
+}
+
+/// Which of these connections, in the order in which they came, are to be closed at a moment, in milliseconds: these
+/// have `Role::Gone` then. Whoever came before the moment `from` has his time from then on. It answers how many are to
+/// be closed for want of room.
+pub fn judge(alloc: Global, places: &mut [Place], at: u64, from: u64) -> Result<usize, AllocError>
+    ensures judged { OnOk result (places.new ≡ judged at from places.old) }
+    ensures fair { OnOk result (IsFair at from places.old places.new) }
+    ensures count { IfOk result (λ count. count ≡ count_of None Class.Gone places.new
+        - count_of None Class.Gone (in_time at from places.old)) }
+{
+    judge_all(alloc, places, at, from)
+}
