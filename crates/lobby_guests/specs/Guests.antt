@@ -340,6 +340,10 @@ abbrev pub first_wanted : {S : Type 0} → List (Guest S) → Option (List ℕ)
 first_wanted [] = None
 first_wanted (guest ∷ guests) = first_of (wanted guest.waits.items) (first_wanted guests)
 
+-- Something waits for one of them, or a replay by which an answer is made is under way.
+abbrev pub has_waiting : {S : Type 0} → List (Guest S) → Talk → Bool
+has_waiting guests talk = is_some talk.replay || is_some (first_wanted guests)
+
 -- Each browser is told those of these messages that are for its connection, whole and in their order, as they go out;
 -- but behind an answer that is not there yet they wait. Then some are told what waited for an answer, and what stands
 -- behind it, up to the next such. One whose socket may say nothing is told nothing, and one for which there is no room

@@ -1,7 +1,7 @@
 //! All browsers that are connected, by the names of their sockets, which grow.
 #![tactic(auto, using(lobby_talk::proofs::Each::zipped_none, lobby_talk::proofs::Each::zipped_vec))]
 
-ghost use Rattle.std.specs.Prelude.{ℕ, Bool, true, false, ◌≡◌, ◌++◌, ◌∷◌, [], List, Option, OnOk, IfOk, count_by, is_some, ◌||◌};
+ghost use Rattle.std.specs.Prelude.{ℕ, Bool, true, false, ◌≡◌, ◌++◌, ◌∷◌, [], List, Option, OnOk, count_by};
 ghost use Rattle.std.specs.Option.{option_map};
 ghost use Rattle.std.specs.List.{AllZip};
 ghost use Rattle.lobby_guests.specs.Counting.{refusals_in, CountsLogins};
@@ -294,15 +294,23 @@ fn answer_waiting<S>(
     }
 }
 
+/// Whether something waits for an answer to `line G`, or a replay by which one is made is under way: then there is more
+/// to be done at once.
+pub fn has_waiting<S>(guests: &[Guest<S>], talk: &Talk) -> bool
+    ensures { result ≡ guests.has_waiting guests.now talk.now }
+{
+    let has_first = first_wanted(guests).is_some();
+    talk.is_replaying() | has_first
+}
+
 /// Those who are told something are told it, or it waits behind an answer to `line G` that is not there yet; and the
-/// replay by which such an answer is made goes on by at most 16 plies. It tells whether there is more to be done at
-/// once.
+/// replay by which such an answer is made goes on by at most 16 plies.
 pub fn deliver<S>(
     alloc: Global,
     guests: &mut Vec<Guest<S>>,
     talk: &mut Talk,
     counts: &mut Counts,
-) -> Result<bool, AllocError>
+) -> Result<(), AllocError>
     ensures guests { OnOk result (AreDelivered talk.old.kept.answers.items talk.old.told.items
         guests.old.items guests.new.items) }
     ensures none { OnOk result (talk.new.told.items ≡ []) }
@@ -310,8 +318,6 @@ pub fn deliver<S>(
     ensures wire { OnOk result (talk.new.wire ≡ talk.old.wire) }
     ensures next { OnOk result (talk.new.next ≡ talk.old.next) }
     ensures replays { OnOk result (∥ ((next : Option (List ℕ)) × IsReplayed next talk.old.replay talk.new.replay) ∥₁) }
-    ensures more { IfOk result (λ more. more
-        ≡ (is_some talk.new.replay || is_some (first_wanted guests.new.items))) }
     ensures logins { OnOk result (CountsLogins talk.old.kept.answers.items talk.old.told.items guests.old.items
         counts.old.logins_refused counts.new.logins_refused) }
     ensures kept { OnOk result (AreKept talk.new.kept.answers.items) }
@@ -320,8 +326,7 @@ pub fn deliver<S>(
     tell_all(alloc, guests, talk.told.as_slice(), counts)?;
     talk.told.clear();
     answer_waiting(guests, talk, counts)?;
-    let has_first = first_wanted(guests.as_slice()).is_some();
-    Ok(talk.is_replaying() | has_first)
+    Ok(())
 }
 
 // Writes to each that acts for a player what it takes.

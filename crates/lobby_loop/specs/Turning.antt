@@ -13,7 +13,7 @@ use Rattle.lobby_talk.specs.declared.talk.Talk.{Talk}
 use Rattle.lobby_talk.specs.Talking.{Begins, MovesAnew}
 use Rattle.lobby_guests.specs.Origins.{IsPlain, IsFrom}
 use Rattle.lobby_guests.specs.Guests.{IsNewGuest, ComesFrom, AreAttended, AreDelivered, IsWritten, IsLookedAfter}
-use Rattle.lobby_guests.specs.Guests.{AreParted}
+use Rattle.lobby_guests.specs.Guests.{AreParted, has_waiting}
 use Rattle.lobby_talk.specs.Held.{TakesIn, HandsOn, IsKept}
 use Rattle.lobby_talk.specs.Replaying.{IsReplayed}
 use Rattle.lobby_loop.specs.Seating.{AreSeated}
@@ -154,6 +154,10 @@ pub record HandsAllOut {S : Type 0} (contents : S → Option (List ℕ)) (old ne
   pub writes : AllZip (IsWritten contents old.site) first written
   pub parted_from : AreParted written new.guests.items rest new.talk
   pub site : new.site ≡ old.site
+
+-- There is more to be done at once: an answer to `line G` is to be made, or to be told.
+abbrev pub has_more : {S : Type 0} → Hall S → Bool
+has_more hall = has_waiting hall.guests.items hall.talk
 
 -- A turn: all that comes is taken in, and then all that is to go is handed out. Between them the log has its texts.
 pub record HasTurned {S : Type 0} (remaining contents : S → Option (List ℕ)) (at : ℕ) (old new : Hall S) : Type 0 where

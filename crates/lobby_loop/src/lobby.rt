@@ -1,14 +1,16 @@
 //! The sockets of a lobby, and what wakes it.
-ghost use Rattle.std.specs.Prelude.{◌≡◌, ◌≤◌, false, List, None, Some, IfOk, OnOk, OnErr, is_some, length};
+ghost use Rattle.std.specs.Prelude.{◌≡◌, ◌≤◌, true, false, List, None, Some, IfOk, OnOk, OnErr, is_some, length};
 ghost use Rattle.mio.specs.declared.net.stream.TcpStream.{TcpStream};
 ghost use Rattle.mio.specs.declared.net.uds.stream.UnixStream.{UnixStream};
 ghost use Rattle.either.specs.declared.Either.{Either};
 ghost use Rattle.lobby_desk.specs.Who.{watched_games};
 ghost use Rattle.lobby_guests.specs.Guests.{is_crowded};
 ghost use Rattle.either.specs.Either.{either};
-ghost use Rattle.lobby_loop.specs.Turning.{BeginsHall, AreAdmitted, IsReached, IsLobbyTurn, texts_put, unknown};
+ghost use Rattle.lobby_loop.specs.Turning.{BeginsHall, AreAdmitted, IsReached, IsLobbyTurn, has_more, texts_put};
+ghost use Rattle.lobby_loop.specs.Turning.{unknown};
 ghost use Rattle.lobby_loop.specs.Living.{IsWoken, Files, KeepsFiles, Renews};
 ghost use Rattle.lobby_loop.specs.Logging.{Logs};
+ghost use Rattle.lobby_loop.specs.declared.lobby.Turned.TheVariants.{Worked};
 
 use crate::act_log::{ActLog, Fault};
 use crate::hall::Hall;
@@ -314,7 +316,9 @@ impl Lobby {
     }
 
     // What came of a turn in which there was something to do, or nothing.
-    fn turned(&self, has_worked: bool, at: u64) -> Turned {
+    fn turned(&self, has_worked: bool, at: u64) -> Turned
+        ensures { has_worked ≡ true → result ≡ Worked }
+    {
         if has_worked {
             Turned::Worked
         } else {
@@ -331,9 +335,10 @@ impl Lobby {
         log: &mut L,
         links: &mut K,
     ) -> Result<Turned, Fault>
-        ensures { OnOk result ((turn : IsLobbyTurn (either unknown unknown)
+        ensures turned { OnOk result ((turn : IsLobbyTurn (either unknown unknown)
             (either unknown unknown) at self.old.hall self.new.hall)
             × Logs (L.logged log.old) (L.logged log.new) (texts_put turn.turns)) }
+        ensures more { IfOk result (λ turned. has_more self.new.hall ≡ true → turned ≡ Worked) }
     {
         self.hold(at);
         let has_reached = self.reach_server(net, at)?;

@@ -3,8 +3,8 @@ use Rattle.std.proofs.Common.{subst}
 use Rattle.lobby_loop.specs.Turning.{IsReached}
 use Rattle.lobby_loop.proofs.lobby.Lobby.turn.Goals as goal
 
-pub returns : goal.returns
-returns g c = (
+pub returns-clause-turned : goal.returns-clause-turned
+returns-clause-turned g c = (
   record {
     reached = c.reach_server.new.self.hall;
     reaches = subst (λ h. IsReached h c.reach_server.new.self.hall) c.hold.ensures.hall c.in_ok-has_reached.ensures;
