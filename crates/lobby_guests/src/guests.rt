@@ -9,7 +9,7 @@ ghost use Rattle.lobby_talk.specs.Counting.{counted_up};
 ghost use Rattle.lobby_guests.specs.Guests as guests;
 ghost use Rattle.lobby_guests.specs.Guests.{IsAsBefore, IsServed, IsPlayersTurn, IsOthersTurn, InTurn, Room, full_room};
 ghost use Rattle.lobby_guests.specs.Guests.{AreAttended, AreTold, AreDelivered, IsWritten, IsLookedAfter, IsClosedIf};
-ghost use Rattle.lobby_guests.specs.Guests.{AreClosed, AreParted, IsCaughtUp, first_wanted};
+ghost use Rattle.lobby_guests.specs.Guests.{AreClosed, AreParted, IsCaughtUp, first_wanted, has_waiting};
 ghost use Rattle.lobby_guests.specs.Waiting as waiting;
 ghost use Rattle.lobby_talk.specs.Replaying.{IsReplayed};
 ghost use Rattle.lobby_talk.specs.Talking.{IsTalkAsBefore};
@@ -297,7 +297,7 @@ fn answer_waiting<S>(
 /// Whether something waits for an answer to `line G`, or a replay by which one is made is under way: then there is more
 /// to be done at once.
 pub fn has_waiting<S>(guests: &[Guest<S>], talk: &Talk) -> bool
-    ensures { result ≡ guests.has_waiting guests.now talk.now }
+    ensures { result ≡ has_waiting guests.now talk.now }
 {
     let has_first = first_wanted(guests).is_some();
     talk.is_replaying() | has_first

@@ -629,7 +629,7 @@ leave_owns name n (p ∷ ps) =
       | inr passes ↦ rw passes.is (inl refl, leave_owns name n ps)
     ]
 
-room_owns : (player : Option (List ℕ)) (ps : List Place) → AllZip IsOwnKept ps (own_room player ps)
+pub room_owns : (player : Option (List ℕ)) (ps : List Place) → AllZip IsOwnKept ps (own_room player ps)
 room_owns None ps = own_same ps
 room_owns (Some name) ps = leave_owns name (count_of None (Own name) ps - 16) ps
 
@@ -647,7 +647,7 @@ one_own name p q kept =
           let no : counted None (Own name) q ≡ false = ap (counted None (Own name)) closed.1 ∙ own_gone name p in rw no (omega arith)
     ]
 
-fewer_own : (name : List ℕ) (ps qs : List Place) → AllZip IsOwnKept ps qs → count_of None (Own name) qs ≤ count_of None (Own name) ps
+pub fewer_own : (name : List ℕ) (ps qs : List Place) → AllZip IsOwnKept ps qs → count_of None (Own name) qs ≤ count_of None (Own name) ps
 fewer_own name [] [] kept = omega arith
 fewer_own name [] (q ∷ qs) kept = absurd kept
 fewer_own name (p ∷ ps) [] kept = absurd kept

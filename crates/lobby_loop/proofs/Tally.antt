@@ -1,16 +1,15 @@
--- Addresses of which few are nameless make no room.
-use Rattle.std.proofs.Common.{ℕ, ◌≡◌, ◌≤◌, ◌<◌, ◌+◌, ◌-◌, ◌⊎◌, Bool, true, false, List, [], ◌∷◌, Option, Some, cond, refl, ap, ◌∙◌, subst, inl, inr, arith}
+-- Addresses of which few are nameless, and players for whom few act, make no room.
+use Rattle.std.proofs.Common.{ℕ, ◌≡◌, ◌≤◌, ◌<◌, ◌+◌, ◌-◌, ◌⊎◌, Bool, true, false, List, [], ◌∷◌, Option, None, Some, refl, ap, ◌∙◌, subst, inl, inr, arith}
 use Rattle.std.specs.Prelude.{min, ◌==◌, if◌then◌else◌}
 use Rattle.std.specs.BTreeMap.{BTreeMap, get}
 use Rattle.std.specs.Map.{count_at}
 use Rattle.std.specs.Ordering.{nat_cmp}
 use Rattle.std.proofs.lemmas.Bool.Decides.{nat_tests}
-use Rattle.std.proofs.lemmas.List.Sums.{sum_by-cons}
 use Rattle.lobby_guests.specs.declared.place.Place.{Place}
 use Rattle.lobby_loop.specs.declared.places.Class.{Class}
-use Rattle.lobby_loop.specs.declared.places.Class.TheVariants.{Nameless, Watchers, Newcomers, Aged}
-use Rattle.lobby_loop.specs.Places.{is_nameless, counted, count_of, leave, trim, make_room, room_for, IsTallied}
-use Rattle.lobby_loop.proofs.Room.{fewer, nameless_closable, room_keeps, room_made}
+use Rattle.lobby_loop.specs.declared.places.Class.TheVariants.{Nameless, Watchers, Newcomers, Aged, Own}
+use Rattle.lobby_loop.specs.Places.{is_nameless, counted, count_of, leave, trim, make_room, room_for, IsTallied, own_room, number_of, IsTalliedByName}
+use Rattle.lobby_loop.proofs.Room.{fewer, nameless_closable, room_keeps, room_made, fewer_own, room_owns}
 
 leave_none : (P : Place → Bool) (ps : List Place) → leave P 0 ps ≡ ps
 leave_none P [] = refl
@@ -45,10 +44,12 @@ stays_few tally at a place ps tallied is few = elim (cases (is_nameless place.ro
   | inr not_so ↦ rw not_so refl
 ]
 
-pub tallied_after : (tally told : BTreeMap ℕ ℕ) (at a : ℕ) (ps : List Place) → IsTallied tally ps →
-    ((b : ℕ) → count_at (get nat_cmp told) b ≡ (if a == b then 32 else count_at (get nat_cmp tally) b)) →
-    32 < count_at (get nat_cmp tally) a → IsTallied told (make_room (Some a) 32 at ps)
-tallied_after tally told at a ps tallied is many b =
+pub tallied_after : (tally told : BTreeMap ℕ ℕ) (at a number : ℕ) (ps : List Place) → number ≡ a → IsTallied tally ps →
+    ((b : ℕ) → count_at (get nat_cmp told) b ≡ (if number == b then 32 else count_at (get nat_cmp tally) b)) →
+    IsTallied told (make_room (Some a) 32 at ps)
+tallied_after tally told at a number ps number_is tallied tells b =
+    let is : (c : ℕ) → count_at (get nat_cmp told) c ≡ (if a == c then 32 else count_at (get nat_cmp tally) c) =
+    subst (λ (n : ℕ). (c : ℕ) → count_at (get nat_cmp told) c ≡ (if n == c then 32 else count_at (get nat_cmp tally) c)) number_is tells in
     let less : count_of (Some b) Nameless (make_room (Some a) 32 at ps) ≤ count_of (Some b) Nameless ps =
     fewer (counted (Some b) Nameless) (nameless_closable (Some b)) ps (make_room (Some a) 32 at ps) (room_keeps (Some a) 32 at ps) in
     elim (cases (a == b)) [
@@ -63,14 +64,16 @@ tallied_after tally told at a ps tallied is many b =
           omega (arith, here, less, tallied b)
     ]
 
--- ---- counting
+-- ---- players
 
-pub tallied_further : (count told next rest : ℕ) (p : Place) (ps : List Place) (a : ℕ) →
-    min 33 count ≤ told + count_of (Some a) Nameless (p ∷ ps) → min 33 (told + count_of (Some a) Nameless (p ∷ [])) ≤ next →
-    min 33 count ≤ next + count_of (Some a) Nameless ps
-tallied_further count told next rest p ps a before one =
-    let whole : count_of (Some a) Nameless (p ∷ ps) ≡ cond (counted (Some a) Nameless p) 1 0 + count_of (Some a) Nameless ps =
-    sum_by-cons (λ x. cond (counted (Some a) Nameless x) 1 0) p ps in
-    let alone : count_of (Some a) Nameless (p ∷ []) ≡ cond (counted (Some a) Nameless p) 1 0 + count_of (Some a) Nameless [] =
-    sum_by-cons (λ x. cond (counted (Some a) Nameless x) 1 0) p [] in
-    omega (arith, whole, alone, before, one)
+-- where no more than 16 are told for a player no more act for him
+pub owns_few : (tally : BTreeMap ℕ ℕ) (name : List ℕ) (ps : List Place) → IsTalliedByName tally ps →
+    count_at (get nat_cmp tally) (number_of name) ≤ 16 → own_room (Some name) ps ≡ ps
+owns_few tally name ps tallied few =
+    let none : count_of None (Own name) ps - 16 ≡ 0 = omega (arith, tallied name, few) in
+    ap (λ n. leave (counted None (Own name)) n ps) none ∙ leave_none (counted None (Own name)) ps
+
+pub owns_tallied : (tally : BTreeMap ℕ ℕ) (player : Option (List ℕ)) (ps : List Place) → IsTalliedByName tally ps →
+    IsTalliedByName tally (own_room player ps)
+owns_tallied tally player ps tallied name =
+    omega (arith, tallied name, fewer_own name ps (own_room player ps) (room_owns player ps))

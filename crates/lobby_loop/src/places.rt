@@ -1,5 +1,5 @@
 //! Who has a place, and who makes room for whom.
-ghost use Rattle.std.specs.Prelude.{ℕ, ◌≡◌, ◌≤◌, ◌+◌, ◌-◌, ◌==◌, ◌∷◌, [], None, Some, count_by, min, IfOk, OnOk};
+ghost use Rattle.std.specs.Prelude.{ℕ, ◌≡◌, ◌≤◌, ◌+◌, ◌-◌, ◌==◌, ◌∷◌, [], List, None, Some, count_by, min, IfOk, OnOk};
 ghost use Rattle.std.specs.Prelude.{if◌then◌else◌};
 ghost use Rattle.std.specs.BTreeMap.{get};
 ghost use Rattle.std.specs.Map.{count_at};
@@ -7,6 +7,7 @@ ghost use Rattle.std.specs.Ordering.{nat_cmp};
 ghost use Rattle.lobby_loop.specs.Places.{is_of, is_at, is_in, counted, count_of, own_room, each_own, leave};
 ghost use Rattle.lobby_loop.specs.Places.{beyond, trim, make_room, room_at, room_for, each_room, in_time};
 ghost use Rattle.lobby_loop.specs.Places.{most_nameless, judged, IsOwned, IsFair, IsTallied};
+ghost use Rattle.lobby_loop.specs.Places.{number_of, IsTalliedByName};
 
 use lobby_guests::{Place, Role, is_gone};
 use player_name::Name;
@@ -145,27 +146,27 @@ fn make_room(places: &mut [Place], address: Option<u64>, most: usize, at: u64)
     trim(places, address, &Class::Newcomers, most);
 }
 
-// How many nameless connections of an address are told at most.
-fn told_at(tally: &BTreeMap<u64, u64>, address: u64) -> u64
-    ensures { result ≡ count_at (get nat_cmp tally.now) address }
+// How many are told at most under this number: nameless ones of an address, or those that act for a player.
+fn told_at(tally: &BTreeMap<u128, u64>, number: u128) -> u64
+    ensures { result ≡ count_at (get nat_cmp tally.now) number }
 {
-    match tally.get(&address) {
+    match tally.get(&number) {
         Some(most) => *most,
         None => 0,
     }
 }
 
 // So many are told from now on.
-fn tell_at(tally: &mut BTreeMap<u64, u64>, address: u64, most: u64) -> Result<(), AllocError>
+fn tell_at(tally: &mut BTreeMap<u128, u64>, number: u128, most: u64) -> Result<(), AllocError>
     ensures { OnOk result ((a : ℕ) → count_at (get nat_cmp tally.new) a
-        ≡ (if address == a then most else count_at (get nat_cmp tally.old) a)) }
+        ≡ (if number == a then most else count_at (get nat_cmp tally.old) a)) }
 {
-    tally.insert(address, most)?;
+    tally.insert(number, most)?;
     Ok(())
 }
 
 // One more is told where this one is nameless and counts for an address.
-fn tally_one(tally: &mut BTreeMap<u64, u64>, place: &Place) -> Result<(), AllocError>
+fn tally_one(tally: &mut BTreeMap<u128, u64>, place: &Place) -> Result<(), AllocError>
     ensures { OnOk result ((a : ℕ) →
         min 33 (count_at (get nat_cmp tally.old) a + count_of (Some a) Class.Nameless (place.now ∷ []))
         ≤ count_at (get nat_cmp tally.new) a) }
@@ -174,14 +175,15 @@ fn tally_one(tally: &mut BTreeMap<u64, u64>, place: &Place) -> Result<(), AllocE
         None => Ok(()),
         Some(_) if !is_in(place, &Class::Nameless) => Ok(()),
         Some(address) => {
-            let most = told_at(tally, address).saturating_add(1);
-            tell_at(tally, address, most)
+            let number = u128::from(address);
+            let most = told_at(tally, number).saturating_add(1);
+            tell_at(tally, number, most)
         }
     }
 }
 
 // How many are nameless of each address.
-fn tally_of(alloc: Global, places: &[Place]) -> Result<BTreeMap<u64, u64>, AllocError>
+fn tally_of(alloc: Global, places: &[Place]) -> Result<BTreeMap<u128, u64>, AllocError>
     ensures { IfOk result (λ tally. IsTallied tally places.now) }
 {
     let mut tally = BTreeMap::new(alloc);
@@ -195,7 +197,7 @@ fn tally_of(alloc: Global, places: &[Place]) -> Result<BTreeMap<u64, u64>, Alloc
 // Where no more are told, they are not gone over.
 fn room_for(
     places: &mut [Place],
-    tally: &mut BTreeMap<u64, u64>,
+    tally: &mut BTreeMap<u128, u64>,
     place: &Place,
     at: u64,
 ) -> Result<(), AllocError>
@@ -206,10 +208,10 @@ fn room_for(
     match place.address {
         None => Ok(()),
         Some(_) if !is_in(place, &Class::Nameless) => Ok(()),
-        Some(address) if told_at(tally, address) <= AN_ADDRESS_MOST as u64 => Ok(()),
+        Some(address) if told_at(tally, u128::from(address)) <= AN_ADDRESS_MOST as u64 => Ok(()),
         Some(address) => {
             make_room(places, Some(address), AN_ADDRESS_MOST, at);
-            tell_at(tally, address, AN_ADDRESS_MOST as u64)
+            tell_at(tally, u128::from(address), AN_ADDRESS_MOST as u64)
         }
     }
 }
@@ -243,13 +245,63 @@ fn own_room(places: &mut [Place], player: Option<Name>)
     }
 }
 
-// The same for the player of each.
-fn each_own(places: &mut [Place], all: &[Place])
-    ensures { places.new ≡ each_own all.now places.old }
+// A name as a number.
+#[tactic(auto, unfolding(crate::specs::Places::number_of))]
+fn number_of(name: &Name) -> u128
+    ensures { result ≡ number_of name.now }
 {
-    for place in all {
-        own_room(places, place.player);
+    u128::from_le_bytes(name.padded())
+}
+
+// One more is told where this one has a player.
+fn tally_own(tally: &mut BTreeMap<u128, u64>, place: &Place) -> Result<(), AllocError>
+    ensures { OnOk result ((name : List ℕ) →
+        min 17 (count_at (get nat_cmp tally.old) (number_of name) + count_of None (Class.Own name) (place.now ∷ []))
+        ≤ count_at (get nat_cmp tally.new) (number_of name)) }
+{
+    match &place.player {
+        None => Ok(()),
+        Some(name) => {
+            let number = number_of(name);
+            let most = told_at(tally, number).saturating_add(1);
+            tell_at(tally, number, most)
+        }
     }
+}
+
+// How many act for each player.
+fn tally_of_own(alloc: Global, places: &[Place]) -> Result<BTreeMap<u128, u64>, AllocError>
+    ensures { IfOk result (λ tally. IsTalliedByName tally places.now) }
+{
+    let mut tally = BTreeMap::new(alloc);
+    for place in places {
+        tally_own(&mut tally, place)?;
+    }
+    Ok(tally)
+}
+
+// The same for the player of this one. Where no more are told than may be, they are not gone over.
+fn own_room_for(places: &mut [Place], tally: &BTreeMap<u128, u64>, place: &Place)
+    requires { IsTalliedByName tally.now places.old }
+    ensures room { places.new ≡ own_room place.now.player places.old }
+    ensures tallied { IsTalliedByName tally.now places.new }
+{
+    match &place.player {
+        None => {}
+        Some(name) if told_at(tally, number_of(name)) <= A_PLAYER_MOST as u64 => {}
+        Some(_) => own_room(places, place.player),
+    }
+}
+
+// The same for the player of each: those of one are gone over only where more than 16 may act for him.
+fn each_own(alloc: Global, places: &mut [Place], all: &[Place]) -> Result<(), AllocError>
+    ensures { OnOk result (places.new ≡ each_own all.now places.old) }
+{
+    let tally = tally_of_own(alloc, places)?;
+    for place in all {
+        own_room_for(places, &tally, place);
+    }
+    Ok(())
 }
 
 // These connections: of those who act for one player who came first are to be closed, until 16 are left.
@@ -257,7 +309,7 @@ fn own_all(alloc: Global, all: &[Place]) -> Result<Vec<Place>, AllocError>
     ensures { IfOk result (λ places. places.items ≡ each_own all.now all.now) }
 {
     let mut places = all.to_vec(alloc)?;
-    each_own(places.as_mut_slice(), all);
+    each_own(alloc, places.as_mut_slice(), all)?;
     Ok(places)
 }
 

@@ -16,5 +16,5 @@ pub returns-in-Some-3-clause-tallied : goal.returns-in-Some-3-clause-tallied
 returns-in-Some-3-clause-tallied c =
     on_ok_weaker c.tell_at.result
     (λ is. subst (λ (ps : List Place). IsTallied c.tell_at.new.tally ps) (sym c.make_room.ensures)
-    (tallied_after c.args.tally.now c.tell_at.new.tally c.args.at c.in-Some-3.address c.args.places.now c.requires is
-    (grind (arith, nat_tests, c.if-told_at.false, c.told_at.ensures)))) c.tell_at.ensures
+    (tallied_after c.args.tally.now c.tell_at.new.tally c.args.at c.in-Some-3.address c.from-in-Some-3.result c.args.places.now
+    c.from-in-Some-3.ensures c.requires is)) c.tell_at.ensures
