@@ -1,5 +1,5 @@
 //! The games that are served as they stand in a file.
-use crate::mark::{Mark, mark_of};
+use crate::mark::{Mark, mark_in, mark_of};
 use bytes::Bytes;
 use lobby_loop::Lobby;
 use lobby_web::{File, Kind};
@@ -42,25 +42,22 @@ struct Reading {
     bytes: Vec<u8>,
 }
 
-// Begins to read a regular file that is not too long.
-fn begun<R: Files<File = DiskFile> + AllocGlobal>(
-    rt: &R,
-    file: &str,
-    mark: Mark,
-) -> io::Result<Reading> {
+// Begins to read a regular file that is not too long. (Its room is taken at once: to let it grow would move what is
+// there again and again.)
+fn begun<R: Files<File = DiskFile> + AllocGlobal>(rt: &R, file: &str) -> io::Result<Reading> {
     let file = opened(rt, file)?;
     let found = file.metadata()?;
-    if !found.is_file() {
-        return Err(io::Error::from(ErrorKind::InvalidInput));
-    }
     if found.len() > BYTES_MOST {
         return Err(io::Error::from(ErrorKind::FileTooLarge));
     }
-    Ok(Reading {
-        file,
-        mark,
-        bytes: Vec::new(rt.alloc()),
-    })
+    match mark_in(&found) {
+        Some(mark) => Ok(Reading {
+            file,
+            mark,
+            bytes: Vec::with_capacity(rt.alloc(), found.len() as usize)?,
+        }),
+        None => Err(io::Error::from(ErrorKind::InvalidInput)),
+    }
 }
 
 impl Reading {
@@ -87,6 +84,14 @@ impl Reading {
             }
         }
         Ok(false)
+    }
+
+    // Whether it stands as it did: another that has its name by now is no matter.
+    fn is_same(&self) -> bool {
+        match self.file.metadata() {
+            Ok(found) => mark_in(&found) == Some(self.mark),
+            Err(_) => false,
+        }
     }
 }
 
@@ -144,24 +149,24 @@ impl<'a> Live<'a> {
     }
 
     // Begins to read the file.
-    fn begin<R>(&mut self, rt: &R, lobby: &mut Lobby, mark: Mark)
+    fn begin<R>(&mut self, rt: &R, lobby: &mut Lobby)
     where
         R: Files<File = DiskFile> + AllocGlobal + Eprint,
     {
-        match begun(rt, self.file, mark) {
+        match begun(rt, self.file) {
             Ok(reading) => self.reading = Some(reading),
             Err(error) => self.fail(rt, lobby, &error),
         }
     }
 
-    // What was read is served from now on; where the file has changed meanwhile it is read again at the next look.
-    fn end<R: Files + AllocGlobal + Eprint>(
+    // What was read is served from now on; where it was written meanwhile it is read again at the next look.
+    fn end<R: AllocGlobal + Eprint>(
         &mut self,
         rt: &R,
         lobby: &mut Lobby,
         reading: Reading,
     ) -> Result<(), AllocError> {
-        if mark_of(rt, self.file) != Some(reading.mark) {
+        if !reading.is_same() {
             self.seen = None;
             return Ok(());
         }
@@ -170,7 +175,7 @@ impl<'a> Live<'a> {
     }
 
     // Reads on.
-    fn go_on<R: Files + AllocGlobal + Eprint>(
+    fn go_on<R: AllocGlobal + Eprint>(
         &mut self,
         rt: &R,
         lobby: &mut Lobby,
@@ -207,9 +212,10 @@ impl<'a> Live<'a> {
             return Ok(());
         }
         self.seen = found;
-        match found {
-            Some(mark) => self.begin(rt, lobby, mark),
-            None => lobby.take_off_file(PATH),
+        if found.is_some() {
+            self.begin(rt, lobby);
+        } else {
+            lobby.take_off_file(PATH);
         }
         Ok(())
     }

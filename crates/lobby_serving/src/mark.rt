@@ -2,7 +2,7 @@
 ghost use Rattle.std.specs.Prelude.{◌≡◌, IfOk};
 
 use std::alloc::{AllocError, Global};
-use std::fs;
+use std::fs::{self, Metadata};
 use std::os::unix::fs::MetadataExt;
 use std::rt::Files;
 
@@ -31,15 +31,24 @@ impl Mark {
     }
 }
 
-/// How a file stands; none where it is not there, or is no regular file: to read of a pipe may last for ever.
-pub fn mark_of<R: Files>(rt: &R, file: &str) -> Option<Mark> {
-    match fs::metadata(rt, file) {
-        Ok(found) if found.is_file() => Some(Mark {
+/// How a file stands that was looked at; none where it is no regular file: to read of a pipe may last for ever.
+pub fn mark_in(found: &Metadata) -> Option<Mark> {
+    if found.is_file() {
+        Some(Mark {
             node: found.ino(),
             size: found.size(),
             seconds: found.mtime(),
             nanoseconds: found.mtime_nsec(),
-        }),
-        _ => None,
+        })
+    } else {
+        None
+    }
+}
+
+/// How a file of this name stands; none where it is not there, or is no regular file.
+pub fn mark_of<R: Files>(rt: &R, file: &str) -> Option<Mark> {
+    match fs::metadata(rt, file) {
+        Ok(found) => mark_in(&found),
+        Err(_) => None,
     }
 }

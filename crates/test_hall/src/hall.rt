@@ -75,6 +75,30 @@ fn byte_of_many(at: usize) -> u8 {
     }
 }
 
+// A piece that stands for the server's answer to `pgn 1` of a game of 9,000 plies.
+const LONG: &[u8] = b"LONG";
+
+const LONG_HEAD: &[u8] = b"ok pgn 1 2250\n";
+
+const LONG_ROW: &[u8] = b"1. Nf3 Nf6 2. Ng1 Ng8\n";
+
+const LONG_ROWS: usize = 2_250;
+
+// The byte at this place of it.
+fn byte_of_long(at: usize) -> Option<u8> {
+    match LONG_HEAD.get(at) {
+        Some(byte) => Some(*byte),
+        None => {
+            let place = at.saturating_sub(LONG_HEAD.len());
+            if place < LONG_ROWS * LONG_ROW.len() {
+                LONG_ROW.get(place % LONG_ROW.len()).copied()
+            } else {
+                None
+            }
+        }
+    }
+}
+
 // What a peer gives that upgrades, and then pings without end: so many bytes of empty pings.
 const PINGS: &[u8] = b"PINGS";
 
@@ -92,6 +116,28 @@ impl Peer {
             self.read = self.read.saturating_add(1);
         }
     }
+
+    // Fills a buffer with what comes next of a long answer. It tells how many bytes that were.
+    fn fill_long(&mut self, buf: &mut [u8]) -> usize {
+        let mut count: usize = 0;
+        for byte in buf.iter_mut() {
+            let Some(next) = byte_of_long(self.read) else {
+                break;
+            };
+            *byte = next;
+            self.read = self.read.saturating_add(1);
+            count = count.saturating_add(1);
+        }
+        count
+    }
+
+    // The same as a read; nothing is there behind its end.
+    fn read_long(&mut self, buf: &mut [u8]) -> io::Result<usize> {
+        match self.fill_long(buf).min(buf.len()) {
+            0 => Err(Error::from(ErrorKind::WouldBlock)),
+            count => Ok(count),
+        }
+    }
 }
 
 impl Read for Peer {
@@ -101,6 +147,9 @@ impl Read for Peer {
             return Ok(buf.len());
         }
         let given = self.given();
+        if given == LONG {
+            return self.read_long(buf);
+        }
         self.reads = self.reads.saturating_add(1);
         if given.is_empty() {
             return Err(Error::from(ErrorKind::WouldBlock));
@@ -762,6 +811,9 @@ const LAST_ROWS: &[u8] =
     b"\n39 Ng1 f3g1 rnbqkb1r/pppppppp/5n2/8/8/8/PPPPPPPP/RNBQKBNR b KQkq - 39 20\n\
 40 Ng8 f6g8 rnbqkbnr/pppppppp/8/8/8/8/PPPPPPPP/RNBQKBNR w KQkq - 40 21\n\x81\x0eok who open 0\n";
 
+// The same of a game of 9,000 plies.
+const LONG_GAME: &[u8] = b"~~~~~~~~LONG";
+
 // What comes of the server stands in this piece, and was read.
 fn has_said(lab: &Lab, piece: usize) -> bool {
     match lab.hall.server_stream() {
@@ -770,22 +822,63 @@ fn has_said(lab: &Lab, piece: usize) -> bool {
     }
 }
 
-// A stranger asks for a game, of which 16 plies are played in a turn: an act of ann's, who comes when the first are, is
-// on its way before the stranger has the answer, and the stranger's next message is heard behind that.
-fn a_line_is_played_in_parts(rt: &impl Abort, lab: &mut Lab) {
-    lab.begin(rt, &(LINE_ASKER, GAME, How::Plainly));
+// A stranger asks for a game, and ann comes, who acts when its first plies are played.
+fn ask_for_line(rt: &impl Abort, lab: &mut Lab, server: &'static [u8]) {
+    lab.begin(rt, &(LINE_ASKER, server, How::Plainly));
     lab.hall
         .admit(Peer::new(lab.alloc, LATE, 1_000), 3, NEAR, 0);
+}
+
+// One more turn of these, with all sockets awake. It tells whether ann's act is on its way.
+fn turn_beside_line(rt: &impl Abort, lab: &mut Lab, at: u64) -> bool {
+    lab.turn_alone(rt, at);
+    let has_acted = lab.is_asked(b"pgn 1\nname ann\nopen white 300 2\n");
+    lab.hall.wake(2);
+    lab.hall.wake(3);
+    lab.hall.wake_server();
+    has_acted
+}
+
+// A stranger asks for a game, of which 16 plies are played in a turn: an act of ann's is on its way before the stranger
+// has the answer, and the stranger's next message is heard behind that.
+fn a_line_is_played_in_parts(rt: &impl Abort, lab: &mut Lab) {
+    ask_for_line(rt, lab, GAME);
     let mut is_between = false;
     for at in 0..90 {
-        lab.turn_alone(rt, at);
-        let has_acted = lab.is_asked(b"pgn 1\nname ann\nopen white 300 2\n");
+        let has_acted = turn_beside_line(rt, lab, at);
         is_between |= has_said(lab, 8) && has_acted && !lab.is_told(LAST_ROWS);
-        lab.hall.wake(2);
-        lab.hall.wake(3);
-        lab.hall.wake_server();
     }
     assert!(rt; is_between && lab.is_told(LAST_ROWS));
+}
+
+// Of so many turns, the last before ann's act is on its way beside a stranger who asks for a game, and the last in which
+// the stranger was told nothing but that the server is there.
+fn turns_beside_line(
+    rt: &impl Abort,
+    lab: &mut Lab,
+    server: &'static [u8],
+    turns: u64,
+) -> (u64, u64) {
+    ask_for_line(rt, lab, server);
+    let (mut last_before_act, mut last_silent) = (0, 0);
+    for at in 0..turns {
+        if !turn_beside_line(rt, lab, at) {
+            last_before_act = at;
+        }
+        if lab.is_told(b"\x81\x0cserver here\n") {
+            last_silent = at;
+        }
+    }
+    (last_before_act, last_silent)
+}
+
+// Where a stranger asks for a game of 9,000 plies, which takes 563 turns, the act is on its way in the turn in which it
+// is where the server says nothing of that game.
+fn a_long_line_holds_up_no_act(rt: &impl Abort, lab: &mut Lab) {
+    let (alone, silent) = turns_beside_line(rt, lab, b"", 90);
+    assert!(rt; 5 < alone && alone < 40 && silent == 89);
+    let (beside, silent) = turns_beside_line(rt, lab, LONG_GAME, 700);
+    assert!(rt; beside == alone && 563 < silent && silent < 620);
 }
 
 // So many bytes were read of the first browser that had always more.
@@ -892,6 +985,7 @@ fn halls(rt: HostRuntime) {
     that_entries_are_paused_is_kept_before_the_log_is_told(&rt, &mut lab);
     players_come_before_strangers(&rt, &mut lab);
     a_line_is_played_in_parts(&rt, &mut lab);
+    a_long_line_holds_up_no_act(&rt, &mut lab);
     what_comes_of_strangers_is_paid(&rt, &mut lab);
     a_move_goes_out_beside_requests_without_end(&rt, &mut lab);
     who_was_read_keeps_nobody_out(&rt, &mut lab);
