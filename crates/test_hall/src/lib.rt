@@ -11,4 +11,6 @@ mod frames;
 #[cfg(test)]
 mod hall;
 #[cfg(test)]
+mod peer;
+#[cfg(test)]
 mod requests;
