@@ -11,10 +11,10 @@ use Rattle.lobby_loop.proofs.places.own_room_for.Goals as goal
 
 pub returns-in-Some-clause-room : goal.returns-in-Some-clause-room
 returns-in-Some-clause-room c =
-    let few : count_at (get nat_cmp c.args.tally.now) (number_of c.in-Some.name.now) ≤ 16 =
+    let few : count_at (get nat_cmp c.args.tally.now) (number_of c.in-Some.name) ≤ 16 =
     grind (arith, nat_tests, c.if-told_at.true, c.told_at.ensures, c.number_of.ensures) in
     sym (subst (λ (player : Option (List ℕ)). own_room player c.args.places.now ≡ c.args.places.now) (sym c.in-Some.is)
-    (owns_few c.args.tally.now c.in-Some.name.now c.args.places.now c.requires few))
+    (owns_few c.args.tally.now c.in-Some.name c.args.places.now c.requires few))
 
 pub returns-in-Some-2-clause-tallied : goal.returns-in-Some-2-clause-tallied
 returns-in-Some-2-clause-tallied c =
