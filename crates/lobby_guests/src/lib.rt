@@ -1,8 +1,8 @@
 //! The lobby's browsers: the connection of each, a stream that does not wait, and what a turn does for each of them.
 //!
 //! Modules: `guest` has one browser's connection, `waiting` what waits for it, `origin` where it comes from, `place`
-//! what its place is among all of them, `guests` what is done for all, `rounds` whose turn it is. `proofs/EachGuest` has
-//! browsers that are attended one after another.
+//! what its place is among all of them, `guests` what is done for all, `rounds` whose turn it is. `proofs/EachGuest`
+//! has browsers that are attended one after another.
 #![tactic(auto)]
 
 mod guest;

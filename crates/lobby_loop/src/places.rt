@@ -193,8 +193,8 @@ fn tally_of(alloc: Global, places: &[Place]) -> Result<BTreeMap<u128, u64>, Allo
     Ok(tally)
 }
 
-// Nameless connections at the address of this one, if it is nameless, are to be closed until as many are left as may be.
-// Where no more are told, they are not gone over.
+// Nameless connections at the address of this one, if it is nameless, are to be closed until as many are left as may
+// be. Where no more are told, they are not gone over.
 fn room_for(
     places: &mut [Place],
     tally: &mut BTreeMap<u128, u64>,
