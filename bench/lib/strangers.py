@@ -12,6 +12,8 @@ from lib.web import TEXT, Guest, frame, handshake, token_of
 
 # (messages that a connection may say in a second, and at once)
 RATE, BURST = 20, 18
+# (seconds between two moves)
+PACE = 0.013
 
 
 class Stranger:
@@ -149,7 +151,7 @@ class Played:
         return (time.monotonic() - began) * 1000
 
 
-def moves(boards, seconds, pace=0.013):
+def moves(boards, seconds, pace=PACE):
     """The times of moves at these boards in turn, a move each `pace` seconds, in milliseconds and in order."""
     times, until = [], time.monotonic() + seconds
     at = 0
