@@ -118,14 +118,6 @@ impl Peer {
         }
         count
     }
-
-    // The same as a read; nothing is there behind its end.
-    fn read_long(&mut self, buf: &mut [u8]) -> io::Result<usize> {
-        match self.fill_long(buf).min(buf.len()) {
-            0 => Err(Error::from(ErrorKind::WouldBlock)),
-            count => Ok(count),
-        }
-    }
 }
 
 impl Read for Peer {
@@ -136,7 +128,10 @@ impl Read for Peer {
         }
         let given = self.given();
         if given == LONG {
-            return self.read_long(buf);
+            return match self.fill_long(buf).min(buf.len()) {
+                0 => Err(Error::from(ErrorKind::WouldBlock)),
+                count => Ok(count),
+            };
         }
         self.reads = self.reads.saturating_add(1);
         if given.is_empty() {
