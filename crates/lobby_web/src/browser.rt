@@ -63,7 +63,8 @@ fn answered(
         State::Upgraded => {}
         _ => return Stage::Http(connection),
     }
-    if !asked.has_switched {
+    let has_switched = asked.has_switched;
+    if !has_switched {
         drop(connection);
         return Stage::Over;
     }
@@ -156,13 +157,6 @@ fn lightened(
     }
 }
 
-// Puts a stage in the place of another.
-fn put(place: &mut Stage, stage: Stage)
-    ensures { place.new ≡ stage }
-{
-    drop(mem::replace(place, stage));
-}
-
 impl Browser {
     /// A connection that begins: by HTTP, with heads of at most 16,384 bytes, and requests without a body. The keys
     /// are for the names of headers, which the peer chooses.
@@ -240,7 +234,7 @@ impl Browser {
         if wanted {
             let (heading, told) = (&mut self.heading, &mut self.forwarded);
             let stage = taken(self.alloc, site, stage, bytes, heading, told);
-            put(&mut self.stage, stage);
+            drop(mem::replace(&mut self.stage, stage));
         } else {
             drop(stage);
         }
@@ -307,6 +301,6 @@ impl Browser {
     {
         let stage = mem::replace(&mut self.stage, Stage::Over);
         let stage = lightened(self.alloc, site, stage, count, &mut self.forwarded);
-        put(&mut self.stage, stage);
+        drop(mem::replace(&mut self.stage, stage));
     }
 }
