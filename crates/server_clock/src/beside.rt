@@ -2,8 +2,8 @@
 ghost use Rattle.std.specs.Prelude.{◌≡◌, IfErr};
 
 use crate::beats::{Beats, ClockFault};
-use sector_dev::FileDevice;
-use server_telling::{Teller, TellingDevice};
+use sector_dev::{Device, FileDevice};
+use server_telling::Teller;
 use std::alloc::{AllocError, Global};
 use std::fs::File;
 use std::io::Read;
@@ -28,9 +28,6 @@ impl Beside {
     }
 }
 
-/// The device of a clock's file that tells why a call of it failed.
-pub type ClockDevice<'a, R> = TellingDevice<'a, R, FileDevice>;
-
 // A clock's file of two sectors, which is made where none is there or an empty one.
 fn clock_device<R: Files<File = File>>(rt: &R, path: &str) -> io::Result<FileDevice> {
     match fs::metadata(rt, path) {
@@ -48,34 +45,49 @@ fn is_other<R: Files>(rt: &R, path: &str) -> bool {
 pub(crate) const NOT_KEPT: &str =
     "no moment is kept in it: after a stop the games' clocks go on from the last entry";
 
-/// The beats in a clock's file, which is made where it isn't there; `None` where it cannot be opened or read, which is
-/// told. `Foreign` where something else stands in it, which is told too: then nothing of it has changed.
-pub fn open_beats<'a, R: Files<File = File> + Eprint>(
+// What an operator is told of what is no clock's file.
+const FOREIGN: &str = "it is no server's clock: put it away";
+
+/// A clock's file of two sectors, which is made where it isn't there; `None` where it cannot be opened or made, which is
+/// told. `Foreign` where the name has something else than a regular file, which is told too.
+pub fn open_clock<R: Files<File = File> + Eprint>(
     rt: &R,
-    teller: &'a Teller<'a, R>,
-    path: &'a str,
-) -> Result<Option<Beats<ClockDevice<'a, R>>>, ClockFault>
+    teller: &Teller<'_, R>,
+    path: &str,
+) -> Result<Option<FileDevice>, ClockFault>
     ensures { IfErr result (λ fault. fault ≡ ClockFault.Foreign) }
 {
-    let opened = if is_other(rt, path) {
-        Err(ClockFault::Foreign)
-    } else {
-        match clock_device(rt, path) {
-            Ok(device) => Beats::open(TellingDevice::new(device, teller, path)),
-            Err(error) => {
-                teller.not_opened(path, "it cannot be opened or made", &error);
-                Err(ClockFault::Device)
-            }
+    if is_other(rt, path) {
+        teller.explain(path, FOREIGN);
+        return Err(ClockFault::Foreign);
+    }
+    match clock_device(rt, path) {
+        Ok(device) => Ok(Some(device)),
+        Err(error) => {
+            teller.not_opened(path, "it cannot be opened or made", &error);
+            teller.explain(path, NOT_KEPT);
+            Ok(None)
         }
-    };
-    match opened {
+    }
+}
+
+/// The beats on the device of a clock's file; `None` where it cannot be read, which is told. `Foreign` where something
+/// else stands in it, which is told too: then nothing of it has changed.
+pub fn read_beats<R: Eprint, D: Device + Drop>(
+    teller: &Teller<'_, R>,
+    path: &str,
+    device: D,
+) -> Result<Option<Beats<D>>, ClockFault>
+    ensures { IfErr result (λ fault. fault ≡ ClockFault.Foreign) }
+{
+    match Beats::open(device) {
         Ok(beats) => Ok(Some(beats)),
         Err(ClockFault::Device) => {
             teller.explain(path, NOT_KEPT);
             Ok(None)
         }
         Err(ClockFault::Foreign) => {
-            teller.explain(path, "it is no server's clock: put it away");
+            teller.explain(path, FOREIGN);
             Err(ClockFault::Foreign)
         }
     }

@@ -16,7 +16,7 @@ mod starting;
 mod steady;
 
 pub use beats::{Beats, ClockFault};
-pub use beside::{Beside, ClockDevice, open_beats};
+pub use beside::{Beside, open_clock, read_beats};
 pub use pace::{LONGEST_GAP, Pace};
 pub use serving::{ServingClock, TurnMoments};
 pub use slots::{Beat, Slot, slot_in, told, write_slot};

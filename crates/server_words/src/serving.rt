@@ -6,9 +6,10 @@ use crate::{Fault, Pacing, Place, Serving, found_in, open_file, open_on, printed
 use chess_hub::Hub;
 use chess_sockets::{Server, ServerFault, Turned};
 use chess_store::{Store, StoreFault};
-use sector_dev::Device;
+use sector_dev::{Device, FileDevice};
 use server_clock::{
-    Beside, ServingClock, SteadyClock, TurnMoments, milliseconds_since, open_beats,
+    Beats, Beside, ServingClock, SteadyClock, TurnMoments, milliseconds_since, open_clock,
+    read_beats,
 };
 use server_telling::{Found, Teller, TellingDevice, TurnedAway};
 use sockets::LocalListener;
@@ -201,11 +202,37 @@ where
     served
 }
 
-// The same at the moments that stand still while nothing is served.
-fn serve_keeping<R, D: Device + Drop>(
+// The same at the moments that stand still while nothing is served, which are kept on a clock's device.
+fn serve_beating<'x, R, D: Device + Drop, B: Device + Drop>(
     rt: &R,
     alloc: Global,
-    teller: &Teller<'_, R>,
+    teller: &'x Teller<'x, R>,
+    beside: &'x Beside,
+    serving: &Serving<'_>,
+    opened: FoundStore<D>,
+    device: B,
+) -> Result<(), Fault>
+where
+    R: Files<File = File>
+        + Clock
+        + Print
+        + Eprint
+        + Net<Listener = TcpListener, Stream = TcpStream>,
+    ensures { IfErr result IsServeFault }
+{
+    let Ok(beats) = read_beats(teller, beside.clock.as_str(), device) else {
+        return Err(Fault::File);
+    };
+    let clock = ServingClock::new(rt, alloc, teller, beside, opened.entry(), beats);
+    serve_at(rt, alloc, teller, serving, opened, clock)
+}
+
+// The same, where the clock's file is opened first; without one no moment is kept.
+fn serve_keeping<'x, R, D: Device + Drop>(
+    rt: &R,
+    alloc: Global,
+    teller: &'x Teller<'x, R>,
+    beside: &'x Beside,
     serving: &Serving<'_>,
     opened: FoundStore<D>,
 ) -> Result<(), Fault>
@@ -217,21 +244,27 @@ where
         + Net<Listener = TcpListener, Stream = TcpStream>,
     ensures { IfErr result IsServeFault }
 {
-    let Ok(beside) = Beside::of(alloc, serving.journal) else {
-        return Err(Fault::Store(StoreFault::NoMemory));
-    };
-    let Ok(beats) = open_beats(rt, teller, beside.clock.as_str()) else {
-        return Err(Fault::File);
-    };
-    let clock = ServingClock::new(rt, alloc, teller, &beside, opened.entry(), beats);
-    serve_at(rt, alloc, teller, serving, opened, clock)
+    let path = beside.clock.as_str();
+    match open_clock(rt, teller, path) {
+        Ok(Some(file)) => {
+            let device = TellingDevice::new(file, teller, path);
+            serve_beating(rt, alloc, teller, beside, serving, opened, device)
+        }
+        Ok(None) => {
+            let beats: Option<Beats<FileDevice>> = None;
+            let clock = ServingClock::new(rt, alloc, teller, beside, opened.entry(), beats);
+            serve_at(rt, alloc, teller, serving, opened, clock)
+        }
+        Err(_) => Err(Fault::File),
+    }
 }
 
 // Serves players over the games of the journal on a device, whose opening began then.
-fn serve_on<R, D: Device + Drop>(
+fn serve_on<'x, R, D: Device + Drop>(
     rt: &R,
     alloc: Global,
-    teller: &Teller<'_, R>,
+    teller: &'x Teller<'x, R>,
+    beside: &'x Beside,
     serving: &Serving<'_>,
     device: D,
     begun: Option<Instant>,
@@ -251,15 +284,16 @@ where
             let clock = SteadyClock::new(rt);
             serve_at(rt, alloc, teller, serving, opened, clock)
         }
-        Pacing::Serving => serve_keeping(rt, alloc, teller, serving, opened),
+        Pacing::Serving => serve_keeping(rt, alloc, teller, beside, serving, opened),
     }
 }
 
 // The same of the journal in a file.
-fn serve_journal<R>(
+fn serve_journal<'x, R>(
     rt: &R,
     alloc: Global,
-    teller: &Teller<'_, R>,
+    teller: &'x Teller<'x, R>,
+    beside: &'x Beside,
     serving: &Serving<'_>,
 ) -> Result<(), Fault>
 where
@@ -273,7 +307,7 @@ where
     let begun = Instant::now(rt).ok();
     let file = open_file(rt, teller, serving.journal)?;
     let device = TellingDevice::new(file, teller, serving.journal);
-    serve_on(rt, alloc, teller, serving, device, begun)
+    serve_on(rt, alloc, teller, beside, serving, device, begun)
 }
 
 /// Serves players on a port or by a Unix socket, over the games of a journal's file, and first prints `port P`, P being
@@ -290,6 +324,9 @@ where
     ensures { IfErr result IsServeFault }
 {
     let teller = Teller::new(rt, serving.is_quiet);
-    let served = serve_journal(rt, alloc, &teller, serving);
+    let served = match Beside::of(alloc, serving.journal) {
+        Ok(beside) => serve_journal(rt, alloc, &teller, &beside, serving),
+        Err(_) => Err(Fault::Store(StoreFault::NoMemory)),
+    };
     told(&teller, serving.journal, served)
 }
