@@ -324,9 +324,10 @@ where
     ensures { IfErr result IsServeFault }
 {
     let teller = Teller::new(rt, serving.is_quiet);
-    let served = match Beside::of(alloc, serving.journal) {
-        Ok(beside) => serve_journal(rt, alloc, &teller, &beside, serving),
-        Err(_) => Err(Fault::Store(StoreFault::NoMemory)),
+    let Ok(beside) = Beside::of(alloc, serving.journal) else {
+        let refused = Err(Fault::Store(StoreFault::NoMemory));
+        return told(&teller, serving.journal, refused);
     };
+    let served = serve_journal(rt, alloc, &teller, &beside, serving);
     told(&teller, serving.journal, served)
 }
