@@ -2,8 +2,7 @@
 ghost use Rattle.std.specs.Prelude.{◌≡◌, ◌++◌, ◌∷◌, [], Some, false, IfSome, IsTrue, OnOk, bytes_eq, codes};
 ghost use Rattle.std.specs.Option.{option_copied};
 ghost use Rattle.std.specs.Net.Grammar.{IsIpText};
-ghost use Rattle.std.specs.Char.{is_ascii_digit};
-ghost use Rattle.std.specs.List.{list_all, list_any};
+ghost use Rattle.std.specs.List.{list_any};
 ghost use Rattle.http.specs.Request.{head_of};
 ghost use Rattle.http_header.specs.Token.{lowercase};
 ghost use Rattle.http_header.specs.FieldName.{is_header_name};
@@ -256,10 +255,10 @@ fn send(alloc: Global, response: &mut Response, file: &File) -> Result<(), Alloc
     requires { IsBlank response.old }
     ensures { OnOk result (IsResponse 200 (file_fields file.now) file.now.bytes response.new) }
 {
-    begin(response, StatusCode::OK, media_type(file.kind()))?;
-    add_readers(response, file.kind())?;
-    add_value(alloc, response, "etag", file.tag())?;
-    response.body.push(file.bytes().clone()?)
+    begin(response, StatusCode::OK, media_type(file.kind))?;
+    add_readers(response, file.kind)?;
+    add_value(alloc, response, "etag", file.tag.as_slice())?;
+    response.body.push(file.bytes.clone()?)
 }
 
 // That who asks has the file. (its media type is known there too)
@@ -268,15 +267,15 @@ fn spare(alloc: Global, response: &mut Response, file: &File) -> Result<(), Allo
     ensures { OnOk result (IsResponse 304 (same_fields file.now) [] response.new) }
 {
     guard(response, StatusCode::NOT_MODIFIED)?;
-    add_readers(response, file.kind())?;
-    Ok(add_value(alloc, response, "etag", file.tag())?)
+    add_readers(response, file.kind)?;
+    Ok(add_value(alloc, response, "etag", file.tag.as_slice())?)
 }
 
 // Whether an entity tag is a file's: one that packs its bytes on the way makes it a weak one.
 fn is_tag_of(file: &File, tag: &[u8]) -> bool
     ensures { result ≡ is_tag_of file.now tag.now }
 {
-    tag == file.tag() || is_made_of(tag, b"W/", file.tag())
+    tag == file.tag.as_slice() || is_made_of(tag, b"W/", file.tag.as_slice())
 }
 
 // Whether a list of entity tags has a file's.
@@ -330,18 +329,11 @@ fn send_file(
     }
 }
 
-// Whether all these bytes are digits.
-fn are_digits(text: &[u8]) -> bool
-    ensures { result ≡ list_all is_ascii_digit text.now }
-{
-    text.iter().all(|byte| byte.is_ascii_digit())
-}
-
 // Whether a text is the digits of a number.
 fn is_number(text: &[u8]) -> bool
     ensures { result ≡ is_number text.now }
 {
-    !text.is_empty() && are_digits(text)
+    !text.is_empty() && text.iter().all(|byte| byte.is_ascii_digit())
 }
 
 // Whether a path names a game's board: `/board/` and the digits of a number.
@@ -487,23 +479,16 @@ fn last_field<'a>(request: &'a Request<Bytes>, name: &str) -> &'a [u8]
     }
 }
 
-// The address that a text is.
-fn address_of(text: &str) -> Option<IpAddr>
-    ensures { IfSome result (IsIpText text.now) }
-{
-    match text.parse::<IpAddr>() {
-        Ok(address) => Some(address),
-        Err(_) => None,
-    }
-}
-
 // The address for which the last proxy says that it asks: the last element of X-Forwarded-For.
 fn forwarded(request: &Request<Bytes>) -> Option<IpAddr>
     ensures { IfSome result (IsIpText (forwarded_text request.now)) }
 {
     let text = last_element(last_field(request, "x-forwarded-for"));
     match str::from_utf8(text) {
-        Ok(text) => address_of(text),
+        Ok(text) => match text.parse::<IpAddr>() {
+            Ok(address) => Some(address),
+            Err(_) => None,
+        },
         Err(_) => None,
     }
 }
@@ -514,8 +499,10 @@ fn forwarded(request: &Request<Bytes>) -> Option<IpAddr>
 pub struct Asked<'a> {
     alloc: Global,
     site: &'a Site,
-    has_switched: bool,
-    forwarded: Option<IpAddr>,
+    /// Whether the last answer was an upgrade.
+    pub(crate) has_switched: bool,
+    /// The address for which the last request says that a proxy asks. None where it says none, or nothing was asked.
+    pub(crate) forwarded: Option<IpAddr>,
 }
 
 impl<'a> Asked<'a> {
@@ -530,20 +517,6 @@ impl<'a> Asked<'a> {
             has_switched: false,
             forwarded: None,
         }
-    }
-
-    /// Whether the last answer was an upgrade.
-    pub fn has_switched(&self) -> bool
-        ensures { result ≡ self.now.has_switched }
-    {
-        self.has_switched
-    }
-
-    /// The address for which the last request says that a proxy asks. None where it says none, or nothing was asked.
-    pub fn forwarded(&self) -> Option<IpAddr>
-        ensures { result ≡ self.now.forwarded }
-    {
-        self.forwarded
     }
 }
 

@@ -5,7 +5,7 @@ ghost use Rattle.http_server.specs.Connection.{config_of, history};
 ghost use Rattle.http_server.specs.History.{after_read};
 ghost use Rattle.websocket.specs.CloseCode.{is_allowed};
 ghost use Rattle.websocket.specs.Content.{text as Text, ping as Ping, close as Close};
-ghost use Rattle.lobby_web.specs.Browsing.{web_config, pending, Answers, WantsBytes, IsOver, is_open, Takes};
+ghost use Rattle.lobby_web.specs.Browsing.{pending, Answers, WantsBytes, IsOver, is_open, Takes};
 ghost use Rattle.lobby_web.specs.Browsing.{TakesBytes, Writes, HearsNext, SaysTo, IsNew, IsHeaded};
 ghost use Rattle.lobby_web.specs.declared.browser.Stage.TheVariants as At;
 ghost use Rattle.lobby_web.specs.Heading.{heading_of};
@@ -45,22 +45,6 @@ pub struct Browser {
     ghost headed: { IsHeaded stage heading },
 }
 
-// The limits of HTTP: heads of 16,384 bytes, and requests without a body.
-fn web_config() -> Config
-    ensures { result ≡ web_config }
-{
-    Config {
-        limits: Limits {
-            max_head_len: MOST_IN_HEAD,
-            max_extensions_len: 0,
-            max_trailers_len: 1_024,
-        },
-        max_body_len: 0,
-        max_pending: 65_536,
-        read_size: MOST_AT_ONCE,
-    }
-}
-
 // The connection once the site has answered what came: on as HTTP, or handed over to a socket. It is told for whom the
 // last of the requests says that a proxy asks. (What is let go is let go by a call: its parts are proved once then, and
 // not at each way out.)
@@ -74,12 +58,12 @@ fn answered(
 {
     let mut asked = Asked::new(alloc, site);
     connection.advance(&mut asked);
-    *told = asked.forwarded().or(*told);
+    *told = asked.forwarded.or(*told);
     match connection.state() {
         State::Upgraded => {}
         _ => return Stage::Http(connection),
     }
-    if !asked.has_switched() {
+    if !asked.has_switched {
         drop(connection);
         return Stage::Over;
     }
@@ -180,13 +164,24 @@ fn put(place: &mut Stage, stage: Stage)
 }
 
 impl Browser {
-    /// A connection that begins. The keys are for the names of headers, which the peer chooses.
+    /// A connection that begins: by HTTP, with heads of at most 16,384 bytes, and requests without a body. The keys
+    /// are for the names of headers, which the peer chooses.
     pub fn new(alloc: Global, keys: RandomState) -> Browser
         ensures { IsNew result.stage }
     {
+        let config = Config {
+            limits: Limits {
+                max_head_len: MOST_IN_HEAD,
+                max_extensions_len: 0,
+                max_trailers_len: 1_024,
+            },
+            max_body_len: 0,
+            max_pending: 65_536,
+            read_size: MOST_AT_ONCE,
+        };
         Browser {
             alloc,
-            stage: Stage::Http(Connection::new(alloc, keys, web_config())),
+            stage: Stage::Http(Connection::new(alloc, keys, config)),
             heading: Heading::new(),
             forwarded: None,
         }

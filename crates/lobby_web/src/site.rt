@@ -46,18 +46,10 @@ impl Kind {
 #[derive(Drop)]
 pub struct File {
     path: Vec<u8>,
-    kind: Kind,
-    bytes: Bytes,
-    tag: Vec<u8>,
-}
-
-// Puts a text in quotes behind what is there.
-fn push_quoted(to: &mut Vec<u8>, text: &[u8]) -> Result<(), AllocError>
-    ensures { OnOk result (to.new.items ≡ to.old.items ++ 34 ∷ text.now ++ 34 ∷ []) }
-{
-    to.push(b'"')?;
-    to.extend_from_slice(text)?;
-    Ok(to.push(b'"')?)
+    pub(crate) kind: Kind,
+    pub(crate) bytes: Bytes,
+    /// Its entity tag.
+    pub(crate) tag: Vec<u8>,
 }
 
 // The entity tag by a mark: its hex digits, in quotes.
@@ -66,7 +58,9 @@ fn tag_of(alloc: Global, mark: &[u8]) -> Result<Vec<u8>, AllocError>
 {
     let digits = hex::encode(alloc, mark)?;
     let mut tag = Vec::new(alloc);
-    push_quoted(&mut tag, digits.as_bytes())?;
+    tag.push(b'"')?;
+    tag.extend_from_slice(digits.as_bytes())?;
+    tag.push(b'"')?;
     Ok(tag)
 }
 
@@ -101,27 +95,6 @@ impl File {
             bytes,
             tag,
         })
-    }
-
-    /// What it is.
-    pub(crate) fn kind(&self) -> Kind
-        ensures { result ≡ self.now.kind }
-    {
-        self.kind
-    }
-
-    /// Its bytes.
-    pub(crate) fn bytes(&self) -> &Bytes
-        ensures { result.now ≡ self.now.bytes }
-    {
-        &self.bytes
-    }
-
-    /// Its entity tag.
-    pub(crate) fn tag(&self) -> &[u8]
-        ensures { result.now ≡ self.now.tag.items }
-    {
-        self.tag.as_slice()
     }
 }
 

@@ -23,5 +23,5 @@ returns c =
     let rests = subst (λ (k : Config). Rests k (history c.advance.new.self)) a.config a.rests in
     hands-over (config_of c.args.connection) c.args.site.now c.new-asked.result c.advance.new.service (history c.args.connection)
     (history c.advance.new.self) c.new.result c.new-asked.ensures.site c.new-asked.ensures.asked
-    (sym c.has_switched.ensures ∙ c.if-not-has_switched.false) served a.calls rests a.quiet (sym c.in-Upgraded.ensures) c.new.ensures.fresh
+    c.if-not-has_switched.false served a.calls rests a.quiet (sym c.in-Upgraded.ensures) c.new.ensures.fresh
     (c.new.ensures.input ∙ c.into_buffers-input.ensures.unread) (c.new.ensures.output ∙ c.into_buffers-input.ensures.pending)
