@@ -1,6 +1,8 @@
 -- What happens at a browser's connection.
-use Rattle.std.specs.Prelude.{ℕ, ◌≡◌, ◌≢◌, ◌≤◌, ◌<◌, ◌+◌, ◌-◌, ◌/◌, ◌^◌, ◌⊎◌, ◌&&◌, ◌||◌, ◌==◌, nat_le, nat_lt, min, max, Bool, true, false, not}
-use Rattle.std.specs.Prelude.{count_by, if◌then◌else◌, is_some, List, [], ◌∷◌, ◌++◌, Option, None, Some, Result, length, take, filter}
+use Rattle.std.specs.Prelude.{ℕ, ◌≡◌, ◌≢◌, ◌≤◌, ◌<◌, ◌+◌, ◌-◌, ◌/◌, ◌^◌, ◌⊎◌, ◌&&◌, ◌||◌, ◌==◌, nat_le, nat_lt}
+use Rattle.std.specs.Prelude.{min, max, Bool, true, false, not}
+use Rattle.std.specs.Prelude.{count_by, if◌then◌else◌, is_some, List, [], ◌∷◌, ◌++◌, Option, None, Some, Result}
+use Rattle.std.specs.Prelude.{length, take, filter}
 use Rattle.std.specs.List.{AllZip}
 use Rattle.std.specs.Io.KnownBytes.{Consumes, Appends}
 use Rattle.std.specs.String.{string_bytes}
@@ -232,7 +234,8 @@ pub record IsPassedOver {S : Type 0} (old new : Guest S) (room after : Room) : T
   pub talk : after.talk ≡ room.talk
   pub left : after.left ≤ room.left
 
-pub record IsCalled {S : Type 0} (others : Others) (among_fresh : Bool) (remaining : S → Option (List ℕ)) (site : Site) (at : ℕ)
+pub record IsCalled {S : Type 0} (others : Others) (among_fresh : Bool) (remaining : S → Option (List ℕ)) (site : Site)
+    (at : ℕ)
     (old new : Guest S)
     (room after : Room) : Type 0 where
   pub other : is_other others room.talk.desk old.number ≡ true
@@ -241,8 +244,8 @@ pub record IsCalled {S : Type 0} (others : Others) (among_fresh : Bool) (remaini
   pub served : IsServed remaining site at old new room.talk after.talk
   pub takes : after.left < room.left
 
-abbrev pub IsOthersTurn : {S : Type 0} → Others → Bool → (S → Option (List ℕ)) → Site → ℕ → Guest S → Guest S → Room → Room
-    → Type 0
+abbrev pub IsOthersTurn : {S : Type 0} → Others → Bool → (S → Option (List ℕ)) → Site → ℕ → Guest S → Guest S → Room
+    → Room → Type 0
 IsOthersTurn others among_fresh remaining site at old new room after =
     IsPassedOver old new room after ⊎ IsCalled others among_fresh remaining site at old new room after
 
@@ -258,8 +261,8 @@ abbrev pub full_room : Talk → Room
 full_room talk = record { talk = talk; left = others_most }
 
 -- In a turn players are served first, each of them; then some of those who have no socket yet; and then twice some of
--- those who act for nobody: of whose time nothing was taken since their sockets opened, as who is about to show a token,
--- and of the others.
+-- those who act for nobody: of whose time nothing was taken since their sockets opened, as who is about to show a
+-- token, and of the others.
 pub record AreAttended {S : Type 0} (remaining : S → Option (List ℕ)) (site : Site) (at : ℕ) (old new : List (Guest S))
     (talk after : Talk) : Type 0 where
   pub first : List (Guest S)

@@ -24,8 +24,8 @@ IsPlain (V6 a) plain = IsCanonicalOf a plain
 abbrev pub IsLoopback : IpAddr → Type 0
 IsLoopback address = MatchIp address IsLoopbackV4 IsLoopbackV6
 
--- Where a peer of this address comes from: it is the trusted proxy's just where that has this address, and it counts for
--- its address; but the proxy's for none yet, and one of this machine for none.
+-- Where a peer of this address comes from: it is the trusted proxy's just where that has this address, and it counts
+-- for its address; but the proxy's for none yet, and one of this machine for none.
 pub record IsFrom (proxy : Option IpAddr) (peer : IpAddr) (origin : Origin) : Type 0 where
   pub trusted : (origin.is_proxy ≡ true) ↔ (proxy ≡ Some peer)
   pub none : (proxy ≡ Some peer) ⊎ IsLoopback peer → origin.address ≡ None

@@ -349,7 +349,8 @@ impl<S> Guest<S> {
         ensures browser { OnOk result (self.new.browser ≡ self.old.browser) }
         ensures stream { OnOk result (self.new.stream ≡ self.old.stream) }
         ensures waits { OnOk result (self.new.waits ≡ self.old.waits) }
-        ensures owes { OnOk result (self.new.paid_until ≡ owed_after self.old.number self.new.number self.old.paid_until) }
+        ensures owes { OnOk result
+            (self.new.paid_until ≡ owed_after self.old.number self.new.number self.old.paid_until) }
     {
         match heard {
             Heard::Opened => match self.number {
@@ -395,7 +396,8 @@ impl<S> Guest<S> {
             MaySpeak talk.old.desk self.old.number → IsAsked at self.old self.new talk.old talk.new) }
         ensures waits { OnOk result (length self.old.waits.items ≢ 0 →
             (self.new ≡ self.old) × (talk.new ≡ talk.old)) }
-        ensures owes { OnOk result (self.new.paid_until ≡ owed_after self.old.number self.new.number self.old.paid_until) }
+        ensures owes { OnOk result
+            (self.new.paid_until ≡ owed_after self.old.number self.new.number self.old.paid_until) }
     {
         if self.is_lost || !self.waits.is_empty() || !self.may_speak(talk) {
             return Ok(false);

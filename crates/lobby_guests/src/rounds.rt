@@ -97,8 +97,8 @@ impl Round {
     }
 }
 
-/// The rounds of those who have no socket yet; of those who have one, act for nobody and of whose time nothing was taken
-/// since, as who is about to show a token; of the others; and of all to whom something is written but players.
+/// The rounds of those who have no socket yet; of those who have one, act for nobody and of whose time nothing was
+/// taken since, as who is about to show a token; of the others; and of all to whom something is written but players.
 #[derive(Clone, Copy)]
 pub struct Rounds {
     pub newcomers: Round,

@@ -1,5 +1,6 @@
 -- What is counted of logins that are refused.
-use Rattle.std.specs.Prelude.{ℕ, ◌==◌, ◌+◌, ◌-◌, ◌^◌, ◌&&◌, Bool, true, false, List, Option, None, Some, max, min, codes, count_by}
+use Rattle.std.specs.Prelude.{ℕ, ◌==◌, ◌+◌, ◌-◌, ◌^◌, ◌&&◌, Bool, true, false, List, Option, None, Some, max, min}
+use Rattle.std.specs.Prelude.{codes, count_by}
 use Rattle.std.specs.List.{starts_with}
 use Rattle.std.specs.String.{string_bytes}
 use Rattle.lobby_desk.specs.declared.telling.Message.{Message}

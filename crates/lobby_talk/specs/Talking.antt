@@ -1,5 +1,6 @@
 -- What the desk is told, and what goes from it.
-use Rattle.std.specs.Prelude.{ℕ, ◌≡◌, ◌≤◌, ◌+◌, ◌∷◌, ◌++◌, Bool, true, false, List, Option, None, Some, [], IsUtf8, is_some}
+use Rattle.std.specs.Prelude.{ℕ, ◌≡◌, ◌≤◌, ◌+◌, ◌∷◌, ◌++◌, Bool, true, false, List, Option, None, Some, []}
+use Rattle.std.specs.Prelude.{IsUtf8, is_some}
 use Rattle.lobby_words.specs.declared.players.Player.{Player}
 use Rattle.lobby_words.specs.declared.linked.Linked.{Linked as Done}
 use Rattle.lobby_words.specs.declared.refusals.Refusal.TheVariants.{NotWritten}
@@ -72,7 +73,8 @@ IsSaying talk c at text InTime = is_too_fast (until_of talk.desk c) at ≡ false
 IsSaying talk c at text TooFast = is_too_fast (until_of talk.desk c) at ≡ true
 IsSaying talk c at text (WithLink players token) = is_some (order_asked talk.desk c text at) ≡ true
 
--- What is told of an order, which was carried out so, or was not: then it is refused, and the players are who they were.
+-- What is told of an order, which was carried out so, or was not: then it is refused, and the players are who they
+-- were.
 pub record IsRefused (c : ℕ) (old new : Talk) : Type 0 where
   pub told : message_values new.told.items ≡ message_values old.told.items ++ to_one c (refusal_text NotWritten) ∷ []
   pub players : new.desk.players ≡ old.desk.players

@@ -148,6 +148,28 @@ impl<'a, R: Eprint> Teller<'a, R> {
         }
     }
 
+    /// For how many milliseconds the clocks of all games stood still while nothing was served, where they did.
+    pub fn stood_still(&self, passed: u64) {
+        if passed > 0 && !self.is_quiet {
+            let (seconds, rest) = (passed / 1_000, passed % 1_000);
+            let _ = eprintln!(self.rt;
+                "no clock ran for {seconds}.{rest:03} s, in which nothing was served: everybody has that time still"
+            );
+        }
+    }
+
+    /// That a file beside the journal stops all clocks, and the reason that it tells, where it does.
+    pub fn stopped(&self, path: &str, reason: &str) {
+        if self.is_quiet {
+            return;
+        }
+        let _ = if reason.is_empty() {
+            eprintln!(self.rt; "{path}: all clocks stand still")
+        } else {
+            eprintln!(self.rt; "{path}: all clocks stand still: {reason}")
+        };
+    }
+
     /// What is served and where, and, where the clock is behind the last entry, by how much.
     pub fn serves<P: Display>(&self, place: &P, found: Found, now: u64) {
         if self.is_quiet {

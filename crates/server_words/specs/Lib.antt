@@ -5,3 +5,4 @@ pub mod Blank
 pub mod JournalFaults
 pub mod Games
 pub mod PlayFaults
+pub mod Entry

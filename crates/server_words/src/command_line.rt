@@ -144,13 +144,18 @@ at a time: the next once these are answered and it has taken the answers. With -
 a client is closed from which nothing came for S seconds and for which nothing waits.
 
 Moments are those of the system's clock as it was at the start, and go on evenly from
-there: a clock that is set while it runs changes nothing.
+there: a clock that is set while it runs changes nothing. So the games' clocks run on
+while nothing is served. With --clock serving they stand still then, whatever the
+system's clock is: the first moment is the later of the last entry's and the last that
+stands in F.clock, where it is written each second. Of more than a second in which the
+program was held a second counts. While a file F.stopped is there all clocks stand
+still, and its first line is told as the reason; without --clock serving it does nothing.
 
 Limits: P 0 to 65535, where 0 leaves the choice to the system; N and S 1 to 4294967295.
 
 Exit status: 0 after N turns; 1 with fault NAME on standard error: File (the file
-isn't there, or another program has it open), NotOurs (no journal stands in it),
-Damaged, TooSmall, Socket (the port or socket cannot be bound), Device (a read, a write
+isn't there, another program has it open, or F.clock is something else), NotOurs (no
+journal stands in it), Damaged, TooSmall, Socket (the port or socket cannot be bound), Device (a read, a write
 or a sync of the file failed), Failed (a call after that), Worn, NoMemory, Write; 2 for
 words that the program does not know.
 
@@ -253,6 +258,13 @@ const IDLE: OptionText = OptionText {
     is_required: false,
 };
 
+const CLOCK: OptionText = OptionText {
+    name: "clock",
+    value: OptionValue::Text("CLOCK"),
+    help: "system, as without it, or serving: whether games' clocks run while it does not serve",
+    is_required: false,
+};
+
 const FORCE: OptionText = OptionText {
     name: "force",
     value: OptionValue::Nothing,
@@ -292,7 +304,7 @@ const SERVE: WordText = WordText {
     name: "serve",
     about: "Serves players on a port or by a socket, over the games of a journal",
     help: HELP_OF_SERVE,
-    options: &[JOURNAL, PORT, SOCKET, TURNS, IDLE, QUIET],
+    options: &[JOURNAL, PORT, SOCKET, CLOCK, TURNS, IDLE, QUIET],
 };
 
 const DRILL: WordText = WordText {

@@ -4,11 +4,10 @@
 //! status and the name of each end, `opening` opens a journal's file and the store in it; `telling` is what an operator
 //! is told of a word's end and of a store, `causes` why a fault came, where the system has not said it. `memory` has
 //! `board`, `journals` makes and widens files, `reading` has `copy` and `show`, `running` has `run`, `serving` has
-//! `serve`, `clock` their moments, `drilling` the drill of the lives of a store.
+//! `serve`, `drilling` the drill of the lives of a store.
 #![tactic(auto)]
 
 mod causes;
-mod clock;
 mod command_line;
 mod drilling;
 mod ends;
@@ -21,7 +20,6 @@ mod serving;
 mod telling;
 mod words;
 
-pub use clock::SteadyClock;
 pub use command_line::command;
 pub use drilling::tell_drill;
 pub use ends::{End, Fault, end_of_words, end_of_work, fault_name, status};
@@ -30,6 +28,6 @@ pub use memory::play_board;
 pub use opening::{open_file, open_on, opened};
 pub use reading::{copy_journal, show_games, write_games};
 pub use running::run_journal;
-pub use serving::{Door, serve, serve_store};
+pub use serving::{Door, FoundStore, serve, serve_store};
 pub use telling::{found_in, printed, told};
-pub use words::{Copying, Formatting, JournalLimits, Place, Serving, Word, read_words};
+pub use words::{Copying, Formatting, JournalLimits, Pacing, Place, Serving, Word, read_words};

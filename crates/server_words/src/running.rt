@@ -2,10 +2,10 @@
 ghost use Rattle.std.specs.Prelude.{◌≡◌, IfErr};
 ghost use Rattle.server_words.specs.PlayFaults.{IsRunFault, of_run};
 
-use crate::clock::SteadyClock;
 use crate::{Fault, open_file, open_on, told};
 use chess_hub::{Moments, Reads, RunFault, run_reads};
 use sector_dev::Device;
+use server_clock::SteadyClock;
 use server_telling::{INPUT, Teller, TellingDevice, TellingReader, TellingWriter};
 use std::alloc::Global;
 use std::fs::File;
@@ -21,6 +21,22 @@ pub(crate) fn fault_of_run(fault: RunFault) -> Fault
         RunFault::Write => Fault::Write,
         RunFault::LineTooLong => Fault::LineTooLong,
         RunFault::Hub(fault) => Fault::Hub(fault),
+    }
+}
+
+// The moments of a run.
+#[derive(Drop)]
+struct RunMoments<'a, R> {
+    clock: SteadyClock<'a, R>,
+}
+
+impl<R: Clock> Moments for RunMoments<'_, R> {
+    ghost use Rattle.std.specs.Prelude.{◌≡◌, ◌≤◌};
+
+    ghost gives = { λ old at new. (old.clock.pace.moment ≤ at) × (at ≡ new.clock.pace.moment) };
+
+    fn next(&mut self) -> u64 {
+        self.clock.go_on()
     }
 }
 
@@ -56,7 +72,8 @@ where
 {
     let file = open_file(rt, teller, journal)?;
     let device = TellingDevice::new(file, teller, journal);
-    play_on(alloc, device, reader, writer, SteadyClock::new(rt))
+    let clock = SteadyClock::new(rt);
+    play_on(alloc, device, reader, writer, RunMoments { clock })
 }
 
 // What is at fault where a run breaks off.

@@ -2,13 +2,16 @@
 ghost use Rattle.std.specs.Prelude.{◌≡◌, IfOk, IfErr};
 ghost use Rattle.server_words.specs.PlayFaults.{IsServeFault};
 
-use crate::clock::{SteadyClock, milliseconds_since};
-use crate::{Fault, Place, Serving, found_in, open_file, open_on, printed, told};
-use chess_hub::{Hub, Moments};
+use crate::{Fault, Pacing, Place, Serving, found_in, open_file, open_on, printed, told};
+use chess_hub::Hub;
 use chess_sockets::{Server, ServerFault, Turned};
-use chess_store::Store;
-use sector_dev::Device;
-use server_telling::{Teller, TellingDevice, TurnedAway};
+use chess_store::{Store, StoreFault};
+use sector_dev::{Device, FileDevice};
+use server_clock::{
+    Beats, Beside, ServingClock, SteadyClock, TurnMoments, milliseconds_since, open_clock,
+    read_beats,
+};
+use server_telling::{Found, Teller, TellingDevice, TurnedAway};
 use sockets::LocalListener;
 use std::alloc::Global;
 use std::fs::File;
@@ -18,8 +21,8 @@ use std::time::Instant;
 use std::{fs, io};
 
 // Takes the turns of a server: so many, or as many as 64 bits count.
-fn take_turns<R: Clock + Eprint, D: Device>(
-    clock: &mut SteadyClock<'_, R>,
+fn take_turns<R: Eprint, D: Device, M: TurnMoments>(
+    clock: &mut M,
     teller: &Teller<'_, R>,
     server: &mut Server<D>,
     turns: Option<u32>,
@@ -34,7 +37,8 @@ fn take_turns<R: Clock + Eprint, D: Device>(
             Ok(Turned::Idle) => server.rest(),
             Err(fault) => return Err(Fault::Hub(fault)),
         }
-        if let Some(more) = away.news(server.turned_away(), at) {
+        clock.tick();
+        if let Some(more) = away.news(server.turned_away(), clock.reading()) {
             teller.turned_away(more);
         }
     }
@@ -114,28 +118,57 @@ fn begun<R: Eprint + Net, D: Device + Drop>(
     }
 }
 
-/// Serves players at a door, over the games of a store whose opening took so many milliseconds: prints `port P`, P
-/// being the port that it listens on, or `socket PATH`, tells what was found, and takes its turns, with the waits of
-/// `serve`, until a fault ends them or they are used up. A socket or an output that fails is told; any other fault is
-/// answered alone.
-pub fn serve_store<R: Clock + Print + Eprint + Net, D: Device + Drop>(
+/// A store, and what was found in it as it was opened: nothing where its device has failed.
+#[derive(Drop)]
+pub struct FoundStore<D: Device> {
+    store: Store<D>,
+    found: Option<Found>,
+}
+
+impl<D: Device> FoundStore<D> {
+    ghost use Rattle.server_words.specs.Entry.{last_entry};
+
+    /// A store whose opening took so many milliseconds.
+    pub fn new(store: Store<D>, took: u64) -> Self
+        ensures { result.store ≡ store }
+    {
+        let found = found_in(&store, took);
+        FoundStore { store, found }
+    }
+
+    // The moment of the last entry, where there is one.
+    fn entry(&self) -> Option<u64>
+        ensures { result ≡ last_entry self.now.found }
+    {
+        let found = self.found?;
+        if found.entries > 0 {
+            Some(found.moment)
+        } else {
+            None
+        }
+    }
+}
+
+/// Serves players at a door, over the games of a store, at the moments of a clock: prints `port P`, P being the port
+/// that it listens on, or `socket PATH`, tells what was found, and takes its turns, with the waits of `serve`, until a
+/// fault ends them or they are used up. A socket or an output that fails is told; any other fault is answered alone.
+pub fn serve_store<R: Print + Eprint + Net, D: Device + Drop, M: TurnMoments + Drop>(
     rt: &R,
     alloc: Global,
     teller: &Teller<'_, R>,
     door: Door<'_>,
     serving: &Serving<'_>,
-    store: Store<D>,
-    took: u64,
+    opened: FoundStore<D>,
+    mut clock: M,
 ) -> Result<(), Fault>
     ensures { IfErr result IsServeFault }
 {
-    let found = found_in(&store, took);
+    let FoundStore { store, found } = opened;
     let hub = Hub::new(alloc, store);
     let place = door.place;
     let mut server = begun(rt, alloc, teller, door, serving.silence, hub)?;
     // At once, since who started it waits for it.
     printed(teller, println!(rt; "{place}"))?;
-    let mut clock = SteadyClock::new(rt);
     if let Some(found) = found {
         teller.serves(&place, found, clock.next());
     }
@@ -150,32 +183,117 @@ fn take_away<R: Files>(rt: &R, place: Place<'_>) {
     }
 }
 
-// Serves players over the games of the journal on a device, whose opening began then.
-fn serve_on<R, D: Device + Drop>(
+// Serves players over the games of a store, at the moments of a clock.
+fn serve_at<R, D: Device + Drop, M: TurnMoments + Drop>(
     rt: &R,
     alloc: Global,
     teller: &Teller<'_, R>,
     serving: &Serving<'_>,
-    device: D,
-    begun: Option<Instant>,
+    opened: FoundStore<D>,
+    clock: M,
 ) -> Result<(), Fault>
 where
     R: Files + Clock + Print + Eprint + Net<Listener = TcpListener, Stream = TcpStream>,
     ensures { IfErr result IsServeFault }
 {
-    let store = open_on(alloc, device)?;
-    let took = milliseconds_since(rt, begun);
     let door = opened_door(teller, serving.place, Door::open(rt, serving.place))?;
-    let served = serve_store(rt, alloc, teller, door, serving, store, took);
+    let served = serve_store(rt, alloc, teller, door, serving, opened, clock);
     take_away(rt, serving.place);
     served
 }
 
-// The same of the journal in a file.
-fn serve_journal<R>(
+// The same at the moments that stand still while nothing is served, which are kept on a clock's device.
+fn serve_beating<'x, R, D: Device + Drop, B: Device + Drop>(
     rt: &R,
     alloc: Global,
-    teller: &Teller<'_, R>,
+    teller: &'x Teller<'x, R>,
+    beside: &'x Beside,
+    serving: &Serving<'_>,
+    opened: FoundStore<D>,
+    device: B,
+) -> Result<(), Fault>
+where
+    R: Files<File = File>
+        + Clock
+        + Print
+        + Eprint
+        + Net<Listener = TcpListener, Stream = TcpStream>,
+    ensures { IfErr result IsServeFault }
+{
+    let Ok(beats) = read_beats(teller, beside.clock.as_str(), device) else {
+        return Err(Fault::File);
+    };
+    let clock = ServingClock::new(rt, alloc, teller, beside, opened.entry(), beats);
+    serve_at(rt, alloc, teller, serving, opened, clock)
+}
+
+// The same, where the clock's file is opened first; without one no moment is kept.
+fn serve_keeping<'x, R, D: Device + Drop>(
+    rt: &R,
+    alloc: Global,
+    teller: &'x Teller<'x, R>,
+    beside: &'x Beside,
+    serving: &Serving<'_>,
+    opened: FoundStore<D>,
+) -> Result<(), Fault>
+where
+    R: Files<File = File>
+        + Clock
+        + Print
+        + Eprint
+        + Net<Listener = TcpListener, Stream = TcpStream>,
+    ensures { IfErr result IsServeFault }
+{
+    let path = beside.clock.as_str();
+    match open_clock(rt, teller, path) {
+        Ok(Some(file)) => {
+            let device = TellingDevice::new(file, teller, path);
+            serve_beating(rt, alloc, teller, beside, serving, opened, device)
+        }
+        Ok(None) => {
+            let beats: Option<Beats<FileDevice>> = None;
+            let clock = ServingClock::new(rt, alloc, teller, beside, opened.entry(), beats);
+            serve_at(rt, alloc, teller, serving, opened, clock)
+        }
+        Err(_) => Err(Fault::File),
+    }
+}
+
+// Serves players over the games of the journal on a device, whose opening began then.
+fn serve_on<'x, R, D: Device + Drop>(
+    rt: &R,
+    alloc: Global,
+    teller: &'x Teller<'x, R>,
+    beside: &'x Beside,
+    serving: &Serving<'_>,
+    device: D,
+    begun: Option<Instant>,
+) -> Result<(), Fault>
+where
+    R: Files<File = File>
+        + Clock
+        + Print
+        + Eprint
+        + Net<Listener = TcpListener, Stream = TcpStream>,
+    ensures { IfErr result IsServeFault }
+{
+    let store = open_on(alloc, device)?;
+    let opened = FoundStore::new(store, milliseconds_since(rt, begun));
+    match serving.pacing {
+        Pacing::System => {
+            let clock = SteadyClock::new(rt);
+            serve_at(rt, alloc, teller, serving, opened, clock)
+        }
+        Pacing::Serving => serve_keeping(rt, alloc, teller, beside, serving, opened),
+    }
+}
+
+// The same of the journal in a file.
+fn serve_journal<'x, R>(
+    rt: &R,
+    alloc: Global,
+    teller: &'x Teller<'x, R>,
+    beside: &'x Beside,
     serving: &Serving<'_>,
 ) -> Result<(), Fault>
 where
@@ -189,13 +307,13 @@ where
     let begun = Instant::now(rt).ok();
     let file = open_file(rt, teller, serving.journal)?;
     let device = TellingDevice::new(file, teller, serving.journal);
-    serve_on(rt, alloc, teller, serving, device, begun)
+    serve_on(rt, alloc, teller, beside, serving, device, begun)
 }
 
 /// Serves players on a port or by a Unix socket, over the games of a journal's file, and first prints `port P`, P being
 /// the port that it listens on, or `socket PATH`. A socket's file is taken away at the end. Where a turn found nothing
 /// to do it waits until a socket is ready or 10 ms have passed. Its moments are those of the system's clock as it was
-/// at the start, which goes on evenly.
+/// at the start, which goes on evenly, or, where so is asked, of a clock that stands still while nothing is served.
 pub fn serve<R>(rt: &R, alloc: Global, serving: &Serving<'_>) -> Result<(), Fault>
 where
     R: Files<File = File>
@@ -206,6 +324,10 @@ where
     ensures { IfErr result IsServeFault }
 {
     let teller = Teller::new(rt, serving.is_quiet);
-    let served = serve_journal(rt, alloc, &teller, serving);
+    let Ok(beside) = Beside::of(alloc, serving.journal) else {
+        let refused = Err(Fault::Store(StoreFault::NoMemory));
+        return told(&teller, serving.journal, refused);
+    };
+    let served = serve_journal(rt, alloc, &teller, &beside, serving);
     told(&teller, serving.journal, served)
 }

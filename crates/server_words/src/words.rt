@@ -71,11 +71,21 @@ impl fmt::Display for Place<'_> {
     }
 }
 
+/// By which clock the moments of a server go on.
+#[derive(Clone, Copy, PartialEq, Eq)]
+pub enum Pacing {
+    /// By the system's: the games' clocks run on while nothing is served.
+    System,
+    /// By one that stands still while nothing is served.
+    Serving,
+}
+
 /// A journal's file, where its games are played, and how.
 #[derive(Clone, Copy)]
 pub struct Serving<'a> {
     pub journal: &'a str,
     pub place: Place<'a>,
+    pub pacing: Pacing,
     /// After how many turns the serving ends, if it is to end.
     pub turns: Option<u32>,
     /// For how many milliseconds a client may be silent.
@@ -149,6 +159,7 @@ fn serving_of<'a>(values: &ArgMatches<'a>) -> Option<Serving<'a>> {
     Some(Serving {
         journal: values.get_str("journal")?,
         place: place_of(values)?,
+        pacing: pacing_of(values)?,
         turns: values.get_one("turns"),
         silence: silence_of(values),
         is_quiet: values.get_flag("quiet"),
@@ -164,9 +175,22 @@ fn place_of<'a>(values: &ArgMatches<'a>) -> Option<Place<'a>> {
     }
 }
 
+// The clock that is asked for; `None` of a name that none has.
+fn pacing_of(values: &ArgMatches<'_>) -> Option<Pacing> {
+    match values.get_str("clock") {
+        None | Some("system") => Some(Pacing::System),
+        Some("serving") => Some(Pacing::Serving),
+        Some(_) => None,
+    }
+}
+
 // What is wrong where a word asks for nothing.
 fn fault_of(matches: &ArgMatches<'_>) -> (ErrorKind, &'static str) {
     match matches.subcommand() {
+        Some(("serve", values)) if pacing_of(values).is_none() => (
+            ErrorKind::InvalidValue,
+            "--clock is system or serving",
+        ),
         Some(("serve", values)) if values.get_str("socket").is_some() => (
             ErrorKind::ArgumentConflict,
             "--port and --socket cannot be used with one another",

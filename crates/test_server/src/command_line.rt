@@ -1,7 +1,7 @@
 //! The words of the command line.
 use clap::error::ErrorKind;
 use command_lines::VERSION;
-use server_words::{Formatting, Place, Word, read_words};
+use server_words::{Formatting, Pacing, Place, Word, read_words};
 use std::alloc::Global;
 use std::process::Abort;
 
@@ -15,8 +15,8 @@ fn words_of(rt: &impl Abort, alloc: Global, line: &str) -> Vec<String> {
     words
 }
 
-/// What a word asks for: its place among the words; whether it is forced or quiet; its port; its turns, or games; and
-/// its silence, or plies.
+/// What a word asks for: its place among the words, 7 where clocks stand still between two servers; whether it is forced
+/// or quiet; its port; its turns, or games; and its silence, or plies.
 type Said = (u8, bool, u16, Option<u32>, Option<u64>);
 
 // The port of a place, 0 of the socket s; `None` of another socket.
@@ -25,6 +25,14 @@ fn port_of(place: Place<'_>) -> Option<u16> {
         Place::Port(port) => Some(port),
         Place::Socket("s") => Some(0),
         Place::Socket(_) => None,
+    }
+}
+
+// The place of `serve` by its clock.
+fn place_of(pacing: Pacing) -> u8 {
+    match pacing {
+        Pacing::System => 6,
+        Pacing::Serving => 7,
     }
 }
 
@@ -46,7 +54,7 @@ fn said_by(word: &Word<'_>) -> Option<Said> {
         }
         Word::Serve(serving) => {
             let said = (
-                6,
+                place_of(serving.pacing),
                 serving.is_quiet,
                 port_of(serving.place)?,
                 serving.turns,
@@ -73,7 +81,7 @@ fn read(rt: &impl Abort, alloc: Global, line: &str) -> Result<Option<Said>, Erro
 }
 
 // Command lines, and what each asks for, or why it is refused.
-static LINES: [(&str, Result<Option<Said>, ErrorKind>); 25] = [
+static LINES: [(&str, Result<Option<Said>, ErrorKind>); 28] = [
     ("chess_server board", Ok(Some((0, false, 0, None, None)))),
     ("chess_server drill", Ok(Some((1, false, 0, None, None)))),
     (
@@ -111,6 +119,18 @@ static LINES: [(&str, Result<Option<Said>, ErrorKind>); 25] = [
     (
         "chess_server serve --journal j --socket s",
         Ok(Some((6, false, 0, None, None))),
+    ),
+    (
+        "chess_server serve --journal j --port 7 --clock system",
+        Ok(Some((6, false, 7, None, None))),
+    ),
+    (
+        "chess_server serve --journal j --port 7 --clock serving",
+        Ok(Some((7, false, 7, None, None))),
+    ),
+    (
+        "chess_server serve --journal j --port 7 --clock sundial",
+        Err(ErrorKind::InvalidValue),
     ),
     (
         "chess_server serve --journal j --port 7 --socket s",

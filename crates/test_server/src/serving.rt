@@ -2,8 +2,9 @@
 use chess_store::Store;
 use rec_codec::Limits;
 use sector_dev::MemoryDevice;
+use server_clock::SteadyClock;
 use server_telling::Teller;
-use server_words::{Door, Place, Serving, serve_store};
+use server_words::{Door, FoundStore, Pacing, Place, Serving, serve_store};
 use std::alloc::Global;
 use std::cell::Cell;
 use std::fmt::Display;
@@ -109,13 +110,17 @@ fn served(stop: &impl Abort, rt: &HostRuntime, silence: Option<u64>) -> (bool, b
     let serving = Serving {
         journal: "",
         place: Place::Port(0),
+        pacing: Pacing::System,
         turns: Some(TURNS),
         silence,
         is_quiet: true,
     };
     let door = Door::on_port(&machine, 0).expect(stop, "a port");
     let begun = Instant::now(rt).expect(stop, "a clock");
-    assert!(stop; serve_store(&machine, alloc, &teller, door, &serving, store, 0).is_ok());
+    let clock = SteadyClock::new(&machine);
+    let opened = FoundStore::new(store, 0);
+    let served = serve_store(&machine, alloc, &teller, door, &serving, opened, clock);
+    assert!(stop; served.is_ok());
     let took = begun.elapsed(rt).expect(stop, "a clock");
     (machine.has_end.get(), took >= Duration::from_millis(200))
 }

@@ -1,0 +1,2 @@
+pub mod SlotLemmas
+pub mod BeatLemmas

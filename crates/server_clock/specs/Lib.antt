@@ -1,0 +1,4 @@
+pub mod Pace
+pub mod Slots
+pub mod Starting
+pub mod Beats
