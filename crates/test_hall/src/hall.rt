@@ -641,7 +641,7 @@ const GAME: &[u8] =
 
 const LAST_ROWS: &[u8] =
     b"\n39 Ng1 f3g1 rnbqkb1r/pppppppp/5n2/8/8/8/PPPPPPPP/RNBQKBNR b KQkq - 39 20\n\
-40 Ng8 f6g8 rnbqkbnr/pppppppp/8/8/8/8/PPPPPPPP/RNBQKBNR w KQkq - 40 21\n\x81\x0eok who open 0\n";
+40 Ng8 f6g8 rnbqkbnr/pppppppp/8/8/8/8/PPPPPPPP/RNBQKBNR w KQkq - 40 21\n\x81\x0eno 31 NoToken\n";
 
 // The same of a game of 9,000 plies.
 const LONG_GAME: &[u8] = b"~~~~~~~~LONG";
