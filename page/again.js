@@ -6,6 +6,7 @@ import { t } from './language.js';
 import { readLine, readPgn, readRefusal, squaresOf } from './lines.js';
 import { byId, copy, make, read, save, say, setText, write } from './make.js';
 import { fenOf, isInCheck, legalMoves } from './rules.js';
+import { keepInSight } from './sheet.js';
 import { begin, endOf, graft, isMain, makeMain, pgnOf, play, readGame, takeOut } from './study.js';
 import { refusalWords, sanShown, sanWords } from './words.js';
 
@@ -194,7 +195,7 @@ export class AgainView {
 
   render() {
     if (this.root.hidden) return;
-    const { position, san, text, parent, next } = this.at, { White, Black, Result } = this.tags;
+    const { position, text, parent, next } = this.at, { White, Black, Result } = this.tags;
     this.board.show({ fen: fenOf(position), last: squaresOf(text), check: isInCheck(position),
       moves: legalMoves(position), turned: this.turned });
     setText(byId('again-title'), this.number ? t`Game ${this.number}` : t`Look at a game again`);
@@ -210,8 +211,7 @@ export class AgainView {
       else button.removeAttribute('aria-current');
     }
     const current = this.buttons.get(this.at);
-    if (current) current.scrollIntoView({ block: 'nearest' });
-    setText(byId('again-now'), san ? sanShown(san) : t`the start`);
+    if (current) keepInSight(byId('again-moves'), current);
     this.app.titled(byId('again-title').textContent);
   }
 

@@ -45,6 +45,7 @@ export class Cards {
     }
     this.busy = false;
     this.render();
+    if (cards.length === rows.length) this.links.note('');
     if (!cards.length) return;
     byId('cards').replaceChildren(...cards);
     document.body.classList.add('has-cards');

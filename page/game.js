@@ -212,7 +212,7 @@ export class GameView {
       return;
     }
     this.follow(sent, answer);
-    this.isAdjourned(by, sent, arbiter);
+    this.watchAdjourning(by, sent, arbiter);
     this.tell(by, sent, answer, arbiter);
     if (ended) this.over();            // (a mate is said behind its move)
     this.render();
@@ -232,7 +232,7 @@ export class GameView {
   }
 
   /** An arbiter who adjourns a game enters an offer for Black, and accepts it for White. */
-  isAdjourned(by, sent, arbiter) {
+  watchAdjourning(by, sent, arbiter) {
     const { white, black } = this.standing, [word] = sent.split(' ');
     if (arbiter && word === 'accept' && by === white && this.offeredBy === arbiter) this.adjournedBy = arbiter;
     this.offeredBy = word === 'offer' && by === black ? arbiter : '';

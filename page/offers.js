@@ -1,14 +1,14 @@
 // One's own games that wait for an opponent, and when they are taken back: once another game of one's own begins; ten
 // minutes after this browser has opened them; and where the last page of one's own in this browser is left, as far as a
-// page that goes can still say so.
+// page that goes can still say so. No page is told that it is only loaded anew: the one that comes opens them again.
 
 import { language, t } from './language.js';
 import { byId, read, setText, write } from './make.js';
 
 const LASTS = 600000;                // milliseconds
 const LOOKS = 5000;
-const KEY = 'opened';
-const local = () => localStorage;
+const KEY = 'opened', LEFT = 'left';
+const local = () => localStorage, session = () => sessionStorage;
 
 export class Offers {
   /** app: {wire, me(), table, reachable()}. */
@@ -19,17 +19,12 @@ export class Offers {
     this.asked = new Set();            // those that are to be taken back
     this.others = new Map();           // pages of this browser: whose each is
     this.id = String(Math.random());
-    this.reloads = false;
     this.pages = window.BroadcastChannel ? new BroadcastChannel('pages')
       : { postMessage: () => {}, onmessage: null };
     this.pages.onmessage = ({ data: { id, me, asks } }) => {
       this.others.set(id, me);
       if (asks) this.isHere(false);
     };
-    // (a browser that tells its pages of a loading anew leaves the games as they are)
-    if (window['navigation']) {
-      window['navigation'].addEventListener('navigate', (event) => { this.reloads = event.navigationType === 'reload'; });
-    }
     addEventListener('pagehide', () => this.leave());
     addEventListener('pageshow', (event) => event.persisted && this.isHere(true));
     setInterval(() => this.look(false), LOOKS);
@@ -53,27 +48,23 @@ export class Offers {
   own() {
     const me = this.app.me(), own = [...this.app.table.rows.values()].filter(({ white, black, result }) => me
       && result === '*' && (white === me || black === me));
-    const [goOn, wait] = [true, false].map((isFull) => own.filter(({ white, black }) => Boolean(white && black) === isFull));
-    return { goOn, wait };
+    const isFull = ({ white, black }) => Boolean(white && black);
+    return { goOn: own.filter(isFull), wait: own.filter((row) => !isFull(row)) };
   }
 
-  /** When the games were opened that this browser has opened: {number: moment}. */
+  /** The games that this browser has opened: {number: {line, at}}, the line and the moment. */
   opened() {
-    try {
-      return JSON.parse(read(local, KEY) || '{}');
-    } catch (damaged) {
-      return {};
-    }
+    return parsed(read(local, KEY)) || {};
   }
 
   /** This browser has opened a game. */
-  add(number) {
-    write(local, KEY, JSON.stringify({ ...this.opened(), [number]: Date.now() }));
+  add(number, line, at = Date.now()) {
+    write(local, KEY, JSON.stringify({ ...this.opened(), [number]: { line, at } }));
   }
 
   /** When a game ends that waits, in words; empty where this browser has not opened it. */
   endWords(number) {
-    const at = this.opened()[number];
+    const { [number]: { at } = { at: 0 } } = this.opened();
     if (!at) return '';
     const place = language === 'en' ? 'en-GB' : language;
     const time = new Date(at + LASTS).toLocaleTimeString(place, { timeStyle: 'short' });
@@ -87,9 +78,10 @@ export class Offers {
     const { app } = this, { goOn, wait } = this.own(), opened = this.opened(), me = app.me();
     const begun = this.of === me && goOn.find(({ number }) => !this.runs.has(number));
     if (!me || !app.reachable() || !isTold && this.of !== me) return;
+    if (this.of !== me) this.openAgain(me, wait);
     this.of = me;
     this.runs = new Set(goOn.map(({ number }) => number));
-    const late = wait.filter(({ number }) => opened[number] && opened[number] + LASTS <= Date.now());
+    const late = wait.filter(({ number }) => opened[number] && opened[number].at + LASTS <= Date.now());
     this.forget(opened, wait);
     if (begun) this.takeBack(wait, t`Your other game that waited is taken back, since one has begun.`);
     else this.takeBack(late, t`Nobody has joined your game in ten minutes: it is taken back.`);
@@ -97,7 +89,7 @@ export class Offers {
 
   /** Of games that wait no more nothing is kept. */
   forget(opened, wait) {
-    const left = Object.entries(opened).filter(([number, at]) => wait.some((row) => row.number === Number(number))
+    const left = Object.entries(opened).filter(([number, { at }]) => wait.some((row) => row.number === Number(number))
       || at > Date.now() - LOOKS);
     if (left.length < Object.keys(opened).length) write(local, KEY, JSON.stringify(Object.fromEntries(left)));
   }
@@ -119,9 +111,33 @@ export class Offers {
   leave() {
     const me = this.app.me(), isLast = ![...this.others.values()].includes(me), opened = this.opened();
     this.pages.postMessage({ id: this.id, me: '', asks: false });
-    if (!me || !isLast || this.reloads) return;
-    for (const { number } of this.own().wait) {
-      if (opened[number]) this.app.wire.say(`drop ${number}`);
+    if (!me || !isLast) return;
+    const left = this.own().wait.filter(({ number }) => opened[number])
+      .map(({ number }) => ({ number, me, ...opened[number] }));
+    for (const { number } of left) this.app.wire.say(`drop ${number}`);
+    write(session, LEFT, left.length ? JSON.stringify(left) : null);
+  }
+
+  /** This page was loaded anew: what the one before it has taken back is opened again. */
+  async openAgain(me, wait) {
+    const [loading] = performance.getEntriesByType('navigation'), left = parsed(read(session, LEFT)) || [];
+    write(session, LEFT, null);
+    if (!loading || loading['type'] !== 'reload') return;
+    const gone = left.filter((one) => one.me === me && !wait.some((row) => row.number === one.number));
+    for (const { number, line, at } of gone) {
+      const [answer] = await this.app.wire.say(line);
+      if (!answer.startsWith('ok open ')) continue;
+      const again = Number(answer.split(' ')[2]);
+      this.add(again, line, at);
+      if (location.hash === `#/game/${number}`) this.app.go(`/game/${again}`);
     }
+  }
+}
+
+function parsed(text) {
+  try {
+    return JSON.parse(text || 'null');
+  } catch (damaged) {
+    return null;
   }
 }

@@ -153,16 +153,16 @@ class Page {
     else if (answer[0] === 'unsent') note(t`There is no connection. Nothing was sent.`);
     else if (answer[0] === 'lost') {
       note(t`The connection broke before the answer came. Looking for your game …`);
-      this.lostOpen = { known, note, colour: line.split(' ')[1] };
+      this.lostOpen = { known, note, line };
       setTimeout(() => this.lostOpen && this.loadTable(), ASKS_AGAIN);
     } else {
       this.table.opened();
-      this.goToOpened(Number(answer[0].split(' ')[2]));
+      this.goToOpened(Number(answer[0].split(' ')[2]), line);
     }
   }
 
-  goToOpened(number) {
-    this.offers.add(number);
+  goToOpened(number, line) {
+    this.offers.add(number, line);
     this.go(`/game/${number}`);
   }
 
@@ -284,10 +284,10 @@ class Page {
   }
 
   findOpened() {
-    const { known, note, colour } = this.lostOpen, me = this.me(), rows = [...this.table.rows.values()];
-    const row = rows.find((one) => !known.has(one.number) && one[colour] === me);
+    const { known, note, line } = this.lostOpen, me = this.me(), rows = [...this.table.rows.values()];
+    const row = rows.find((one) => !known.has(one.number) && one[line.split(' ')[1]] === me);
     this.lostOpen = null;
-    if (row) this.goToOpened(row.number);
+    if (row) this.goToOpened(row.number, line);
     else note(t`The connection broke, and your game has not been opened so far. Look, and open it again.`);
   }
 

@@ -105,7 +105,7 @@ export function drawActions(game) {
   show('copy-invitation', !game.started() && seat);
   show('join', !game.started() && !seat && me);
   show('drop', (game.app.isArbiter() || seat) && !game.started());
-  byId('look-again').hidden = game.isPlaying();
+  byId('look-again').hidden = !game.started() || game.isPlaying();
   show('again', standing.article && seat && game.tags.TimeControl);
   byId('move-form').hidden = !(runs && seat) || Boolean(game.proposed);
   byId('actions').hidden = Boolean(game.proposed) || ![...byId('actions').children].some((one) => !one.hidden);
@@ -185,7 +185,8 @@ function periodWords(times, ply, startSide, side) {
   return parts.join(' · ');
 }
 
-function keepInSight(list, child) {
+/** Scrolls a list, and nothing around it, so that a part of it is in sight. */
+export function keepInSight(list, child) {
   const box = list.getBoundingClientRect(), at = child.getBoundingClientRect();
   if (at.top < box.top) list.scrollTop += at.top - box.top - 4;
   if (at.bottom > box.bottom) list.scrollTop += at.bottom - box.bottom + 4;

@@ -527,22 +527,30 @@ def in_every_language(hall):
         person.reload().until(lambda: person.run('return document.documentElement.lang') == 'en', 'English again')
 
 
+JOINS = 'return [...document.querySelectorAll("[data-key^=join-]")].map((e) => e.dataset.key)'
+
+
 def offers_end(hall):
     """A game of one's own that waits is taken back: once another begins, after ten minutes, and where one's last page
-    is left; not where it is loaded anew, or another page is there."""
+    is left; where it is loaded anew it is opened again, and it stays where another page is there."""
     ann, bob, _ = hall.sit()
     first, second = hall.set_up(), hall.set_up()
     ann.reads('#outcome', 'It is taken back at', 'when you leave this page')
-    ann.reload().reads('#outcome', 'Waiting for an opponent')
-    waits = lambda number: bob.sees('[data-key="join-%s"]' % number)
-    bob.until(lambda: waits(first) and waits(second), 'what is loaded anew still waits')
+    number = lambda: ann.driver.current_url.rsplit('/', 1)[1]
+    ann.reload().until(lambda: number() not in (first, second), 'loaded anew, they are opened again')
+    ann.reads('#outcome', 'Waiting for an opponent', 'It is taken back at')
+    waiting = lambda: [key.split('-')[1] for key in bob.run(JOINS)]
+    waits = lambda number: number in waiting()
+    bob.until(lambda: len(waiting()) == 2 and waits(number()), 'both wait')
+    second, = [one for one in waiting() if one == number()]
+    first, = [one for one in waiting() if one != second]
     bob.click('[data-key="join-%s"]' % second)
     hall.both.finds('#resign', 'the second begins')
     ann.reads('#taken-back', 'Your other game that waited is taken back')
     bob.goes('').until(lambda: not waits(first), 'and the first waits no more')
     by_lines(hall, 'ann', 'resign ' + second)
     third = hall.set_up()
-    ann.run('localStorage.setItem("opened", JSON.stringify({ [arguments[0]]: Date.now() - 600000 }))', third)
+    ann.run('localStorage.setItem("opened", JSON.stringify({ [arguments[0]]: { at: Date.now() - 600000 } }))', third)
     ann.reads('#taken-back', 'Nobody has joined your game in ten minutes').reads('#no-game', 'was taken off the table')
     fourth = hall.set_up()
     ann.driver.switch_to.new_window('tab')
@@ -590,7 +598,7 @@ def looked_at_again(hall):
     ann.board = '#again-board'
     ann.click('#again-next').until(lambda: ann.men().get('f3') == 'white pawn', 'a move on')
     ann.tap('e7').is_so(ann.lit() == {'e6', 'e5'}, 'the pawn’s two squares')
-    ann.tap('a4').click_move('d7d5').click_move('e2e4')
+    ann.forget_sent().tap('a4').click_move('d7d5').click_move('e2e4')
     ann.drag_move('d5e4').shows('#again-moves', TREE, 'a variation')
     ann.is_so(ann.sent('move') == [], 'nothing is sent')
     ann.reload().shows('#again-moves', TREE, 'which the browser keeps')
