@@ -1,5 +1,6 @@
 """Scenes of bench/browser/page: what players want of an evening beside the moves themselves."""
 
+import shutil
 import subprocess
 import time
 
@@ -604,7 +605,8 @@ def looked_at_again(hall):
     ann.reload().shows('#again-moves', TREE, 'which the browser keeps')
     ann.click('#again-copy-pgn').reads('#again-note', 'PGN is copied')
     ann.is_so('1. f3 e5 (1... d5 2. e4 dxe4) 2. g4 Qh4# 0-1' in ann.clipboard(), 'a PGN: ' + ann.clipboard())
-    read = subprocess.run(['pgn-extract', '-s', '-Wlalg'], input=ann.clipboard(), capture_output=True, text=True)
+    program = shutil.which('pgn-extract') or '/usr/games/pgn-extract'
+    read = subprocess.run([program, '-s', '-Wlalg'], input=ann.clipboard(), capture_output=True, text=True)
     ann.is_so('f2f3 e7e5 (' in read.stdout and read.stderr == '', 'that others read: %s' % read)
     for width, height, phone in SCREENS:
         ann.screen(width, height, 1, phone)
