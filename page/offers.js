@@ -82,15 +82,17 @@ export class Offers {
     this.of = me;
     this.runs = new Set(goOn.map(({ number }) => number));
     const late = wait.filter(({ number }) => opened[number] && opened[number].at + LASTS <= Date.now());
-    this.forget(opened, wait);
+    this.forget(opened);
     if (begun) this.takeBack(wait, t`Your other game that waited is taken back, since one has begun.`);
     else this.takeBack(late, t`Nobody has joined your game in ten minutes: it is taken back.`);
   }
 
-  /** Of games that wait no more nothing is kept. */
-  forget(opened, wait) {
-    const left = Object.entries(opened).filter(([number, { at }]) => wait.some((row) => row.number === Number(number))
-      || at > Date.now() - LOOKS);
+  /** Of games that wait no more, whoever in this browser has opened them, nothing is kept. */
+  forget(opened) {
+    const left = Object.entries(opened).filter(([number, { at }]) => {
+      const row = this.app.table.rows.get(Number(number));
+      return at > Date.now() - LOOKS || row && !(row.white && row.black);
+    });
     if (left.length < Object.keys(opened).length) write(local, KEY, JSON.stringify(Object.fromEntries(left)));
   }
 
