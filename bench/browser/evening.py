@@ -620,7 +620,7 @@ def looked_at_again(hall):
         ann.is_so(ann.width() <= width, what + ': nothing is beyond the side')
         ann.is_so(box['top'] >= 0 and box['bottom'] <= height, '%s: the board is in sight: %s' % (what, box))
         ann.is_so(box['width'] >= 0.4 * min(width, height), '%s: and large: %s' % (what, box))
-    ann.screen(1280, 800).click('#again-first', '#again-next', '#again-next', '#again-cut')
+    ann.screen(1280, 800).click('#again-next', '#again-next', '#again-cut')
     ann.shows('#again-moves', '1.f3d52.e4dxe4', 'cut')
     ann.click('#again-anew').shows('#again-moves', '1.f3e52.g4Qh4#', 'as it was told')
     paste(sue.goes('again'), PASTED.replace('Nxe4 Nf6', 'Nxe4 Ne4'))
