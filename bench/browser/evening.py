@@ -586,7 +586,7 @@ PASTED = """[Event "A cup"]
 [Black "Tartakower"]
 [Result "1-0"]
 
-1. e4 c6 2. d4 d5 3. Nc3 dxe4 4. Nxe4 Nf6 {a plan} 5. Qd3 e5 (5... Nbd7 6. Nd6#) 6. dxe5 Qa5+ 7. Bd2 Qxe5
+1. e4 c6 2. d4 d5 3. Nc3 dxe4 4. Nxe4 Nf6 {a plan} 5. Qd3 e5 (5... Nbd7 6. Nd6+) 6. dxe5 Qa5+ 7. Bd2 Qxe5
 8. O-O-O Nxe4 9. Qd8+ $1 Kxd8 10. Bg5+ Kc7 11. Bd8# 1-0
 """
 TREE = '1.f3e5(1…d52.e4dxe4)2.g4Qh4#'
@@ -626,7 +626,7 @@ def looked_at_again(hall):
     paste(sue.goes('again'), PASTED.replace('Nxe4 Nf6', 'Nxe4 Ne4'))
     sue.reads('#again-note', 'Ne4 cannot be played there').is_so('4.Nxe4' in sue.text('#again-moves'), 'up to there')
     paste(sue, PASTED)
-    sue.until(lambda: '(5…Nbd76.Nd6#)' in sue.text('#again-moves'), 'a PGN with a variation')
+    sue.until(lambda: '(5…Nbd76.Nd6+)' in sue.text('#again-moves'), 'a PGN with a variation')
     sue.reads('#again-who', 'Reti – Tartakower').keys(Keys.END)
     sue.shows('#again-moves [aria-current]', 'Bd8#', 'the end')
     paste(sue, 'r3k2r/1P6/8/8/8/8/8/R3K2R w KQkq - 0 1')
