@@ -6,7 +6,7 @@ import { language, t } from './language.js';
 import { readPgn, readRefusal, readShow, readTimes, sideOf } from './lines.js';
 import { arrange, byId, copy, focused, make, read, setText, write } from './make.js';
 import {
-  AGREED, NO_GAME, OTHER, SIDES, arbiterWords, clockText, colourWord, resultWords, timesWords, withReason,
+  AGREED, NO_GAME, SIDES, arbiterWords, clockText, colourWord, resultWords, timesWords, withReason,
 } from './words.js';
 
 const PREFIX = 'adjourned-';
@@ -167,8 +167,7 @@ export class Adjournments {
     return this.working;
   }
 
-  /** From how the game stands: where it is over, the note is ended; else the steps that are left are entered, if `enters`
-   * says so: an offer for White, and its acceptance for Black, or the acceptance of an offer that stands. */
+  /** From how the game stands: where it is over, the note is ended; else the draw is entered, if `enters` says so. */
   async work(note, enters) {
     this.busy = true;
     this.render();
@@ -210,10 +209,15 @@ export class Adjournments {
     return show;
   }
 
-  /** Whether the draw was entered, or may have been. */
+  /** Whether the draw was entered, or may have been: an offer for Black, and its acceptance for White, by which pages
+   * know it from a draw, of which White offers. Another offer that stands is declined before. */
   async enter(note, { offer }) {
-    const seat = { w: note.white, b: note.black }, by = offer.includes('w') || !offer ? 'w' : 'b', other = seat[OTHER[by]];
-    const lines = [...offer ? [] : [`as ${seat.w} offer ${note.game}`], `as ${other} accept ${note.game}`];
+    const { game, white, black } = note, lines = [`as ${white} accept ${game}`];
+    if (!note.offered || offer !== 'b') {
+      lines.unshift(...[...offer].map((side) => `as ${side === 'w' ? black : white} decline ${game}`),
+        `as ${black} offer ${game}`);
+      this.keep({ ...readNote(note.key) || note, offered: true });
+    }
     for (const line of lines) {
       const answer = await this.app.wire.say(line), refusal = readRefusal(answer[0]);
       if (answer[0].startsWith('ok ')) continue;

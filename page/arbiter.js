@@ -18,8 +18,6 @@ const MOST = 12;                     // games on a page: each that runs is watch
 const OWN_HOSTS = ['localhost', '127.0.0.1', '[::1]']; // of which nothing leaves the machine
 const ASKS_WHO = 10000;
 const ASKS_TABLE = 4000;             // nobody tells of games that were opened or taken off past the lobby
-const STOPPED = t`New games are stopped: no player opens one, and who tries is told so. Games that wait can still be
-  joined, and arbiters pair on.`;
 const RUNS = 0, WAITS = 1, OVER = 2; // the kinds of games, as they stand behind each other
 const ASKS_AGAIN = 4000;             // for a game that was not told
 const STAYS = 8000;                  // so long a game that has ended keeps its place,
@@ -56,7 +54,7 @@ export class ArbiterView {
     byId('arbiter-back').addEventListener('click', () => this.page(-1));
     byId('arbiter-on').addEventListener('click', () => this.page(1));
     byId('unencrypted').hidden = location.protocol === 'https:' || OWN_HOSTS.includes(location.hostname);
-    byId('entries').addEventListener('click', () => this.entries(this.arePaused ? 'resume' : 'pause'));
+    byId('entries').addEventListener('click', () => (this.arePaused ? this.entries('resume') : this.askStop()));
     for (const id of ['pair-by-hand', 'players-and-links']) {
       byId(id).addEventListener('toggle', (event) => event.target.open && this.app.askPlayers());
     }
@@ -521,27 +519,52 @@ export class ArbiterView {
     for (const one of ['refused', 'news']) card.note.classList.toggle(one, Boolean(text) && one === kind);
   }
 
-  /** Stops new games, and allows them. */
+  /** Games that wait for a second player, but the pairing that is under way here. */
+  waiting() {
+    const begun = this.pairing.begun;
+    return [...this.rows().values()].filter((row) => kindOf(row) === WAITS && !(begun && begun.number === row.number));
+  }
+
+  askStop() {
+    this.question.ask({ title: t`Stop new games?`, yes: t`Stop them`,
+      words: t`Players open no game then: who tries is told so. Games that wait, ${this.waiting().length} now, are taken
+        off the table, so that nobody joins them, and who waits in one is told so. Games that go on are left alone, and
+        arbiters pair on.` }, () => this.entries('pause'));
+  }
+
+  /** Stops new games, also those that wait, and allows them. */
   async entries(word) {
     const answer = await this.app.wire.say(`${word} entries`), refusal = readRefusal(answer[0]);
     if (answer[0].startsWith('ok ')) {
       this.arePaused = word === 'pause';
       this.note('');
       this.renderEntries();
+      if (this.arePaused) await this.takeOffWaiting();
     } else {
       const lost = t`The connection broke before the answer came. Do it again.`;
       this.note(refusal ? refusalWords(refusal) : lost, 'refused');
     }
   }
 
-  /** Whether new games are stopped: the lobby tells it, which forgets it when it begins anew. */
+  async takeOffWaiting() {
+    await this.app.askTable();
+    let off = 0, left = 0;
+    for (const { number } of this.waiting()) {
+      const [answer] = await this.app.wire.say(`drop ${number}`);
+      if (answer.startsWith('ok drop ')) off += 1;
+      else if (!/^no (3|41) /.test(answer)) left += 1;           // (it is off the table, or somebody has joined)
+    }
+    if (off) this.note(t`Games that waited, now off the table: ${off}.`);
+    if (left) this.note(t`Not all games that wait were taken off. Look, and do it again.`, 'refused');
+  }
+
+  /** Whether new games are stopped, as the lobby tells it: the button shows that. */
   renderEntries() {
     const isOpen = this.app.wire.state.open;
     if (!isOpen) this.arePaused = null;
     byId('entries').disabled = !isOpen || this.arePaused === null;
-    setText(byId('entries'), this.arePaused ? t`Allow new games` : t`Stop new games`);
-    byId('entries-state').classList.toggle('stopped', this.arePaused === true);
-    setText(byId('entries-state'), this.arePaused === null ? '' : this.arePaused ? STOPPED : t`New games are allowed.`);
+    byId('entries').classList.toggle('stopped', this.arePaused === true);
+    setText(byId('entries'), this.arePaused ? t`New games: stopped` : t`New games: allowed`);
   }
 
   note(text, kind = 'news') {

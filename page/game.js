@@ -110,7 +110,7 @@ export class GameView {
       this.close();
       Object.assign(this, { number, standing: null, line: [], tags: {}, gone: false });
       Object.assign(this, { back: null, turned: null, unsure: null, pending: null, wasTaken: false, wasAway: false });
-      Object.assign(this, { plan: null, proposed: '' });
+      Object.assign(this, { plan: null, proposed: '', offeredBy: '', adjournedBy: '' });
       this.note('');
       this.suggest(null);
       byId('move-text').value = '';
@@ -212,6 +212,7 @@ export class GameView {
       return;
     }
     this.follow(sent, answer);
+    this.watchAdjourning(by, sent, arbiter);
     this.tell(by, sent, answer, arbiter);
     if (ended) this.over();            // (a mate is said behind its move)
     this.render();
@@ -230,6 +231,13 @@ export class GameView {
     if (found && this.back === null) this.suggest(null);
   }
 
+  /** An arbiter who adjourns a game enters an offer for Black, and accepts it for White. */
+  watchAdjourning(by, sent, arbiter) {
+    const { white, black } = this.standing, [word] = sent.split(' ');
+    if (arbiter && word === 'accept' && by === white && this.offeredBy === arbiter) this.adjournedBy = arbiter;
+    this.offeredBy = word === 'offer' && by === black ? arbiter : '';
+  }
+
   // ---- what is said
 
   tell(by, sent, answer, arbiter) {
@@ -242,6 +250,7 @@ export class GameView {
     }
     if (this.standing.offer && !own && (word === 'offer' || word === 'claim') && this.seat()) sound('offer');
     if (answer.startsWith('fallen')) say(t`The flag has fallen.`);
+    else if (this.adjournedBy) say(this.adjournedWords());
     else if (arbiter) this.news(t`The arbiter, ${this.app.nameWords(arbiter)}, has entered ${enteredWords(word)} for ${
       own ? t`you` : name}.`);
     else if (word === 'join') this.news(t`${name} has joined. The game has begun.`);
@@ -254,6 +263,11 @@ export class GameView {
           opponent has`}
           two minutes more.`);
     } else if (moved && this.noteKind === 'news') this.note('');
+  }
+
+  adjournedWords() {
+    return t`Adjourned by the arbiter, ${this.app.nameWords(this.adjournedBy)}: it goes on later as another game. In the
+      record this one is a draw.`;
   }
 
   over() {

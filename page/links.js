@@ -1,5 +1,6 @@
 // The players and their links: an arbiter makes a new one, which is shown once, or closes the one that a player has.
 
+import { Cards } from './cards.js';
 import { t } from './language.js';
 import { readRefusal } from './lines.js';
 import { arrange, byId, copy, make, setText } from './make.js';
@@ -14,6 +15,7 @@ export class Links {
     this.app = desk.app;
     this.items = new Map();
     this.closed = new Set();           // whose link this page has closed: the lobby does not tell whose is
+    this.cards = new Cards(this);
     byId('links-find').addEventListener('input', () => this.render());
     byId('link-copy').addEventListener('click', async () => {
       const done = await copy(byId('link-made').value);
@@ -33,6 +35,7 @@ export class Links {
 
   close() {
     this.hide();
+    this.cards.hide();
     this.note('');
   }
 
@@ -50,20 +53,27 @@ export class Links {
   async makeNew(name, full) {
     this.hide();
     this.note('');
+    const link = await this.makeOne(name);
+    if (!link) return;
+    setText(byId('link-words'), t`The personal link of ${full}, shown this once. Who opens it plays as ${full}.`);
+    setText(byId('link-copied'), '');
+    byId('link-made').value = link;
+    byId('link-shown').hidden = false;
+    byId('link-made').focus();
+    byId('link-made').select();
+  }
+
+  /** A player's new link; '' where none was made, which is told. */
+  async makeOne(name) {
     const answer = await this.app.wire.say(`link ${name}`), found = /^ok link (\S+) (\S+)$/.exec(answer[0]);
     if (!found) {
       this.refused(answer[0], t`Make a link once more: it takes the place of one that was made.`);
-      return;
+      return '';
     }
     if (name === this.app.me()) this.app.who.takeNewToken(found[2]);
     this.closed.delete(name);
     this.render();
-    setText(byId('link-words'), t`The personal link of ${full}, shown this once. Who opens it plays as ${full}.`);
-    setText(byId('link-copied'), '');
-    byId('link-made').value = `${location.href.split('#')[0]}#${found[2]}`;
-    byId('link-shown').hidden = false;
-    byId('link-made').focus();
-    byId('link-made').select();
+    return `${location.href.split('#')[0]}#${found[2]}`;
   }
 
   askClose(name, full) {
@@ -102,12 +112,18 @@ export class Links {
     this.render();
   }
 
-  render() {
-    if (!byId('players-and-links').open) return;
+  /** The players by whose name the list looks. */
+  listed() {
     const text = byId('links-find').value.trim().toLowerCase();
-    const rows = [...this.app.players].map(([name, { role, full }]) => ({ name, role, full }))
+    return [...this.app.players].map(([name, { role, full }]) => ({ name, role, full }))
       .filter(({ name, full }) => `${name} ${full}`.toLowerCase().includes(text))
       .sort((a, b) => a.full.localeCompare(b.full));
+  }
+
+  render() {
+    if (!byId('players-and-links').open) return;
+    const rows = this.listed();
+    this.cards.render();
     arrange(byId('links-list'), rows.slice(0, MOST_SHOWN).map((row) => this.itemOf(row)));
     setText(byId('links-more'), rows.length > MOST_SHOWN ? t`${MOST_SHOWN} of ${rows.length} are shown: find the
       others by name.`

@@ -1,11 +1,13 @@
 // The page: which view is open, and the connection that all of it shares.
 
+import { AgainView } from './again.js';
 import { ArbiterView } from './arbiter.js';
 import { GameView } from './game.js';
 import { HallView, wholeScreen } from './hall.js';
 import { t } from './language.js';
 import { isNoGame, readAct, readPlayers, readRefusal, readRows, readStanding } from './lines.js';
 import { byId, make, say, setText } from './make.js';
+import { Offers } from './offers.js';
 import { hasLetters, listenToSettings } from './settings.js';
 import { sound } from './sound.js';
 import { TableView } from './table.js';
@@ -28,6 +30,7 @@ class Page {
     this.begun = new Set();            // one's own games that had begun, or of which it was said
     this.who = new Who(this);
     this.turns = new Turns();
+    this.offers = new Offers(this);    // (before the connection, which ends where the page is left)
     if (window['personalLink']) this.who.open(window['personalLink']);
     delete window['personalLink'];
     const address = new URL('ws', location.href.split('#')[0]);
@@ -42,6 +45,7 @@ class Page {
     this.game = new GameView(this);
     this.hall = new HallView(this, () => this.table.rows);
     this.desk = new ArbiterView(this, () => this.table.rows);
+    this.study = new AgainView(this);
     this.listen();
     this.route();
     this.changed();
@@ -53,6 +57,7 @@ class Page {
     byId('try-now').addEventListener('click', () => this.wire.retry());
     byId('help').addEventListener('click', () => byId('help-dialog').showModal());
     byId('to-content').addEventListener('click', () => this.toContent());
+    byId('look-again').addEventListener('click', () => this.go(`/again/${this.game.number}`));
     byId('projector').addEventListener('click', () => this.go(`/hall/${this.game.number}`));
     byId('big-screen').addEventListener('click', () => wholeScreen());
     addEventListener('keydown', (event) => this.key(event));
@@ -111,6 +116,7 @@ class Page {
 
   /** Somebody else is here, or nobody. */
   shows() {
+    this.offers.named();
     if (this.view && this.view.render) this.view.render();
   }
 
@@ -147,12 +153,17 @@ class Page {
     else if (answer[0] === 'unsent') note(t`There is no connection. Nothing was sent.`);
     else if (answer[0] === 'lost') {
       note(t`The connection broke before the answer came. Looking for your game …`);
-      this.lostOpen = { known, note, colour: line.split(' ')[1] };
+      this.lostOpen = { known, note, line };
       setTimeout(() => this.lostOpen && this.loadTable(), ASKS_AGAIN);
     } else {
       this.table.opened();
-      this.go(`/game/${answer[0].split(' ')[2]}`);
+      this.goToOpened(Number(answer[0].split(' ')[2]), line);
     }
+  }
+
+  goToOpened(number, line) {
+    this.offers.add(number, line);
+    this.go(`/game/${number}`);
   }
 
   // ---- the way to a view
@@ -163,25 +174,25 @@ class Page {
       history.replaceState(null, '', location.pathname + location.search + '#/');
       if (this.who.open(fragment)) this.wire.renew();
     }
-    const found = /^\/(game|hall)\/(\d{1,10})$/.exec(fragment);
-    const number = found ? Number(found[2]) : 0;
-    if (number) this.begun.add(number);
-    const view = number ? this.game : { '/hall': this.hall, '/arbiter': this.desk }[fragment] || this.table;
-    document.body.classList.toggle('hall', Boolean(found && found[1] === 'hall' || view === this.hall));
-    document.body.classList.toggle('one-game', Boolean(number));
-    for (const other of [this.table, this.game, this.hall, this.desk]) {
+    const [, word, digits] = /^\/(game|hall|again|arbiter)(?:\/(\d{1,10}))?$/.exec(fragment) || [];
+    const number = Number(digits || 0), isGame = number > 0 && (word === 'game' || word === 'hall');
+    if (isGame) this.begun.add(number);
+    const view = isGame ? this.game : { hall: this.hall, arbiter: this.desk, again: this.study }[word] || this.table;
+    document.body.classList.toggle('hall', word === 'hall');
+    document.body.classList.toggle('one-game', isGame || view === this.study);
+    for (const other of [this.table, this.game, this.hall, this.desk, this.study]) {
       if (other !== view && !other.root.hidden) other.close();
     }
-    const isOther = this.view && (this.view !== view || number && number !== this.game.number);
+    const isOther = this.view && (this.view !== view || number && number !== view.number);
     this.view = view;
     this.turns.offer(false);
     view.open(number);
     if (isOther) this.toHeading();
     this.leaveLater();
     this.atTable();
-    byId('invited').hidden = true;
+    byId('invited').hidden = byId('taken-back').hidden = true;
     for (const link of document.querySelectorAll('.top nav a')) {
-      if (link.getAttribute('href') === (number ? '' : view.hash || '#/')) link.setAttribute('aria-current', 'page');
+      if (link.getAttribute('href') === (isGame ? '' : view.hash || '#/')) link.setAttribute('aria-current', 'page');
       else link.removeAttribute('aria-current');
     }
     scrollTo(0, 0);
@@ -218,6 +229,7 @@ class Page {
     this.learnNames([...this.table.rows.values()].flatMap((row) => [row.white, row.black]));
     if (this.lostOpen) this.findOpened();
     this.findBegun();
+    this.offers.look();
     return true;
   }
 
@@ -272,10 +284,10 @@ class Page {
   }
 
   findOpened() {
-    const { known, note, colour } = this.lostOpen, me = this.me(), rows = [...this.table.rows.values()];
-    const row = rows.find((one) => !known.has(one.number) && one[colour] === me);
+    const { known, note, line } = this.lostOpen, me = this.me(), rows = [...this.table.rows.values()];
+    const row = rows.find((one) => !known.has(one.number) && one[line.split(' ')[1]] === me);
     this.lostOpen = null;
-    if (row) this.go(`/game/${row.number}`);
+    if (row) this.goToOpened(row.number, line);
     else note(t`The connection broke, and your game has not been opened so far. Look, and open it again.`);
   }
 
@@ -289,6 +301,7 @@ class Page {
     await this.askPlayers();
     await this.atTable();
     if (this.view === this.game) this.game.refresh();
+    if (this.view === this.study) this.study.open(this.study.number);
   }
 
   /** Who is who: the file of the players may be another meanwhile. */
@@ -319,6 +332,7 @@ class Page {
       return;
     }
     this.table.notice(number, sent, standing);
+    this.offers.look(false);
     if (standing) this.learnNames([standing.white, standing.black]);
     if (this.view === this.game && this.game.number === number) this.game.notice(act, answer, standing);
     if (this.view === this.hall) this.hall.notice(number, sent, answer, standing);
@@ -384,8 +398,17 @@ class Page {
 
   key(event) {
     if (event.altKey || event.ctrlKey || event.metaKey || document.querySelector('dialog[open]')) return;
-    if (event.target.closest('input, select, textarea') || this.view !== this.game) return;
-    const game = this.game, acts = {
+    if (event.target.closest('input, select, textarea')) return;
+    const acts = this.view === this.game ? this.gameKeys() : this.view === this.study ? this.study.keys() : {};
+    const act = acts[event.key];
+    if (!act || event.key.length === 1 && !hasLetters()) return;
+    event.preventDefault();
+    act();
+  }
+
+  gameKeys() {
+    const { game } = this;
+    return {
       ArrowLeft: () => game.goTo(game.shown() - 1), ArrowRight: () => game.goTo(game.shown() + 1),
       Home: () => game.goTo(0), End: () => game.goTo(game.last()),
       f: () => game.turn(), m: () => byId('move-text').select(), b: () => game.board.focus(),
@@ -393,10 +416,6 @@ class Page {
       h: () => this.go(`/${document.body.classList.contains('hall') ? 'game' : 'hall'}/${game.number}`),
       '?': () => byId('help-dialog').showModal(),
     };
-    const act = acts[event.key];
-    if (!act || event.key.length === 1 && !hasLetters()) return;
-    event.preventDefault();
-    act();
   }
 
   /** Who comes to another view by keys or listening begins at its heading. */
@@ -407,7 +426,7 @@ class Page {
   }
 
   toContent() {
-    if (this.view === this.game) this.game.board.focus();
+    if (this.view === this.game || this.view === this.study) this.view.board.focus();
     else byId('main').focus();
   }
 }

@@ -105,6 +105,7 @@ export function drawActions(game) {
   show('copy-invitation', !game.started() && seat);
   show('join', !game.started() && !seat && me);
   show('drop', (game.app.isArbiter() || seat) && !game.started());
+  byId('look-again').hidden = !game.started() || game.isPlaying();
   show('again', standing.article && seat && game.tags.TimeControl);
   byId('move-form').hidden = !(runs && seat) || Boolean(game.proposed);
   byId('actions').hidden = Boolean(game.proposed) || ![...byId('actions').children].some((one) => !one.hidden);
@@ -124,9 +125,11 @@ export function drawOutcome(game) {
   let [head, more] = ['', ''];
   if (words) {
     [head, more] = [`${words.score}  ${withReason(words.result, words.reason)}`, words.article];
+    if (game.adjournedBy) more = game.adjournedWords();
   } else if (!game.started()) {
     head = game.seat() ? t`Waiting for an opponent` : t`This seat is free`;
     more = game.seat() ? t`The clocks start as soon as somebody joins.` : t`The clocks start as soon as you join.`;
+    if (game.seat()) more += ` ${game.app.offers.endWords(game.number)}`.trimEnd();
     if (!game.seat() && !game.app.me()) more = t`To play, open your personal link.`;
   } else if (SIDES.some((side) => standing.side === side && game.clockOf(side).now() <= 0)) {
     head = t`${colourWord(standing.side)}’s flag has fallen`;
@@ -182,7 +185,8 @@ function periodWords(times, ply, startSide, side) {
   return parts.join(' · ');
 }
 
-function keepInSight(list, child) {
+/** Scrolls a list, and nothing around it, so that a part of it is in sight. */
+export function keepInSight(list, child) {
   const box = list.getBoundingClientRect(), at = child.getBoundingClientRect();
   if (at.top < box.top) list.scrollTop += at.top - box.top - 4;
   if (at.bottom > box.bottom) list.scrollTop += at.bottom - box.bottom + 4;

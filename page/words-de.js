@@ -63,10 +63,6 @@ export const WORDS = {
   'move {0}, {1} to move': 'Zug {0}, {1} am Zug',
   'This page is not encrypted: whoever is in its network can read links.':
     'Diese Seite ist nicht verschlüsselt: Wer in ihrem Netz ist, kann Links mitlesen.',
-  ['New games are stopped: no player opens one, and who tries is told so. Games that wait can still be joined, and '
-    + 'arbiters pair on.']:
-    'Neue Partien sind gesperrt: kein Spieler eröffnet eine, und wer es versucht, erfährt es. Wartenden Partien kann '
-    + 'man noch beitreten, und Schiedsrichter setzen weiter an.',
   '{0} to {1} of {2}, {3} of them running': '{0} bis {1} von {2}, davon laufen {3}',
   'Game {0}': 'Partie {0}',
   'not connected': 'nicht verbunden',
@@ -114,9 +110,6 @@ export const WORDS = {
     + 'einträgst.',
   'The connection broke before the answer came. Do it again.':
     'Die Verbindung ist abgerissen, bevor die Antwort kam. Tu es noch einmal.',
-  'Allow new games': 'Neue Partien zulassen',
-  'Stop new games': 'Neue Partien sperren',
-  'New games are allowed.': 'Neue Partien sind zugelassen.',
   'Board': 'Brett',
   'The pawn becomes': 'Der Bauer wird',
   '{0} put back': '{0} zurückgestellt',
@@ -548,8 +541,6 @@ export const WORDS = {
   'All boards': 'Alle Bretter',
   'Your colour': 'Deine Farbe',
   'Turn the board': 'Brett drehen',
-  'In the record this game stays a draw. The game that goes on with it later is the board’s.':
-    'In der Aufzeichnung bleibt diese Partie remis. Für das Brett zählt die Partie, die sie später fortsetzt.',
   'To the last move': 'Zum letzten Zug',
   'Your move': 'Dein Zug',
   'Your opponent wins. It cannot be taken back.': 'Dein Gegner gewinnt. Das lässt sich nicht zurücknehmen.',
@@ -596,12 +587,6 @@ export const WORDS = {
     + 'ein Klick auf das Brett nimmt ihn zurück. Ein König, der auf seinen Turm gestellt wird, rochiert. Die rechte '
     + 'Taste zeichnet Kreise und Pfeile für dich allein, mit der Umschalttaste in anderer Farbe. Töne, Bretter, '
     + 'Figuren und mehr wählst du oben auf der Seite.',
-  ['This browser keeps the note. Then the game is closed as a draw: an offer is entered for White and its '
-    + 'acceptance for Black, in your name as arbiter. The clocks run until then, and are noted as they stand at the '
-    + 'end.']:
-    'Dieser Browser behält die Notiz. Dann wird die Partie als Remis geschlossen: für Weiß wird ein Angebot und für '
-    + 'Schwarz die Annahme eingetragen, in deinem Namen als Schiedsrichter. Bis dahin laufen die Uhren, und sie werden '
-    + 'notiert, wie sie am Ende stehen.',
   'The new link': 'Der neue Link',
   ['A claim that is right ends the game. A wrong one gives your opponent two minutes, stands as an offer of a draw, '
     + 'and its move is made. You may claim once in a turn.']:
@@ -692,4 +677,68 @@ export const WORDS = {
   'You are watching. To play, open the personal link that you were given.':
     'Du siehst zu. Zum Spielen öffne den persönlichen Link, den du bekommen hast.',
   'Your games': 'Deine Partien',
+  'You play in this game: look at it again once it is over.':
+    'Du spielst in dieser Partie: sieh sie dir noch einmal an, wenn sie zu Ende ist.',
+  'That is neither a FEN nor a PGN.': 'Das ist weder eine FEN noch eine PGN.',
+  '{0} cannot be played there: what stands before it is on the board.':
+    '{0} lässt sich dort nicht spielen: was davor steht, ist auf dem Brett.',
+  'This browser keeps nothing: copy the PGN.': 'Dieser Browser bewahrt nichts auf: kopiere die PGN.',
+  'the start': 'der Anfang',
+  'Look at a game again': 'Eine Partie noch einmal ansehen',
+  'Stop new games?': 'Neue Partien anhalten?',
+  'Stop them': 'Anhalten',
+  ['Players open no game then: who tries is told so. Games that wait, {0} now, are taken off the table, so that '
+    + 'nobody joins them, and who waits in one is told so. Games that go on are left alone, and arbiters pair on.']:
+    'Spieler eröffnen dann keine Partie mehr: wer es versucht, erfährt es. Wartende Partien, jetzt {0}, werden '
+    + 'vom Tisch genommen, so dass ihnen niemand beitritt; wer in einer wartet, erfährt es. Laufende Partien '
+    + 'bleiben unberührt, und Schiedsrichter setzen weiter an.',
+  'Games that waited, now off the table: {0}.': 'Wartende Partien vom Tisch genommen: {0}.',
+  'Not all games that wait were taken off. Look, and do it again.':
+    'Nicht alle wartenden Partien wurden vom Tisch genommen. Sieh nach und tu es noch einmal.',
+  'New games: stopped': 'Neue Partien: angehalten',
+  'New games: allowed': 'Neue Partien: erlaubt',
+  'Make new links for {0} players, to print?': 'Neue Links für {0} {0:Spieler|Spieler} machen, zum Drucken?',
+  'Make them': 'Machen',
+  ['They are for the players who are listed here, arbiters left out. The links that they have hold no more: a '
+    + 'page that is open with one asks for the new one. Clocks run on.']:
+    'Sie sind für die Spieler, die hier aufgeführt sind, ohne Schiedsrichter. Die Links, die sie haben, gelten '
+    + 'nicht mehr: eine Seite, die damit offen ist, fragt nach dem neuen. Uhren laufen weiter.',
+  '{0} of {1} links are made.': '{0} von {1} Links sind gemacht.',
+  'The sheet has {0} of {1} links. It is there this once: print it now.':
+    'Auf dem Blatt stehen {0} von {1} Links. Es ist nur dieses eine Mal da: drucke es jetzt.',
+  'Who opens this link plays as {0}: keep it for yourself.':
+    'Wer diesen Link öffnet, spielt als {0}: behalte ihn für dich.',
+  'Adjourned by the arbiter, {0}: it goes on later as another game. In the record this one is a draw.':
+    'Vom Schiedsrichter, {0}, vertagt: sie geht später als andere Partie weiter. In der Aufzeichnung ist diese '
+    + 'remis.',
+  'It is taken back at {0}, when you leave this page, or when another game of yours begins.':
+    'Sie wird um {0} zurückgenommen, wenn du diese Seite verlässt oder wenn eine andere deiner Partien beginnt.',
+  'Your other game that waited is taken back, since one has begun.':
+    'Deine andere wartende Partie ist zurückgenommen, da eine begonnen hat.',
+  'Nobody has joined your game in ten minutes: it is taken back.':
+    'In zehn Minuten ist niemand deiner Partie beigetreten: sie ist zurückgenommen.',
+  'Look at it again': 'Noch einmal ansehen',
+  'Put it on the board': 'Aufs Brett stellen',
+  'Make it the main line': 'Zur Hauptvariante machen',
+  'To the game': 'Zur Partie',
+  ['This browser keeps the note. Then the game is closed as a draw: an offer is entered for Black and its '
+    + 'acceptance for White, in your name as arbiter. The clocks run until then, and are noted as they stand at '
+    + 'the end.']:
+    'Dieser Browser behält die Notiz. Dann wird die Partie als Remis geschlossen: für Schwarz wird ein Angebot '
+    + 'und für Weiß die Annahme eingetragen, in deinem Namen als Schiedsrichter. Bis dahin laufen die Uhren, und '
+    + 'sie werden notiert, wie sie am Ende stehen.',
+  'Delete from here': 'Ab hier löschen',
+  'Put another game here': 'Eine andere Partie hierher',
+  'Both sides are moved here, for you alone: nothing of it is sent. What you try is kept in this browser.':
+    'Hier ziehst du beide Seiten, für dich allein: nichts davon wird gesendet. Was du versuchst, bewahrt dieser '
+    + 'Browser auf.',
+  'Start anew': 'Neu beginnen',
+  ['Both players are told that it is adjourned. In the record this game stays a draw. The game that goes on '
+    + 'with it later is the board’s.']:
+    'Beiden Spielern wird gesagt, dass sie vertagt ist. In der Aufzeichnung bleibt diese Partie remis. Für das '
+    + 'Brett zählt die Partie, die sie später fortsetzt.',
+  'The sheet of links': 'Das Blatt mit den Links',
+  'Print': 'Drucken',
+  'FEN or PGN': 'FEN oder PGN',
+  'New links to print': 'Neue Links zum Drucken',
 };

@@ -60,10 +60,6 @@ export const WORDS = {
   'move {0}, {1} to move': 'jugada {0}, juegan {1}',
   'This page is not encrypted: whoever is in its network can read links.':
     'Esta página no está cifrada: quien esté en su red puede leer los enlaces.',
-  ['New games are stopped: no player opens one, and who tries is told so. Games that wait can still be joined, and '
-    + 'arbiters pair on.']:
-    'Las partidas nuevas están suspendidas: ningún jugador puede abrir una, y a quien lo intenta se le avisa. Aún es '
-    + 'posible unirse a las que esperan, y los árbitros siguen emparejando.',
   '{0} to {1} of {2}, {3} of them running': '{0} a {1} de {2}, {3} en juego',
   'Game {0}': 'Partida {0}',
   'not connected': 'sin conexión',
@@ -111,9 +107,6 @@ export const WORDS = {
     'La conexión se cortó antes de la respuesta. Mira cómo está la partida antes de registrarlo otra vez.',
   'The connection broke before the answer came. Do it again.':
     'La conexión se cortó antes de la respuesta. Hazlo otra vez.',
-  'Allow new games': 'Permitir partidas nuevas',
-  'Stop new games': 'Suspender partidas nuevas',
-  'New games are allowed.': 'Las partidas nuevas están permitidas.',
   'Board': 'Tablero',
   'The pawn becomes': 'El peón se convierte en',
   '{0} put back': '{0}: vuelve a su casilla',
@@ -544,8 +537,6 @@ export const WORDS = {
   'All boards': 'Todos los tableros',
   'Your colour': 'Tu color',
   'Turn the board': 'Girar el tablero',
-  'In the record this game stays a draw. The game that goes on with it later is the board’s.':
-    'En el registro esta partida queda en tablas. Para el tablero cuenta la partida que la reanude después.',
   'To the last move': 'A la última jugada',
   'Your move': 'Tu jugada',
   'Your opponent wins. It cannot be taken back.': 'Gana tu rival. No se puede deshacer.',
@@ -591,11 +582,6 @@ export const WORDS = {
     + 'clic en el tablero la anula. Un rey que se pone sobre su torre enroca. El botón derecho dibuja círculos y '
     + 'flechas solo para ti, y con Mayús en otro color. Sonidos, tableros, piezas y demás se eligen en la cabecera '
     + 'de la página.',
-  ['This browser keeps the note. Then the game is closed as a draw: an offer is entered for White and its acceptance '
-    + 'for Black, in your name as arbiter. The clocks run until then, and are noted as they stand at the end.']:
-    'Este navegador guarda la nota. Después la partida se cierra con tablas: se registra una oferta de las blancas y '
-    + 'su aceptación por las negras, en tu nombre como árbitro. Hasta entonces corren los relojes, y se anotan como '
-    + 'estén al final.',
   'The new link': 'El enlace nuevo',
   ['A claim that is right ends the game. A wrong one gives your opponent two minutes, stands as an offer of a draw, '
     + 'and its move is made. You may claim once in a turn.']:
@@ -685,4 +671,66 @@ export const WORDS = {
   'You are watching. To play, open the personal link that you were given.':
     'Estás mirando. Para jugar, abre el enlace personal que te dieron.',
   'Your games': 'Tus partidas',
+  'You play in this game: look at it again once it is over.':
+    'Juegas en esta partida: vuelve a verla cuando termine.',
+  'That is neither a FEN nor a PGN.': 'Eso no es ni una FEN ni una PGN.',
+  '{0} cannot be played there: what stands before it is on the board.':
+    '{0} no se puede jugar ahí: lo anterior está en el tablero.',
+  'This browser keeps nothing: copy the PGN.': 'Este navegador no guarda nada: copia la PGN.',
+  'the start': 'el inicio',
+  'Look at a game again': 'Volver a ver una partida',
+  'Stop new games?': '¿Detener las partidas nuevas?',
+  'Stop them': 'Detenerlas',
+  ['Players open no game then: who tries is told so. Games that wait, {0} now, are taken off the table, so that '
+    + 'nobody joins them, and who waits in one is told so. Games that go on are left alone, and arbiters pair on.']:
+    'Los jugadores ya no abren partidas: a quien lo intente se le dice. Las partidas que esperan, ahora {0}, se '
+    + 'quitan de la lista para que nadie se una a ellas, y a quien espera en una se le dice. Las partidas en curso '
+    + 'no se tocan, y los árbitros siguen emparejando.',
+  'Games that waited, now off the table: {0}.': 'Partidas en espera quitadas de la lista: {0}.',
+  'Not all games that wait were taken off. Look, and do it again.':
+    'No se quitaron todas las partidas que esperan. Mira y hazlo otra vez.',
+  'New games: stopped': 'Partidas nuevas: detenidas',
+  'New games: allowed': 'Partidas nuevas: permitidas',
+  'Make new links for {0} players, to print?': '¿Hacer enlaces nuevos para {0} {0:jugador|jugadores}, para imprimir?',
+  'Make them': 'Hacerlos',
+  ['They are for the players who are listed here, arbiters left out. The links that they have hold no more: a '
+    + 'page that is open with one asks for the new one. Clocks run on.']:
+    'Son para los jugadores que figuran aquí, sin los árbitros. Los enlaces que tienen dejan de valer: una '
+    + 'página abierta con uno pide el nuevo. Los relojes siguen.',
+  '{0} of {1} links are made.': '{0} de {1} enlaces hechos.',
+  'The sheet has {0} of {1} links. It is there this once: print it now.':
+    'La hoja tiene {0} de {1} enlaces. Está solo esta vez: imprímela ahora.',
+  'Who opens this link plays as {0}: keep it for yourself.':
+    'Quien abre este enlace juega como {0}: guárdalo para ti.',
+  'Adjourned by the arbiter, {0}: it goes on later as another game. In the record this one is a draw.':
+    'Aplazada por el árbitro, {0}: continúa más tarde como otra partida. En el registro esta es tablas.',
+  'It is taken back at {0}, when you leave this page, or when another game of yours begins.':
+    'Se retira a las {0}, cuando dejes esta página o cuando empiece otra partida tuya.',
+  'Your other game that waited is taken back, since one has begun.':
+    'Tu otra partida en espera se ha retirado, porque una ha empezado.',
+  'Nobody has joined your game in ten minutes: it is taken back.':
+    'Nadie se ha unido a tu partida en diez minutos: se ha retirado.',
+  'Look at it again': 'Volver a verla',
+  'Put it on the board': 'Ponerla en el tablero',
+  'Make it the main line': 'Hacerla variante principal',
+  'To the game': 'A la partida',
+  ['This browser keeps the note. Then the game is closed as a draw: an offer is entered for Black and its '
+    + 'acceptance for White, in your name as arbiter. The clocks run until then, and are noted as they stand at '
+    + 'the end.']:
+    'Este navegador guarda la nota. Después la partida se cierra con tablas: se registra una oferta de las '
+    + 'negras y su aceptación por las blancas, en tu nombre como árbitro. Hasta entonces corren los relojes, y se '
+    + 'anotan como estén al final.',
+  'Delete from here': 'Borrar desde aquí',
+  'Put another game here': 'Poner otra partida',
+  'Both sides are moved here, for you alone: nothing of it is sent. What you try is kept in this browser.':
+    'Aquí mueves ambos bandos, solo para ti: nada se envía. Lo que pruebas se guarda en este navegador.',
+  'Start anew': 'Empezar de nuevo',
+  ['Both players are told that it is adjourned. In the record this game stays a draw. The game that goes on '
+    + 'with it later is the board’s.']:
+    'A ambos jugadores se les dice que se aplaza. En el registro esta partida queda en tablas. Para el tablero '
+    + 'cuenta la partida que la reanude después.',
+  'The sheet of links': 'La hoja de enlaces',
+  'Print': 'Imprimir',
+  'FEN or PGN': 'FEN o PGN',
+  'New links to print': 'Enlaces nuevos para imprimir',
 };

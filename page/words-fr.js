@@ -65,10 +65,6 @@ export const WORDS = {
   'move {0}, {1} to move': 'coup {0}, trait aux {1}',
   'This page is not encrypted: whoever is in its network can read links.':
     'Cette page n’est pas chiffrée : toute personne de son réseau peut lire les liens.',
-  ['New games are stopped: no player opens one, and who tries is told so. Games that wait can still be joined, and '
-    + 'arbiters pair on.']:
-    'Les nouvelles parties sont bloquées : aucun joueur ne peut en ouvrir, et celui qui essaie en est averti. On '
-    + 'peut encore rejoindre les parties en attente, et les arbitres continuent d’apparier.',
   '{0} to {1} of {2}, {3} of them running': '{0} à {1} sur {2}, dont {3} en cours',
   'Game {0}': 'Partie {0}',
   'not connected': 'hors ligne',
@@ -114,9 +110,6 @@ export const WORDS = {
     'La connexion s’est rompue avant la réponse. Vérifiez où en est la partie avant de recommencer.',
   'The connection broke before the answer came. Do it again.':
     'La connexion s’est rompue avant la réponse. Recommencez.',
-  'Allow new games': 'Autoriser les nouvelles parties',
-  'Stop new games': 'Bloquer les nouvelles parties',
-  'New games are allowed.': 'Les nouvelles parties sont autorisées.',
   'Board': 'Échiquier',
   'The pawn becomes': 'Le pion devient',
   '{0} put back': '{0} : retour à sa case',
@@ -552,9 +545,6 @@ export const WORDS = {
   'All boards': 'Tous les échiquiers',
   'Your colour': 'Votre couleur',
   'Turn the board': 'Retourner l’échiquier',
-  'In the record this game stays a draw. The game that goes on with it later is the board’s.':
-    'Dans l’enregistrement, cette partie reste nulle. C’est la partie qui la reprendra plus tard qui compte pour '
-    + 'l’échiquier.',
   'To the last move': 'Au dernier coup',
   'Your move': 'Votre coup',
   'Your opponent wins. It cannot be taken back.': 'Votre adversaire gagne. C’est irrévocable.',
@@ -601,11 +591,6 @@ export const WORDS = {
     + 's’il est possible, et un clic sur l’échiquier le retire. Un roi posé sur sa tour roque. Le bouton droit '
     + 'dessine des cercles et des flèches pour vous seul, avec Maj dans une autre couleur. Sons, échiquiers, pièces '
     + 'et le reste se choisissent en haut de la page.',
-  ['This browser keeps the note. Then the game is closed as a draw: an offer is entered for White and its acceptance '
-    + 'for Black, in your name as arbiter. The clocks run until then, and are noted as they stand at the end.']:
-    'Ce navigateur garde la note. Ensuite la partie est close par la nulle : une proposition est enregistrée pour '
-    + 'les Blancs et son acceptation pour les Noirs, en votre qualité d’arbitre. Jusque-là les pendules tournent, et '
-    + 'elles sont notées telles qu’elles sont à la fin.',
   'The new link': 'Le nouveau lien',
   ['A claim that is right ends the game. A wrong one gives your opponent two minutes, stands as an offer of a draw, '
     + 'and its move is made. You may claim once in a turn.']:
@@ -696,4 +681,68 @@ export const WORDS = {
   'You are watching. To play, open the personal link that you were given.':
     'Vous êtes spectateur. Pour jouer, ouvrez le lien personnel que vous avez reçu.',
   'Your games': 'Vos parties',
+  'You play in this game: look at it again once it is over.':
+    'Vous jouez dans cette partie : revoyez-la une fois finie.',
+  'That is neither a FEN nor a PGN.': 'Ce n’est ni une FEN ni un PGN.',
+  '{0} cannot be played there: what stands before it is on the board.':
+    '{0} ne peut pas être joué là : ce qui précède est sur l’échiquier.',
+  'This browser keeps nothing: copy the PGN.': 'Ce navigateur ne garde rien : copiez le PGN.',
+  'the start': 'le début',
+  'Look at a game again': 'Revoir une partie',
+  'Stop new games?': 'Arrêter les nouvelles parties ?',
+  'Stop them': 'Les arrêter',
+  ['Players open no game then: who tries is told so. Games that wait, {0} now, are taken off the table, so that '
+    + 'nobody joins them, and who waits in one is told so. Games that go on are left alone, and arbiters pair on.']:
+    'Les joueurs n’ouvrent alors plus de partie : qui essaie l’apprend. Les parties en attente, {0} à présent, '
+    + 'sont retirées de la liste pour que personne ne les rejoigne, et qui y attend l’apprend. Les parties en '
+    + 'cours restent telles quelles, et les arbitres continuent d’apparier.',
+  'Games that waited, now off the table: {0}.': 'Parties en attente retirées de la liste : {0}.',
+  'Not all games that wait were taken off. Look, and do it again.':
+    'Toutes les parties en attente n’ont pas été retirées. Regardez, et recommencez.',
+  'New games: stopped': 'Nouvelles parties : arrêtées',
+  'New games: allowed': 'Nouvelles parties : permises',
+  'Make new links for {0} players, to print?': 'Faire de nouveaux liens pour {0} {0:joueur|joueurs}, à imprimer ?',
+  'Make them': 'Les faire',
+  ['They are for the players who are listed here, arbiters left out. The links that they have hold no more: a '
+    + 'page that is open with one asks for the new one. Clocks run on.']:
+    'Ils sont pour les joueurs de cette liste, sans les arbitres. Les liens qu’ils ont ne valent plus : une page '
+    + 'ouverte avec l’un d’eux demande le nouveau. Les pendules tournent.',
+  '{0} of {1} links are made.': '{0} liens sur {1} sont faits.',
+  'The sheet has {0} of {1} links. It is there this once: print it now.':
+    'La feuille a {0} liens sur {1}. Elle n’est là que cette fois : imprimez-la maintenant.',
+  'Who opens this link plays as {0}: keep it for yourself.':
+    'Qui ouvre ce lien joue comme {0} : gardez-le pour vous.',
+  'Adjourned by the arbiter, {0}: it goes on later as another game. In the record this one is a draw.':
+    'Ajournée par l’arbitre, {0} : elle reprend plus tard comme une autre partie. Dans les archives, celle-ci '
+    + 'est nulle.',
+  'It is taken back at {0}, when you leave this page, or when another game of yours begins.':
+    'Elle est retirée à {0}, quand vous quittez cette page ou quand une autre de vos parties commence.',
+  'Your other game that waited is taken back, since one has begun.':
+    'Votre autre partie en attente est retirée, puisqu’une a commencé.',
+  'Nobody has joined your game in ten minutes: it is taken back.':
+    'Personne n’a rejoint votre partie en dix minutes : elle est retirée.',
+  'Look at it again': 'La revoir',
+  'Put it on the board': 'Mettre sur l’échiquier',
+  'Make it the main line': 'En faire la ligne principale',
+  'To the game': 'À la partie',
+  ['This browser keeps the note. Then the game is closed as a draw: an offer is entered for Black and its '
+    + 'acceptance for White, in your name as arbiter. The clocks run until then, and are noted as they stand at '
+    + 'the end.']:
+    'Ce navigateur garde la note. Ensuite la partie est close par la nulle : une proposition est enregistrée '
+    + 'pour les Noirs et son acceptation pour les Blancs, en votre qualité d’arbitre. Jusque-là les pendules '
+    + 'tournent, et elles sont notées telles qu’elles sont à la fin.',
+  'Delete from here': 'Effacer à partir d’ici',
+  'Put another game here': 'Mettre une autre partie',
+  'Both sides are moved here, for you alone: nothing of it is sent. What you try is kept in this browser.':
+    'Ici vous jouez les deux camps, pour vous seul : rien n’est envoyé. Ce que vous essayez est gardé dans ce '
+    + 'navigateur.',
+  'Start anew': 'Recommencer',
+  ['Both players are told that it is adjourned. In the record this game stays a draw. The game that goes on '
+    + 'with it later is the board’s.']:
+    'Les deux joueurs apprennent qu’elle est ajournée. Dans l’enregistrement, cette partie reste nulle. C’est la '
+    + 'partie qui la reprendra plus tard qui compte pour l’échiquier.',
+  'The sheet of links': 'La feuille des liens',
+  'Print': 'Imprimer',
+  'FEN or PGN': 'FEN ou PGN',
+  'New links to print': 'Nouveaux liens à imprimer',
 };

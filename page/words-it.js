@@ -62,10 +62,6 @@ export const WORDS = {
   'move {0}, {1} to move': 'mossa {0}, muove il {1}',
   'This page is not encrypted: whoever is in its network can read links.':
     'Questa pagina non è cifrata: chi è nella sua rete può leggere i link.',
-  ['New games are stopped: no player opens one, and who tries is told so. Games that wait can still be joined, and '
-    + 'arbiters pair on.']:
-    'Le nuove partite sono bloccate: nessun giocatore può aprirne, e chi ci prova ne è avvisato. Alle partite in '
-    + 'attesa ci si può ancora unire, e gli arbitri continuano ad abbinare.',
   '{0} to {1} of {2}, {3} of them running': '{0}–{1} di {2}, di cui {3} in corso',
   'Game {0}': 'Partita {0}',
   'not connected': 'non in linea',
@@ -112,9 +108,6 @@ export const WORDS = {
     'La connessione si è interrotta prima della risposta. Guarda com’è la partita prima di registrarlo di nuovo.',
   'The connection broke before the answer came. Do it again.':
     'La connessione si è interrotta prima della risposta. Fallo di nuovo.',
-  'Allow new games': 'Consenti nuove partite',
-  'Stop new games': 'Blocca nuove partite',
-  'New games are allowed.': 'Le nuove partite sono consentite.',
   'Board': 'Scacchiera',
   'The pawn becomes': 'Il pedone diventa',
   '{0} put back': '{0}: torna sulla sua casa',
@@ -546,8 +539,6 @@ export const WORDS = {
   'All boards': 'Tutte le scacchiere',
   'Your colour': 'Il tuo colore',
   'Turn the board': 'Gira la scacchiera',
-  'In the record this game stays a draw. The game that goes on with it later is the board’s.':
-    'Nel registro questa partita resta patta. Per la scacchiera vale la partita che poi la riprende.',
   'To the last move': 'All’ultima mossa',
   'Your move': 'La tua mossa',
   'Your opponent wins. It cannot be taken back.': 'Vince il tuo avversario. Non si può annullare.',
@@ -593,11 +584,6 @@ export const WORDS = {
     + 'e un clic sulla scacchiera la annulla. Un re posto sulla sua torre arrocca. Il tasto destro disegna cerchi e '
     + 'frecce solo per te, con Maiusc in un altro colore. Suoni, scacchiere, pezzi e altro si scelgono in cima alla '
     + 'pagina.',
-  ['This browser keeps the note. Then the game is closed as a draw: an offer is entered for White and its acceptance '
-    + 'for Black, in your name as arbiter. The clocks run until then, and are noted as they stand at the end.']:
-    'Questo browser conserva la nota. Poi la partita è chiusa come patta: si registra una proposta per il Bianco e '
-    + 'la sua accettazione per il Nero, a tuo nome come arbitro. Fino ad allora gli orologi corrono, e sono annotati '
-    + 'come sono alla fine.',
   'The new link': 'Il nuovo link',
   ['A claim that is right ends the game. A wrong one gives your opponent two minutes, stands as an offer of a draw, '
     + 'and its move is made. You may claim once in a turn.']:
@@ -688,4 +674,65 @@ export const WORDS = {
   'You are watching. To play, open the personal link that you were given.':
     'Stai guardando. Per giocare, apri il link personale che hai ricevuto.',
   'Your games': 'Le tue partite',
+  'You play in this game: look at it again once it is over.':
+    'Giochi in questa partita: riguardala quando sarà finita.',
+  'That is neither a FEN nor a PGN.': 'Non è né una FEN né una PGN.',
+  '{0} cannot be played there: what stands before it is on the board.':
+    '{0} non si può giocare lì: ciò che precede è sulla scacchiera.',
+  'This browser keeps nothing: copy the PGN.': 'Questo browser non conserva nulla: copia la PGN.',
+  'the start': 'l’inizio',
+  'Look at a game again': 'Riguardare una partita',
+  'Stop new games?': 'Fermare le nuove partite?',
+  'Stop them': 'Fermarle',
+  ['Players open no game then: who tries is told so. Games that wait, {0} now, are taken off the table, so that '
+    + 'nobody joins them, and who waits in one is told so. Games that go on are left alone, and arbiters pair on.']:
+    'I giocatori non aprono più partite: chi ci prova lo viene a sapere. Le partite in attesa, ora {0}, sono '
+    + 'tolte dall’elenco perché nessuno vi si unisca, e chi vi aspetta lo viene a sapere. Le partite in corso '
+    + 'restano come sono, e gli arbitri continuano ad abbinare.',
+  'Games that waited, now off the table: {0}.': 'Partite in attesa tolte dall’elenco: {0}.',
+  'Not all games that wait were taken off. Look, and do it again.':
+    'Non tutte le partite in attesa sono state tolte. Guarda e fallo di nuovo.',
+  'New games: stopped': 'Nuove partite: ferme',
+  'New games: allowed': 'Nuove partite: permesse',
+  'Make new links for {0} players, to print?': 'Fare nuovi link per {0} {0:giocatore|giocatori}, da stampare?',
+  'Make them': 'Crearli',
+  ['They are for the players who are listed here, arbiters left out. The links that they have hold no more: a '
+    + 'page that is open with one asks for the new one. Clocks run on.']:
+    'Sono per i giocatori elencati qui, senza gli arbitri. I link che hanno non valgono più: una pagina aperta '
+    + 'con uno di essi chiede il nuovo. Gli orologi continuano.',
+  '{0} of {1} links are made.': '{0} link su {1} creati.',
+  'The sheet has {0} of {1} links. It is there this once: print it now.':
+    'Il foglio ha {0} link su {1}. C’è solo questa volta: stampalo ora.',
+  'Who opens this link plays as {0}: keep it for yourself.': 'Chi apre questo link gioca come {0}: tienilo per te.',
+  'Adjourned by the arbiter, {0}: it goes on later as another game. In the record this one is a draw.':
+    'Aggiornata dall’arbitro, {0}: continua più tardi come un’altra partita. Nel registro questa è patta.',
+  'It is taken back at {0}, when you leave this page, or when another game of yours begins.':
+    'Viene ritirata alle {0}, quando lasci questa pagina o quando comincia un’altra tua partita.',
+  'Your other game that waited is taken back, since one has begun.':
+    'L’altra tua partita in attesa è ritirata, perché una è cominciata.',
+  'Nobody has joined your game in ten minutes: it is taken back.':
+    'Nessuno si è unito alla tua partita in dieci minuti: è ritirata.',
+  'Look at it again': 'Riguardala',
+  'Put it on the board': 'Metti sulla scacchiera',
+  'Make it the main line': 'Rendila la linea principale',
+  'To the game': 'Alla partita',
+  ['This browser keeps the note. Then the game is closed as a draw: an offer is entered for Black and its '
+    + 'acceptance for White, in your name as arbiter. The clocks run until then, and are noted as they stand at '
+    + 'the end.']:
+    'Questo browser conserva la nota. Poi la partita è chiusa come patta: si registra una proposta per il Nero e '
+    + 'la sua accettazione per il Bianco, a tuo nome come arbitro. Fino ad allora gli orologi corrono, e sono '
+    + 'annotati come sono alla fine.',
+  'Delete from here': 'Cancella da qui',
+  'Put another game here': 'Metti un’altra partita',
+  'Both sides are moved here, for you alone: nothing of it is sent. What you try is kept in this browser.':
+    'Qui muovi entrambe le parti, solo per te: nulla viene inviato. Ciò che provi è conservato in questo browser.',
+  'Start anew': 'Ricomincia',
+  ['Both players are told that it is adjourned. In the record this game stays a draw. The game that goes on '
+    + 'with it later is the board’s.']:
+    'A entrambi i giocatori si dice che è aggiornata. Nel registro questa partita resta patta. Per la scacchiera '
+    + 'vale la partita che poi la riprende.',
+  'The sheet of links': 'Il foglio dei link',
+  'Print': 'Stampa',
+  'FEN or PGN': 'FEN o PGN',
+  'New links to print': 'Nuovi link da stampare',
 };

@@ -62,10 +62,6 @@ export const WORDS = {
   'move {0}, {1} to move': 'zet {0}, {1} aan zet',
   'This page is not encrypted: whoever is in its network can read links.':
     'Deze pagina is niet versleuteld: wie in haar netwerk is, kan links meelezen.',
-  ['New games are stopped: no player opens one, and who tries is told so. Games that wait can still be joined, and '
-    + 'arbiters pair on.']:
-    'Nieuwe partijen zijn stopgezet: geen speler kan er een openen, en wie het probeert, krijgt dat te horen. Aan '
-    + 'wachtende partijen kan men nog meedoen, en arbiters delen gewoon in.',
   '{0} to {1} of {2}, {3} of them running': '{0} tot {1} van {2}, waarvan {3} bezig',
   'Game {0}': 'Partij {0}',
   'not connected': 'geen verbinding',
@@ -113,9 +109,6 @@ export const WORDS = {
     'De verbinding is verbroken voordat het antwoord kwam. Kijk hoe de partij staat voordat je het opnieuw invoert.',
   'The connection broke before the answer came. Do it again.':
     'De verbinding is verbroken voordat het antwoord kwam. Doe het nog een keer.',
-  'Allow new games': 'Nieuwe partijen toestaan',
-  'Stop new games': 'Nieuwe partijen stoppen',
-  'New games are allowed.': 'Nieuwe partijen zijn toegestaan.',
   'Board': 'Bord',
   'The pawn becomes': 'De pion wordt',
   '{0} put back': '{0} teruggezet',
@@ -547,8 +540,6 @@ export const WORDS = {
   'All boards': 'Alle borden',
   'Your colour': 'Je kleur',
   'Turn the board': 'Bord draaien',
-  'In the record this game stays a draw. The game that goes on with it later is the board’s.':
-    'In de boeken blijft deze partij remise. Voor het bord telt de vervolgpartij.',
   'To the last move': 'Naar de laatste zet',
   'Your move': 'Je zet',
   'Your opponent wins. It cannot be taken back.': 'Je tegenstander wint. Dit kan niet ongedaan worden gemaakt.',
@@ -595,11 +586,6 @@ export const WORDS = {
     + 'op het bord neemt hem terug. Een koning die op zijn toren wordt gezet, rokeert. De rechterknop tekent cirkels '
     + 'en pijlen voor jou alleen, met Shift in een andere kleur. Geluid, borden, stukken en meer kies je boven aan '
     + 'de pagina.',
-  ['This browser keeps the note. Then the game is closed as a draw: an offer is entered for White and its acceptance '
-    + 'for Black, in your name as arbiter. The clocks run until then, and are noted as they stand at the end.']:
-    'Deze browser bewaart de notitie. Dan wordt de partij als remise gesloten: voor wit wordt een aanbod ingevoerd '
-    + 'en voor zwart de aanvaarding, op jouw naam als arbiter. Tot dan lopen de klokken, en ze worden genoteerd '
-    + 'zoals ze aan het eind staan.',
   'The new link': 'De nieuwe link',
   ['A claim that is right ends the game. A wrong one gives your opponent two minutes, stands as an offer of a draw, '
     + 'and its move is made. You may claim once in a turn.']:
@@ -690,4 +676,67 @@ export const WORDS = {
   'You are watching. To play, open the personal link that you were given.':
     'Je kijkt toe. Open om te spelen de persoonlijke link die je hebt gekregen.',
   'Your games': 'Je partijen',
+  'You play in this game: look at it again once it is over.':
+    'Je speelt in deze partij: bekijk haar opnieuw als ze voorbij is.',
+  'That is neither a FEN nor a PGN.': 'Dat is geen FEN en geen PGN.',
+  '{0} cannot be played there: what stands before it is on the board.':
+    '{0} kan daar niet gespeeld worden: wat ervoor staat, is op het bord.',
+  'This browser keeps nothing: copy the PGN.': 'Deze browser bewaart niets: kopieer de PGN.',
+  'the start': 'het begin',
+  'Look at a game again': 'Een partij opnieuw bekijken',
+  'Stop new games?': 'Nieuwe partijen stoppen?',
+  'Stop them': 'Stoppen',
+  ['Players open no game then: who tries is told so. Games that wait, {0} now, are taken off the table, so that '
+    + 'nobody joins them, and who waits in one is told so. Games that go on are left alone, and arbiters pair on.']:
+    'Spelers openen dan geen partij meer: wie het probeert, krijgt dat te horen. Wachtende partijen, nu {0}, '
+    + 'gaan van de lijst, zodat niemand erbij komt; wie in een ervan wacht, krijgt dat te horen. Lopende partijen '
+    + 'blijven zoals ze zijn, en arbiters blijven indelen.',
+  'Games that waited, now off the table: {0}.': 'Wachtende partijen van de lijst gehaald: {0}.',
+  'Not all games that wait were taken off. Look, and do it again.':
+    'Niet alle wachtende partijen zijn van de lijst gehaald. Kijk, en doe het opnieuw.',
+  'New games: stopped': 'Nieuwe partijen: gestopt',
+  'New games: allowed': 'Nieuwe partijen: toegestaan',
+  'Make new links for {0} players, to print?': 'Nieuwe links maken voor {0} {0:speler|spelers}, om af te drukken?',
+  'Make them': 'Maken',
+  ['They are for the players who are listed here, arbiters left out. The links that they have hold no more: a '
+    + 'page that is open with one asks for the new one. Clocks run on.']:
+    'Ze zijn voor de spelers die hier staan, zonder arbiters. De links die ze hebben, gelden niet meer: een '
+    + 'pagina die ermee open is, vraagt om de nieuwe. Klokken lopen door.',
+  '{0} of {1} links are made.': '{0} van {1} links zijn gemaakt.',
+  'The sheet has {0} of {1} links. It is there this once: print it now.':
+    'Op het vel staan {0} van {1} links. Het is er alleen deze keer: druk het nu af.',
+  'Who opens this link plays as {0}: keep it for yourself.':
+    'Wie deze link opent, speelt als {0}: houd hem voor jezelf.',
+  'Adjourned by the arbiter, {0}: it goes on later as another game. In the record this one is a draw.':
+    'Afgebroken door de arbiter, {0}: ze gaat later verder als een andere partij. In het verslag is deze remise.',
+  'It is taken back at {0}, when you leave this page, or when another game of yours begins.':
+    'Ze wordt teruggenomen om {0}, als je deze pagina verlaat of als een andere partij van je begint.',
+  'Your other game that waited is taken back, since one has begun.':
+    'Je andere wachtende partij is teruggenomen, omdat er een begonnen is.',
+  'Nobody has joined your game in ten minutes: it is taken back.':
+    'In tien minuten is niemand bij je partij gekomen: ze is teruggenomen.',
+  'Look at it again': 'Opnieuw bekijken',
+  'Put it on the board': 'Op het bord zetten',
+  'Make it the main line': 'Hoofdvariant maken',
+  'To the game': 'Naar de partij',
+  ['This browser keeps the note. Then the game is closed as a draw: an offer is entered for Black and its '
+    + 'acceptance for White, in your name as arbiter. The clocks run until then, and are noted as they stand at '
+    + 'the end.']:
+    'Deze browser bewaart de notitie. Dan wordt de partij als remise gesloten: voor zwart wordt een aanbod '
+    + 'ingevoerd en voor wit de aanvaarding, op jouw naam als arbiter. Tot dan lopen de klokken, en ze worden '
+    + 'genoteerd zoals ze aan het eind staan.',
+  'Delete from here': 'Vanaf hier wissen',
+  'Put another game here': 'Een andere partij neerzetten',
+  'Both sides are moved here, for you alone: nothing of it is sent. What you try is kept in this browser.':
+    'Hier zet je beide kanten, alleen voor jezelf: niets ervan wordt verstuurd. Wat je probeert, bewaart deze '
+    + 'browser.',
+  'Start anew': 'Opnieuw beginnen',
+  ['Both players are told that it is adjourned. In the record this game stays a draw. The game that goes on '
+    + 'with it later is the board’s.']:
+    'Beide spelers krijgen te horen dat ze is afgebroken. In de boeken blijft deze partij remise. Voor het bord '
+    + 'telt de vervolgpartij.',
+  'The sheet of links': 'Het vel met links',
+  'Print': 'Afdrukken',
+  'FEN or PGN': 'FEN of PGN',
+  'New links to print': 'Nieuwe links om af te drukken',
 };

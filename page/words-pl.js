@@ -61,10 +61,6 @@ export const WORDS = {
   'move {0}, {1} to move': 'posunięcie {0}, {1} na posunięciu',
   'This page is not encrypted: whoever is in its network can read links.':
     'Ta strona nie jest szyfrowana: kto jest w jej sieci, może odczytać linki.',
-  ['New games are stopped: no player opens one, and who tries is told so. Games that wait can still be joined, and '
-    + 'arbiters pair on.']:
-    'Nowe partie są wstrzymane: żaden gracz nie może ich otwierać, a kto próbuje, dowiaduje się o tym. Do '
-    + 'czekających partii nadal można dołączać, a sędziowie kojarzą dalej.',
   '{0} to {1} of {2}, {3} of them running': '{0} do {1} z {2}, w tym trwających: {3}',
   'Game {0}': 'Partia {0}',
   'not connected': 'brak połączenia',
@@ -111,9 +107,6 @@ export const WORDS = {
     'Połączenie zostało zerwane, zanim przyszła odpowiedź. Sprawdź stan partii, zanim wpiszesz to ponownie.',
   'The connection broke before the answer came. Do it again.':
     'Połączenie zostało zerwane, zanim przyszła odpowiedź. Zrób to jeszcze raz.',
-  'Allow new games': 'Zezwól na nowe partie',
-  'Stop new games': 'Wstrzymaj nowe partie',
-  'New games are allowed.': 'Nowe partie są dozwolone.',
   'Board': 'Szachownica',
   'The pawn becomes': 'Promocja pionka',
   '{0} put back': '{0}: odłożenie na pole',
@@ -543,8 +536,6 @@ export const WORDS = {
   'All boards': 'Wszystkie szachownice',
   'Your colour': 'Twój kolor',
   'Turn the board': 'Obróć szachownicę',
-  'In the record this game stays a draw. The game that goes on with it later is the board’s.':
-    'W zapisie ta partia pozostaje remisem. Dla szachownicy liczy się partia, która ją później wznowi.',
   'To the last move': 'Do ostatniego posunięcia',
   'Your move': 'Twoje posunięcie',
   'Your opponent wins. It cannot be taken back.': 'Wygrywa przeciwnik. Tego nie można cofnąć.',
@@ -589,11 +580,6 @@ export const WORDS = {
     + 'możliwe, a kliknięcie na szachownicę je cofa. Król postawiony na swojej wieży roszuje. Prawy przycisk rysuje '
     + 'kółka i strzałki tylko dla ciebie, z klawiszem Shift w innym kolorze. Dźwięki, szachownice, bierki i resztę '
     + 'wybiera się u góry strony.',
-  ['This browser keeps the note. Then the game is closed as a draw: an offer is entered for White and its acceptance '
-    + 'for Black, in your name as arbiter. The clocks run until then, and are noted as they stand at the end.']:
-    'Ta przeglądarka zachowuje notatkę. Potem partia zostaje zamknięta jako remis: wpisana zostaje propozycja '
-    + 'białych i zgoda czarnych, w twoim imieniu jako sędziego. Do tego czasu zegary idą i są notowane tak, jak '
-    + 'stoją na końcu.',
   'The new link': 'Nowy link',
   ['A claim that is right ends the game. A wrong one gives your opponent two minutes, stands as an offer of a draw, '
     + 'and its move is made. You may claim once in a turn.']:
@@ -684,4 +670,67 @@ export const WORDS = {
   'You are watching. To play, open the personal link that you were given.':
     'Oglądasz jako widz. Aby grać, otwórz otrzymany osobisty link.',
   'Your games': 'Twoje partie',
+  'You play in this game: look at it again once it is over.':
+    'Grasz w tej partii: obejrzyj ją ponownie, gdy się skończy.',
+  'That is neither a FEN nor a PGN.': 'To nie jest ani FEN, ani PGN.',
+  '{0} cannot be played there: what stands before it is on the board.':
+    '{0} nie da się tam zagrać: to, co przed tym, jest na szachownicy.',
+  'This browser keeps nothing: copy the PGN.': 'Ta przeglądarka nic nie zachowuje: skopiuj PGN.',
+  'the start': 'początek',
+  'Look at a game again': 'Obejrzyj partię ponownie',
+  'Stop new games?': 'Zatrzymać nowe partie?',
+  'Stop them': 'Zatrzymaj',
+  ['Players open no game then: who tries is told so. Games that wait, {0} now, are taken off the table, so that '
+    + 'nobody joins them, and who waits in one is told so. Games that go on are left alone, and arbiters pair on.']:
+    'Gracze nie otwierają wtedy partii: kto spróbuje, dowie się o tym. Oczekujące partie, teraz {0}, są usuwane '
+    + 'z listy, aby nikt do nich nie dołączył, a kto w nich czeka, dowie się o tym. Trwające partie zostają '
+    + 'nietknięte, a sędziowie nadal kojarzą.',
+  'Games that waited, now off the table: {0}.': 'Oczekujące partie usunięte z listy: {0}.',
+  'Not all games that wait were taken off. Look, and do it again.':
+    'Nie wszystkie oczekujące partie zostały usunięte. Spójrz i zrób to ponownie.',
+  'New games: stopped': 'Nowe partie: zatrzymane',
+  'New games: allowed': 'Nowe partie: dozwolone',
+  'Make new links for {0} players, to print?': 'Utworzyć nowe linki dla {0} {0:gracza|graczy|graczy}, do druku?',
+  'Make them': 'Utwórz',
+  ['They are for the players who are listed here, arbiters left out. The links that they have hold no more: a '
+    + 'page that is open with one asks for the new one. Clocks run on.']:
+    'Są dla graczy z tej listy, bez sędziów. Linki, które mają, przestają działać: otwarta z nimi strona prosi o '
+    + 'nowy. Zegary idą dalej.',
+  '{0} of {1} links are made.': 'Utworzono {0} z {1} linków.',
+  'The sheet has {0} of {1} links. It is there this once: print it now.':
+    'Arkusz ma {0} z {1} linków. Jest tylko ten jeden raz: wydrukuj go teraz.',
+  'Who opens this link plays as {0}: keep it for yourself.':
+    'Kto otworzy ten link, gra jako {0}: zachowaj go dla siebie.',
+  'Adjourned by the arbiter, {0}: it goes on later as another game. In the record this one is a draw.':
+    'Odłożona przez sędziego, {0}: będzie kontynuowana później jako inna partia. W zapisie ta jest remisem.',
+  'It is taken back at {0}, when you leave this page, or when another game of yours begins.':
+    'Zostanie cofnięta o {0}, gdy opuścisz tę stronę albo gdy zacznie się inna twoja partia.',
+  'Your other game that waited is taken back, since one has begun.':
+    'Twoja druga oczekująca partia została cofnięta, bo jedna się zaczęła.',
+  'Nobody has joined your game in ten minutes: it is taken back.':
+    'Przez dziesięć minut nikt nie dołączył do twojej partii: została cofnięta.',
+  'Look at it again': 'Obejrzyj ponownie',
+  'Put it on the board': 'Ustaw na szachownicy',
+  'Make it the main line': 'Uczyń głównym wariantem',
+  'To the game': 'Do partii',
+  ['This browser keeps the note. Then the game is closed as a draw: an offer is entered for Black and its '
+    + 'acceptance for White, in your name as arbiter. The clocks run until then, and are noted as they stand at '
+    + 'the end.']:
+    'Ta przeglądarka zachowuje notatkę. Potem partia zostaje zamknięta jako remis: wpisana zostaje propozycja '
+    + 'czarnych i zgoda białych, w twoim imieniu jako sędziego. Do tego czasu zegary idą i są notowane tak, jak '
+    + 'stoją na końcu.',
+  'Delete from here': 'Usuń odtąd',
+  'Put another game here': 'Wstaw inną partię',
+  'Both sides are moved here, for you alone: nothing of it is sent. What you try is kept in this browser.':
+    'Tutaj grasz obiema stronami, tylko dla siebie: nic z tego nie jest wysyłane. To, czego próbujesz, zachowuje '
+    + 'ta przeglądarka.',
+  'Start anew': 'Zacznij od nowa',
+  ['Both players are told that it is adjourned. In the record this game stays a draw. The game that goes on '
+    + 'with it later is the board’s.']:
+    'Obaj gracze dowiadują się, że jest odłożona. W zapisie ta partia pozostaje remisem. Dla szachownicy liczy '
+    + 'się partia, która ją później wznowi.',
+  'The sheet of links': 'Arkusz z linkami',
+  'Print': 'Drukuj',
+  'FEN or PGN': 'FEN lub PGN',
+  'New links to print': 'Nowe linki do druku',
 };

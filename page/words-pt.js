@@ -61,10 +61,6 @@ export const WORDS = {
   'move {0}, {1} to move': 'lance {0}, {1} jogam',
   'This page is not encrypted: whoever is in its network can read links.':
     'Esta página não é criptografada: quem estiver na rede pode ler os links.',
-  ['New games are stopped: no player opens one, and who tries is told so. Games that wait can still be joined, and '
-    + 'arbiters pair on.']:
-    'Novas partidas estão suspensas: nenhum jogador pode abrir uma, e quem tenta é avisado. Ainda é possível entrar '
-    + 'nas partidas que esperam, e os árbitros continuam a emparceirar.',
   '{0} to {1} of {2}, {3} of them running': '{0} a {1} de {2}, {3} em andamento',
   'Game {0}': 'Partida {0}',
   'not connected': 'sem conexão',
@@ -109,9 +105,6 @@ export const WORDS = {
   'The connection broke before the answer came. Look how the game stands before you enter it again.':
     'A conexão caiu antes da resposta. Veja como está a partida antes de registrar de novo.',
   'The connection broke before the answer came. Do it again.': 'A conexão caiu antes da resposta. Faça de novo.',
-  'Allow new games': 'Permitir novas partidas',
-  'Stop new games': 'Suspender novas partidas',
-  'New games are allowed.': 'Novas partidas são permitidas.',
   'Board': 'Tabuleiro',
   'The pawn becomes': 'O peão vira',
   '{0} put back': '{0}: volta à sua casa',
@@ -540,8 +533,6 @@ export const WORDS = {
   'All boards': 'Todos os tabuleiros',
   'Your colour': 'Sua cor',
   'Turn the board': 'Virar o tabuleiro',
-  'In the record this game stays a draw. The game that goes on with it later is the board’s.':
-    'No registro esta partida fica empatada. Para o tabuleiro vale a partida que depois a retoma.',
   'To the last move': 'Ao último lance',
   'Your move': 'Seu lance',
   'Your opponent wins. It cannot be taken back.': 'Seu adversário vence. Não pode ser desfeito.',
@@ -587,11 +578,6 @@ export const WORDS = {
     + 'possível, e um clique no tabuleiro o cancela. Um rei posto sobre a sua torre faz o roque. O botão direito '
     + 'desenha círculos e setas só para você, com Shift em outra cor. Sons, tabuleiros, peças e mais são escolhidos '
     + 'no alto da página.',
-  ['This browser keeps the note. Then the game is closed as a draw: an offer is entered for White and its acceptance '
-    + 'for Black, in your name as arbiter. The clocks run until then, and are noted as they stand at the end.']:
-    'Este navegador guarda a nota. Depois a partida é encerrada com empate: registra-se uma proposta pelas Brancas e '
-    + 'o aceite pelas Pretas, em seu nome como árbitro. Até lá os relógios correm, e são anotados como estiverem no '
-    + 'fim.',
   'The new link': 'O novo link',
   ['A claim that is right ends the game. A wrong one gives your opponent two minutes, stands as an offer of a draw, '
     + 'and its move is made. You may claim once in a turn.']:
@@ -681,4 +667,64 @@ export const WORDS = {
   'You are watching. To play, open the personal link that you were given.':
     'Você está assistindo. Para jogar, abra o link pessoal que recebeu.',
   'Your games': 'Suas partidas',
+  'You play in this game: look at it again once it is over.': 'Você joga nesta partida: reveja-a quando terminar.',
+  'That is neither a FEN nor a PGN.': 'Isso não é FEN nem PGN.',
+  '{0} cannot be played there: what stands before it is on the board.':
+    '{0} não pode ser jogado ali: o que vem antes está no tabuleiro.',
+  'This browser keeps nothing: copy the PGN.': 'Este navegador não guarda nada: copie a PGN.',
+  'the start': 'o início',
+  'Look at a game again': 'Rever uma partida',
+  'Stop new games?': 'Parar as novas partidas?',
+  'Stop them': 'Parar',
+  ['Players open no game then: who tries is told so. Games that wait, {0} now, are taken off the table, so that '
+    + 'nobody joins them, and who waits in one is told so. Games that go on are left alone, and arbiters pair on.']:
+    'Os jogadores já não abrem partidas: quem tentar fica sabendo. As partidas em espera, agora {0}, saem da '
+    + 'lista para que ninguém entre nelas, e quem espera em uma fica sabendo. As partidas em andamento não são '
+    + 'tocadas, e os árbitros continuam a emparceirar.',
+  'Games that waited, now off the table: {0}.': 'Partidas em espera retiradas da lista: {0}.',
+  'Not all games that wait were taken off. Look, and do it again.':
+    'Nem todas as partidas em espera saíram da lista. Veja e faça de novo.',
+  'New games: stopped': 'Novas partidas: paradas',
+  'New games: allowed': 'Novas partidas: permitidas',
+  'Make new links for {0} players, to print?': 'Criar novos links para {0} {0:jogador|jogadores}, para imprimir?',
+  'Make them': 'Criar',
+  ['They are for the players who are listed here, arbiters left out. The links that they have hold no more: a '
+    + 'page that is open with one asks for the new one. Clocks run on.']:
+    'São para os jogadores desta lista, sem os árbitros. Os links que eles têm deixam de valer: uma página '
+    + 'aberta com um deles pede o novo. Os relógios continuam.',
+  '{0} of {1} links are made.': '{0} de {1} links criados.',
+  'The sheet has {0} of {1} links. It is there this once: print it now.':
+    'A folha tem {0} de {1} links. Ela aparece só desta vez: imprima agora.',
+  'Who opens this link plays as {0}: keep it for yourself.': 'Quem abre este link joga como {0}: guarde-o para você.',
+  'Adjourned by the arbiter, {0}: it goes on later as another game. In the record this one is a draw.':
+    'Adiada pelo árbitro, {0}: continua mais tarde como outra partida. No registro, esta é empate.',
+  'It is taken back at {0}, when you leave this page, or when another game of yours begins.':
+    'É retirada às {0}, quando você deixa esta página ou quando outra partida sua começa.',
+  'Your other game that waited is taken back, since one has begun.':
+    'Sua outra partida em espera foi retirada, pois uma começou.',
+  'Nobody has joined your game in ten minutes: it is taken back.':
+    'Ninguém entrou na sua partida em dez minutos: ela foi retirada.',
+  'Look at it again': 'Rever',
+  'Put it on the board': 'Pôr no tabuleiro',
+  'Make it the main line': 'Tornar linha principal',
+  'To the game': 'À partida',
+  ['This browser keeps the note. Then the game is closed as a draw: an offer is entered for Black and its '
+    + 'acceptance for White, in your name as arbiter. The clocks run until then, and are noted as they stand at '
+    + 'the end.']:
+    'Este navegador guarda a nota. Depois a partida é encerrada com empate: registra-se uma proposta pelas '
+    + 'Pretas e o aceite pelas Brancas, em seu nome como árbitro. Até lá os relógios correm, e são anotados como '
+    + 'estiverem no fim.',
+  'Delete from here': 'Apagar daqui em diante',
+  'Put another game here': 'Pôr outra partida',
+  'Both sides are moved here, for you alone: nothing of it is sent. What you try is kept in this browser.':
+    'Aqui você move os dois lados, só para si: nada é enviado. O que você tenta fica guardado neste navegador.',
+  'Start anew': 'Recomeçar',
+  ['Both players are told that it is adjourned. In the record this game stays a draw. The game that goes on '
+    + 'with it later is the board’s.']:
+    'Os dois jogadores ficam sabendo que ela foi adiada. No registro esta partida fica empatada. Para o '
+    + 'tabuleiro vale a partida que depois a retoma.',
+  'The sheet of links': 'A folha de links',
+  'Print': 'Imprimir',
+  'FEN or PGN': 'FEN ou PGN',
+  'New links to print': 'Novos links para imprimir',
 };

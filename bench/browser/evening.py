@@ -1,10 +1,12 @@
 """Scenes of bench/browser/page: what players want of an evening beside the moves themselves."""
 
+import shutil
+import subprocess
 import time
 
 from lib.browser import Keys
 from page_lines import by_lines, truth
-from readable import COORDINATES, NAMELESS, PALE, TWICE, UNSHOWN
+from readable import COORDINATES, NAMELESS, PALE, STUMBLES, TWICE, UNSHOWN
 
 SCREENS = ((1280, 800, False), (1024, 768, False), (1080, 810, False), (900, 700, False), (1024, 600, False),
            (768, 1024, True), (360, 740, True))
@@ -17,18 +19,17 @@ def no_dead_buttons(hall):
     number, ann, bob, _ = hall.begin(minutes='20')
     hall.play(FOOLS)
     bob.reads('#again', 'Rematch')
-    ann.run('location.hash = "#/"')
+    ann.goes('')
     hall.lobby.control('slow 700')
-    ann.run('location.hash = "#/game/%s"' % number)
+    ann.goes('game/' + number)
     time.sleep(0.3)
     hall.lobby.kill()
-    ann.until(lambda: ann.sees('#lost'), 'the answers are lost')
+    ann.finds('#lost', 'the answers are lost')
     hall.lobby.start()
     hall.lobby.control('slow 0')
-    ann.until(lambda: not ann.sees('#lost'), 'the lobby is back', 40)
+    ann.loses('#lost', 'the lobby is back', 40)
     ann.until(lambda: ann.sees('#again') and ann.find('#again').is_enabled(), 'the game is shown again')
-    ann.click('#again')
-    ann.until(lambda: not ann.driver.current_url.endswith('/' + number), 'another game is open')
+    ann.click('#again').until(lambda: not ann.driver.current_url.endswith('/' + number), 'another game is open')
     ann.reads('#outcome', 'Waiting for an opponent')
     ann.is_so(ann.complaints() == [], 'and no script has failed')
 
@@ -36,26 +37,22 @@ def no_dead_buttons(hall):
 def handy_moves(hall):
     """A king that is put on its rook castles; a mate is said behind its move; the tab says that a draw is offered."""
     _, ann, bob, sue = hall.begin(fen='r3k2r/pppppppp/8/8/8/8/PPPPPPPP/R3K2R w KQkq - 0 1', minutes='20')
-    ann.tap('e1')
-    ann.is_so('g1' in ann.lit() and 'h1' not in ann.lit(), 'the king’s squares are lit, and no rook')
+    ann.tap('e1').is_so('g1' in ann.lit() and 'h1' not in ann.lit(), 'the king’s squares are lit, and no rook')
     ann.tap('h1')
-    bob.until(lambda: bob.moves() == ['O-O'], 'the rook was meant as the square beside it')
-    bob.until(lambda: bob.lit('.movable'), 'is on move')
+    bob.moved(['O-O'], 'the rook was meant as the square beside it')
+    bob.on_move()
     bob.drag_move('e8a8')
-    ann.until(lambda: ann.moves() == ['O-O', 'O-O-O'], 'by dragging too, to the other side')
-    ann.until(lambda: ann.lit('.movable'), 'is on move')
-    ann.tap('g1')
-    ann.tap('f1')
-    ann.is_so(ann.lit('.held') == {'f1'}, 'where the king cannot castle the rook is taken')
+    ann.moved(['O-O', 'O-O-O'], 'by dragging too, to the other side')
+    ann.on_move()
+    ann.tap('g1', 'f1').is_so(ann.lit('.held') == {'f1'}, 'where the king cannot castle the rook is taken')
     ann.tap('a5')
     bob.click('#offer')
     ann.until(lambda: ann.driver.title.startswith('Draw offered:'), 'the tab says so')
-    ann.click('#decline')
-    ann.until(lambda: ann.driver.title.startswith('Your turn:'), 'and whose turn it is')
+    ann.click('#decline').until(lambda: ann.driver.title.startswith('Your turn:'), 'and whose turn it is')
     hall.open(minutes='20')
     hall.play(FOOLS)
     for person in (ann, bob, sue):
-        person.until(lambda: 'Black wins by checkmate' in person.said(), 'the end is said')
+        person.hears('Black wins by checkmate', 'the end is said')
         said = person.said()
         mate, end = said.find('queen h4, checkmate'), said.find('Black wins by checkmate')
         person.is_so(-1 < mate < end, 'behind the move: ' + said)
@@ -63,76 +60,60 @@ def handy_moves(hall):
 
 def full_names(hall):
     """Who watches without a link sees full names, also of players that sat down after the page was loaded."""
-    hall.sit()
-    sue = hall.sue
+    _, _, sue = hall.sit()
     number = hall.set_up()
     hall.watch(number)
     sue.until(lambda: hall.lobby.full['ann'] in sue.text('.facts'), 'who waits')
     hall.bob.click('[data-key="join-%s"]' % number)
     for name in ('ann', 'bob'):
         sue.until(lambda: hall.lobby.full[name] in sue.text('.facts'), 'who plays: ' + name)
-    sue.run('location.hash = "#/hall/%s"' % number)
-    sue.reads('#near .name', hall.lobby.full['ann'])
-    sue.run('location.hash = "#/"')
-    sue.until(lambda: hall.lobby.full['bob'] in sue.text('#running-list'), 'at the table too')
+    sue.goes('hall/' + number).reads('#near .name', hall.lobby.full['ann'])
+    sue.goes('').until(lambda: hall.lobby.full['bob'] in sue.text('#running-list'), 'at the table too')
 
 
 def planned(person):
     return person.lit('.planned')
 
 
-def moves_of(person):
-    """The moves that a page has sent."""
-    return [line for line in person.sent() if line.startswith('move')]
-
-
 def planned_moves(hall):
     """A move for the next turn: drawn, taken back by a click, sent where it is among those told, and else not."""
     number, ann, bob, sue = hall.begin(minutes='20', fen='rnbqkbnr/pppppppp/8/8/8/8/PPPPPPPP/RNBQKBNR w KQkq - 0 1')
     bob.until(lambda: bob.lit('.ahead'), 'Black’s men may be moved ahead')
-    bob.forget_sent()
-    bob.click_move('g8f6')
+    bob.forget_sent().click_move('g8f6')
     bob.until(lambda: planned(bob) == {'g8', 'f6'}, 'it is drawn')
     bob.reads('#outcome', 'Then g8–f6')
     bob.is_so(bob.men()['g8'] == 'black knight', 'and the man stands still')
-    bob.tap('d5')
-    bob.until(lambda: planned(bob) == set(), 'a click takes it back')
-    bob.drag_move('e7e5')
-    bob.until(lambda: planned(bob) == {'e7', 'e5'}, 'by dragging too')
-    bob.is_so(moves_of(bob) == [], 'nothing is sent before its turn')
+    bob.tap('d5').until(lambda: planned(bob) == set(), 'a click takes it back')
+    bob.drag_move('e7e5').until(lambda: planned(bob) == {'e7', 'e5'}, 'by dragging too')
+    bob.is_so(bob.sent('move') == [], 'nothing is sent before its turn')
     for person in (ann, sue):
         person.is_so(planned(person) == set(), 'nobody else is told')
     ann.click_move('e2e4')
-    for person in (ann, bob, sue):
-        person.until(lambda: person.moves() == ['e4', 'e5'], 'it is played at once')
-    bob.is_so(planned(bob) == set() and moves_of(bob) == ['move %s 1 e7e5' % number], 'and sent once')
-    bob.forget_sent()
-    bob.click_move('d7d3')
+    hall.all.moved(['e4', 'e5'], 'it is played at once')
+    bob.is_so(planned(bob) == set() and bob.sent('move') == ['move %s 1 e7e5' % number], 'and sent once')
+    bob.forget_sent().click_move('d7d3')
     bob.until(lambda: planned(bob) == {'d7', 'd3'}, 'one that cannot be')
     hall.play(['g1f3'], 2)
     bob.reads('#note', 'Your move from d7 to d3 cannot be made now')
-    bob.is_so(moves_of(bob) == [], 'is not sent')
+    bob.is_so(bob.sent('move') == [], 'is not sent')
     bob.until(lambda: bob.lit('.movable') and not planned(bob), 'and the turn is Black’s')
     hall.play(['b8c6'], 3)
     bob.click_move('g7g6')
-    bob.keys(Keys.HOME)
-    bob.reads('#outcome', 'An earlier position')
+    bob.keys(Keys.HOME).reads('#outcome', 'An earlier position')
     ann.click_move('f1b5')
     ann.until(lambda: ann.moves()[-2:] == ['Bb5', 'g6'], 'it is played for who looks at another position, too')
     hall.play(['b1c3'], 6)
-    bob.until(lambda: bob.lit('.movable'), 'is on move')
+    bob.on_move()
     hall.play(['g6g5'], 7)
     bob.keys('b')
-    at = bob.run('return document.activeElement.dataset.square')
+    at = bob.focused('dataset.square')
     bob.is_so(bool(at), 'the keys are on the board')
     bob.run('document.querySelector(\'#board [data-square="g8"]\').focus()')
-    bob.keys(Keys.ENTER)
-    bob.until(lambda: 'for your next move' in bob.said(), 'by keys it is said')
+    bob.keys(Keys.ENTER).hears('for your next move', 'by keys it is said')
     bob.run('document.querySelector(\'#board [data-square="f6"]\').focus()')
     bob.keys(Keys.ENTER)
     bob.until(lambda: 'Your next move: g8 to f6' in bob.said() and planned(bob) == {'g8', 'f6'}, 'and planned')
-    bob.keys(Keys.ESCAPE)
-    bob.until(lambda: planned(bob) == set(), 'Escape takes it back')
+    bob.keys(Keys.ESCAPE).until(lambda: planned(bob) == set(), 'Escape takes it back')
     bob.click_move('g8f6')
     ann.asked('#resign')
     bob.reads('#outcome', 'Black wins by resignation')
@@ -140,44 +121,36 @@ def planned_moves(hall):
     hall.open(minutes='20', fen='k7/8/8/8/8/8/p6P/K7 w - - 0 1')
     bob.until(lambda: bob.lit('.ahead'), 'Black’s men')
     bob.click_move('a2a1')
-    bob.click_move('a8b7')
-    bob.until(lambda: planned(bob) == {'a8', 'b7'}, 'the later one stands')
-    ann.click_move('h2h4')
-    ann.until(lambda: ann.moves() == ['h4', 'Kb7'], 'and is played')
+    bob.click_move('a8b7').until(lambda: planned(bob) == {'a8', 'b7'}, 'the later one stands')
+    ann.click_move('h2h4').moved(['h4', 'Kb7'], 'and is played')
 
 
 def asked_first(hall):
     """Where it is wished, a move on the board is sent only once it is agreed to, by a click or Enter."""
     _, ann, bob, _ = hall.begin(minutes='20')
-    ann.click('#settings summary')
-    ann.click('#ask-first')
+    ann.click('#settings summary', '#ask-first')
     ann.keys(Keys.ESCAPE)
-    ann.forget_sent()
-    ann.click_move('e2e4')
+    ann.forget_sent().click_move('e2e4')
     ann.reads('#proposed-words', 'Play pawn e2–e4?')
-    ann.is_so(ann.men().get('e4') == 'white pawn' and ann.run('return document.activeElement.id') == 'play-it',
+    ann.is_so(ann.men().get('e4') == 'white pawn' and ann.focused('id') == 'play-it',
               'the man stands there, and Enter agrees')
     ann.keys(Keys.ESCAPE)
     ann.until(lambda: not ann.sees('#proposed') and ann.men().get('e2') == 'white pawn', 'Escape takes it back')
     ann.click_move('d2d4')
-    ann.click('#take-it-back')
-    ann.until(lambda: ann.men().get('d2') == 'white pawn', 'so does the button')
-    ann.is_so(moves_of(ann) == [], 'nothing was sent')
+    ann.click('#take-it-back').until(lambda: ann.men().get('d2') == 'white pawn', 'so does the button')
+    ann.is_so(ann.sent('move') == [], 'nothing was sent')
     ann.click_move('d2d4')
     ann.click('#play-it')
-    bob.until(lambda: bob.moves() == ['d4'], 'who agrees has moved')
+    bob.moved(['d4'], 'who agrees has moved')
     hall.play(['d7d5'], 1)
     ann.moves_on('c2c4')
     ann.keys(Keys.ENTER)
-    bob.until(lambda: bob.moves() == ['d4', 'd5', 'c4'], 'by Enter too')
+    bob.moved(['d4', 'd5', 'c4'], 'by Enter too')
     hall.play(['e7e6'], 3)
     ann.moves_on('b1c3')
-    ann.keys(Keys.ARROW_LEFT)
-    ann.until(lambda: not ann.sees('#proposed'), 'who looks at another position takes it back')
-    ann.keys(Keys.END)
-    ann.until(lambda: ann.men().get('b1') == 'white knight', 'and sees what stands')
-    ann.click('#settings summary')
-    ann.click('#ask-first')
+    ann.keys(Keys.ARROW_LEFT).loses('#proposed', 'who looks at another position takes it back')
+    ann.keys(Keys.END).until(lambda: ann.men().get('b1') == 'white knight', 'and sees what stands')
+    ann.click('#settings summary', '#ask-first')
     ann.keys(Keys.ESCAPE)
     ann.click_move('b1c3')
     bob.until(lambda: bob.moves()[-1:] == ['Nc3'], 'unasked again')
@@ -192,7 +165,7 @@ def heard_tones(hall):
     _, ann, bob, _ = hall.begin(minutes='20')
     ann.run(HEARD)
     tones = lambda: [round(tone) for tone in ann.run('return window.tones.splice(0)')]
-    ann.is_so(ann.sees('#sound[aria-pressed=true]'), 'the switch is in sight, and on')
+    ann.has('#sound[aria-pressed=true]', 'the switch is in sight, and on')
     hall.play(['e2e4'])
     ann.until(lambda: tones() == [320], 'a move')
     hall.play(['d7d5', 'e4d5'], 1)
@@ -201,58 +174,38 @@ def heard_tones(hall):
     ann.until(lambda: tones() == [210, 320, 320, 640], 'a check')
     bob.click('#offer')
     ann.until(lambda: tones() == [440, 550], 'an offer')
-    ann.click('#sound')
-    ann.is_so(ann.sees('#sound[aria-pressed=false]'), 'off by one click')
+    ann.click('#sound').has('#sound[aria-pressed=false]', 'off by one click')
     ann.run('tones.length = 0')
     hall.play(['f1e2'], 6)
     bob.asked('#resign')
     ann.reads('#outcome', 'White wins by resignation')
     time.sleep(0.3)
     ann.is_so(tones() == [], 'then all is quiet')
-    ann.driver.refresh()
-    ann.until(lambda: ann.sees('#sound[aria-pressed=false]'), 'and after a new start')
+    ann.reload().finds('#sound[aria-pressed=false]', 'and after a new start')
     ann.run(HEARD)
-    ann.click('#sound')
-    ann.until(lambda: tones() == [320], 'on by another')
+    ann.click('#sound').until(lambda: tones() == [320], 'on by another')
     number = hall.set_up(minutes='0.4', increment='0')
     ann.run('tones.length = 0')
     bob.click('[data-key="join-%s"]' % number)
     ann.until(lambda: tones() == [880] * 3, 'low time', 30)
-    ann.asked('#resign')
-    ann.until(lambda: tones() == [520, 390], 'the end')
-
-
-def right_button(person, start, end=None, shift=False):
-    """The right button goes down on a square and up on another."""
-    points = []
-    for name in (start, end or start):
-        box = person.run('return arguments[0].getBoundingClientRect().toJSON()', person.square(name))
-        points.append((box['x'] + box['width'] / 2, box['y'] + box['height'] / 2))
-    for kind, (x, y) in zip(('mousePressed', 'mouseReleased'), points):
-        person.cdp('Input.dispatchMouseEvent', type='mouseMoved', x=x, y=y, button='right')
-        person.cdp('Input.dispatchMouseEvent', type=kind, x=x, y=y, button='right', clickCount=1,
-                   modifiers=8 if shift else 0)
+    ann.asked('#resign').until(lambda: tones() == [520, 390], 'the end')
 
 
 def own_marks(hall):
     """The right button draws circles and arrows, for oneself alone; the same again takes one away, a click all."""
-    hall.sit()
-    hall.open(minutes='20')
-    ann, sue = hall.ann, hall.sue
+    _, ann, _, sue = hall.begin(minutes='20')
     drawn = lambda person: person.run('''return [...document.querySelectorAll('#board .arrows > *')]
         .map((e) => e.getAttribute('class').trim())''')
-    ann.forget_sent()
-    right_button(ann, 'e4')
-    right_button(ann, 'g1', 'f3')
-    right_button(ann, 'd2', 'd4', shift=True)
+    ann.forget_sent().right_button('e4')
+    ann.right_button('g1', 'f3')
+    ann.right_button('d2', 'd4', shift=True)
     ann.until(lambda: drawn(ann) == ['circle', 'arrow', 'arrow other'], 'a circle and two arrows')
-    ann.is_so(ann.lit('.held') == set() and moves_of(ann) == [], 'no man is taken')
+    ann.is_so(ann.lit('.held') == set() and ann.sent('move') == [], 'no man is taken')
     ann.is_so(drawn(sue) == [], 'and nobody else sees it')
-    right_button(ann, 'g1', 'f3')
+    ann.right_button('g1', 'f3')
     ann.until(lambda: drawn(ann) == ['circle', 'arrow other'], 'the same again takes it away')
-    ann.tap('a5')
-    ann.until(lambda: drawn(ann) == [], 'a click takes all away')
-    right_button(sue, 'b8', 'c6')
+    ann.tap('a5').until(lambda: drawn(ann) == [], 'a click takes all away')
+    sue.right_button('b8', 'c6')
     sue.until(lambda: drawn(sue) == ['arrow'], 'who watches draws too')
     hall.play(['e2e4'])
     sue.until(lambda: drawn(sue) == [], 'another position has none')
@@ -270,8 +223,7 @@ def taken_men(hall):
         person.until(lambda: taken(person, '.player.black') == (0, ''), 'and who has lost it')
     sue.is_so(('image', 'Taken: queen; 6 more') in sue.heard() or ('img', 'Taken: queen; 6 more') in sue.heard(),
               'as it is heard')
-    sue.keys(Keys.ARROW_LEFT)
-    sue.until(lambda: taken(sue, '.player.white') == (0, ''), 'before it was taken')
+    sue.keys(Keys.ARROW_LEFT).until(lambda: taken(sue, '.player.white') == (0, ''), 'before it was taken')
     hall.open(minutes='20', fen='4k3/P7/8/8/8/8/8/4K3 w - - 0 1')
     ann.click_move('a7a8')
     ann.click('.promotion [aria-label=queen]')
@@ -281,9 +233,7 @@ def taken_men(hall):
 
 def boards_and_men(hall):
     """Three boards and three sets of men: chosen at once, on every board, and remembered."""
-    hall.sit()
-    hall.open(minutes='20')
-    ann = hall.ann
+    _, ann, _, _ = hall.begin(minutes='20')
     men = lambda: ann.run('''return [...document.querySelectorAll('#board .man')].map((e) => [e.src.split('/').pop(),
         e.complete && e.naturalWidth > 0])''')
     ground = 'return getComputedStyle(document.querySelector("#board .square.dark")).backgroundColor'
@@ -297,14 +247,13 @@ def boards_and_men(hall):
         ann.click('.choice:has([name=men][value=%s])' % chosen)
         names = (prefix + 'white-', prefix + 'black-')
         ann.until(lambda: all(name.startswith(names) and there for name, there in men()), 'the men of ' + chosen)
-    ann.click('.choice:has([name=men][value=bold])')
-    ann.click('.choice:has([name=board][value=blue])')
+    ann.click('.choice:has([name=men][value=bold])', '.choice:has([name=board][value=blue])')
     blue = ann.run(ground)
-    ann.driver.refresh()
+    ann.reload()
     ann.until(lambda: len(men()) == 32 and all(name.startswith('bold-') for name, _ in men()), 'after a new start')
     ann.is_so(ann.run(ground) == blue, 'the board too')
     ann.run('localStorage.removeItem("pieces"); localStorage.removeItem("board")')
-    ann.driver.refresh()
+    ann.reload()
 
 
 ELSEWHERE = '''window.told = []; window.asked = 0; window.isHidden = false;
@@ -317,17 +266,15 @@ LOOKS = 'window.isHidden = arguments[0]; document.dispatchEvent(new Event("visib
 
 def told_elsewhere(hall):
     """Whose turn it is and who looks elsewhere sees it at the tab's icon, and is told where that was agreed to."""
-    hall.sit()
+    ann, bob, _ = hall.sit()
     hall.fill(minutes='20')
-    ann, bob = hall.ann, hall.bob
     icon = lambda person: person.run('return document.querySelector("link[rel=icon]").getAttribute("href")')
     for person in (ann, bob):
         person.run('localStorage.removeItem("notices")')
         person.run(ELSEWHERE)
         if person.find('#keep-not'):
             person.click('#keep-not')
-    ann.click('#open-game')
-    ann.reads('#notices', 'Shall this browser tell you')
+    ann.click('#open-game').reads('#notices', 'Shall this browser tell you')
     ann.click('#notices-yes')
     ann.until(lambda: ann.run('return window.asked') == 1 and not ann.sees('#notices'), 'the browser is asked')
     number = ann.driver.current_url.rsplit('/', 1)[1]
@@ -340,7 +287,7 @@ def told_elsewhere(hall):
     ann.until(lambda: icon(ann) == 'icon.svg', 'who looks has seen it')
     hall.watch(number)
     hall.play(['e2e4'])
-    bob.is_so(not bob.sees('#notices'), 'nobody is asked at a board that runs')
+    bob.lacks('#notices', 'nobody is asked at a board that runs')
     bob.run(LOOKS, True)
     ann.run(LOOKS, True)
     before = len(told(ann))
@@ -348,80 +295,64 @@ def told_elsewhere(hall):
     ann.until(lambda: len(told(ann)) == before + 1, 'each turn is told once')
     bob.is_so(told(bob) == [], 'and nothing to who has not agreed')
     ann.run(LOOKS, False)
-    ann.run('location.hash = "#/"')
-    ann.until(lambda: ann.sees('#open-form'), 'the table')
-    ann.is_so(not ann.sees('#notices'), 'it is asked once')
-    for person in (ann, bob):
-        person.run('localStorage.removeItem("notices")')
-        person.driver.refresh()
+    ann.goes('').finds('#open-form', 'the table')
+    ann.lacks('#notices', 'it is asked once')
+    hall.both.run('localStorage.removeItem("notices")')
+    hall.both.reload()
 
 
 def slow_answers(hall):
     """A move that is not answered within a second looks as such, and within four the page says so."""
-    hall.sit()
-    hall.open(minutes='20')
-    ann = hall.ann
+    _, ann, _, _ = hall.begin(minutes='20')
     hall.lobby.control('slow 1800' if hall.lobby.is_real else 'slow 2500')
-    ann.click_move('e2e4')
-    ann.until(lambda: ann.sees('.board.sending .man.untold'), 'it looks as such', 3)
-    ann.reads('#outcome', 'Sending', 3)
+    ann.click_move('e2e4').finds('.board.sending .man.untold', 'it looks as such', 3)
+    ann.reads('#outcome', 'Sending', patience=3)
     ann.until(lambda: ann.moves() == ['e4'] and not ann.sees('.board.sending'), 'until it is answered', 8)
-    ann.is_so(not ann.sees('#note'), 'and nothing more is said')
+    ann.lacks('#note', 'and nothing more is said')
     hall.lobby.control('slow 0')
     hall.play(['e7e5'], 1)
-    ann.until(lambda: ann.lit('.movable'), 'is on move')
+    ann.on_move()
     hall.lobby.control('silent')
     time.sleep(0.3)
-    ann.click_move('g1f3')
-    ann.until(lambda: ann.sees('.board.sending .man.untold'), 'a line that hangs', 3)
-    ann.reads('#note', 'has not been answered for 4 seconds', 5)
+    ann.click_move('g1f3').finds('.board.sending .man.untold', 'a line that hangs', 3)
+    ann.reads('#note', 'has not been answered for 4 seconds', patience=5)
     hall.lobby.kill()
     hall.lobby.start()
-    ann.reads('#note', 'has not been taken so far', 40)
-    for person in hall.people.values():
-        person.driver.refresh()
+    ann.reads('#note', 'has not been taken so far', patience=40)
+    hall.all.reload()
 
 
 def foreign_links(hall):
     """A link cut short says so; another player's asks first; one's own new one does not; a closed one says so."""
-    hall.sit()
-    number = hall.open(minutes='20')
-    ann, bob, sue, tokens, full = hall.ann, hall.bob, hall.sue, hall.lobby.tokens, hall.lobby.full
-    sue.go('about:blank')
-    sue.go(hall.lobby.address + '#' + tokens['bob'][:20])
+    number, ann, bob, sue = hall.begin(minutes='20')
+    tokens, full = hall.lobby.tokens, hall.lobby.full
+    sue.go('about:blank').go(hall.lobby.address + '#' + tokens['bob'][:20])
     sue.reads('#told', 'This link is cut short: 20 of its 32')
     sue.is_so(sue.text('#who-name') == 'Not signed in', 'and not that one watches')
     sue.is_so(tokens['bob'][:20] not in sue.driver.current_url, 'it is out of the address bar')
-    ann.run('location.hash = "#" + arguments[0]', tokens['bob'][:31])
-    ann.reads('#told', 'This link is cut short: 31 of its 32')
+    ann.takes(tokens['bob'][:31]).reads('#told', 'This link is cut short: 31 of its 32')
     ann.is_so(ann.text('#who-name') == full['ann'], 'who is here stays')
-    ann.run('location.hash = "#/game/%s"' % number)
-    ann.until(lambda: ann.sees('#resign'), 'at the board')
-    ann.run('location.hash = "#" + arguments[0]', tokens['bob'])
+    ann.goes('game/' + number).finds('#resign', 'at the board')
+    ann.takes(tokens['bob'])
     ann.reads('#other-title', 'You are %s here. Play as %s instead?' % (full['ann'], full['bob']))
     kept = ann.run('return sessionStorage.getItem("token")')
     ann.is_so(ann.text('#who-name') == full['ann'] and kept == tokens['ann'], 'Ann until then')
-    ann.click('#other-no')
-    ann.until(lambda: not ann.sees('#other-dialog'), 'who stays')
-    ann.run('location.hash = "#/game/%s"' % number)
-    ann.until(lambda: ann.sees('#resign') and ann.lit('.movable'), 'has the seat still')
+    ann.click('#other-no').loses('#other-dialog', 'who stays')
+    ann.goes('game/' + number).until(lambda: ann.sees('#resign') and ann.lit('.movable'), 'has the seat still')
     ann.click_move('e2e4')
-    bob.until(lambda: bob.moves() == ['e4'], 'and plays on')
-    ann.run('location.hash = "#" + arguments[0]', tokens['bob'])
-    ann.click('#other-yes')
-    ann.until(lambda: ann.text('#who-name') == full['bob'], 'who agrees plays as the other')
+    bob.moved(['e4'], 'and plays on')
+    ann.takes(tokens['bob'])
+    ann.click('#other-yes').shows('#who-name', full['bob'], 'who agrees plays as the other')
     ann.run('sessionStorage.clear()')
     hall.sit('ann')
-    ann.run('location.hash = "#/game/%s"' % number)
-    ann.until(lambda: ann.sees('#resign'), 'ann is back')
+    ann.goes('game/' + number).finds('#resign', 'ann is back')
     found = by_lines(hall, 'eve', 'link ann', person=sue)[0]
-    ann.reads('#told', 'Your personal link does not hold', 9)
+    ann.reads('#told', 'Your personal link does not hold', patience=9)
     ann.is_so(ann.text('#who-name') == 'Watching' and not ann.sees('#resign'), 'without an act of hers')
     tokens['ann'] = found.rsplit(' ', 1)[1]
-    ann.run('location.hash = "#" + arguments[0]', tokens['ann'])
-    ann.until(lambda: ann.text('#who-name') == full['ann'], 'one’s own new link signs in')
-    ann.is_so(not ann.sees('#other-dialog'), 'and asks nothing')
-    sue.driver.refresh()
+    ann.takes(tokens['ann']).shows('#who-name', full['ann'], 'one’s own new link signs in')
+    ann.lacks('#other-dialog', 'and asks nothing')
+    sue.reload()
 
 
 OVERLAPS = '''const parts = ['#board .board', '#far', '#near', '.record', '#outcome', '#offered', '#actions',
@@ -440,21 +371,19 @@ ROOM = '''const [list, row] = ['#moves', '#moves li'].map((css) => document.quer
 
 def room_for_all(hall):
     """Screens of seven sizes: nothing lies over anything, the list of moves has room, the board is in sight."""
-    hall.sit()
-    number = hall.open(minutes='90', increment='30', second=('40', '30'))
+    number, ann, bob, sue = hall.begin(minutes='90', increment='30', second=('40', '30'))
     hall.play(['e2e4', 'e7e5', 'g1f3', 'b8c6', 'f1b5', 'a7a6', 'b5c6', 'd7c6', 'e1g1', 'f7f6'])
-    ann, bob, sue = hall.ann, hall.bob, hall.sue
     bob.click('#offer')
-    ann.until(lambda: ann.sees('#offered'), 'an offer')
+    ann.finds('#offered', 'an offer')
     for person in (ann, bob, sue):
         for width, height, phone in SCREENS:
             person.screen(width, height, 1, phone)
             time.sleep(0.3)
             what = '%s, %d x %d' % (person.name, width, height)
             person.is_so(person.run(OVERLAPS) == [], '%s: %s' % (what, person.run(OVERLAPS)))
-            wide = person.run('return document.documentElement.scrollWidth')
+            wide = person.width()
             person.is_so(wide <= width, what + ': nothing is beyond the side')
-            box = person.run('return document.querySelector("#board .board").getBoundingClientRect().toJSON()')
+            box = person.box('#board .board')
             person.is_so(box['top'] >= 0 and box['bottom'] <= height, '%s: the board is in sight: %s' % (what, box))
             low = person.run('return document.querySelector("#near .clock").getBoundingClientRect().bottom')
             person.is_so(low <= height, '%s: both clocks are in sight: %s' % (what, low))
@@ -473,31 +402,27 @@ def read_by_all(hall):
     for board in ('wood', 'green', 'blue'):
         ann.run('document.documentElement.dataset.board = arguments[0]', board)
         for dark in (False, True):
-            ann.media(dark)
-            ann.is_so(ann.run(COORDINATES) == [], 'coordinates on %s: %s' % (board, ann.run(COORDINATES)))
+            ann.media(dark).is_so(ann.run(COORDINATES) == [], 'coordinates on %s: %s' % (board, ann.run(COORDINATES)))
     ann.run('delete document.documentElement.dataset.board')
 
     def is_read(what):
         for dark in (True, False):
             ann.media(dark)
-            for script in (PALE, NAMELESS, TWICE):
+            for script in (PALE, NAMELESS, TWICE, STUMBLES):
                 ann.is_so(ann.run(script) == [], '%s: %s' % (what, ann.run(script)))
-    ann.click_move('e2e4')
-    ann.until(lambda: ann.sees('#proposed'), 'a move that is asked about')
+    ann.click_move('e2e4').finds('#proposed', 'a move that is asked about')
     is_read('a move that is asked about')
     ann.click('#play-it')
-    bob.until(lambda: bob.lit('.movable'), 'is on move')
-    ann.click_move('d2d4')
-    ann.until(lambda: planned(ann), 'a move ahead')
+    bob.on_move()
+    ann.click_move('d2d4').until(lambda: planned(ann), 'a move ahead')
     is_read('a move ahead')
     ann.keys(Keys.ESCAPE)
     for button, dialog in (('#resign', '#resign-dialog'), ('#help', '#help-dialog')):
-        ann.click(button)
-        ann.until(lambda: ann.sees(dialog), dialog)
+        ann.click(button).finds(dialog, dialog)
         is_read(dialog)
         ann.keys(Keys.ESCAPE)
     ann.run('localStorage.removeItem("ask-first")')
-    for view in ('#/', '#/hall', '#/game/' + number):
+    for view in ('#/', '#/hall', '#/again', '#/game/' + number):
         ann.run('location.hash = arguments[0]', view)
         time.sleep(0.4)
         ann.run('document.querySelector("#settings").open = true')
@@ -530,7 +455,7 @@ def fits(person, language):
     for width, height, phone in SCREENS:
         person.screen(width, height, 1, phone)
         time.sleep(0.2)
-        wide = person.run('return document.documentElement.scrollWidth')
+        wide = person.width()
         person.is_so(wide <= width, 'longer words fit into %d in %s: %d' % (width, language, wide))
         cut = person.run('''return [...document.querySelectorAll('button')].filter((e) => e.getClientRects().length
             && e.scrollWidth > e.clientWidth + 1).map((e) => e.textContent)''')
@@ -545,77 +470,186 @@ def left(person):
 def in_german(hall):
     """All words in German, by the switch or by what the browser wants, also in what is said; and English again."""
     number, ann, bob, sue = hall.begin(minutes='20')
-    ann.click('#settings summary')
-    ann.click('.choice:has([name=language][value=de])')
+    ann.click('#settings summary', '.choice:has([name=language][value=de])')
     ann.until(lambda: ann.run('return document.documentElement.lang') == 'de', 'chosen')
     ann.reads('#outcome', 'Du bist am Zug')
     ann.is_so(ann.driver.title.startswith('Du bist am Zug'), 'the tab too')
     ann.run('document.querySelector(\'#board [data-square="e2"]\').focus()')
-    square = ann.run('return document.activeElement.getAttribute("aria-label")')
+    square = ann.focused('getAttribute("aria-label")')
     ann.is_so(square == 'e2, weißer Bauer', 'and the squares: %s' % square)
     ann.is_so(left(ann) == [], 'nothing is English at the board: %s' % left(ann))
     ann.click_move('f2f3')
-    bob.until(lambda: bob.moves() == ['f3'], 'a move')
+    bob.moved(['f3'], 'a move')
     hall.play(FOOLS[1:2], 1)
-    ann.until(lambda: 'Schwarz: e5' in ann.said(), 'what is said')
-    ann.run('location.hash = "#/"')
-    ann.until(lambda: ann.sees('#open-game'), 'the table')
+    ann.hears('Schwarz: e5', 'what is said')
+    ann.goes('').finds('#open-game', 'the table')
     ann.is_so(left(ann) == [], 'nor at the table: %s' % left(ann))
-    ann.run('location.hash = "#/game/%s"' % number)
+    ann.goes('game/' + number)
     hall.play(FOOLS[2:], 2)
-    ann.reads('#outcome', 'Schwarz gewinnt durch Matt')
-    ann.reads('#outcome', 'Artikel 5.1.1 der FIDE-Regeln')
+    ann.reads('#outcome', 'Schwarz gewinnt durch Matt', 'Artikel 5.1.1 der FIDE-Regeln')
     ann.is_so(ann.moves()[-1] == 'Dh4#' and left(ann) == [], 'the sheet has the letters of German')
     ann.is_so('Qh4#' in truth(hall, number)[0]['pgn'] and bob.moves()[-1] == 'Qh4#', 'and no other place')
     sue.run('localStorage.setItem("language", "de")')
-    sue.run('location.hash = "#" + arguments[0]', hall.lobby.tokens['eve'])
-    sue.driver.refresh()
-    sue.click('#to-arbiter')
-    sue.until(lambda: sue.sees('#arbiter-desk'), 'the desk')
+    sue.takes(hall.lobby.tokens['eve'])
+    sue.reload()
+    sue.click('#to-arbiter').finds('#arbiter-desk', 'the desk')
     for panel in ('pair-by-hand', 'players-and-links'):
         sue.run('document.getElementById(arguments[0]).open = true', panel)
-    sue.until(lambda: sue.sees('[data-key="new-link-bob"]'), 'its parts')
+    sue.finds('[data-key="new-link-bob"]', 'its parts')
     sue.is_so(left(sue) == [], 'nor at the desk: %s' % left(sue))
     for person in (ann, sue):
         fits(person, 'de')
     for person in (ann, sue):
         person.run('localStorage.removeItem("language")')
-        person.driver.refresh()
-        person.until(lambda: person.run('return document.documentElement.lang') == 'en', 'English again')
+        person.reload().until(lambda: person.run('return document.documentElement.lang') == 'en', 'English again')
 
 
 def in_every_language(hall):
     """The words of one language alone are loaded, all is said in them, and they fit on every screen. A move is typed
     with its letters or with the English ones, and asked about where these mean two."""
-    hall.sit()
-    hall.open(minutes='20', fen=ROOK_AND_KING)
-    ann, sue = hall.ann, hall.sue
-    sue.run('location.hash = "#" + arguments[0]', hall.lobby.tokens['eve'])
+    _, ann, _, sue = hall.begin(minutes='20', fen=ROOK_AND_KING)
+    sue.takes(hall.lobby.tokens['eve'])
     sue.click('#to-arbiter')
     for language in ('de', 'es', 'fr', 'it', 'nl', 'pl', 'pt'):
         for person, place in ((ann, '#resign'), (sue, '#arbiter-desk .desk-card')):
             person.run('localStorage.setItem("language", arguments[0])', language)
-            person.driver.refresh()
-            person.until(lambda: person.sees(place), 'the page in %s' % language)
+            person.reload().finds(place, 'the page in %s' % language)
             tables = person.run(TABLES)
             person.is_so(tables == ['words-%s.js' % language], 'one table is loaded for %s: %s' % (language, tables))
             person.is_so(left(person) == [], 'nothing is English in %s: %s' % (language, left(person)))
             fits(person, language)
+        sue.goes('again').finds('#again-board', 'the board on which a game is looked at again')
+        sue.run('document.querySelector("#again-paste").open = true')
+        sue.is_so(left(sue) == [], 'nothing is English there in %s: %s' % (language, left(sue)))
+        fits(sue, language)
+        sue.goes('arbiter')
     ann.run('localStorage.setItem("language", "fr")')
-    ann.driver.refresh()
-    ann.until(lambda: ann.sees('#resign'), 'the page in French')
-    ann.type('#move-text', 'Rd1' + Keys.ENTER)
-    ann.reads('#note', 'Rd1 peut être un coup du roi')
+    ann.reload().finds('#resign', 'the page in French')
+    ann.type('#move-text', 'Rd1' + Keys.ENTER).reads('#note', 'Rd1 peut être un coup du roi')
     ann.is_so(ann.moves() == [], 'nothing was sent')
-    ann.type('#move-text', 'Ra5' + Keys.ENTER)
-    ann.until(lambda: ann.moves() == ['Ta5'], 'the rook alone can go there')
+    ann.type('#move-text', 'Ra5' + Keys.ENTER).moved(['Ta5'], 'the rook alone can go there')
     for person in (ann, sue):
         person.run('localStorage.removeItem("language")')
-        person.driver.refresh()
-        person.until(lambda: person.run('return document.documentElement.lang') == 'en', 'English again')
+        person.reload().until(lambda: person.run('return document.documentElement.lang') == 'en', 'English again')
+
+
+JOINS = 'return [...document.querySelectorAll("[data-key^=join-]")].map((e) => e.dataset.key)'
+
+
+def offers_end(hall):
+    """A game of one's own that waits is taken back: once another begins, after ten minutes, and where one's last page
+    is left; where it is loaded anew it is opened again, and it stays where another page is there."""
+    ann, bob, _ = hall.sit()
+    first, second = hall.set_up(), hall.set_up()
+    ann.reads('#outcome', 'It is taken back at', 'when you leave this page')
+    number = lambda: ann.driver.current_url.rsplit('/', 1)[1]
+    ann.reload().until(lambda: number() not in (first, second), 'loaded anew, they are opened again')
+    ann.reads('#outcome', 'Waiting for an opponent', 'It is taken back at')
+    waiting = lambda: [key.split('-')[1] for key in bob.run(JOINS)]
+    waits = lambda number: number in waiting()
+    bob.until(lambda: len(waiting()) == 2 and waits(number()), 'both wait')
+    second, = [one for one in waiting() if one == number()]
+    first, = [one for one in waiting() if one != second]
+    bob.click('[data-key="join-%s"]' % second)
+    hall.both.finds('#resign', 'the second begins')
+    ann.reads('#taken-back', 'Your other game that waited is taken back')
+    bob.goes('').until(lambda: not waits(first), 'and the first waits no more')
+    by_lines(hall, 'ann', 'resign ' + second)
+    third = hall.set_up()
+    ann.run('localStorage.setItem("opened", JSON.stringify({ [arguments[0]]: { at: Date.now() - 600000 } }))', third)
+    ann.reads('#taken-back', 'Nobody has joined your game in ten minutes').reads('#no-game', 'was taken off the table')
+    fourth = hall.set_up()
+    ann.driver.switch_to.new_window('tab')
+    ann.go(hall.lobby.address + '#' + hall.lobby.tokens['ann'])
+    ann.shows('#who-name', hall.lobby.full['ann'], 'a second page')
+    ann.finds('#own-list .game-row', 'which is told of the table')
+    ann.driver.close()
+    ann.driver.switch_to.window(ann.driver.window_handles[0])
+    time.sleep(1)
+    bob.is_so(waits(fourth), 'one of two pages is left: it waits')
+    ann.go('about:blank')
+    bob.until(lambda: not waits(fourth), 'the last page is left: it waits no more')
+
+
+PERFT = """const [fen, depth, done] = arguments; import('/rules.js').then(({ readFen, legalMoves, made }) => {
+    const count = (at, left) => (left === 0 ? 1
+      : legalMoves(at).reduce((sum, move) => sum + count(made(at, move), left - 1), 0));
+    done(count(readFen(fen), depth)); });"""
+# Positions, and how many lines of so many moves each has: known from elsewhere.
+COUNTED = (('rnbqkbnr/pppppppp/8/8/8/8/PPPPPPPP/RNBQKBNR w KQkq - 0 1', 3, 8902),
+           ('r3k2r/p1ppqpb1/bn2pnp1/3PN3/1p2P3/2N2Q1p/PPPBBPPP/R3K2R w KQkq - 0 1', 2, 2039),
+           ('8/2p5/3p4/KP5r/1R3p1k/8/4P1P1/8 w - - 0 1', 3, 2812),
+           ('r3k2r/Pppp1ppp/1b3nbN/nP6/BBP1P3/q4N2/Pp1P2PP/R2Q1RK1 w kq - 0 1', 3, 9467),
+           ('rnbq1k1r/pp1Pbppp/2p5/8/2B5/8/PPP1NnPP/RNBQK2R w KQ - 1 8', 2, 1486))
+PASTED = """[Event "A cup"]
+[White "Reti"]
+[Black "Tartakower"]
+[Result "1-0"]
+
+1. e4 c6 2. d4 d5 3. Nc3 dxe4 4. Nxe4 Nf6 {a plan} 5. Qd3 e5 (5... Nbd7 6. Nd6+) 6. dxe5 Qa5+ 7. Bd2 Qxe5
+8. O-O-O Nxe4 9. Qd8+ $1 Kxd8 10. Bg5+ Kc7 11. Bd8# 1-0
+"""
+TREE = '1.f3e5(1…d52.e4dxe4)2.g4Qh4#'
+
+
+def looked_at_again(hall):
+    """A game that is over, a PGN and a FEN on a board on which both sides are moved, by the rules, with variations that
+    the browser keeps, and a PGN of it that others read; but no game in which one plays."""
+    number, ann, _, sue = hall.begin(minutes='20')
+    ann.lacks('#look-again', 'not while one plays')
+    ann.goes('again/' + number).reads('#again-note', 'You play in this game')
+    ann.goes('game/' + number)
+    hall.play(FOOLS)
+    ann.click('#look-again').shows('#again-moves', '1.f3e52.g4Qh4#', 'its moves')
+    ann.board = '#again-board'
+    ann.click('#again-next').until(lambda: ann.men().get('f3') == 'white pawn', 'a move on')
+    ann.tap('e7').is_so(ann.lit() == {'e6', 'e5'}, 'the pawn’s two squares')
+    ann.forget_sent().tap('a4').click_move('d7d5').click_move('e2e4')
+    ann.drag_move('d5e4').shows('#again-moves', TREE, 'a variation')
+    ann.is_so(ann.sent('move') == [], 'nothing is sent')
+    ann.reload().shows('#again-moves', TREE, 'which the browser keeps')
+    ann.click('#again-copy-pgn').reads('#again-note', 'PGN is copied')
+    ann.is_so('1. f3 e5 (1... d5 2. e4 dxe4) 2. g4 Qh4# 0-1' in ann.clipboard(), 'a PGN: ' + ann.clipboard())
+    program = shutil.which('pgn-extract') or '/usr/games/pgn-extract'
+    read = subprocess.run([program, '-s', '-Wlalg'], input=ann.clipboard(), capture_output=True, text=True)
+    ann.is_so('f2f3 e7e5 (' in read.stdout and read.stderr == '', 'that others read: %s' % read)
+    for width, height, phone in SCREENS:
+        ann.screen(width, height, 1, phone)
+        time.sleep(0.3)
+        box, what = ann.box('#again-board .board'), '%d x %d' % (width, height)
+        ann.is_so(ann.width() <= width, what + ': nothing is beyond the side')
+        ann.is_so(box['top'] >= 0 and box['bottom'] <= height, '%s: the board is in sight: %s' % (what, box))
+        ann.is_so(box['width'] >= 0.4 * min(width, height), '%s: and large: %s' % (what, box))
+    ann.screen(1280, 800).click('#again-next', '#again-next', '#again-cut')
+    ann.shows('#again-moves', '1.f3d52.e4dxe4', 'cut')
+    ann.click('#again-anew').shows('#again-moves', '1.f3e52.g4Qh4#', 'as it was told')
+    paste(sue.goes('again'), PASTED.replace('Nxe4 Nf6', 'Nxe4 Ne4'))
+    sue.reads('#again-note', 'Ne4 cannot be played there').is_so('4.Nxe4' in sue.text('#again-moves'), 'up to there')
+    paste(sue, PASTED)
+    sue.until(lambda: '(5…Nbd76.Nd6+)' in sue.text('#again-moves'), 'a PGN with a variation')
+    sue.reads('#again-who', 'Reti – Tartakower').keys(Keys.END)
+    sue.shows('#again-moves [aria-current]', 'Bd8#', 'the end')
+    paste(sue, 'r3k2r/1P6/8/8/8/8/8/R3K2R w KQkq - 0 1')
+    sue.board = '#again-board'
+    sue.until(lambda: len(sue.men()) == 7, 'a FEN').tap('e1', 'h1')
+    sue.shows('#again-moves', '1.O-O', 'castles').keys(Keys.ARROW_LEFT).tap('b7', 'b8').click('[aria-label=knight]')
+    sue.shows('#again-moves', '1.O-O(1.b8=N)', 'a pawn becomes a knight')
+    paste(sue, 'a word')
+    sue.reads('#again-note', 'neither a FEN nor a PGN')
+    for fen, depth, wanted in COUNTED:
+        found = sue.driver.execute_async_script(PERFT, fen, depth)
+        sue.is_so(found == wanted, '%s lines of %d moves from %s' % (found, depth, fen))
+    ann.board = sue.board = '#board'
+
+
+def paste(person, text):
+    if not person.run('return document.querySelector("#again-paste").open'):
+        person.click('#again-paste summary')
+    person.run('document.querySelector("#again-text").value = arguments[0]', text)
+    person.click('#again-form button')
 
 
 NEEDS_CONTROL_TOO = (no_dead_buttons, slow_answers)
 EVENING = (no_dead_buttons, handy_moves, full_names, planned_moves, asked_first, heard_tones, own_marks, taken_men,
            boards_and_men, told_elsewhere, slow_answers, foreign_links, room_for_all, read_by_all, in_german,
-           in_every_language)
+           in_every_language, offers_end, looked_at_again)

@@ -41,6 +41,21 @@ UNSHOWN = '''const e = document.activeElement, style = getComputedStyle(e), labe
     && parseFloat(getComputedStyle(one).outlineWidth) >= 2;
   const inside = getComputedStyle(e, '::before').boxShadow, isHeading = /^(H\\d|MAIN|BODY)$/.test(e.tagName);
   return shows(e) || shows(label) || inside && inside !== 'none' || isHeading ? '' : e.outerHTML.slice(0, 90);'''
+# What assistive software stumbles over: a picture without a text, an element that is named and is not there, a thing to
+# press within another, a list that has more than its items, an order of the keys of its own, a view without one first
+# heading.
+STUMBLES = '''const wrong = [], press = 'button, a[href], summary, [role=button]';
+  const tell = (e, why) => wrong.push(`${why}: ${e.outerHTML.slice(0, 80)}`);
+  for (const e of document.querySelectorAll('img:not([alt])')) tell(e, 'no text');
+  for (const name of ['aria-labelledby', 'aria-describedby', 'aria-controls', 'for'])
+    for (const e of document.querySelectorAll(`[${name}]`))
+      if (e.getAttribute(name).split(' ').some((id) => !document.getElementById(id))) tell(e, name);
+  for (const e of document.querySelectorAll(press)) if (e.parentElement.closest(press)) tell(e, 'within another');
+  for (const e of document.querySelectorAll('ul > :not(li), ol > :not(li)')) tell(e, 'no item');
+  for (const e of document.querySelectorAll('[tabindex]')) if (e.tabIndex > 0) tell(e, 'an order of its own');
+  const heads = [...document.querySelectorAll('h1')].filter((e) => e.getClientRects().length).length;
+  if (heads !== 1 && !document.querySelector('dialog[open]')) wrong.push(`${heads} first headings`);
+  return wrong;'''
 # Ids that stand twice.
 TWICE = '''const ids = [...document.querySelectorAll('[id]')].map((e) => e.id);
   return ids.filter((id, at) => ids.indexOf(id) !== at);'''

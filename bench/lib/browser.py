@@ -12,7 +12,7 @@ from selenium.webdriver.common.keys import Keys
 from lib.chromium import chromium
 from lib.program import Wrong
 
-PATIENCE = 20
+PATIENCE = 60
 # What the page sends is written down before the socket takes it, and what stands behind # when the body begins.
 SPY = '''new MutationObserver((_, watch) => {
   if (document.body) { window.hashAtBody = location.hash; watch.disconnect(); } }).observe(document, {childList: true,
@@ -29,17 +29,33 @@ WebSocket.prototype.send = function (line) {
   return window.spied.call(this, line); };'''
 
 
-def each_reads(people, css, part, patience=PATIENCE):
-    for person in people:
-        person.reads(css, part, patience)
+class Together:
+    """Several persons, of whom each does or sees the same, one after the other."""
+
+    def __init__(self, *people):
+        self.people = people
+
+    def __iter__(self):
+        return iter(self.people)
+
+    def __getattr__(self, name):
+        def each(*words, **how):
+            for person in self.people:
+                getattr(person, name)(*words, **how)
+            return self
+        return each
 
 
 class Person:
+    """What is done, looked at and waited for returns the person, so that an act and what it shows stand in one line. Of
+    a thing that is waited for, `what` says it in words."""
+
     def __init__(self, name, folder, checked):
-        self.name, self.checked = name, checked
+        self.name, self.checked, self.board = name, checked, '#board'
         self.driver = chromium(os.path.join(folder, 'profile-' + name), '--hide-scrollbars',
                                '--disable-renderer-backgrounding', '--disable-background-timer-throttling')
         self.cdp('Page.addScriptToEvaluateOnNewDocument', source=SPY)
+        self.cdp('Browser.grantPermissions', permissions=['clipboardReadWrite'])
         self.screen(1280, 800)
 
     def cdp(self, word, **given):
@@ -49,11 +65,13 @@ class Person:
         self.cdp('Emulation.setDeviceMetricsOverride', width=width, height=height,
                  deviceScaleFactor=scale, mobile=phone)
         self.cdp('Emulation.setTouchEmulationEnabled', enabled=phone)
+        return self
 
     def media(self, dark=False, still=False):
         self.cdp('Emulation.setEmulatedMedia', features=[
             {'name': 'prefers-color-scheme', 'value': 'dark' if dark else 'light'},
             {'name': 'prefers-reduced-motion', 'value': 'reduce' if still else 'no-preference'}])
+        return self
 
     def close(self):
         try:
@@ -65,6 +83,21 @@ class Person:
 
     def go(self, address):
         self.driver.get(address)
+        return self
+
+    def goes(self, view):
+        """To another view of the page: '' is the table."""
+        self.run('location.hash = "#/" + arguments[0]', view)
+        return self
+
+    def takes(self, token):
+        """A personal link is opened."""
+        self.run('location.hash = "#" + arguments[0]', token)
+        return self
+
+    def reload(self):
+        self.driver.refresh()
+        return self
 
     def run(self, script, *given):
         return self.driver.execute_script(script, *given)
@@ -92,7 +125,7 @@ class Person:
             try:
                 if holds():
                     self.checked(what)
-                    return
+                    return self
                 error = ''
             except (WebDriverException, TypeError, AttributeError) as now:
                 error = ' (%s)' % str(now).splitlines()[0]
@@ -104,25 +137,68 @@ class Person:
         if not holds:
             raise Wrong('%s: %s' % (self.name, what))
         self.checked(what)
+        return self
 
-    def reads(self, css, part, patience=PATIENCE):
-        try:
-            self.until(lambda: part in self.text(css), '%s reads %r' % (css, part), patience)
-        except Wrong as wrong:
-            raise Wrong('%s; it reads %r' % (wrong, self.text(css))) from None
+    def has(self, css, what):
+        return self.is_so(self.sees(css), what)
+
+    def lacks(self, css, what):
+        return self.is_so(not self.sees(css), what)
+
+    def finds(self, css, what, patience=PATIENCE):
+        return self.until(lambda: self.sees(css), what, patience)
+
+    def loses(self, css, what, patience=PATIENCE):
+        return self.until(lambda: not self.sees(css), what, patience)
+
+    def shows(self, css, text, what, patience=PATIENCE):
+        return self.until(lambda: self.text(css) == text, what, patience)
+
+    def moved(self, moves, what):
+        return self.until(lambda: self.moves() == moves, what)
+
+    def on_move(self):
+        return self.until(lambda: self.lit('.movable'), 'is on move')
+
+    def hears(self, part, what):
+        return self.until(lambda: part in self.said(), what)
+
+    def reads(self, css, *parts, patience=PATIENCE):
+        """Each of these parts of a text stands there."""
+        for part in parts:
+            try:
+                self.until(lambda: part in self.text(css), '%s reads %r' % (css, part), patience)
+            except Wrong as wrong:
+                raise Wrong('%s; it reads %r' % (wrong, self.text(css))) from None
+        return self
+
+    def focused(self, what):
+        """This of the element that has the keys."""
+        return self.run('return document.activeElement.' + what)
+
+    def box(self, css):
+        """Where an element stands."""
+        return self.run('return document.querySelector(arguments[0]).getBoundingClientRect().toJSON()', css)
+
+    def width(self):
+        return self.run('return document.documentElement.scrollWidth')
+
+    def clipboard(self):
+        return self.driver.execute_async_script('navigator.clipboard.readText().then(arguments[0])')
 
     def men(self):
         """The men on the board by the names of the squares, as who listens hears them."""
-        return self.run('''return Object.fromEntries([...document.querySelectorAll('#board [data-square]')]
+        return self.run('''return Object.fromEntries([...document.querySelectorAll(arguments[0] + ' [data-square]')]
             .map((e) => [e.dataset.square, (e.getAttribute('aria-label').match(/(white|black) \\w+/) || [''])[0]])
-            .filter((pair) => pair[1]))''')
+            .filter((pair) => pair[1]))''', self.board)
 
     def lit(self, kind='.target, .taking'):
-        return set(self.run('''return [...document.querySelectorAll('#board .square')]
-            .filter((e) => e.matches(arguments[0])).map((e) => e.dataset.square)''', kind))
+        return set(self.run('''return [...document.querySelectorAll(arguments[1] + ' .square')]
+            .filter((e) => e.matches(arguments[0])).map((e) => e.dataset.square)''', kind, self.board))
 
-    def sent(self):
-        return self.run('return window.sentLines')
+    def sent(self, front=''):
+        """The lines that the page has sent which begin so."""
+        return [line for line in self.run('return window.sentLines') if line.startswith(front)]
 
     def breaches(self):
         """Refusals that a page never has to bring about: no line of the protocol, too fast, too many watched."""
@@ -130,6 +206,7 @@ class Person:
 
     def forget_sent(self):
         self.run('window.sentLines.length = 0')
+        return self
 
     def said(self):
         return self.text('#says')
@@ -145,69 +222,85 @@ class Person:
 
     # ---- doing
 
-    def click(self, css):
-        def clicked():
-            found = self.find(css)
-            if found is None or not found.is_enabled():
-                return False
-            found.click()
-            return True
-        self.until(clicked, 'there is %s to click' % css)
+    def click(self, *places):
+        for css in places:
+            def clicked():
+                found = self.find(css)
+                if found is None or not found.is_enabled():
+                    return False
+                found.click()
+                return True
+            self.until(clicked, 'there is %s to click' % css)
+        return self
 
     def type(self, css, text):
         field = self.find(css)
         field.clear()
         field.send_keys(text)
+        return self
 
     def square(self, name):
-        return self.driver.find_element(By.CSS_SELECTOR, '#board [data-square="%s"]' % name)
+        return self.driver.find_element(By.CSS_SELECTOR, '%s [data-square="%s"]' % (self.board, name))
+
+    def middles(self, names):
+        """Where the middles of these squares stand."""
+        boxes = [self.run('return arguments[0].getBoundingClientRect().toJSON()', self.square(name)) for name in names]
+        return [{'x': box['x'] + box['width'] / 2, 'y': box['y'] + box['height'] / 2} for box in boxes]
 
     def actions(self):
         return ActionChains(self.driver, duration=20)
 
-    def tap(self, name):
-        self.actions().move_to_element(self.square(name)).click().perform()
+    def tap(self, *names):
+        for name in names:
+            self.actions().move_to_element(self.square(name)).click().perform()
+        return self
 
     def click_move(self, move):
-        self.tap(move[:2])
-        self.tap(move[2:4])
+        return self.tap(move[:2], move[2:4])
 
     def moves_on(self, move):
         """Moves once it is on move."""
-        self.until(lambda: self.lit('.movable'), 'on move')
-        self.click_move(move)
+        return self.on_move().click_move(move)
 
     def asked(self, button, answer='yes'):
         """Presses a button, and answers what its dialog asks."""
-        self.click(button)
-        self.click('%s-dialog [value=%s]' % (button, answer))
+        return self.click(button, '%s-dialog [value=%s]' % (button, answer))
 
-    def drag_move(self, move):
-        start, end = self.square(move[:2]), self.square(move[2:4])
-        self.actions().move_to_element(start).click_and_hold().move_to_element(end).release().perform()
+    def drag_move(self, *moves):
+        for move in moves:
+            start, end = self.square(move[:2]), self.square(move[2:4])
+            self.actions().move_to_element(start).click_and_hold().move_to_element(end).release().perform()
+        return self
 
     def touch(self, *squares):
         """A finger goes down on the first square, over the others, and up at the last."""
-        points = []
-        for name in squares:
-            box = self.run('return arguments[0].getBoundingClientRect().toJSON()', self.square(name))
-            points.append({'x': box['x'] + box['width'] / 2, 'y': box['y'] + box['height'] / 2})
+        points = self.middles(squares)
         self.cdp('Input.dispatchTouchEvent', type='touchStart', touchPoints=points[:1])
         for point in points[1:]:
             self.cdp('Input.dispatchTouchEvent', type='touchMove', touchPoints=[point])
         self.cdp('Input.dispatchTouchEvent', type='touchEnd', touchPoints=[])
+        return self
+
+    def right_button(self, start, end=None, shift=False):
+        """The right button goes down on a square and up on another."""
+        for kind, point in zip(('mousePressed', 'mouseReleased'), self.middles((start, end or start))):
+            self.cdp('Input.dispatchMouseEvent', type='mouseMoved', button='right', **point)
+            self.cdp('Input.dispatchMouseEvent', type=kind, button='right', clickCount=1, modifiers=8 if shift else 0,
+                     **point)
 
     def keys(self, *keys):
         chain = self.actions()
         for key in keys:
             chain = chain.send_keys(key)
         chain.perform()
+        return self
 
     def tab_to(self, css, most=90):
         """Tab until this has the keys."""
         for _ in range(most):
             if self.run('return document.activeElement.matches(arguments[0])', css):
-                return self.checked('Tab comes to ' + css)
+                self.checked('Tab comes to ' + css)
+                return self
             self.keys(Keys.TAB)
         raise Wrong('%s: Tab does not come to %s' % (self.name, css))
 

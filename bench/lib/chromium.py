@@ -6,6 +6,7 @@ import sys
 from lib.program import stop
 
 SYSTEM = '/usr/bin/python3'
+STARTS_WITHIN = 300000          # milliseconds: on a busy machine
 
 
 def take_selenium(packages='chromium chromium-driver python3-selenium'):
@@ -29,5 +30,6 @@ def chromium(profile, *words):
                  '--disable-background-networking', '--user-data-dir=' + profile, *words,
                  *filter(None, os.environ.get('CHROMIUM_WORDS', '').split(','))):
         options.add_argument(word)
+    options.add_experimental_option('browserStartupTimeout', STARTS_WITHIN)
     options.set_capability('goog:loggingPrefs', {'browser': 'ALL'})
     return webdriver.Chrome(service=Service(os.environ.get('CHROMEDRIVER', '/usr/bin/chromedriver')), options=options)

@@ -1,0 +1,259 @@
+// The board on which a game is looked at again: both sides are moved, for oneself alone, and what was tried is kept in
+// the browser. A game comes from the lobby, or from a PGN or a FEN that is pasted.
+
+import { Board } from './board.js';
+import { t } from './language.js';
+import { readLine, readPgn, readRefusal, squaresOf } from './lines.js';
+import { byId, copy, make, read, save, say, setText, write } from './make.js';
+import { fenOf, isInCheck, legalMoves } from './rules.js';
+import { keepInSight } from './sheet.js';
+import { begin, endOf, graft, isMain, makeMain, pgnOf, play, readGame, takeOut } from './study.js';
+import { refusalWords, sanShown, sanWords } from './words.js';
+
+const local = () => localStorage;
+
+export class AgainView {
+  constructor(app) {
+    this.app = app;
+    this.root = byId('again-view');
+    this.hash = '#/again';
+    this.board = new Board({ chosen: (move) => this.chosen(move), planned: () => {}, says: say });
+    byId('again-board').append(this.board.root);
+    this.buttons = new Map();          // position -> its button
+    this.turned = false;
+    this.number = -1;
+    this.tags = {};
+    this.start = this.at = begin();
+    this.listen();
+  }
+
+  listen() {
+    const on = (id, act) => byId(id).addEventListener('click', act);
+    on('again-first', () => this.goTo(this.start));
+    on('again-previous', () => this.goTo(this.at.parent));
+    on('again-next', () => this.goTo(this.at.next[0]));
+    on('again-last', () => this.goTo(endOf(this.at)));
+    on('again-turn', () => this.turn());
+    on('again-main', () => this.change(() => makeMain(this.at)));
+    on('again-cut', () => this.change(() => { this.at = takeOut(this.at); }));
+    on('again-anew', () => this.anew());
+    on('again-copy-fen', () => this.share('FEN', fenOf(this.at.position)));
+    on('again-copy-pgn', () => this.share('PGN', pgnOf(this)));
+    on('again-save-pgn', () => save(`game-${this.number || 'again'}.pgn`, 'application/x-chess-pgn', pgnOf(this)));
+    byId('again-form').addEventListener('submit', (event) => {
+      event.preventDefault();
+      this.paste(byId('again-text').value);
+    });
+  }
+
+  // ---- coming and going
+
+  open(number) {
+    this.root.hidden = false;
+    if (number !== this.number) {
+      this.number = number;
+      this.turned = false;
+      this.note('');
+      this.set(number ? { tags: {}, start: begin() } : this.kept() || { tags: {}, start: begin() });
+    }
+    if (number) this.load();
+    this.render();
+  }
+
+  close() {
+    this.root.hidden = true;
+  }
+
+  /** The games that this view has to be told of. */
+  needs() {
+    return [];
+  }
+
+  key() {
+    return this.number ? `again-${this.number}` : 'again';
+  }
+
+  /** What this browser keeps of this game. */
+  kept() {
+    return readGame(read(local, this.key()) || '');
+  }
+
+  /** The game as the lobby tells it, and behind that what was tried before. */
+  async load() {
+    const { number } = this, wire = this.app.wire;
+    const [line, pgn] = await Promise.all([wire.say(`line ${number}`), wire.say(`pgn ${number}`)]);
+    const refusal = readRefusal(line[0]), rows = line[0].startsWith('ok ') ? readLine(line.slice(1)) : [];
+    if (number !== this.number) return;
+    if (refusal) this.note(refusalWords(refusal));
+    const start = rows.length ? begin(rows[0].fen) : null;
+    if (!start || !pgn[0].startsWith('ok ')) return;
+    const { tags } = readPgn(pgn.slice(1)), kept = this.kept(), isOwn = this.plays(tags);
+    rows.slice(1).reduce((at, { text, san }) => play(at, text, san), start);
+    const isOfIt = kept && kept.tags.White === tags.White && kept.tags.Black === tags.Black
+      && fenOf(kept.start.position) === fenOf(start.position);
+    if (isOfIt && !isOwn) graft(start, kept.start);
+    const path = pathOf(this.at);
+    this.set({ tags, start }, isOwn ? [] : path);
+    if (isOwn) this.note(t`You play in this game: look at it again once it is over.`);
+  }
+
+  /** Whether one's own game goes on. */
+  plays(tags) {
+    const me = this.app.me();
+    return Boolean(me) && tags.Result === '*' && (tags.White === me || tags.Black === me);
+  }
+
+  /** Another tree, at the position to which these moves lead as far as it has them. */
+  set({ tags, start }, path = []) {
+    Object.assign(this, { tags, start, at: start });
+    for (const text of path) this.at = this.at.next.find((one) => one.text === text) || this.at;
+    this.drawMoves();
+    this.render();
+  }
+
+  paste(text) {
+    const game = readGame(text);
+    if (!game) {
+      this.note(t`That is neither a FEN nor a PGN.`);
+      return;
+    }
+    byId('again-text').value = '';
+    byId('again-paste').open = false;
+    this.number = 0;
+    history.replaceState(null, '', '#/again');
+    this.set(game);
+    this.keep();
+    this.note(game.wrong ? t`${game.wrong} cannot be played there: what stands before it is on the board.` : '');
+    this.board.focus();
+  }
+
+  /** What was tried goes, and the game as it was told stands again. */
+  anew() {
+    write(local, this.key(), null);
+    this.set({ tags: {}, start: begin() });
+    if (this.number) this.load();
+  }
+
+  keep() {
+    if (!write(local, this.key(), pgnOf(this))) this.note(t`This browser keeps nothing: copy the PGN.`);
+  }
+
+  // ---- moving
+
+  chosen(move) {
+    this.at = play(this.at, move);
+    this.drawMoves();
+    this.keep();
+    this.shown();
+  }
+
+  change(act) {
+    act();
+    this.drawMoves();
+    this.keep();
+    this.render();
+    if (document.activeElement === document.body) this.board.focus();
+  }
+
+  goTo(at) {
+    if (!at) return;
+    this.at = at;
+    this.shown();
+  }
+
+  shown() {
+    this.render();
+    say(this.at.san ? sanWords(this.at.san) : t`the start`);
+  }
+
+  turn() {
+    this.turned = !this.turned;
+    this.render();
+  }
+
+  /** What a key does here. */
+  keys() {
+    return {
+      ArrowLeft: () => this.goTo(this.at.parent), ArrowRight: () => this.goTo(this.at.next[0]),
+      Home: () => this.goTo(this.start), End: () => this.goTo(endOf(this.at)),
+      f: () => this.turn(), b: () => this.board.focus(),
+    };
+  }
+
+  async share(what, text) {
+    const done = await copy(text);
+    if (done) this.note(t`${what} is copied.`, 'news');
+    else this.note(t`The ${what} could not be copied. Save it instead.`);
+  }
+
+  note(text, kind = 'refused') {
+    byId('again-note').className = text ? `note ${kind}` : 'note';
+    setText(byId('again-note'), text);
+  }
+
+  // ---- drawing
+
+  render() {
+    if (this.root.hidden) return;
+    const { position, text, parent, next } = this.at, { White, Black, Result } = this.tags;
+    this.board.show({ fen: fenOf(position), last: squaresOf(text), check: isInCheck(position),
+      moves: legalMoves(position), turned: this.turned });
+    setText(byId('again-title'), this.number ? t`Game ${this.number}` : t`Look at a game again`);
+    setText(byId('again-who'), White ? `${this.nameOf(White)} – ${this.nameOf(Black)}  ${Result || ''}` : '');
+    byId('again-back').hidden = !this.number;
+    byId('again-back').href = `#/game/${this.number}`;
+    byId('again-first').disabled = byId('again-previous').disabled = !parent;
+    byId('again-next').disabled = byId('again-last').disabled = !next.length;
+    byId('again-main').disabled = isMain(this.at);
+    byId('again-cut').disabled = !parent;
+    for (const [at, button] of this.buttons) {
+      if (at === this.at) button.setAttribute('aria-current', 'true');
+      else button.removeAttribute('aria-current');
+    }
+    const current = this.buttons.get(this.at);
+    if (current) keepInSight(byId('again-moves'), current);
+    this.app.titled(byId('again-title').textContent);
+  }
+
+  nameOf(name) {
+    return name ? this.app.nameWords(name) : '';
+  }
+
+  drawMoves() {
+    this.buttons.clear();
+    byId('again-moves').replaceChildren(...this.movesBehind(this.start, true));
+  }
+
+  /** The moves behind a position, each a button, with the variations behind the move beside which they stand. */
+  movesBehind(from, isFirst) {
+    const parts = [];
+    let fresh = isFirst, at = from;
+    while (at.next.length) {
+      const [main, ...others] = at.next;
+      parts.push(...this.move(main, fresh));
+      for (const one of others) {
+        parts.push(make('span', { class: 'variation' }, '(', ...this.move(one, true), ...this.movesBehind(one, false),
+          ')'));
+      }
+      fresh = others.length > 0;
+      at = main;
+    }
+    return parts;
+  }
+
+  move(at, fresh) {
+    const { side, full } = at.parent.position, number = side === 'w' ? `${full}.` : fresh ? `${full}…` : '';
+    const button = make('button', { type: 'button', class: 'ply', 'aria-label':
+      `${full}${side === 'b' ? t`, Black` : ''}: ${sanWords(at.san)}`, onclick: () => this.goTo(at) }, sanShown(at.san));
+    this.buttons.set(at, button);
+    return [number && make('span', { class: 'number', 'aria-hidden': 'true' }, number), button,
+      at.comment && make('span', { class: 'small' }, at.comment)].filter(Boolean);
+  }
+}
+
+/** The moves that lead to a position. */
+function pathOf(at) {
+  const path = [];
+  for (let one = at; one.parent; one = one.parent) path.unshift(one.text);
+  return path;
+}
