@@ -18,6 +18,11 @@ class Gone(Exception):
     """The connection is gone, or the lobby's to the server."""
 
 
+def milliseconds():
+    """Unix time."""
+    return int(time.time() * 1000)
+
+
 def token_of(name):
     """The token that a player of a bench has."""
     return hashlib.sha256(('token of ' + name).encode()).hexdigest()[:32]
@@ -178,7 +183,7 @@ class Seat:
 
 class Person(Seat):
     """Somebody's seat, with all acts that were said from it: each its line, its answer, where that was not lost on the
-    way, and the moments at which it was sent and answered. Without a name it is one who watches."""
+    way, the moments at which it was sent and answered, and both in Unix time. Without a name it is one who watches."""
 
     patience, timeout, stays = 90, 15, True
 
@@ -208,18 +213,19 @@ class Person(Seat):
         answer = super().say(line)
         if answer.startswith(('lost', 'no 36 ')):
             self.is_lost = True
-            raise Gone
+            raise Gone(answer.rstrip('\n'))
         return answer
 
     def act(self, line):
         """The answer to an act; none where it was lost on the way."""
-        sent, answer = time.monotonic(), None
+        sent, sent_at, gone = time.monotonic(), milliseconds(), None
         try:
             answer = self.say(line).rstrip('\n')
-        except (OSError, Gone):
-            pass
-        self.acts.append((line, answer, sent, time.monotonic()))
-        if answer is None:
+        except (OSError, Gone) as why:
+            # (what was refused without a server was not lost)
+            gone, answer = why, str(why) if str(why).startswith('no 36 ') else None
+        self.acts.append((line, answer, sent, time.monotonic(), sent_at, milliseconds()))
+        if gone:
             self.again()
             return None
         return answer.split()

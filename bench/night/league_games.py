@@ -117,7 +117,7 @@ class Plan:
             (f'offer {view.game}', 'no 10 ' if view.offers != '-' else 'ok offer '),
             (f'claim {view.game} {view.ply + 1} three', 'no 7 '),
             (f'flag {view.game}', 'no 14 '),
-            (f'accept {view.game}', 'no 11 ') if view.offers == '-' else (f'join {view.game}', 'no 15 '),
+            (f'accept {view.game}', 'no 11 ') if view.offers == '-' else (f'join {view.game}', 'no 42 '),
         ])
 
     def end(self, view, mine, other, now):

@@ -94,79 +94,49 @@ BARE = ['7k/8/8/8/8/8/Q7/K7 w - - 0 1', '7k/8/8/8/8/8/Q7/K7 b - - 0 1',
         '7k/8/8/8/8/8/P7/K7 w - - 0 1', '7k/p7/8/8/8/8/8/K7 w - - 0 1',
         '7k/p7/8/8/8/8/P7/K7 w - - 0 1']
 
-BAD_STARTS = [
-    '4k3/8/44/8/8/8/8/4K2R w - - 0 1', '4k3/8/8/8/8/8/8/13K2R w - - 0 1',
-    '4k3/71/8/8/8/8/8/4K2R w - - 0 1', '4k3/08/8/8/8/8/8/4K2R w - - 0 1',
-    '4k3/80/8/8/8/8/8/4K2R w - - 0 1', '4k3/7/8/8/8/8/8/4K2R w - - 0 1',
-    '4k3/8p/8/8/8/8/8/4K2R w - - 0 1', '4k3//8/8/8/8/8/4K2R w - - 0 1',
-    '4k3/8/8/8/8/8/8/4K2R/ w - - 0 1', '4k3/8/8/8/8/8/8/4K2X w - - 0 1',
-    '4k3/8/8/8/8/8/8/4K2R W - - 0 1', '4k3/8/8/8/8/8/8/4K2R - - - 0 1',
-    '4k3/8/8/8/8/8/8/4K2R w k - 0 1', '4k3/8/8/8/8/8/8/4K2R w Q - 0 1',
-    '4k3/8/8/8/8/8/8/3K3R w K - 0 1', '4k3/8/8/8/8/8/8/4K2r b K - 0 1',
-    '4k3/8/8/8/8/8/8/4K2R w K- - 0 1', '4k3/8/8/8/8/8/8/4K2R w -K - 0 1',
-    '4k3/8/8/8/8/8/8/4K2R w K E6 0 1', '4k3/8/8/8/8/8/8/4K2R w K e 0 1',
-    '4k3/8/8/4p3/8/8/8/4K2R w K e5 0 1', '4k3/8/8/4P3/8/8/8/4K2R w K e6 0 1',
-    '4k3/8/8/8/4P3/8/4P3/4K2R b K e3 0 1', '4k3/8/8/8/4p3/8/8/4K2R b K e3 0 1',
-    '4k3/8/8/8/4P3/4N3/8/4K2R b K e3 0 1', '4k3/8/8/8/4P3/8/8/4K2R w K e3 0 1',
-    '3qk3/pppppppp/8/8/8/8/PPPPPPPP/NNNNKNNNN w - - 0 1',
-    'rnbqkbnr/pppppppp/q7/8/8/8/PPPPPPPP/RNBQKBNR w - - 0 1',
-    '8/8/8/8/8/8/8/4K2R w - - 0 1', '4k3/8/8/8/8/8/8/6QR w - - 0 1',
-    '4kk2/8/8/8/8/8/8/4K2R w - - 0 1', '4k3/8/8/8/8/8/8/3pK2R b - - 0 1',
-    '7k/8/6K1/8/8/8/8/R7 w - - 150 9999', '7k/8/6K1/8/8/8/8/R7 w - - 151 1',
-    '7k/8/6K1/8/8/8/8/R7 w - - 149 10000', '7k/8/6K1/8/8/8/8/R7 w - - 0149 1',
-    '8/8/8/8/8/8/8/8 w -', '8/8/44/8/8/8/8/8 w - - 0 1',
-    INITIAL_FEN.replace(' w ', ' x '), INITIAL_FEN.replace('KQkq', 'QK'),
-    INITIAL_FEN.replace('KQkq', 'KK'), INITIAL_FEN.replace('KQkq', 'KQkqK'),
-    INITIAL_FEN.replace('- 0', 'e9 0'), INITIAL_FEN.replace('- 0', 'e6 0'),
-    INITIAL_FEN.replace('- 0', 'e3 0'), INITIAL_FEN.replace('- 0', '-- 0'),
-    INITIAL_FEN.replace('0 1', '00 1'), INITIAL_FEN.replace('0 1', '0 0'),
-    INITIAL_FEN.replace('0 1', '65536 1'), INITIAL_FEN.replace('0 1', '0 65536'),
-    INITIAL_FEN.replace('0 1', '0 01'), INITIAL_FEN.replace('0 1', '-1 1'),
-    INITIAL_FEN.replace('0 1', '+1 1'), INITIAL_FEN.replace('0 1', '0 10000'),
-    INITIAL_FEN.replace('0 1', '0 65535'), INITIAL_FEN.replace('0 1', '65535 1'),
-    INITIAL_FEN.replace('0 1', '99999999999999999999 1'),
-    INITIAL_FEN + ' ', ' ' + INITIAL_FEN, INITIAL_FEN + ' 1', '-', ' ', '/',
-    INITIAL_FEN.replace(' w', '  w'), INITIAL_FEN[1:], INITIAL_FEN[:-2],
-    '8/8/8/8/8/8/8/8 w - - 0 1',
-    '4k3/8/8/8/8/P7/PPPPPPPP/RNBQKBNR w - - 0 1',
-    '4k3/8/8/8/8/8/8/4K2P w - - 0 1', 'P3k3/8/8/8/8/8/8/4K3 w - - 0 1',
-    '4k3/8/8/8/8/8/4R3/4K3 w - - 0 1', '4k3/8/8/8/8/8/8/4K3 w K - 0 1',
-    '4k3/8/8/8/8/8/8/3KK3 w - - 0 1', '4k3/4K3/8/8/8/8/8/8 w - - 0 1',
-    '4k3/8/8/8/8/8/8/8/4K3 w - - 0 1', '4k3/8/8/8/8/8/4K3 w - - 0 1',
-    '4k3/9/8/8/8/8/8/4K3 w - - 0 1', '4k30/8/8/8/8/8/8/4K3 w - - 0 1',
-    '4k3/8/8/8/8/8/8/4K3 w - e6 0 1', '4k3/8/8/4p3/8/8/8/4K3 w - e6 0 1',
-    '4k3/8/8/4p3/8/8/8/4K3 b - e6 0 1', '4k3/4p3/8/4p3/8/8/8/4K3 w - e6 0 1',
-    '4k3/8/4n3/4p3/8/8/8/4K3 w - e6 0 1', '4k3/8/8/8/8/8/8/4K2R b KQ - 0 1',
-    '7k/5Q2/8/8/8/8/8/K7 b - - 0 1', '7k/6Q1/6K1/8/8/8/8/8 b - - 0 1',
-    '7k/8/8/8/8/8/8/K7 w - - 0 1', '4kb2/8/8/8/8/8/8/2B1K3 w - - 0 1',
-    '4k3/8/8/8/8/8/8/1N2K3 w - - 0 1', '7k/8/6K1/8/8/8/8/R7 w - - 150 90',
-    '7k/8/6K1/8/8/8/8/R7 w - - 65535 9999', '7k/8/6K1/8/8/8/8/R7 w - - 149 10000',
-]
+BAD_STARTS = rows_of("""
+4k3/8/44/8/8/8/8/4K2R w - - 0 1; 4k3/8/8/8/8/8/8/13K2R w - - 0 1; 4k3/71/8/8/8/8/8/4K2R w - - 0 1;
+4k3/08/8/8/8/8/8/4K2R w - - 0 1; 4k3/80/8/8/8/8/8/4K2R w - - 0 1; 4k3/7/8/8/8/8/8/4K2R w - - 0 1;
+4k3/8p/8/8/8/8/8/4K2R w - - 0 1; 4k3//8/8/8/8/8/4K2R w - - 0 1; 4k3/8/8/8/8/8/8/4K2R/ w - - 0 1;
+4k3/8/8/8/8/8/8/4K2X w - - 0 1; 4k3/8/8/8/8/8/8/4K2R W - - 0 1; 4k3/8/8/8/8/8/8/4K2R - - - 0 1;
+4k3/8/8/8/8/8/8/4K2R w k - 0 1; 4k3/8/8/8/8/8/8/4K2R w Q - 0 1; 4k3/8/8/8/8/8/8/3K3R w K - 0 1;
+4k3/8/8/8/8/8/8/4K2r b K - 0 1; 4k3/8/8/8/8/8/8/4K2R w K- - 0 1; 4k3/8/8/8/8/8/8/4K2R w -K - 0 1;
+4k3/8/8/8/8/8/8/4K2R w K E6 0 1; 4k3/8/8/8/8/8/8/4K2R w K e 0 1; 4k3/8/8/4p3/8/8/8/4K2R w K e5 0 1;
+4k3/8/8/4P3/8/8/8/4K2R w K e6 0 1; 4k3/8/8/8/4P3/8/4P3/4K2R b K e3 0 1; 4k3/8/8/8/4p3/8/8/4K2R b K e3 0 1;
+4k3/8/8/8/4P3/4N3/8/4K2R b K e3 0 1; 4k3/8/8/8/4P3/8/8/4K2R w K e3 0 1;
+3qk3/pppppppp/8/8/8/8/PPPPPPPP/NNNNKNNNN w - - 0 1; rnbqkbnr/pppppppp/q7/8/8/8/PPPPPPPP/RNBQKBNR w - - 0 1;
+8/8/8/8/8/8/8/4K2R w - - 0 1; 4k3/8/8/8/8/8/8/6QR w - - 0 1; 4kk2/8/8/8/8/8/8/4K2R w - - 0 1;
+4k3/8/8/8/8/8/8/3pK2R b - - 0 1; 7k/8/6K1/8/8/8/8/R7 w - - 150 9999; 7k/8/6K1/8/8/8/8/R7 w - - 151 1;
+7k/8/6K1/8/8/8/8/R7 w - - 149 10000; 7k/8/6K1/8/8/8/8/R7 w - - 0149 1; 8/8/8/8/8/8/8/8 w -; 8/8/44/8/8/8/8/8 w - - 0 1;
+8/8/8/8/8/8/8/8 w - - 0 1; 4k3/8/8/8/8/P7/PPPPPPPP/RNBQKBNR w - - 0 1; 4k3/8/8/8/8/8/8/4K2P w - - 0 1;
+P3k3/8/8/8/8/8/8/4K3 w - - 0 1; 4k3/8/8/8/8/8/4R3/4K3 w - - 0 1; 4k3/8/8/8/8/8/8/4K3 w K - 0 1;
+4k3/8/8/8/8/8/8/3KK3 w - - 0 1; 4k3/4K3/8/8/8/8/8/8 w - - 0 1; 4k3/8/8/8/8/8/8/8/4K3 w - - 0 1;
+4k3/8/8/8/8/8/4K3 w - - 0 1; 4k3/9/8/8/8/8/8/4K3 w - - 0 1; 4k30/8/8/8/8/8/8/4K3 w - - 0 1;
+4k3/8/8/8/8/8/8/4K3 w - e6 0 1; 4k3/8/8/4p3/8/8/8/4K3 w - e6 0 1; 4k3/8/8/4p3/8/8/8/4K3 b - e6 0 1;
+4k3/4p3/8/4p3/8/8/8/4K3 w - e6 0 1; 4k3/8/4n3/4p3/8/8/8/4K3 w - e6 0 1; 4k3/8/8/8/8/8/8/4K2R b KQ - 0 1;
+7k/5Q2/8/8/8/8/8/K7 b - - 0 1; 7k/6Q1/6K1/8/8/8/8/8 b - - 0 1; 7k/8/8/8/8/8/8/K7 w - - 0 1;
+4kb2/8/8/8/8/8/8/2B1K3 w - - 0 1; 4k3/8/8/8/8/8/8/1N2K3 w - - 0 1; 7k/8/6K1/8/8/8/8/R7 w - - 150 90;
+7k/8/6K1/8/8/8/8/R7 w - - 65535 9999; 7k/8/6K1/8/8/8/8/R7 w - - 149 10000""")
+BAD_STARTS += [INITIAL_FEN[:43] + fields for fields in (
+    ' x KQkq - 0 1| w QK - 0 1| w KK - 0 1| w KQkqK - 0 1| w KQkq e9 0 1| w KQkq e6 0 1| w KQkq e3 0 1| w KQkq -- 0 1|'
+    ' w KQkq - 00 1| w KQkq - 0 0| w KQkq - 65536 1| w KQkq - 0 65536| w KQkq - 0 01| w KQkq - -1 1| w KQkq - +1 1|'
+    ' w KQkq - 0 10000| w KQkq - 0 65535| w KQkq - 65535 1| w KQkq - 99999999999999999999 1|  w KQkq - 0 1| w KQkq - 0|'
+    ' w KQkq - 0 1 | w KQkq - 0 1 1').split('|')] + [' ' + INITIAL_FEN, INITIAL_FEN[1:], '-', ' ', '/']
 
-BAD_LINES = [
-    '', ' ', 'list ', ' list', 'LIST', 'lists', 'list 1', 'move 1 0  e4',
-    'join 4294967296', 'join 4294967295', 'join 0', 'join 01', 'join -1', 'join',
-    'join ', 'join 1 ', 'join  1', 'join +1', 'join 1 2', 'name', 'name ',
-    'name a-b', 'name ' + 'a' * 17, 'name ' + 'a' * 16, 'name a b', 'name bob',
-    'name 0', 'name _', 'x' * 255, 'list\t', 'list\x7f', 'list\x01',
-    'move 1 0', 'move 1 0 ', 'move 1 0 e4 e5', 'move 1 00 e4', 'move 01 0 e4',
-    'move 1 4294967296 e4', 'move 4294967296 0 e4', 'move 1 0 ' + 'e' * 246,
-    'move 1 0 ' + 'e' * 245, 'move 1 0 e\x7f4', 'move 1 e4', 'claim 1 0',
-    'claim 1 0 four', 'claim 1 0 three e4 e5', 'claim 1 0 three ',
-    'claim 1 three', 'claim 1 0 THREE', 'claim 0 0 fifty', 'open', 'open white',
-    'open white 300', 'open red 300 0', 'open white 300 0 ', 'open white  300 0',
-    'open white 300 00', 'open white 0300 0', 'open white 4294967296 0',
-    'open white 4294967295 0', 'open white 300 4294967296', 'open White 300 0',
-    'open white 300 -1', 'open white 1/60 0', 'open white 1/60: 0',
-    'open white /60:30 0', 'open white 1/:30 0', 'open white 1:60/30 0',
-    'open white 01/60:30 0', 'open white 1/060:30 0', 'open white 1/60:030 0',
-    'open white 4294967296/60:30 0', 'open white 4294967295/60:30 0',
-    'open white 1/4294967296:30 0', 'open white 1/60:4294967296 0',
-    'open white 1/60:30 4294967296', 'open white 1/60:30', 'open white 1/60:30 0 ',
-    'open white 1/60:30 0  ', 'open white 60:30 0', 'open white 1/2/60:30 0',
-    'open white 1/60:30:15 0', 'open white 300 0 x\x7f', 'show', 'show 1 1',
-    'fen', 'pgn 00', 'flag', 'drop x', 'resign 1 1', 'offer\x011', 'hello',
-]
+BAD_LINES = (
+    '| |list | list|LIST|lists|list 1|move 1 0  e4|join 4294967296|join 4294967295|join 0|join 01|join -1|join|join |'
+    'join 1 |join  1|join +1|join 1 2|name|name |name a-b|name a b|name bob|name 0|name _|list\t|list\x7f|list\x01|'
+    'move 1 0|move 1 0 |move 1 0 e4 e5|move 1 00 e4|move 01 0 e4|move 1 4294967296 e4|move 4294967296 0 e4|'
+    'move 1 0 e\x7f4|move 1 e4|claim 1 0|claim 1 0 four|claim 1 0 three e4 e5|claim 1 0 three |claim 1 three|'
+    'claim 1 0 THREE|claim 0 0 fifty|open|open white|open white 300|open red 300 0|open white 300 0 |open white  300 0|'
+    'open white 300 00|open white 0300 0|open white 4294967296 0|open white 4294967295 0|open white 300 4294967296|'
+    'open White 300 0|open white 300 -1|open white 1/60 0|open white 1/60: 0|open white /60:30 0|open white 1/:30 0|'
+    'open white 1:60/30 0|open white 01/60:30 0|open white 1/060:30 0|open white 1/60:030 0|'
+    'open white 4294967296/60:30 0|open white 4294967295/60:30 0|open white 1/4294967296:30 0|'
+    'open white 1/60:4294967296 0|open white 1/60:30 4294967296|open white 1/60:30|open white 1/60:30 0 |'
+    'open white 1/60:30 0  |open white 60:30 0|open white 1/2/60:30 0|open white 1/60:30:15 0|open white 300 0 x\x7f|'
+    'show|show 1 1|fen|pgn 00|flag|drop x|resign 1 1|offer\x011|hello').split('|')
+BAD_LINES += ['name ' + 'a' * 17, 'name ' + 'a' * 16, 'x' * 255, 'move 1 0 ' + 'e' * 246, 'move 1 0 ' + 'e' * 245]
 
 
 def pick(r, pairs):
@@ -388,9 +358,7 @@ class Fuzz:
         return r.choice(moves)
 
     def spell(self, p, m):
-        named = [text for text, n in texts(p).items() if n == m]
-        named.sort()
-        return self.r.choice(named)
+        return self.r.choice(sorted(text for text, n in texts(p).items() if n == m))
 
     def wrong_text(self, p):
         """A text that is mostly near to one that names a legal move."""
@@ -467,44 +435,34 @@ class Fuzz:
         r = self.r
         opener = f.opened.who
         stranger = r.choice([name for name in PLAYERS if name != opener])
-        kind = pick(r, [('join', 12), ('same', 2), ('drop', 1), ('drop4', 1),
-                        ('act', 3), ('act4', 1), ('read', 3), ('noname', 0.5)])
+        kind = pick(r, [('join', 12), ('same', 2), ('drop', 1), ('drop4', 1), ('act', 3), ('act4', 1), ('read', 3),
+                        ('noname', 0.5)])
         act = r.choice(['offer', 'accept', 'decline', 'resign', 'flag'])
         line = r.choice(['%s %d' % (act, number), 'move %d 0 e4' % number, 'claim %d 0 fifty' % number])
-        if kind == 'join':
-            self.send(self.moment(), stranger, 'join %d' % number)
-        elif kind == 'same':
-            self.send(self.moment(), opener, 'join %d' % number)
-        elif kind == 'drop':
-            self.send(self.moment(), opener, 'drop %d' % number)
-        elif kind == 'drop4':
-            self.send(self.moment(), stranger, 'drop %d' % number)
-        elif kind == 'act':
-            self.send(self.moment(), opener, line)
-        elif kind == 'act4':
-            self.send(self.moment(), stranger, line)
-        elif kind == 'noname':
-            self.send(self.moment(read=True), None, 'join %d' % number)
-        else:
-            word = r.choice(['show', 'fen', 'pgn'])
-            self.send(self.moment(read=True), r.choice(PLAYERS + [None]), '%s %d' % (word, number))
+        if kind == 'read':
+            self.look(number, ['show', 'fen', 'pgn'])
+            return
+        who = opener if kind in ('same', 'drop', 'act') else None if kind == 'noname' else stranger
+        line = line if 'act' in kind else ('drop %d' if 'drop' in kind else 'join %d') % number
+        self.send(self.moment(read=kind == 'noname'), who, line)
+
+    def look(self, number, words):
+        word = self.r.choice(words)
+        self.send(self.moment(read=True), self.r.choice(PLAYERS + [None]), '%s %d' % (word, number))
 
     def play_over(self, number, f):
         r = self.r
         seated = r.choice([f.seats[WHITE], f.seats[BLACK]])
         kind = pick(r, [('drop', 5), ('drop4', 1), ('act', 4), ('read', 7)])
-        if kind == 'drop':
-            self.send(self.moment(), seated, 'drop %d' % number)
-        elif kind == 'drop4':
-            self.send(self.moment(), r.choice(PLAYERS), 'drop %d' % number)
+        if kind == 'read':
+            self.look(number, ['show', 'show', 'fen', 'pgn'])
         elif kind == 'act':
             word = r.choice(['offer', 'accept', 'decline', 'resign', 'flag', 'join'])
             line = r.choice(['%s %d' % (word, number), 'move %d %d e4' % (number, f.ply),
                              'claim %d %d three' % (number, f.ply)])
             self.send(self.moment(), seated, line)
         else:
-            word = r.choice(['show', 'show', 'fen', 'pgn'])
-            self.send(self.moment(read=True), r.choice(PLAYERS + [None]), '%s %d' % (word, number))
+            self.send(self.moment(), seated if kind == 'drop' else r.choice(PLAYERS), 'drop %d' % number)
 
     def play_running(self, number, f):
         r = self.r
@@ -539,51 +497,37 @@ class Fuzz:
         castle = any(RIGHTS[c][2] == p.side for c in p.rights)
         kind = pick(r, [
             ('castle', 6 if castle and not habit['script'] else 0), ('answer', 40 if early and standing else 0),
-            ('offer', 15 if early else 0),
-            ('move', 0 if habit['script'] else 8 if full else 75), ('badtext', 3), ('ply', 2), ('notyours', 2),
-            ('offer', 100 * habit['offers'] if not standing else 2),
+            ('offer', 15 if early else 0), ('move', 0 if habit['script'] else 8 if full else 75), ('badtext', 3),
+            ('ply', 2), ('notyours', 2), ('offer', 100 * habit['offers'] if not standing else 2),
             ('answer', 9 if standing else 0), ('accept', 1), ('decline', 1),
-            ('resign', 100 * habit['resigns'] + (2 if full else 0)),
-            ('claim', claims), ('wrongclaim', 0 if habit['script'] else claims / 4 + 0.3),
-            ('flag', 2), ('drop', 0.5), ('join', 0.5), ('stranger', 0.7),
-            ('noname', 0.5), ('read', 8)])
-        if kind == 'move':
-            m = self.choose_move(f, habit['style'])
-            self.send(at, mover, 'move %d %d %s' % (number, f.ply, self.spell(p, m)))
+            ('resign', 100 * habit['resigns'] + (2 if full else 0)), ('claim', claims),
+            ('wrongclaim', 0 if habit['script'] else claims / 4 + 0.3), ('flag', 2), ('drop', 0.5), ('join', 0.5),
+            ('stranger', 0.7), ('noname', 0.5), ('read', 8)])
+        move, claim = 'move %d %d ' % (number, f.ply), 'claim %d %d ' % (number, f.ply)
+        if kind == 'claim':
+            self.claim(number, f, at, mover)
+        elif kind == 'move':
+            self.send(at, mover, move + self.chosen(f, habit))
         elif kind == 'castle':
             text = r.choice(['O-O', 'O-O-O', 'O-O', 'O-O-O', 'O-O+', 'O-O-O+', 'e1g1', 'e1c1', 'e8g8', 'e8c8'])
-            self.send(at, mover, 'move %d %d %s' % (number, f.ply, text))
+            self.send(at, mover, move + text)
         elif kind == 'badtext':
-            self.send(at, mover, 'move %d %d %s' % (number, f.ply, self.wrong_text(p)))
+            self.send(at, mover, move + self.wrong_text(p))
         elif kind == 'ply':
             ply = r.choice([f.ply + 1, max(0, f.ply - 1), 0, self.plies, f.ply + 2, 4294967295])
-            m = self.choose_move(f, habit['style'])
-            self.send(at, either, r.choice([
-                'move %d %d %s' % (number, ply, self.spell(p, m)),
-                'claim %d %d three' % (number, ply)]))
+            lines = ['move %d %d %s' % (number, ply, self.chosen(f, habit)), 'claim %d %d three' % (number, ply)]
+            self.send(at, either, r.choice(lines))
         elif kind == 'notyours':
             m = self.choose_move(f, habit['style'])
-            self.send(at, waiting, r.choice([
-                'move %d %d %s' % (number, f.ply, self.spell(p, m)),
-                'claim %d %d three' % (number, f.ply),
-                'claim %d %d fifty %s' % (number, f.ply, self.spell(p, m))]))
+            lines = [move + self.spell(p, m), claim + 'three', claim + 'fifty ' + self.spell(p, m)]
+            self.send(at, waiting, r.choice(lines))
         elif kind == 'answer':
             who = r.choice(answerers if r.random() < 0.8 else offerers)
-            word = r.choice(['accept', 'decline', 'decline', 'decline'])
-            self.send(at, who, '%s %d' % (word, number))
-        elif kind in ('offer', 'accept', 'decline', 'resign'):
-            self.send(at, either, '%s %d' % (kind, number))
-        elif kind == 'flag':
-            self.send(at, either, 'flag %d' % number)
-        elif kind == 'claim':
-            self.claim(number, f, at, mover)
+            self.send(at, who, '%s %d' % (r.choice(['accept', 'decline', 'decline', 'decline']), number))
         elif kind == 'wrongclaim':
-            line = 'claim %d %d %s' % (number, f.ply, r.choice(['three', 'fifty']))
-            x = r.random()
-            if x < 0.5:
-                line += ' ' + self.spell(p, self.choose_move(f, habit['style']))
-            elif x < 0.65:
-                line += ' ' + self.wrong_text(p)
+            line, x = claim + r.choice(['three', 'fifty']), r.random()
+            if x < 0.65:
+                line += ' ' + (self.chosen(f, habit) if x < 0.5 else self.wrong_text(p))
             self.send(at, mover, line)
         elif kind in ('drop', 'join'):
             self.send(at, r.choice(PLAYERS), '%s %d' % (kind, number))
@@ -592,15 +536,20 @@ class Fuzz:
             strangers = [name for name in PLAYERS if name not in (mover, waiting)]
             self.send(at, r.choice(strangers), '%s %d' % (word, number))
         elif kind == 'noname':
-            word = r.choice(['offer', 'resign', 'flag', 'join', 'drop'])
-            self.send(at, None, '%s %d' % (word, number))
-        else:
+            self.send(at, None, '%s %d' % (r.choice(['offer', 'resign', 'flag', 'join', 'drop']), number))
+        elif kind == 'read':
             word = pick(r, [('show', 6), ('fen', 3), ('pgn', 2)])
             self.send(self.moment(read=True), r.choice([either, either, None]), '%s %d' % (word, number))
+        else:
+            self.send(at, either, '%s %d' % (kind, number))
         if r.random() < 0.1 and self.done < self.n:
             self.send(self.moment(read=True), either, 'show %d' % number)
         if number in self.t.games and self.t.games[number].fields().ending and r.random() < 0.5:
             self.send(self.moment(read=True), either, 'pgn %d' % number)
+
+    def chosen(self, f, habit):
+        """A text of a legal move, as a game is played."""
+        return self.spell(f.present, self.choose_move(f, habit['style']))
 
     def claim(self, number, f, at, mover):
         """A claim that is right where one can be."""

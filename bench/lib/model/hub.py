@@ -7,10 +7,9 @@ part of the model; of a device that serves so many calls more it knows only that
 where all records fit into one sector (here: up to four entries). The last of the lines, and what is to be printed of
 all, long_run.py writes. """
 
+import re
 import sys
-from lib.model.rules import Table, parse
-
-LAST_MOMENT = 4611686018427387903
+from lib.model.rules import LAST_MOMENT, Table, parse
 
 
 def cut(data):
@@ -68,12 +67,11 @@ class Session:
         if self.long:
             return 'LineTooLong'
         lines, self.rest, self.long = cut(self.rest + data)
-        self.heard += [line for line in lines]
+        self.heard += lines
         return None
 
     def due(self):
-        out = self.answers
-        self.answers = []
+        out, self.answers = self.answers, []
         if self.long and not self.heard and not self.left:
             self.left = True
             out = out + [['bye LineTooLong']]
@@ -113,10 +111,9 @@ class Hub:
     def connect(self):
         if len(self.sessions) >= 64:
             return None
-        if self.free:
-            sid = self.free.pop()
-        else:
-            sid, self.next = self.next, self.next + 1
+        if not self.free:
+            self.free, self.next = [self.next], self.next + 1
+        sid = self.free.pop()
         self.sessions[sid] = Session()
         return sid
 
@@ -144,18 +141,8 @@ def written(answers):
 
 
 def unescape(text):
-    out, i = '', 0
-    while i < len(text):
-        if text[i:i + 2] == '\\x':
-            out += chr(int(text[i + 2:i + 4], 16))
-            i += 4
-        elif text[i] == '\\':
-            out += {'n': '\n', 'r': '\r', '\\': '\\'}[text[i + 1]]
-            i += 2
-        else:
-            out += text[i]
-            i += 1
-    return out
+    return re.sub(r'\\(x..|.)', lambda found: {'n': '\n', 'r': '\r', '\\': '\\'}.get(found[1])
+                  or chr(int(found[1][1:], 16)), text)
 
 
 def limit(manner):
@@ -196,39 +183,37 @@ def play(path):
     for text in open(path, encoding='latin-1').read().split('\n')[:-1]:
         word, _, rest = text.partition(' ')
         fields = rest.split(' ')
+        session = hub.sessions.get(int(fields[0])) if hub and fields[0].isdigit() else None
+        said = None
         if word == 'store':
             ground = (int(fields[1]), int(fields[2]), None if fields[3] == '-' else int(fields[3]))
         elif word == 'hub':
             hub = Hub(Store(*ground))
         elif word == 'connect':
             sid = hub.connect()
-            print('fault Busy' if sid is None else 'session %d' % sid)
+            said = 'fault Busy' if sid is None else 'session %d' % sid
         elif word == 'open':
-            print('open ' + ('true' if int(rest) in hub.sessions else 'false'))
+            said = 'open ' + str(session is not None).lower()
         elif word == 'feed':
-            sid, _, data = rest.partition(' ')
-            fault = hub.sessions[int(sid)].feed(unescape(data))
-            if fault:
-                print('fault ' + fault)
+            fault = session.feed(unescape(rest.partition(' ')[2]))
+            said = fault and 'fault ' + fault
         elif word == 'turn':
             try:
                 hub.turn(int(fields[0]), int(fields[1]))
             except Device as fault:
-                print('fault %s' % fault)
+                said = 'fault %s' % fault
         elif word == 'output':
-            print('to %s:\n%s' % (rest, written(hub.sessions[int(rest)].due())), end='')
+            said = ('to %s:\n%s' % (rest, written(session.due())))[:-1]
         elif word == 'waiting':
-            s = hub.sessions[int(rest)]
-            print('waiting %d' % waiting(s))
+            said = 'waiting %d' % waiting(session)
         elif word == 'ended':
-            print('ended ' + ('true' if hub.sessions[int(rest)].left else 'false'))
+            said = 'ended ' + str(session.left).lower()
         elif word == 'close':
             hub.close(int(rest))
         elif word == 'run':
-            reader, writer, moments = fields[:3]
-            data = unescape(' '.join(fields[3:]))
-            out, end = run(Store(*ground), reader, writer, moments, data)
-            print('%s|\n%s' % (out, end))
+            said = '%s|\n%s' % run(Store(*ground), *fields[:3], unescape(' '.join(fields[3:])))
+        if said is not None:
+            print(said)
 
 
 def waiting(session):

@@ -1,6 +1,6 @@
 #!/usr/bin/env python3
-"""The part `lives` of `test_player`'s stored run: `lives_rows.py stdin` prints its plans, `lives_rows.py stdout` what
-came of them.
+"""Writes the part `lives` of `test_player`'s stored run: lives_rows.py FOLDER, its plans (stdin) and what came of them
+(stdout).
 
 What came is worked out here by the calls of docs/design/DISK.md, and never taken from the program. An opening syncs and
 reads the two header slots and each sector of the journal; a commit of w sectors, of four entries at most, makes w
@@ -100,4 +100,6 @@ for lines in shown:
     told.extend(lines)
 told.append(f"drill {len(shown)} none {none} all {every}")
 
-print("\n".join(doing if sys.argv[1:] == ["stdin"] else told))
+for name, lines in (("stdin", doing), ("stdout", told)):
+    with open(f"{sys.argv[1]}/{name}", "w") as file:
+        file.write("\n".join(lines) + "\n")

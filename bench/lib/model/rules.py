@@ -424,72 +424,27 @@ MAN = {letter: man for man, letter in LETTER.items()}
 
 
 def fen_write(p):
-    ranks = []
-    for r in range(8, 0, -1):
-        text, run = '', 0
-        for f in range(1, 9):
-            man = p.men.get((f, r))
-            if man is None:
-                run += 1
-                continue
-            text += (str(run) if run else '') + LETTER[man]
-            run = 0
-        ranks.append(text + (str(run) if run else ''))
+    ranks = [''.join(LETTER.get(p.men.get((f, r)), '1') for f in range(1, 9)) for r in range(8, 0, -1)]
     return ' '.join([
-        '/'.join(ranks), p.side,
-        ''.join(c for c in 'KQkq' if c in p.rights) or '-',
-        square_name(p.target) if p.target else '-',
+        re.sub('1+', lambda run: str(len(run[0])), '/'.join(ranks)), p.side,
+        ''.join(c for c in 'KQkq' if c in p.rights) or '-', square_name(p.target) if p.target else '-',
         str(p.half), str(p.full)])
+
+
+FEN = re.compile('([KQRBNPkqrbnp1-8/]+) ([wb]) (-|K?Q?k?q?) (-|[a-h][1-8]) (0|[1-9][0-9]*) (0|[1-9][0-9]*)')
 
 
 def fen_read(text):
     """The valid position whose text this is, or None."""
-    fields = text.split(' ')
-    if len(fields) != 6 or '' in fields:
+    found = FEN.fullmatch(text)
+    if found is None or found[3] == '' or re.search('[1-8][1-8]', found[1]):
         return None
-    placement, side, castling, target, half, full = fields
-    ranks = placement.split('/')
-    if len(ranks) != 8:
+    ranks = re.sub('[1-8]', lambda run: ' ' * int(run[0]), found[1]).split('/')
+    if [len(rank) for rank in ranks] != [8] * 8:
         return None
-    men = {}
-    for r, rank in zip(range(8, 0, -1), ranks):
-        f, digit_before = 1, False
-        for c in rank:
-            if c in '12345678':
-                if digit_before:
-                    return None
-                f += int(c)
-                digit_before = True
-            elif c in MAN:
-                men[(f, r)] = MAN[c]
-                f += 1
-                digit_before = False
-            else:
-                return None
-            if f > 9:
-                return None
-        if f != 9:
-            return None
-    if side not in (WHITE, BLACK):
-        return None
-    if castling == '-':
-        rights = frozenset()
-    else:
-        rights = frozenset(castling)
-        if castling != ''.join(c for c in 'KQkq' if c in rights):
-            return None
-    if target == '-':
-        target_square = None
-    else:
-        target_square = square_of(target)
-        if target_square is None:
-            return None
-    counters = []
-    for counter in (half, full):
-        if not re.fullmatch('0|[1-9][0-9]*', counter):
-            return None
-        counters.append(int(counter))
-    p = Position(men, side, rights, target_square, counters[0], counters[1])
+    men = {(f, r): MAN[letter] for r, rank in zip(range(8, 0, -1), ranks)
+           for f, letter in enumerate(rank, 1) if letter != ' '}
+    p = Position(men, found[2], frozenset(found[3]) - {'-'}, square_of(found[4]), int(found[5]), int(found[6]))
     return p if valid(p) else None
 
 
@@ -708,64 +663,35 @@ def in_lines(tokens):
 
 # ------------------------------------------------------------------- the lines
 
-NUMBER_FORM = '(0|[1-9][0-9]{0,9})'
-TEXT_FORM = '([\x21-\x7e]+)'
 TOP = 4294967295
 LAST_MOMENT = 4611686018427387903
-NAME_FORM = '[A-Za-z0-9_]{1,16}'
 READS = ('show', 'fen', 'pgn', 'list')
 
-FORMS = [
-    ('name', 'name (%s)' % NAME_FORM),
-    ('open', 'open (white|black) %s %s(?: ([\x20-\x7e]+))?'
-     % (NUMBER_FORM, NUMBER_FORM)),
-    ('open2', 'open (white|black) %s/%s:%s %s(?: ([\x20-\x7e]+))?'
-     % (NUMBER_FORM, NUMBER_FORM, NUMBER_FORM, NUMBER_FORM)),
-    ('move', 'move %s %s %s' % (NUMBER_FORM, NUMBER_FORM, TEXT_FORM)),
-    ('claim', 'claim %s %s (three|fifty)(?: %s)?'
-     % (NUMBER_FORM, NUMBER_FORM, TEXT_FORM)),
-    ('list', 'list'),
-] + [(word, '%s %s' % (word, NUMBER_FORM))
-     for word in ('join', 'offer', 'accept', 'decline', 'resign', 'flag',
-                  'drop', 'show', 'fen', 'pgn')]
-FORMS = [(word, re.compile(form)) for word, form in FORMS]
+# What stands in a field; what is not named is a number.
+FIELDS = {'name': '[A-Za-z0-9_]{1,16}', 'colour': 'white|black', 'fen': '[\x20-\x7e]+', 'text': '[\x21-\x7e]+',
+          'test': 'three|fifty'}
+FORMS = [re.compile(re.sub(r'<(\w+)>', lambda field: '(?P<%s>%s)' % (
+    field[1], FIELDS.get(field[1], '0|[1-9][0-9]{0,9}')), form)) for form in (
+        'name <name>', 'open <colour> (?:<initial>|<moves>/<first>:<second>) <increment>(?: <fen>)?',
+        'move <game> <ply> <text>', 'claim <game> <ply> <test>(?: <text>)?', 'list',
+        '(?:join|offer|accept|decline|resign|flag|drop|show|fen|pgn) <game>')]
 
 
 def parse(line):
     """(word, map of its fields), or None where the line has none of the forms."""
-    for word, form in FORMS:
-        found = form.fullmatch(line)
-        if found is None:
-            continue
-        g = found.groups()
-
-        def number(k):
-            return int(g[k])
-        if word == 'name':
-            return word, {'name': g[0]}
-        if word == 'list':
-            return word, {}
-        if word == 'open':
-            f = {'colour': g[0], 'initial': number(1), 'increment': number(2), 'period': None, 'fen': g[3]}
-            numbers = [f['initial'], f['increment']]
-        elif word == 'open2':
-            word = 'open'
-            f = {'colour': g[0], 'initial': number(2), 'increment': number(4),
-                 'period': (number(1), number(3)), 'fen': g[5]}
-            numbers = [f['initial'], f['increment'], *f['period']]
-        elif word == 'move':
-            f = {'game': number(0), 'ply': number(1), 'text': g[2]}
-            numbers = [f['game'], f['ply']]
-        elif word == 'claim':
-            f = {'game': number(0), 'ply': number(1), 'fifty': g[2] == 'fifty', 'text': g[3]}
-            numbers = [f['game'], f['ply']]
-        else:
-            f = {'game': number(0)}
-            numbers = [f['game']]
-        if any(n > TOP for n in numbers):
-            return None
-        return word, f
-    return None
+    found = next((found for found in (form.fullmatch(line) for form in FORMS) if found), None)
+    if found is None:
+        return None
+    f = {field: text if text is None or field in FIELDS else int(text) for field, text in found.groupdict().items()}
+    if any(isinstance(number, int) and number > TOP for number in f.values()):
+        return None
+    word = line.split(' ')[0]
+    if word == 'open':
+        f['period'] = None if f['moves'] is None else (f['moves'], f['second'])
+        f['initial'] = f['initial'] if f['first'] is None else f['first']
+    elif word == 'claim':
+        f['fifty'] = f['test'] == 'fifty'
+    return word, f
 
 
 NAMES = ['', 'BadLine', 'NoName', 'NoGame', 'NotSeated', 'NotStarted', 'Over',
