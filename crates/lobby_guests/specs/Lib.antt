@@ -3,3 +3,4 @@ pub mod Origins
 pub mod Place
 pub mod Counting
 pub mod Waiting
+pub mod First

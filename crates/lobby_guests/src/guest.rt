@@ -615,14 +615,14 @@ impl<S> Guest<S> {
         }
     }
 
-    /// Where the first message that waits is to be made by this answer, and somebody more may be told one, it is told
-    /// that, and what waits behind it, up to the next that is to be made.
+    /// Where the first message that waits is to be made by this answer, and bytes of it may be told, it is told that,
+    /// and what waits behind it, up to the next that is to be made.
     pub fn be_answered(&mut self, answer: &KeptAnswer, left: &mut usize, counts: &mut Counts)
         ensures up { IsCaughtUp self.old self.new }
         ensures logins { counts.new.logins_refused ≡ counts.old.logins_refused }
     {
         if *left > 0 && self.is_first(answer) {
-            *left -= 1;
+            *left = left.saturating_sub(answer.answer().len());
             self.catch_up(answer, counts);
         }
     }

@@ -10,6 +10,7 @@ ghost use Rattle.lobby_guests.specs.Guests as guests;
 ghost use Rattle.lobby_guests.specs.Guests.{IsAsBefore, IsServed, IsPlayersTurn, IsOthersTurn, InTurn, Room, full_room};
 ghost use Rattle.lobby_guests.specs.Guests.{AreAttended, AreTold, AreDelivered, IsWritten, IsLookedAfter, IsClosedIf};
 ghost use Rattle.lobby_guests.specs.Guests.{AreClosed, AreParted, IsCaughtUp, first_wanted, has_waiting};
+ghost use Rattle.lobby_guests.specs.First.{wanted_by_player, first_of_players, next_wanted, GoesForFirst};
 ghost use Rattle.lobby_guests.specs.Waiting as waiting;
 ghost use Rattle.lobby_talk.specs.Replaying.{IsReplayed};
 ghost use Rattle.lobby_talk.specs.Talking.{IsTalkAsBefore};
@@ -23,8 +24,8 @@ use lobby_web::Site;
 use std::alloc::{AllocError, Global};
 use std::io::{Read, Write};
 
-/// So many browsers are told an answer to `line G` in a turn at most: each may be long.
-const ANSWERED_MOST: usize = 4;
+/// While so many bytes of answers to `line G` are not told yet in a turn, one browser more is told it.
+const ANSWERED_MOST: usize = 1_048_576;
 
 // Reads for a browser, and says to the desk what came next of it. It tells whether there was anything.
 fn attend<S: Read + Write, K: KeepsLinks>(
@@ -252,7 +253,18 @@ fn first_of<'a>(a: Option<&'a str>, b: Option<&'a str>) -> Option<&'a str>
     }
 }
 
-// The server's answer to `pgn G` that is to be made next: the first that waits of the first browser of which one does.
+// The first that waits for a browser, where that acts for a player.
+fn wanted_by_player<'a, S>(guest: &'a Guest<S>, talk: &Talk) -> Option<&'a str>
+    ensures { option_map (λ text. text.now) result ≡ wanted_by_player talk.now.desk guest.now }
+{
+    if talk.acts(guest.number()) {
+        guest.wanted()
+    } else {
+        None
+    }
+}
+
+// The first that waits of the first browser of which one does.
 fn first_wanted<S>(guests: &[Guest<S>]) -> Option<&str>
     ensures { option_map (λ text. text.now) result ≡ first_wanted guests.now }
 {
@@ -263,7 +275,25 @@ fn first_wanted<S>(guests: &[Guest<S>]) -> Option<&str>
     first
 }
 
-// Those are told this answer who wait for it first, some in a turn.
+// The first that waits of the first browser that acts for a player and of which one does.
+fn first_of_players<'a, S>(guests: &'a [Guest<S>], talk: &Talk) -> Option<&'a str>
+    ensures { option_map (λ text. text.now) result ≡ first_of_players talk.now.desk guests.now }
+{
+    let mut first: Option<&'a str> = None;
+    for guest in guests {
+        first = first_of(first, wanted_by_player(guest, talk));
+    }
+    first
+}
+
+// The server's answer to `pgn G` of which an answer is made next: for players first.
+fn next_wanted<'a, S>(guests: &'a [Guest<S>], talk: &Talk) -> Option<&'a str>
+    ensures { option_map (λ text. text.now) result ≡ next_wanted talk.now.desk guests.now }
+{
+    first_of(first_of_players(guests, talk), first_wanted(guests))
+}
+
+// Those are told this answer who wait for it first, as many as its bytes allow in a turn.
 fn answer_all<S>(guests: &mut Vec<Guest<S>>, answer: &KeptAnswer, counts: &mut Counts)
     ensures up { AllZip IsCaughtUp guests.old.items guests.new.items }
     ensures logins { counts.new.logins_refused ≡ counts.old.logins_refused }
@@ -274,18 +304,21 @@ fn answer_all<S>(guests: &mut Vec<Guest<S>>, answer: &KeptAnswer, counts: &mut C
     }
 }
 
-// A replay goes on for the first who waits. Where its answer is there, some who wait for it are told it.
+// A replay goes on for the first who waits, and for players first. Where its answer is there, some who wait for it are
+// told it.
 fn answer_waiting<S>(
     guests: &mut Vec<Guest<S>>,
     talk: &mut Talk,
     counts: &mut Counts,
 ) -> Result<(), AllocError>
     ensures up { OnOk result (AllZip IsCaughtUp guests.old.items guests.new.items) }
-    ensures replays { OnOk result (∥ IsReplayed (first_wanted guests.old.items) talk.old.replay talk.new.replay ∥₁) }
+    ensures replays { OnOk result (∥ IsReplayed (next_wanted talk.old.desk guests.old.items)
+        talk.old.replay talk.new.replay ∥₁) }
     ensures rest { OnOk result (IsTalkAsBefore talk.old talk.new) }
     ensures logins { OnOk result (counts.new.logins_refused ≡ counts.old.logins_refused) }
 {
-    match talk.replay_on(first_wanted(guests.as_slice()))? {
+    let next = next_wanted(guests.as_slice(), talk);
+    match talk.replay_on(next)? {
         None => Ok(()),
         Some(answer) => {
             answer_all(guests, &answer, counts);
@@ -317,7 +350,8 @@ pub fn deliver<S>(
     ensures desk { OnOk result (talk.new.desk ≡ talk.old.desk) }
     ensures wire { OnOk result (talk.new.wire ≡ talk.old.wire) }
     ensures next { OnOk result (talk.new.next ≡ talk.old.next) }
-    ensures replays { OnOk result (∥ ((next : Option (List ℕ)) × IsReplayed next talk.old.replay talk.new.replay) ∥₁) }
+    ensures replays { OnOk result (∥ GoesForFirst talk.old.kept.answers.items talk.old.told.items talk.old.desk
+        guests.old.items talk.old.replay talk.new.replay ∥₁) }
     ensures logins { OnOk result (CountsLogins talk.old.kept.answers.items talk.old.told.items guests.old.items
         counts.old.logins_refused counts.new.logins_refused) }
     ensures kept { OnOk result (AreKept talk.new.kept.answers.items) }

@@ -5,7 +5,7 @@ use Rattle.std.proofs.lemmas.Result.{on_ok_weaker}
 use Rattle.std.specs.Option.{option_map}
 use Rattle.lobby_talk.specs.declared.under_way.UnderWay.{UnderWay}
 use Rattle.lobby_talk.specs.Replaying.{Replays, IsReplayed}
-use Rattle.lobby_guests.specs.Guests.{first_wanted}
+use Rattle.lobby_guests.specs.First.{next_wanted}
 use Rattle.lobby_guests.proofs.Catching.{all_caught_none}
 use Rattle.lobby_guests.proofs.guests.answer_waiting.Goals as goal
 
@@ -16,7 +16,7 @@ pub returns-in-None-clause-replays : goal.returns-in-None-clause-replays
 returns-in-None-clause-replays g c =
     let old = c.args.talk.now.replay in
     let now = c.replay_on.new.self.replay in
-    let next = c.first_wanted.ensures ∙ ap first_wanted c.as_slice.ensures.value in
+    let next = c.next_wanted-next.ensures ∙ ap (next_wanted c.args.talk.now.desk) c.as_slice.ensures.value in
     ∥∥₁_map c.in_ok-replay_on.ensures.replays
     (λ goes. (c.in_ok-replay_on.field-0, subst (λ (n : Option (List ℕ)). Replays n old now c.in_ok-replay_on.field-0) next goes))
 
@@ -24,8 +24,8 @@ pub returns-in-Some-clause-replays : goal.returns-in-Some-clause-replays
 returns-in-Some-clause-replays g c =
     let old = c.args.talk.now.replay in
     let now = c.replay_on.new.self.replay in
-    let next = c.first_wanted.ensures ∙ ap first_wanted c.as_slice.ensures.value in
-    let first = first_wanted c.args.guests.now.items in
+    let next = c.next_wanted-next.ensures ∙ ap (next_wanted c.args.talk.now.desk) c.as_slice.ensures.value in
+    let first = next_wanted c.args.talk.now.desk c.args.guests.now.items in
     on_ok_weaker c.keep.result (λ same. subst (λ (r : Option UnderWay). ∥ IsReplayed first old r ∥₁) (sym same)
     (∥∥₁_map c.in_ok-replay_on.ensures.replays
     (λ goes. (c.in_ok-replay_on.field-0, subst (λ (n : Option (List ℕ)). Replays n old now c.in_ok-replay_on.field-0) next goes))))
