@@ -1,0 +1,7 @@
+pub mod Closing
+pub mod Coming
+pub mod Dead
+pub mod Like
+pub mod Never
+pub mod Shaded
+pub mod Steps

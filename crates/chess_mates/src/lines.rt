@@ -1,0 +1,31 @@
+ghost use Rattle.std.specs.Prelude.{◌↔◌, IsTrue};
+ghost use Rattle.chess_mates.specs.Mates.{IsMatedBy, IsMatingLine};
+
+use chess_bits::Colour;
+use chess_board::{Board, Move};
+use chess_moves::{after_legal, has_legal};
+
+/// Whether a side has given checkmate (FIDE article 5.1.1).
+pub fn is_mated_by(board: &Board, side: Colour) -> bool
+    ensures { IsTrue result ↔ IsMatedBy side board.now }
+{
+    board.side() == side.other() && board.in_check() && !has_legal(board)
+}
+
+/// Whether moves are a series of legal moves at whose end the side has given checkmate. It is false too where a counter
+/// of a board on the way is at 65,535.
+pub fn is_mating_line(board: &Board, side: Colour, moves: &[Move]) -> bool
+    ensures { IsTrue result → IsMatingLine side board.now moves.now }
+{
+    let mut at = *board;
+    for mv in moves {
+        if at.halfmove() == u16::MAX || at.fullmove() == u16::MAX {
+            return false;
+        }
+        match after_legal(&at, *mv) {
+            Some(after) => at = after,
+            None => return false,
+        }
+    }
+    is_mated_by(&at, side)
+}
