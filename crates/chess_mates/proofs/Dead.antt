@@ -77,16 +77,16 @@ bishops_kept : (dark : Bool) → IsKeptOfMen (AreBishopsOn dark)
 bishops_kept dark p m valid legal on s man here = elim (came p m s man valid legal here) [
   | inl stood ↦ on s man stood
   | inr (inl arrived) ↦ elim (on m.from (p.side, arrived.old) arrived.goes.own) [
-      | inl king ↦ inl (arrived_king p m s man arrived king)
-      | inr bishop ↦
-          let rule : IsMoveOf p m Bishop = rule_of p m s man Bishop legal arrived bishop.0 in
-          let to : is_dark m.to ≡ is_dark m.from =
-          diagonal_shade (occupied_of p.placement) m.from m.to arrived.goes.to_on rule.attacked in
-          inr (
-            arrived_piece p m s man Bishop legal arrived bishop.0 (λ e. absurd (cc)),
-            ap is_dark arrived.there ∙ to ∙ bishop.1,
-          )
-    ]
+    | inl king ↦ inl (arrived_king p m s man arrived king)
+    | inr bishop ↦
+        let rule : IsMoveOf p m Bishop = rule_of p m s man Bishop legal arrived bishop.0 in
+        let to : is_dark m.to ≡ is_dark m.from =
+        diagonal_shade (occupied_of p.placement) m.from m.to arrived.goes.to_on rule.attacked in
+        inr (
+          arrived_piece p m s man Bishop legal arrived bishop.0 (λ e. absurd (cc)),
+          ap is_dark arrived.there ∙ to ∙ bishop.1,
+        )
+  ]
   | inr (inr castled) ↦
       absurd (not_bishop man Rook castled.rook refl refl castled.home dark (on castled.home man castled.stood))
 ]
@@ -159,11 +159,11 @@ knight_went : (p : Position) (m : Move) → IsValid p → IsLegal p m → AreKni
     man_at p.placement m.from ≡ Some (p.side, Knight) → AreKnightAt m.to (placement_after p m)
 knight_went p m valid legal each own s man here = elim (came p m s man valid legal here) [
   | inl stood ↦ elim (each s man stood) [
-      | inl king ↦ inl king
-      | inr knight ↦
-          absurd (none_is_not man (sym (knight_left p m valid legal own)
-          ∙ subst (λ (x : Square). man_at (placement_after p m) x ≡ Some man) knight.0 here))
-    ]
+    | inl king ↦ inl king
+    | inr knight ↦
+        absurd (none_is_not man (sym (knight_left p m valid legal own)
+        ∙ subst (λ (x : Square). man_at (placement_after p m) x ≡ Some man) knight.0 here))
+  ]
   | inr (inl arrived) ↦ inr (
     arrived.there,
     arrived_piece p m s man Knight legal arrived

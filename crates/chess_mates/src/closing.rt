@@ -13,14 +13,21 @@ pub fn has_like(boards: &[Board], places: &Places, board: &Board) -> bool
     ensures { IsTrue result → HasLike boards.now board.now }
 {
     let place = places.place(places.slot_of(boards, board));
-    0 < place && place <= boards.len() && is_like(&boards[place - 1], board)
+    if place == 0 || place > boards.len() {
+        return false;
+    }
+    let at = place - 1;
+    is_like(&boards[at], board)
 }
 
 // Whether each legal move leads into a list. It is false too where a counter of the board is at 65,535.
 fn leads_into(boards: &[Board], places: &Places, board: &Board) -> bool
     ensures { IsTrue result → LeadsInto boards.now board.now }
 {
-    if board.halfmove() == u16::MAX || board.fullmove() == u16::MAX {
+    if board.halfmove() >= u16::MAX {
+        return false;
+    }
+    if board.fullmove() >= u16::MAX {
         return false;
     }
     let moves = legal_moves(board);
@@ -36,7 +43,10 @@ fn leads_into(boards: &[Board], places: &Places, board: &Board) -> bool
 fn is_quiet(boards: &[Board], places: &Places, side: Colour, board: &Board) -> bool
     ensures { IsTrue result → IsQuiet side boards.now board.now }
 {
-    !is_mated_by(board, side) && leads_into(boards, places, board)
+    if is_mated_by(board, side) {
+        return false;
+    }
+    leads_into(boards, places, board)
 }
 
 /// Whether no legal move leads out of a list, and in none of its positions the side has given checkmate.

@@ -57,11 +57,13 @@ fn none_in(board: &Board, side: Colour, search: &Search) -> Answer
 {
     let boards = search.boards();
     let places = search.places();
-    if has_like(boards, places, board) && is_closed(boards, places, side) {
-        Answer::Cannot(Reason::Searched)
-    } else {
-        Answer::Unknown
+    if !has_like(boards, places, board) {
+        return Answer::Unknown;
     }
+    if !is_closed(boards, places, side) {
+        return Answer::Unknown;
+    }
+    Answer::Cannot(Reason::Searched)
 }
 
 // The answer of a search.

@@ -1,5 +1,6 @@
 ghost use Rattle.std.specs.Prelude.{◌≡◌, IsTrue, Some};
-ghost use Rattle.chess_board.specs.Position.{has_right};
+ghost use Rattle.chess_board.specs.declared.castling.Wing.{Wing};
+ghost use Rattle.chess_board.specs.Position.{has_right as right_of};
 ghost use Rattle.chess_san.specs.Boards.{DiffersInCounters};
 
 use chess_bits::{Colour, Square};
@@ -13,21 +14,38 @@ fn has_same_men(a: &Board, b: &Board) -> bool
     a.men().changes(b.men()).is_empty()
 }
 
+// Whether a side may still castle to a wing.
+fn has_right(board: &Board, side: Colour, wing: Wing) -> bool
+    ensures { result ≡ right_of board.now.rights side wing }
+{
+    board.rights().allows(side, wing)
+}
+
 // Whether a castling right is on both boards or on neither.
 fn has_same_right(a: &Board, b: &Board, side: Colour, wing: Wing) -> bool
-    ensures { IsTrue result → has_right b.now.rights side wing ≡ has_right a.now.rights side wing }
+    ensures { IsTrue result → right_of b.now.rights side wing ≡ right_of a.now.rights side wing }
 {
-    a.rights().allows(side, wing) == b.rights().allows(side, wing)
+    has_right(a, side, wing) == has_right(b, side, wing)
+}
+
+// Whether a side has the same castling rights on two boards.
+fn has_same_rights_of(a: &Board, b: &Board, side: Colour) -> bool
+    ensures { IsTrue result → (wing : Wing) → right_of b.now.rights side wing ≡ right_of a.now.rights side wing }
+{
+    if !has_same_right(a, b, side, Wing::King) {
+        return false;
+    }
+    has_same_right(a, b, side, Wing::Queen)
 }
 
 // Whether two boards have the same castling rights.
 fn has_same_rights(a: &Board, b: &Board) -> bool
     ensures { IsTrue result → b.now.rights ≡ a.now.rights }
 {
-    has_same_right(a, b, Colour::White, Wing::King)
-        && has_same_right(a, b, Colour::White, Wing::Queen)
-        && has_same_right(a, b, Colour::Black, Wing::King)
-        && has_same_right(a, b, Colour::Black, Wing::Queen)
+    if !has_same_rights_of(a, b, Colour::White) {
+        return false;
+    }
+    has_same_rights_of(a, b, Colour::Black)
 }
 
 // Whether two en passant targets are one.
@@ -45,8 +63,14 @@ fn is_same_target(a: Option<Square>, b: Option<Square>) -> bool
 pub fn is_like(a: &Board, b: &Board) -> bool
     ensures { IsTrue result → DiffersInCounters a.now b.now }
 {
-    a.side() == b.side()
-        && is_same_target(a.target(), b.target())
-        && has_same_rights(a, b)
-        && has_same_men(a, b)
+    if a.side() != b.side() {
+        return false;
+    }
+    if !is_same_target(a.target(), b.target()) {
+        return false;
+    }
+    if !has_same_rights(a, b) {
+        return false;
+    }
+    has_same_men(a, b)
 }

@@ -19,13 +19,16 @@ pub fn is_mating_line(board: &Board, side: Colour, moves: &[Move]) -> bool
 {
     let mut at = *board;
     for mv in moves {
-        if at.halfmove() == u16::MAX || at.fullmove() == u16::MAX {
+        if at.halfmove() >= u16::MAX {
             return false;
         }
-        match after_legal(&at, *mv) {
-            Some(after) => at = after,
-            None => return false,
+        if at.fullmove() >= u16::MAX {
+            return false;
         }
+        let Some(after) = after_legal(&at, *mv) else {
+            return false;
+        };
+        at = after;
     }
     is_mated_by(&at, side)
 }

@@ -19,7 +19,7 @@ fn between(a: Square, b: Square) -> (u64, u64) {
     )
 }
 
-// How many moves a king has from a square to another, beyond the two that kings keep.
+// How many moves a king has from a square to another.
 fn apart(a: Square, b: Square) -> u64 {
     let (files, ranks) = between(a, b);
     files.max(ranks)
@@ -126,8 +126,8 @@ fn gathered(men: Bits, square: Square) -> u64 {
     sum
 }
 
-/// A guess how far a side is from giving checkmate: the less, the nearer. Nothing depends on it but how soon a series of
-/// moves is found.
+/// A guess how far a side is from giving checkmate: the less, the nearer. Nothing depends on it but how soon a series
+/// of moves is found.
 pub fn distance(board: &Board, side: Colour) -> u64 {
     let men = board.men();
     let mated = side.other();
@@ -137,8 +137,12 @@ pub fn distance(board: &Board, side: Colour) -> u64 {
     ) else {
         return 0;
     };
-    let heavy = men.of_man(side, Kind::Queen).union(men.of_man(side, Kind::Rook));
-    let minor = men.of_man(side, Kind::Knight).union(men.of_man(side, Kind::Bishop));
+    let heavy = men
+        .of_man(side, Kind::Queen)
+        .union(men.of_man(side, Kind::Rook));
+    let minor = men
+        .of_man(side, Kind::Knight)
+        .union(men.of_man(side, Kind::Bishop));
     if heavy.is_empty() && minor.is_empty() {
         return weighed(&[(12, next_promotion(men, side)), (4, 20)]);
     }
@@ -148,7 +152,13 @@ pub fn distance(board: &Board, side: Colour) -> u64 {
     if heavy.is_empty() && minor.count() == 1 {
         let corner = to_corner(men, side, square);
         let way = in_the_way(men, mated, square);
-        return weighed(&[(16, free), (8, corner), (8, kings), (4, men_near), (12, way)]);
+        return weighed(&[
+            (16, free),
+            (8, corner),
+            (8, kings),
+            (4, men_near),
+            (12, way),
+        ]);
     }
     let (file, rank) = (to_edge(square.file()), to_edge(square.rank()));
     let edge = weighed(&[(8, file.min(rank)), (2, file.max(rank))]);

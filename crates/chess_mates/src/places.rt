@@ -1,5 +1,4 @@
-ghost use Rattle.std.specs.Prelude.{IsTrue};
-ghost use Rattle.chess_san.specs.Boards.{DiffersInCounters};
+ghost use Rattle.std.specs.Prelude.{◌<◌};
 
 use crate::likeness::is_like;
 use chess_bits::{Colour, Kind};
@@ -17,7 +16,9 @@ pub struct Places {
 }
 
 // A number for what stands on a square.
-fn code_of(man: Option<(Colour, Kind)>) -> u64 {
+fn code_of(man: Option<(Colour, Kind)>) -> u64
+    ensures { result < 16 }
+{
     let Some((colour, kind)) = man else {
         return 0;
     };
@@ -36,7 +37,9 @@ fn code_of(man: Option<(Colour, Kind)>) -> u64 {
 }
 
 // The slot where the search for a board begins.
-fn first_slot(board: &Board) -> usize {
+fn first_slot(board: &Board) -> usize
+    ensures { result < 262144 }
+{
     let mut sum: u64 = match board.side() {
         Colour::White => 1,
         Colour::Black => 2,

@@ -1,6 +1,8 @@
+ghost use Rattle.std.specs.Prelude.{◌≤◌};
+
+use crate::lines::is_mated_by;
 use crate::nearness::distance;
 use crate::places::Places;
-use crate::lines::is_mated_by;
 use chess_bits::Colour;
 use chess_board::{Board, Move};
 use chess_moves::legal_moves;
@@ -39,10 +41,17 @@ pub struct Search {
     waiting: BinaryHeap<u64>,
 }
 
+// The value, or the most that is allowed.
+fn at_most(value: u64, most: u64) -> u64
+    ensures { result ≤ most }
+{
+    if value < most { value } else { most }
+}
+
 // What is taken out first is greatest: of a smaller distance, and of those with the same the place that came first.
 fn key_of(distance: u64, place: usize) -> u64 {
-    let near = 65535 - distance.min(65535);
-    let early = 4294967295 - (place as u64).min(4294967295);
+    let near = 65535 - at_most(distance, 65535);
+    let early = 4294967295 - at_most(place as u64, 4294967295);
     near * 4294967296 + early
 }
 

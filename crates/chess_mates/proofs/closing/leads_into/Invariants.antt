@@ -1,4 +1,5 @@
-use Rattle.std.proofs.Common.{◌≡◌, ℕ, ◌<◌, get_or}
+use Rattle.std.proofs.Common.{take}
+use Rattle.std.specs.List.{All}
 use Rattle.chess_board.specs.declared.moves.Move.{Move}
 use Rattle.chess_board.specs.Next.{next}
 use Rattle.chess_mates.specs.Closed.{HasLike}
@@ -6,4 +7,4 @@ use Rattle.chess_mates.proofs.closing.leads_into.Given as goal
 
 -- the moves so far lead into the list
 abbrev pub invariant-loop-mv : goal.invariant-loop-mv
-invariant-loop-mv l = (k : ℕ) (d : Move) → k < l.mv-index → HasLike l.boards (next l.board (get_or l.mv-items k d))
+invariant-loop-mv l = All (λ (m : Move). HasLike l.boards (next l.board m)) (take l.mv-index l.mv-items)
