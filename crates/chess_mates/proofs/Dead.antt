@@ -93,14 +93,14 @@ bishops_kept dark p m valid legal on s man here = elim (came p m s man valid leg
 
 bishops_shaded : (dark : Bool) (p : Position) → AreBishopsOn dark p.placement → IsShaded p dark
 bishops_shaded dark p on = record {
-  foes = λ occupied a b kind here no on_b attack. elim (on a (other p.side, kind) here) [
-    | inl king ↦ absurd (no king)
+  foes = λ occupied a b kind here piece on_b attack. elim (on a (other p.side, kind) here) [
+    | inl king ↦ absurd (piece king)
     | inr bishop ↦
         diagonal_shade occupied a b on_b
         (subst (λ (x : Kind). Attacks occupied (other p.side) x a b) bishop.0 attack) ∙ bishop.1
   ];
-  own = λ s kind here no. elim (on s (p.side, kind) here) [
-    | inl king ↦ absurd (no king)
+  own = λ s kind here piece. elim (on s (p.side, kind) here) [
+    | inl king ↦ absurd (piece king)
     | inr bishop ↦ bishop.1
   ];
 }
@@ -198,15 +198,15 @@ knight_kept p m valid legal (at, each) =
 knight_shaded : (p : Position) (at : Square) → IsOnBoard at → AreKnightAt at p.placement →
     man_at p.placement at ≡ Some (other p.side, Knight) → IsShaded p (not (is_dark at))
 knight_shaded p at on each knight = record {
-  foes = λ occupied a b kind here no on_b attack. elim (each a (other p.side, kind) here) [
-    | inl king ↦ absurd (no king)
+  foes = λ occupied a b kind here piece on_b attack. elim (each a (other p.side, kind) here) [
+    | inl king ↦ absurd (piece king)
     | inr is ↦
         knight_shade at b on on_b
         (subst (λ (x : Square). Reaches knight_steps x b) is.0
         (subst (λ (x : Kind). Attacks occupied (other p.side) x a b) is.1 attack))
   ];
-  own = λ s kind here no. elim (each s (p.side, kind) here) [
-    | inl king ↦ absurd (no king)
+  own = λ s kind here piece. elim (each s (p.side, kind) here) [
+    | inl king ↦ absurd (piece king)
     | inr is ↦ absurd (not_of_both (man_at p.placement at) p.side Knight kind knight
         (subst (λ (x : Square). man_at p.placement x ≡ Some (p.side, kind)) is.0 here))
   ];
@@ -215,9 +215,9 @@ knight_shaded p at on each knight = record {
 knight_none : (p : Position) → IsValid p → AreOneKnight p.placement → ¬ IsCheckmate p
 knight_none p valid (at, each) mate =
     let (k, king, (a, attacker)) = mate.check in
-    let no = checked_by p k a attacker.kind valid king attacker.stands attacker.attacks in
+    let piece = checked_by p k a attacker.kind valid king attacker.stands attacker.attacks in
     elim (each a (other p.side, attacker.kind) attacker.stands) [
-      | inl is ↦ no is
+      | inl is ↦ piece is
       | inr is ↦
           let here : man_at p.placement at ≡ Some (other p.side, Knight) =
           subst (λ (x : Square). man_at p.placement x ≡ Some (other p.side, Knight)) is.0

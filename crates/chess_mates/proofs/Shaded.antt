@@ -1,5 +1,5 @@
 -- Where all that attacks, but for the king, attacks squares of one shade, the king steps to a square of the other.
-use Rattle.std.specs.Prelude.{◌≡◌, ◌≢◌, ◌≤◌, ◌⊎◌, Bool, true, false, not, List, Some, None}
+use Rattle.std.specs.Prelude.{◌≡◌, ◌≢◌, ◌≤◌, ◌⊎◌, Bool, true, false, not, List, Some, None, count_by}
 use Rattle.std.proofs.Common.{arith, ap, sym, subst, refl, ◌∙◌, inl, inr}
 use Rattle.std.proofs.lemmas.Bool.{cases_Bool, false≢true}
 use Rattle.chess_bits.specs.declared.men.Colour.{Colour}
@@ -69,7 +69,7 @@ other_king p a b valid at_a at_b =
 
 find_king : (p : Position) → IsValid p → (j : Square) × (man_at p.placement j ≡ Some (other p.side, King))
 find_king p valid =
-    let one = valid.kings (other p.side) in
+    let one : count_by (holds (is_man (other p.side, King))) p.placement ≡ 1 = valid.kings (other p.side) in
     let (j, on, here) = square_from_count_by (holds (is_man (other p.side, King))) None p.placement valid.whole
     (omega (arith, one)) in
     (j, holds-is_man (other p.side, King) (man_at p.placement j) here)
@@ -109,7 +109,7 @@ near_king p shade k j to valid shaded stuck king foe dark beside =
           let same : to ≡ k = one_king p to k valid
           (subst (λ (x : Kind). man_at p.placement to ≡ Some (p.side, x)) is here) king in
           off (ap is_dark same ∙ dark)
-      | inr no ↦ off (shaded.own to kind here no)
+      | inr piece ↦ off (shaded.own to kind here piece)
     ] in
     elim (cases_Bool (reaches adjoining j to)) [
       | inl here ↦ IsNear-reached j to on_j ((Decides-reaches adjoining j to).0 here)
@@ -124,7 +124,7 @@ near_king p shade k j to valid shaded stuck king foe dark beside =
                 let from_j : Reaches adjoining j to =
                 subst (λ (x : Square). Reaches adjoining x to) (other_king p a j valid at_a foe) by_king in
                 false≢true (sym fails ∙ (Decides-reaches adjoining j to).1 from_j)
-            | inr no ↦ off (shaded.foes (put (occupied_of p.placement) k false) a to kind stands no beside.on_board attack)
+            | inr piece ↦ off (shaded.foes (put (occupied_of p.placement) k false) a to kind stands piece beside.on_board attack)
           ])))
     ]
 

@@ -30,14 +30,18 @@ fn to_edge(number: u8) -> u64 {
     u64::from(number.saturating_sub(1).min(8u8.saturating_sub(number)))
 }
 
+// Whether a square is dark.
+fn is_dark(square: Square) -> bool {
+    square.file() % 2 == square.rank() % 2
+}
+
 // How far a square is from a corner that a bishop of the side reaches, or from any where it has none.
 fn to_corner(men: &Men, side: Colour, square: Square) -> u64 {
     let (file, rank) = (to_edge(square.file()), to_edge(square.rank()));
     let Some(bishop) = men.of_man(side, Kind::Bishop).first() else {
         return file.saturating_add(rank);
     };
-    let is_dark = bishop.file() % 2 == bishop.rank() % 2;
-    let (low, high) = if is_dark {
+    let (low, high) = if is_dark(bishop) {
         (Square::at(1, 1), Square::at(8, 8))
     } else {
         (Square::at(8, 1), Square::at(1, 8))
@@ -100,12 +104,27 @@ fn pawn_in_the_way(men: &Men, mated: Colour, pawn: Square, near: u64) -> u64 {
     }
 }
 
+// The men of a side that do not help a single knight or bishop to mate it.
+fn useless(men: &Men, mated: Colour, bishop: Option<Square>) -> Bits {
+    let long = men.of_kind(Kind::King).union(men.of_kind(Kind::Queen));
+    let Some(square) = bishop else {
+        return long;
+    };
+    let mut all = long.union(men.of_kind(Kind::Rook));
+    for other in men.of_man(mated, Kind::Bishop).iter() {
+        if is_dark(other) == is_dark(square) {
+            all.insert(other);
+        }
+    }
+    all
+}
+
 // How far the men of a side are from standing in the way of its own king.
 fn in_the_way(men: &Men, mated: Colour, square: Square) -> u64 {
     let pawns = men.of_kind(Kind::Pawn);
-    let long = men.of_kind(Kind::King).union(men.of_kind(Kind::Queen));
+    let bishop = men.of_man(mated.other(), Kind::Bishop).first();
     let mut least = 60;
-    for man in men.of(mated).without(long).iter() {
+    for man in men.of(mated).without(useless(men, mated, bishop)).iter() {
         let near = apart(man, square);
         let far = if pawns.contains(man) {
             pawn_in_the_way(men, mated, man, near)
@@ -126,41 +145,54 @@ fn gathered(men: Bits, square: Square) -> u64 {
     sum
 }
 
+// How free the king is that is to be mated, and how far from it those are who mate it.
+fn surrounded(men: &Men, side: Colour, square: Square, own: Square, pieces: Bits) -> u64 {
+    let kings = apart(own, square).saturating_sub(2);
+    weighed(&[
+        (16, flights(men, side, square)),
+        (8, kings),
+        (4, gathered(pieces, square)),
+    ])
+}
+
+// How far a king is from where a single knight or bishop mates it: in a corner, with an own man in its way.
+fn cornered(men: &Men, side: Colour, square: Square) -> u64 {
+    weighed(&[
+        (8, to_corner(men, side, square)),
+        (12, in_the_way(men, side.other(), square)),
+    ])
+}
+
+// How far a king is from the edge, and from a corner there.
+fn at_edge(square: Square) -> u64 {
+    let (file, rank) = (to_edge(square.file()), to_edge(square.rank()));
+    weighed(&[(16, file.min(rank)), (4, file.max(rank))])
+}
+
 /// A guess how far a side is from giving checkmate: the less, the nearer. Nothing depends on it but how soon a series
 /// of moves is found.
 pub fn distance(board: &Board, side: Colour) -> u64 {
     let men = board.men();
     let mated = side.other();
-    let (Some(square), Some(own)) = (
-        men.of_man(mated, Kind::King).first(),
-        men.of_man(side, Kind::King).first(),
-    ) else {
+    let Some(square) = men.of_man(mated, Kind::King).first() else {
         return 0;
     };
-    let heavy = men
-        .of_man(side, Kind::Queen)
-        .union(men.of_man(side, Kind::Rook));
-    let minor = men
-        .of_man(side, Kind::Knight)
-        .union(men.of_man(side, Kind::Bishop));
-    if heavy.is_empty() && minor.is_empty() {
-        return weighed(&[(12, next_promotion(men, side)), (4, 20)]);
+    let Some(own) = men.of_man(side, Kind::King).first() else {
+        return 0;
+    };
+    let foes = u64::from(men.of(mated).count()).saturating_sub(1);
+    let pawns = men.of_kind(Kind::Pawn).union(men.of_kind(Kind::King));
+    let pieces = men.of(side).without(pawns);
+    let light = men.of_kind(Kind::Knight).union(men.of_kind(Kind::Bishop));
+    if pieces.is_empty() {
+        weighed(&[(12, next_promotion(men, side)), (12, foes), (4, 20)])
+    } else if pieces.count() == 1 && !pieces.meet(light).is_empty() {
+        surrounded(men, side, square, own, pieces)
+            .saturating_add(cornered(men, side, square))
+            .saturating_add(weighed(&[(12, foes.saturating_sub(1))]))
+    } else {
+        surrounded(men, side, square, own, pieces)
+            .saturating_add(at_edge(square))
+            .saturating_add(weighed(&[(12, foes)]))
     }
-    let kings = apart(own, square).saturating_sub(2);
-    let men_near = gathered(heavy.union(minor), square);
-    let free = flights(men, side, square);
-    if heavy.is_empty() && minor.count() == 1 {
-        let corner = to_corner(men, side, square);
-        let way = in_the_way(men, mated, square);
-        return weighed(&[
-            (16, free),
-            (8, corner),
-            (8, kings),
-            (4, men_near),
-            (12, way),
-        ]);
-    }
-    let (file, rank) = (to_edge(square.file()), to_edge(square.rank()));
-    let edge = weighed(&[(8, file.min(rank)), (2, file.max(rank))]);
-    weighed(&[(16, free), (2, edge), (8, kings), (4, men_near)])
 }
