@@ -1,6 +1,6 @@
-pub mod Closing
 pub mod Coming
 pub mod Dead
+pub mod Inside
 pub mod Like
 pub mod Never
 pub mod Shaded

@@ -13,7 +13,10 @@ pub fn has_like(boards: &[Board], places: &Places, board: &Board) -> bool
     ensures { IsTrue result → HasLike boards.now board.now }
 {
     let place = places.place(places.slot_of(boards, board));
-    if place == 0 || place > boards.len() {
+    if place == 0 {
+        return false;
+    }
+    if place > boards.len() {
         return false;
     }
     let at = place - 1;

@@ -1,4 +1,4 @@
-ghost use Rattle.std.specs.Prelude.{◌≡◌, IsTrue, Some};
+ghost use Rattle.std.specs.Prelude.{◌≡◌, ◌↔◌, IsTrue, Some};
 ghost use Rattle.chess_board.specs.declared.castling.Wing.{Wing};
 ghost use Rattle.chess_board.specs.Position.{has_right as right_of};
 ghost use Rattle.chess_san.specs.Boards.{DiffersInCounters};
@@ -32,20 +32,18 @@ fn has_same_right(a: &Board, b: &Board, side: Colour, wing: Wing) -> bool
 fn has_same_rights_of(a: &Board, b: &Board, side: Colour) -> bool
     ensures { IsTrue result → (wing : Wing) → right_of b.now.rights side wing ≡ right_of a.now.rights side wing }
 {
-    if !has_same_right(a, b, side, Wing::King) {
-        return false;
-    }
-    has_same_right(a, b, side, Wing::Queen)
+    let short = has_same_right(a, b, side, Wing::King);
+    let long = has_same_right(a, b, side, Wing::Queen);
+    short & long
 }
 
 // Whether two boards have the same castling rights.
 fn has_same_rights(a: &Board, b: &Board) -> bool
     ensures { IsTrue result → b.now.rights ≡ a.now.rights }
 {
-    if !has_same_rights_of(a, b, Colour::White) {
-        return false;
-    }
-    has_same_rights_of(a, b, Colour::Black)
+    let white = has_same_rights_of(a, b, Colour::White);
+    let black = has_same_rights_of(a, b, Colour::Black);
+    white & black
 }
 
 // Whether two en passant targets are one.
@@ -59,18 +57,25 @@ fn is_same_target(a: Option<Square>, b: Option<Square>) -> bool
     }
 }
 
+/// Whether two sides are one.
+pub fn is_same_side(a: Colour, b: Colour) -> bool
+    ensures { IsTrue result ↔ (b ≡ a) }
+{
+    match (a, b) {
+        (Colour::White, Colour::White) => true,
+        (Colour::White, Colour::Black) => false,
+        (Colour::Black, Colour::White) => false,
+        (Colour::Black, Colour::Black) => true,
+    }
+}
+
 /// Whether two boards differ in their counters alone, if at all.
 pub fn is_like(a: &Board, b: &Board) -> bool
     ensures { IsTrue result → DiffersInCounters a.now b.now }
 {
-    if a.side() != b.side() {
-        return false;
-    }
-    if !is_same_target(a.target(), b.target()) {
-        return false;
-    }
-    if !has_same_rights(a, b) {
-        return false;
-    }
-    has_same_men(a, b)
+    let turn = is_same_side(a.side(), b.side());
+    let target = is_same_target(a.target(), b.target());
+    let rights = has_same_rights(a, b);
+    let men = has_same_men(a, b);
+    turn & target & rights & men
 }

@@ -1,6 +1,7 @@
 ghost use Rattle.std.specs.Prelude.{◌↔◌, IsTrue};
 ghost use Rattle.chess_mates.specs.Mates.{IsMatedBy, IsMatingLine};
 
+use crate::likeness::is_same_side;
 use chess_bits::Colour;
 use chess_board::{Board, Move};
 use chess_moves::{after_legal, has_legal};
@@ -9,7 +10,10 @@ use chess_moves::{after_legal, has_legal};
 pub fn is_mated_by(board: &Board, side: Colour) -> bool
     ensures { IsTrue result ↔ IsMatedBy side board.now }
 {
-    board.side() == side.other() && board.in_check() && !has_legal(board)
+    let turn = is_same_side(side.other(), board.side());
+    let check = board.in_check();
+    let moves = has_legal(board);
+    turn & check & !moves
 }
 
 /// Whether moves are a series of legal moves at whose end the side has given checkmate. It is false too where a counter

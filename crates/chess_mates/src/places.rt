@@ -52,6 +52,17 @@ fn first_slot(board: &Board) -> usize
     (sum % 262144) as usize
 }
 
+// Whether what is noted at a slot is the place of a board, or nothing that is of use.
+fn is_place_of(boards: &[Board], place: usize, board: &Board) -> bool {
+    if place == 0 {
+        return true;
+    }
+    if place > boards.len() {
+        return true;
+    }
+    is_like(&boards[place - 1], board)
+}
+
 impl Places {
     /// A table without boards. It fails where memory is refused.
     pub fn new(alloc: Global) -> Result<Places, AllocError> {
@@ -66,7 +77,7 @@ impl Places {
         for step in 0..SLOTS {
             let slot = (first + step) % SLOTS;
             let place = self.place(slot);
-            if place == 0 || place > boards.len() || is_like(&boards[place - 1], board) {
+            if is_place_of(boards, place, board) {
                 return slot;
             }
         }

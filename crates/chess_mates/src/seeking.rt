@@ -104,19 +104,31 @@ impl Search {
         Ok(())
     }
 
+    // How many moves after the start a position was reached.
+    fn depth_of(&self, place: usize) -> u64 {
+        match self.origins.get(place) {
+            Some(origin) => origin.depth,
+            None => 0,
+        }
+    }
+
     // Adds what the legal moves lead to, and tells whether there is one. A counter at 65,535 ends a series.
     fn follow(&mut self, place: usize, board: &Board) -> Result<bool, AllocError> {
-        let depth = self.origins.get(place).map_or(0, |origin| origin.depth);
+        if board.halfmove() >= u16::MAX {
+            return Ok(true);
+        }
+        if board.fullmove() >= u16::MAX {
+            return Ok(true);
+        }
+        let depth = self.depth_of(place);
         let moves = legal_moves(board);
-        if board.halfmove() < u16::MAX && board.fullmove() < u16::MAX {
-            for mv in moves.as_slice() {
-                let origin = Origin {
-                    before: place,
-                    mv: *mv,
-                    depth: depth.saturating_add(1),
-                };
-                self.add(&board.apply(*mv), origin)?;
-            }
+        for mv in moves.as_slice() {
+            let origin = Origin {
+                before: place,
+                mv: *mv,
+                depth: depth.saturating_add(1),
+            };
+            self.add(&board.apply(*mv), origin)?;
         }
         Ok(!moves.is_empty())
     }
@@ -128,7 +140,10 @@ impl Search {
                 return Ok(Found::All);
             };
             let place = place_of(key);
-            if place >= self.boards.len() || self.boards.len() > LIMIT {
+            if self.boards.len() > LIMIT {
+                return Ok(Found::More);
+            }
+            if place >= self.boards.len() {
                 return Ok(Found::More);
             }
             let board = self.boards[place];

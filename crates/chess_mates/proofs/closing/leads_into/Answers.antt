@@ -13,7 +13,7 @@ pub apply-requires-clause-legal : goal.apply-requires-clause-legal
 apply-requires-clause-legal c =
     let here : Contains c.as_slice-mv-items.result.now c.mv-item.result =
     (c.loop-mv.mv-index, c.loop-mv-test.true, sym c.mv-item.is) in
-    (c.legal_moves.ensures.exact c.mv-item.result).0 (rw c.as_slice-mv-items.ensures.value at here)
+    (c.legal_moves-moves.ensures.exact c.mv-item.result).0 (rw c.as_slice-mv-items.ensures.value at here)
 
 pub loop-mv-init : goal.loop-mv-init
 loop-mv-init c k d below = absurd (omega arith)
@@ -39,5 +39,5 @@ returns c yes m legal =
     let i = c.loop-mv.mv-index in
     let all : take i items ≡ items = take_all i items c.loop-mv-test.false in
     let lead : All (λ (x : Move). HasLike list (next p x)) items = rw all at c.loop-mv.invariant in
-    let listed = rw (sym c.as_slice-mv-items.ensures.value) at c.legal_moves.ensures in
+    let listed = rw (sym c.as_slice-mv-items.ensures.value) at c.legal_moves-moves.ensures in
     All-contains (λ (x : Move). HasLike list (next p x)) items m lead ((listed.exact m).1 legal)

@@ -1,4 +1,5 @@
 use Rattle.std.proofs.Common.{◌≡◌, ◌∙◌, ap, Bool}
+use Rattle.std.proofs.lemmas.Bool.{and_parts}
 use Rattle.chess_board.specs.declared.castling.Wing.TheVariants as wing
 use Rattle.chess_board.specs.Position.{Rights}
 use Rattle.chess_mates.proofs.likeness.has_same_rights.Goals as goal
@@ -16,7 +17,8 @@ same_rights r s a b c d =
 
 pub returns : goal.returns
 returns c yes =
-    let white = c.has_same_rights_of.ensures c.if-not-has_same_rights_of.false in
-    let black = c.has_same_rights_of-2.ensures yes in
+    let parts = and_parts c.has_same_rights_of-white.result c.has_same_rights_of-black.result yes in
+    let white = c.has_same_rights_of-white.ensures parts.0 in
+    let black = c.has_same_rights_of-black.ensures parts.1 in
     same_rights c.args.b.now.rights c.args.a.now.rights (white wing.King) (white wing.Queen) (black wing.King)
     (black wing.Queen)
