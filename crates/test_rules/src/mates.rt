@@ -15,9 +15,9 @@ fn name_of(answer: &Answer) -> &'static str {
     }
 }
 
-// Positions, whether it is asked of White, and what is answered: with a queen against a knight, a rook against a bishop,
-// a knight against a pawn, a knight against a knight and a pawn alone, of the initial position, of a wall of pawns that
-// no king passes, of a stalemate, and of men that never mate.
+// Positions, whether it is asked of White, and what is answered: with a queen against a knight, a rook against a
+// bishop, a knight against a pawn, a knight against a knight and a pawn alone, of the initial position, of a wall of
+// pawns that no king passes, of a stalemate, and of men that never mate.
 static DECIDED: [(&str, bool, &str); 12] = [
     ("8/8/8/3K4/8/4k3/6Q1/3n4 b - - 0 1", true, "mates"),
     ("1b6/8/8/6R1/8/8/3k1K2/8 b - - 0 1", true, "mates"),
