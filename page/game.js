@@ -212,7 +212,7 @@ export class GameView {
       return;
     }
     this.follow(sent, answer);
-    this.watchAdjourning(by, sent, arbiter);
+    if (answer.startsWith('ok ')) this.watchAdjourning(by, sent, arbiter);
     this.tell(by, sent, answer, arbiter);
     if (ended) this.over();            // (a mate is said behind its move)
     this.render();
