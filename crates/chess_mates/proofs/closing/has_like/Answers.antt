@@ -10,6 +10,6 @@ found_at : (list : List Position) (i : ℕ) (q p : Position) → q ≡ get_or li
 found_at list i q p is differs below = record { like = q; among = (i, below, sym is); differs = differs }
 
 pub returns : goal.returns
-returns c yes =
-    found_at c.args.boards.now _ c.index-boards-at.result c.args.board.now c.index-boards-at.is (c.is_like.ensures yes)
+returns c told =
+    found_at c.args.boards.now _ c.index-boards-at.result c.args.board.now c.index-boards-at.is (c.is_like.ensures told)
     (omega arith)

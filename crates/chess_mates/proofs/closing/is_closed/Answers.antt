@@ -21,7 +21,7 @@ loop-board-preserved c =
     (c.is_quiet.ensures c.if-not-is_quiet.false))
 
 pub returns : goal.returns
-returns c yes p inside =
+returns c told p inside =
     let list = c.args.boards.now in
     let side = c.args.side in
     let i = c.loop-board.board-index in

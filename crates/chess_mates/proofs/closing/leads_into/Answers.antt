@@ -32,7 +32,7 @@ loop-mv-preserved c =
     rw taken (All-push (λ (x : Move). HasLike list (next p x)) (take i items) m c.loop-mv.invariant here)
 
 pub returns : goal.returns
-returns c yes m legal =
+returns c told m legal =
     let p : Position = c.args.board.now in
     let list = c.args.boards.now in
     let items = c.as_slice-mv-items.result.now in

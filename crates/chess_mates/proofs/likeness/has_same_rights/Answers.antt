@@ -16,8 +16,8 @@ same_rights r s a b c d =
     ∙ ap (λ (x : Bool). rights s.white_king s.white_queen s.black_king x) d
 
 pub returns : goal.returns
-returns c yes =
-    let parts = and_parts c.has_same_rights_of-white.result c.has_same_rights_of-black.result yes in
+returns c told =
+    let parts = and_parts c.has_same_rights_of-white.result c.has_same_rights_of-black.result told in
     let white = c.has_same_rights_of-white.ensures parts.0 in
     let black = c.has_same_rights_of-black.ensures parts.1 in
     same_rights c.args.b.now.rights c.args.a.now.rights (white wing.King) (white wing.Queen) (black wing.King)

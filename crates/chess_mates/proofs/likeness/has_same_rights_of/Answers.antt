@@ -12,7 +12,7 @@ both r s side short long wing.King = short
 both r s side short long wing.Queen = long
 
 pub returns : goal.returns
-returns c yes =
-    let parts = and_parts c.has_same_right-short.result c.has_same_right-long.result yes in
+returns c told =
+    let parts = and_parts c.has_same_right-short.result c.has_same_right-long.result told in
     both c.args.b.now.rights c.args.a.now.rights c.args.side (c.has_same_right-short.ensures parts.0)
     (c.has_same_right-long.ensures parts.1)

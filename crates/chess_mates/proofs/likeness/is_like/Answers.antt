@@ -3,12 +3,12 @@ use Rattle.std.proofs.lemmas.Bool.{and_parts}
 use Rattle.chess_mates.proofs.likeness.is_like.Goals as goal
 
 pub returns : goal.returns
-returns c yes =
+returns c told =
     let turn : Bool = c.is_same_side-turn.result in
     let target : Bool = c.is_same_target-target.result in
     let rights : Bool = c.has_same_rights-rights.result in
     let men : Bool = c.has_same_men-men.result in
-    let all = and_parts (turn && target && rights) men yes in
+    let all = and_parts (turn && target && rights) men told in
     let three = and_parts (turn && target) rights all.0 in
     let two = and_parts turn target three.0 in
     record {

@@ -33,5 +33,5 @@ returns c =
     let told = drawn_alone t c.args.side r c.is_draw.result flag c.is_draw.ensures in
     record {
       alone = told;
-      cannot = λ e. alone_never c.args.side c.args.board.now c.rights.ensures.valid (told.0 e);
+      cannot = λ e. alone_never c.args.side c.args.board.now c.rights-valid.ensures.valid (told.0 e);
     }
