@@ -1,8 +1,8 @@
 -- What a replay brings is the answer to `line G`.
 use Rattle.std.proofs.Common.{◌≡◌, ℕ, List, Option, None, Some, codes, sym, subst}
-use Rattle.lobby_positions.specs.Pgn.{TellsNone}
-use Rattle.lobby_positions.specs.Answer.{IsLineAnswer}
-use Rattle.lobby_positions.specs.Replaying.{IsWhole}
+use Rattle.text_pgn.specs.Game.{TellsNone}
+use Rattle.text_pgn.specs.Answer.{IsLineAnswer}
+use Rattle.text_pgn.specs.Replaying.{IsWhole}
 use Rattle.lobby_talk.specs.Making.{IsOfLine, lines_behind}
 use Rattle.lobby_talk.specs.Replays.{IsNumberIn}
 use Rattle.lobby_talk.specs.Replaying.{GoesOn, IsSet, Replays}

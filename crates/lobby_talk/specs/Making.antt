@@ -7,9 +7,9 @@ use Rattle.chess_board.specs.Position.{Position, IsValid}
 use Rattle.chess_notation.specs.Fen.{IsFenOf}
 use Rattle.text_lines.specs.Lines.{is_feed}
 use Rattle.lobby_words.specs.Words.{word_of, rest_of}
-use Rattle.lobby_positions.specs.Telling.{TellsMoves}
-use Rattle.lobby_positions.specs.Pgn.{TellsGame}
-use Rattle.lobby_positions.specs.Answer.{IsLineAnswer}
+use Rattle.text_pgn.specs.Telling.{TellsMoves}
+use Rattle.text_pgn.specs.Game.{TellsGame}
+use Rattle.text_pgn.specs.Answer.{IsLineAnswer}
 use Rattle.lobby_desk.specs.declared.telling.Kind.{Kind}
 use Rattle.lobby_desk.specs.declared.telling.Kind.TheVariants.{Whole, Position as AtPosition, Line, Log}
 

@@ -1,8 +1,8 @@
 -- Replays by which `line G` is answered: a part in each turn.
 use Rattle.std.specs.Prelude.{ℕ, ◌≡◌, ◌≤◌, ◌+◌, ◌⊎◌, List, Option, None, Some}
 use Rattle.std.specs.String.{string_bytes}
-use Rattle.lobby_positions.specs.Pgn.{TellsNone}
-use Rattle.lobby_positions.specs.Replaying.{left}
+use Rattle.text_pgn.specs.Game.{TellsNone}
+use Rattle.text_pgn.specs.Replaying.{left}
 use Rattle.lobby_talk.specs.declared.kept_answer.KeptAnswer.{KeptAnswer}
 use Rattle.lobby_talk.specs.declared.under_way.UnderWay.{UnderWay}
 use Rattle.lobby_talk.specs.declared.under_way.Going.{Going}

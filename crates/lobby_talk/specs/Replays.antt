@@ -1,8 +1,8 @@
 -- A replay of the game that the server tells.
 use Rattle.std.specs.Prelude.{ℕ, ◌≡◌, ◌<◌, ◌^◌, List, decimal}
 use Rattle.lobby_words.specs.Words.{word_of, rest_of}
-use Rattle.lobby_positions.specs.declared.replay.Replay.{Replay}
-use Rattle.lobby_positions.specs.Replaying.{IsUnderWay}
+use Rattle.text_pgn.specs.declared.replay.Replay.{Replay}
+use Rattle.text_pgn.specs.Replaying.{IsUnderWay}
 use Rattle.lobby_talk.specs.Making.{lines_behind}
 
 -- So many plies of a replay are played in a turn at most.

@@ -16,7 +16,7 @@ pub struct KeptAnswer {
 
 impl KeptAnswer {
     ghost use Rattle.std.specs.Prelude.{◌≡◌, IfOk};
-    ghost use Rattle.lobby_positions.specs.Pgn.{TellsNone};
+    ghost use Rattle.text_pgn.specs.Game.{TellsNone};
     ghost use Rattle.lobby_talk.specs.Making.{lines_behind};
     ghost use Rattle.lobby_talk.specs.Keeping.{size_of, shown};
 

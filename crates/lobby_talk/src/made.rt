@@ -11,9 +11,9 @@ ghost use Rattle.lobby_talk.specs.Making as making;
 
 use crate::kept::KeptAnswers;
 use lobby_desk::{Kind, Message};
-use lobby_positions::moves_line;
 use std::alloc::{AllocError, Global};
 use text_parts::{before, behind};
+use text_pgn::moves_line;
 
 // The last line of a text, without its line feed.
 fn last_line(text: &str) -> &str

@@ -4,9 +4,9 @@ ghost use Rattle.std.specs.String.{string_bytes};
 ghost use Rattle.lobby_talk.specs.Replays.{IsReplayOf};
 
 use crate::kept_answer::KeptAnswer;
-use lobby_positions::{Part, Replay};
 use std::alloc::{AllocError, Global};
 use text_parts::behind;
+use text_pgn::{Part, Replay};
 
 /// So many plies of a replay are played in a turn at most: a millisecond's work.
 const PLIES_MOST: usize = 16;

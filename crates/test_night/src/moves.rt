@@ -1,5 +1,5 @@
 //! What is told of positions whose legal moves are known.
-use lobby_positions::moves_line;
+use text_pgn::moves_line;
 
 // A position, and its line if it is one: a check and the moves out of it, and a mate.
 static CASES: [(&str, Option<&str>); 3] = [

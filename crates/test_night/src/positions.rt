@@ -1,5 +1,5 @@
 //! Answers of games that were played elsewhere.
-use lobby_positions::line_answer;
+use text_pgn::line_answer;
 
 // A PGN, and its answer if it has one.
 static CASES: [(&str, Option<&str>); 5] = [

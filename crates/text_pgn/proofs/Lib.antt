@@ -1,2 +1,7 @@
 mod Fits
 mod Kept
+pub mod Played
+pub mod Spelled
+pub mod Found
+pub mod Replaying
+pub mod Naming

@@ -3,3 +3,7 @@ pub mod Moves
 pub mod Archived
 pub mod Pgn
 pub mod Named
+pub mod Game
+pub mod Answer
+pub mod Replaying
+pub mod Telling

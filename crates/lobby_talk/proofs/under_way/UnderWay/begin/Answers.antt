@@ -1,6 +1,6 @@
 -- What begins is under way, of the lines behind the first.
 use Rattle.std.proofs.Common.{List, ℕ, subst, sym}
-use Rattle.lobby_positions.specs.Replaying.{IsUnderWay}
+use Rattle.text_pgn.specs.Replaying.{IsUnderWay}
 use Rattle.lobby_talk.specs.Making.{lines_behind}
 use Rattle.lobby_talk.specs.Replays.{IsReplayOf}
 use Rattle.lobby_talk.proofs.under_way.UnderWay.begin.Goals as goal

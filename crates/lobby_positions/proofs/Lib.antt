@@ -1,5 +1,0 @@
-pub mod Played
-pub mod Spelled
-pub mod Found
-pub mod Replaying
-pub mod Naming

@@ -1,4 +1,0 @@
-pub mod Pgn
-pub mod Answer
-pub mod Replaying
-pub mod Telling
