@@ -1,6 +1,6 @@
 -- What two slots tell before, within and after a beat.
 use Rattle.std.proofs.Common.{◌≡◌, ℕ, ◌+◌, ◌%◌, ◌^◌, ◌<◌, List, length, refl, sym, ◌∙◌, ap, subst, inl, inr, arith}
-use Rattle.std.specs.Prelude.{◌⊎◌, Option, Some, None, Bool, true, false, nat_lt, if◌then◌else◌, slice_set}
+use Rattle.std.specs.Prelude.{◌≢◌, ◌⊎◌, Option, Some, None, Bool, true, false, nat_lt, if◌then◌else◌, slice_set}
 use Rattle.std.proofs.lemmas.Bool.{lt-ltb, le-ltb, cases_eq}
 use Rattle.std.proofs.lemmas.List.{get_or-set_same, get_or-set_other}
 use Rattle.sector_dev.specs.declared.device.Sector.{Sector}
@@ -83,6 +83,13 @@ own-slot at (Bytes bytes) Empty is = λ y e. absurd (cc)
 own-slot at (Bytes bytes) Foreign is = λ y e. absurd (cc)
 own-slot at Unreadable slot is = λ y e. absurd (let none : None ≡ Some y = ap beat_in (sym is) ∙ e in cc)
 
+-- what holds a beat, and what was not written to its end, is no foreign slot
+holds-own : (beat : Beat) → Holds beat ≢ Foreign
+holds-own beat e = absurd (cc)
+
+torn-own : Torn ≢ Foreign
+torn-own e = absurd (cc)
+
 -- a sector that is written, and the other one
 module _ (old : Sectors) (two : length old ≡ 2) (value : Sector) where
   set-first : sector_at (slice_set old 0 value) 0 ≡ value
@@ -113,22 +120,26 @@ module _ (old : Sectors) (two : length old ≡ 2) (last : Option Beat) (tell : T
 
   -- with another sector in the slot of the next beat
   over-first : (value : Sector) (slot : Slot) (new : Option Beat) → next_slot last ≡ 0 → IsSlotOf 0 value slot
-      → later (beat_in slot) last ≡ new → Tell (slice_set old 0 value) new
-  over-first value slot new next is tells = record {
+      → slot ≢ Foreign → later (beat_in slot) last ≡ new → Tell (slice_set old 0 value) new
+  over-first value slot new next is own tells = record {
     first = slot;
     second = tell.second;
     first_is = subst (λ s. IsSlotOf 0 s slot) (sym (set-first old two value)) is;
     second_is = subst (λ s. IsSlotOf 1 s tell.second) (sym (second-stays old two value)) tell.second_is;
+    first_own = own;
+    second_own = tell.second_own;
     last_is = sym tells ∙ ap (later (beat_in slot)) (sym (second-is-last next));
   }
 
   over-second : (value : Sector) (slot : Slot) (new : Option Beat) → next_slot last ≡ 1 → IsSlotOf 1 value slot
-      → later last (beat_in slot) ≡ new → Tell (slice_set old 1 value) new
-  over-second value slot new next is tells = record {
+      → slot ≢ Foreign → later last (beat_in slot) ≡ new → Tell (slice_set old 1 value) new
+  over-second value slot new next is own tells = record {
     first = tell.first;
     second = slot;
     first_is = subst (λ s. IsSlotOf 0 s tell.first) (sym (first-stays old two value)) tell.first_is;
     second_is = subst (λ s. IsSlotOf 1 s slot) (sym (set-second old two value)) is;
+    first_own = tell.first_own;
+    second_own = own;
     last_is = sym tells ∙ ap (λ l. later l (beat_in slot)) (sym (first-is-last next));
   }
 
@@ -157,10 +168,10 @@ module _ (old : Sectors) (two : length old ≡ 2) (last : Option Beat) (tell : T
   pub kept : Tell (slice_set old (next_slot last) (Bytes bytes)) (Some next)
   kept = elim (parity (next_number last)) [
     | inl zero ↦ subst (λ (at : ℕ). Tell (slice_set old at (Bytes bytes)) (Some next)) (sym zero)
-        (over-first old two last tell (Bytes bytes) (Holds next) (Some next) zero (fits 0 zero, refl)
+        (over-first old two last tell (Bytes bytes) (Holds next) (Some next) zero (fits 0 zero, refl) (holds-own next)
         (next-first last moment system))
     | inr one ↦ subst (λ (at : ℕ). Tell (slice_set old at (Bytes bytes)) (Some next)) (sym one)
-        (over-second old two last tell (Bytes bytes) (Holds next) (Some next) one (fits 1 one, refl)
+        (over-second old two last tell (Bytes bytes) (Holds next) (Some next) one (fits 1 one, refl) (holds-own next)
         (next-second last moment system))
   ]
 
@@ -168,9 +179,9 @@ module _ (old : Sectors) (two : length old ≡ 2) (last : Option Beat) (tell : T
   pub torn : Tell (slice_set old (next_slot last) Unreadable) last
   torn = elim (parity (next_number last)) [
     | inl zero ↦ subst (λ (at : ℕ). Tell (slice_set old at Unreadable) last) (sym zero)
-        (over-first old two last tell Unreadable Torn last zero refl refl)
+        (over-first old two last tell Unreadable Torn last zero refl torn-own refl)
     | inr one ↦ subst (λ (at : ℕ). Tell (slice_set old at Unreadable) last) (sym one)
-        (over-second old two last tell Unreadable Torn last one refl (none-later last))
+        (over-second old two last tell Unreadable Torn last one refl torn-own (none-later last))
   ]
 
   -- so a crash within the beat leaves one of both

@@ -1,5 +1,5 @@
 -- What a device of two sectors tells of beats.
-use Rattle.std.specs.Prelude.{◌≡◌, ℕ, ◌+◌, ◌%◌, ◌⊎◌, Option, Some, None}
+use Rattle.std.specs.Prelude.{◌≡◌, ◌≢◌, ℕ, ◌+◌, ◌%◌, ◌⊎◌, Option, Some, None}
 use Rattle.sector_dev.specs.declared.device.Sector.{Sector}
 use Rattle.sector_dev.specs.declared.device.Sector.TheVariants.{Bytes, Unreadable}
 use Rattle.sector_dev.specs.Image.{Sectors, sector_at}
@@ -13,12 +13,14 @@ abbrev pub IsSlotOf : ℕ → Sector → Slot → Type 0
 IsSlotOf at (Bytes bytes) slot = IsSlot at bytes slot
 IsSlotOf at Unreadable slot = slot ≡ Torn
 
--- sectors tell this beat as the last one, or none
+-- both sectors are slots, and tell this beat as the last one, or none
 pub record Tell (sectors : Sectors) (last : Option Beat) : Type 0 where
   pub first : Slot
   pub second : Slot
   pub first_is : IsSlotOf 0 (sector_at sectors 0) first
   pub second_is : IsSlotOf 1 (sector_at sectors 1) second
+  pub first_own : first ≢ Foreign
+  pub second_own : second ≢ Foreign
   pub last_is : last ≡ told first second
 
 -- one of them is no slot

@@ -2,3 +2,4 @@ pub mod Pace
 pub mod Slots
 pub mod Starting
 pub mod Beats
+pub mod Serving

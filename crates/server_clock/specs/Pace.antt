@@ -21,6 +21,10 @@ read_at pace to = record pace {
 abbrev pub GoesOn : Pace → Pace → Type 0
 GoesOn old new = (reading : ℕ) × (new ≡ read_at old reading)
 
+-- no time passes; all clocks may be stopped, or go on
+abbrev pub IsHeld : Pace → Pace → Type 0
+IsHeld old new = new ≡ record old { is_stopped = new.is_stopped }
+
 -- for the examples: at the moment 1000 and the reading 50, where 10 of a gap count
 abbrev at_1000 : Pace
 at_1000 = record { moment = 1000; reading = 50; longest = 10; is_stopped = false }

@@ -9,6 +9,10 @@ first_moment system (Some entry) None = entry
 first_moment system None (Some beat) = beat.moment
 first_moment system (Some entry) (Some beat) = max entry beat.moment
 
+-- a life begins at this moment, whatever the system's clock is where there is an entry or a beat
+abbrev pub BeginsAt : Option ℕ → Option Beat → ℕ → Type 0
+BeginsAt entry last moment = (system : ℕ) × (moment ≡ first_moment system entry last)
+
 -- By the system's clock: how long ago the first moment was. At the last beat both clocks were read, and from there on
 -- they ran alike; without one the moments were those of the system's clock.
 abbrev pub stood_still : ℕ → ℕ → Option Beat → ℕ

@@ -1,5 +1,8 @@
 //! The clock of a server whose games' clocks run only while it serves.
 ghost use Rattle.std.specs.Prelude.{◌≡◌, ◌-◌, ◌≤◌, ◌↔◌, IsTrue};
+ghost use Rattle.server_clock.specs.Pace.{IsHeld};
+ghost use Rattle.server_clock.specs.Starting.{BeginsAt};
+ghost use Rattle.server_clock.specs.Serving.{last_beat};
 
 use crate::beats::Beats;
 use crate::beside::{Beside, NOT_KEPT, reason_in};
@@ -16,26 +19,31 @@ use text_parts::before;
 
 /// Moments for the turns of a server, and what is done for them behind each.
 pub trait TurnMoments {
-    ghost use Rattle.std.specs.Prelude.{ℕ, ◌≡◌, ◌≤◌};
+    ghost use Rattle.std.specs.Prelude.{◌≡◌, ◌≤◌};
+    ghost use Rattle.server_clock.specs.declared.pace.Pace.{Pace};
+    ghost use Rattle.server_clock.specs.Pace.{GoesOn, IsHeld};
 
-    /// The last moment.
-    ghost moment: { Self → ℕ };
+    /// The last moment, and the reading of the clock at which it was.
+    ghost pace: { Self → Pace };
 
-    /// The next moment, in milliseconds. None is before the last.
+    /// The next moment, in milliseconds: what a reading of the clock makes of the last. None is before the last.
     fn next(&mut self) -> u64
-        ensures rising { moment self.old ≤ result }
-        ensures last { moment self.new ≡ result };
+        ensures goes { GoesOn (pace self.old) (pace self.new) }
+        ensures rising { (pace self.old).moment ≤ result }
+        ensures last { (pace self.new).moment ≡ result };
 
     /// The last reading of the monotonic clock, in milliseconds since it began.
-    fn reading(&self) -> u64;
+    fn reading(&self) -> u64
+        ensures { result ≡ (pace self.now).reading };
 
-    /// Does what is due behind a turn. It is no moment's.
+    /// Does what is due behind a turn. It is no moment's, and no time passes in it; all clocks may be stopped by it, or
+    /// go on.
     fn tick(&mut self)
-        ensures { moment self.new ≡ moment self.old };
+        ensures { IsHeld (pace self.old) (pace self.new) };
 }
 
 impl<R: Clock> TurnMoments for SteadyClock<'_, R> {
-    ghost moment = { λ clock. clock.pace.moment };
+    ghost pace = { λ clock. clock.pace };
 
     fn next(&mut self) -> u64 {
         self.go_on()
@@ -77,7 +85,9 @@ pub struct ServingClock<'r, 't, 'b, R, D: Device> {
 }
 
 // The last beat, where beats are kept.
-fn last_of<D: Device>(beats: &Option<Beats<D>>) -> Option<Beat> {
+fn last_of<D: Device>(beats: &Option<Beats<D>>) -> Option<Beat>
+    ensures { result ≡ last_beat beats.now }
+{
     match beats {
         Some(beats) => beats.last(),
         None => None,
@@ -94,7 +104,10 @@ impl<'r, 't, 'b, R: Files + Clock + Eprint, D: Device + Drop> ServingClock<'r, '
         beside: &'b Beside,
         entry: Option<u64>,
         beats: Option<Beats<D>>,
-    ) -> Self {
+    ) -> Self
+        ensures first { BeginsAt entry (last_beat beats) result.steady.pace.moment }
+        ensures longest { result.steady.pace.longest ≡ 1000 }
+    {
         let system = system_moment(rt);
         let last = last_of(&beats);
         let first = first_moment(system, entry, last);
@@ -116,7 +129,7 @@ impl<'r, 't, 'b, R: Files + Clock + Eprint, D: Device + Drop> ServingClock<'r, '
 
     // Looks whether all clocks are to stand still. Where the system does not say it, that stays as it was.
     fn look(&mut self)
-        ensures { self.new.steady.pace.moment ≡ self.old.steady.pace.moment }
+        ensures { IsHeld self.old.steady.pace self.new.steady.pace }
     {
         let path = self.beside.stopped.as_str();
         let Ok(is_stopped) = fs::exists(self.rt, path) else {
@@ -139,7 +152,7 @@ impl<'r, 't, 'b, R: Files + Clock + Eprint, D: Device + Drop> ServingClock<'r, '
 
     // Looks where so long has passed since the last look.
     fn look_when_due(&mut self, reading: u64)
-        ensures { self.new.steady.pace.moment ≡ self.old.steady.pace.moment }
+        ensures { IsHeld self.old.steady.pace self.new.steady.pace }
     {
         if is_due(reading, self.looked, LOOK_EVERY) {
             self.looked = reading;
@@ -173,7 +186,7 @@ impl<'r, 't, 'b, R: Files + Clock + Eprint, D: Device + Drop> ServingClock<'r, '
 }
 
 impl<R: Files + Clock + Eprint, D: Device + Drop> TurnMoments for ServingClock<'_, '_, '_, R, D> {
-    ghost moment = { λ clock. clock.steady.pace.moment };
+    ghost pace = { λ clock. clock.steady.pace };
 
     fn next(&mut self) -> u64 {
         self.steady.go_on()
