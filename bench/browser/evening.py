@@ -304,7 +304,7 @@ def told_elsewhere(hall):
 def slow_answers(hall):
     """A move that is not answered within a second looks as such, and within four the page says so."""
     _, ann, _, _ = hall.begin(minutes='20')
-    hall.lobby.control('slow 1800' if hall.lobby.is_real else 'slow 2500')
+    hall.lobby.control('slow 1800')
     ann.click_move('e2e4').finds('.board.sending .man.untold', 'it looks as such', 3)
     ann.reads('#outcome', 'Sending', patience=3)
     ann.until(lambda: ann.moves() == ['e4'] and not ann.sees('.board.sending'), 'until it is answered', 8)

@@ -1,16 +1,11 @@
-#!/usr/bin/env python3
-"""fuzz.py SEED N GAMES PLIES [FILE] [--bytes]
+"""Random but telling command lines, and the model's answers to them: `Fuzz(SEED, COUNT, GAMES, PLIES, WITH_BYTES)`,
+run, has the first as lines `MOMENT WHO LINE` in `inputs`, and the others in `answers`.
 
-Writes N random but telling command lines `MOMENT WHO LINE` to FILE (by default fuzz-SEED-N-GAMES-PLIES.in beside this
-program) and the model's answers to FILE.answers; a summary of what came goes to standard error.
-
-With --bytes some lines hold bytes over 127, byte 0 and carriage returns (also at the end); without it every byte of a
+With bytes some lines hold bytes over 127, byte 0 and carriage returns (also at the end); without them every byte of a
 line is 1 to 127, none of them 10 or 13. """
 
 import random
 import re
-import sys
-from collections import Counter
 from lib.model.rules import *
 
 TOP_MOMENTS = [4611686018427387904, 4611686018427387904, 9223372036854775807,
@@ -157,7 +152,6 @@ class Fuzz:
         self.focus, self.streak = 0, 0
         self.scripts = []
         self.done = 0
-        self.counts = Counter()
         self.inputs, self.answers = [], []
 
     # ---- sending
@@ -192,23 +186,6 @@ class Fuzz:
         answer = self.t.command(at, who, line)
         self.answers.append(''.join(text + '\n' for text in answer))
         self.done += 1
-        word = parse(line[:-1] if line.endswith('\r') else line)
-        fields = answer[0].split(' ')
-        if fields[0] == 'no':
-            key = ' '.join(fields[:3])
-        else:
-            key = ' '.join(fields[:2]) if fields[0] == 'ok' else fields[0]
-            if fields[0] == 'ok' and fields[1] == 'claim' and 'wrong' in fields:
-                key += ' wrong' + (' move' if len(fields) > 4 else '')
-        self.counts[key] += 1
-        if word and word[0] not in READS and fields[0] != 'no' and len(fields) > 2 and fields[-1].count('.') >= 1:
-            self.counts['end ' + fields[-2] + ' ' + fields[-1]] += 1
-        if fields[0] == 'ok' and fields[1] == 'move':
-            for mark in ('O-O-O', '=', '+', '#', 'x'):
-                if mark in fields[4]:
-                    self.counts['san ' + mark] += 1
-            if re.match('[QRBN][a-h1-8]+x?[a-h][1-8]', fields[4]) and len(re.sub('[x+#]', '', fields[4])) >= 4:
-                self.counts['san apart %d' % len(re.sub('[x+#]', '', fields[4]))] += 1
         return answer
 
     # ---- openings
@@ -632,24 +609,3 @@ class Fuzz:
 
 def kind_count(men, colour):
     return sum(1 for man in men.values() if man[0] == colour)
-
-
-def main(args):
-    with_bytes = '--bytes' in args
-    args = [a for a in args if a != '--bytes']
-    seed, n, games, plies = (int(a) for a in args[:4])
-    path = args[4] if len(args) > 4 else 'fuzz-%d-%d-%d-%d.in' % (seed, n, games, plies)
-    fuzz = Fuzz(seed, n, games, plies, with_bytes)
-    fuzz.run()
-    with open(path, 'wb') as out:
-        out.write(''.join(fuzz.inputs).encode('latin-1'))
-    with open(path + '.answers', 'wb') as out:
-        out.write(''.join(fuzz.answers).encode('latin-1'))
-    for key in sorted(fuzz.counts):
-        print('%7d  %s' % (fuzz.counts[key], key), file=sys.stderr)
-    longest = max([len(game.entries) for game in fuzz.t.games.values()] or [0])
-    print('longest of the games left: %d entries; last number %d' % (longest, fuzz.t.last), file=sys.stderr)
-
-
-if __name__ == '__main__':
-    main(sys.argv[1:])

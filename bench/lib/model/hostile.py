@@ -3,6 +3,8 @@
 Most lines cost the model little: they have no form, or are refused. A few go on with games as fuzz.py does. All lines
 of a session have one moment, since the program's clock stands still in a run (program.py). """
 
+from collections import Counter
+
 from lib.model.fuzz import BAD_LINES, BAD_STARTS, PLAYERS, STARTS, Fuzz, pick
 from lib.model.rules import INITIAL_FEN, LAST_MOMENT, Game, Table, texts
 
@@ -55,6 +57,7 @@ class Lines(Fuzz):
 
     def __init__(self, seed, games, plies):
         super().__init__(seed, 10 ** 18, games, plies, True)
+        self.counts = Counter()
         self.near = None                # the game of which moves are spelt wrongly just now, and how often still
         self.ambiguous = None           # so many entries there are whose greatest moment is not known for sure
         self.good = self.now            # the last moment that was none too great

@@ -1,14 +1,9 @@
-#!/usr/bin/env python3
-"""hub.py FILE
-
-Plays the lines of the part `hub` of `test_player` (see there) by the rules in words alone, on the plain model of the
-table: what each session of a hub is told, and what `run` writes. Prints what it is to print. Devices and memory are no
-part of the model; of a device that serves so many calls more it knows only that a commit takes five calls, or four
-where all records fit into one sector (here: up to four entries). The last of the lines, and what is to be printed of
-all, long_run.py writes. """
+"""Plays the lines of the part `hub` of `test_player` (see there) by the rules in words alone, on the plain model of the
+table: what each session of a hub is told, and what `run` writes. Devices and memory are no part of the model; of a
+device that serves so many calls more it knows only that a commit takes five calls, or four where all records fit into
+one sector (here: up to four entries). The last of the lines long_run.py has. """
 
 import re
-import sys
 from lib.model.rules import LAST_MOMENT, Table, parse
 
 
@@ -178,9 +173,10 @@ def run(store, reader, writer, moments, data):
     return out, end
 
 
-def play(path):
+def play(lines):
+    """What is printed for these lines."""
     ground, hub = (4, 60, None), None
-    for text in open(path, encoding='latin-1').read().split('\n')[:-1]:
+    for text in lines:
         word, _, rest = text.partition(' ')
         fields = rest.split(' ')
         session = hub.sessions.get(int(fields[0])) if hub and fields[0].isdigit() else None
@@ -213,14 +209,10 @@ def play(path):
         elif word == 'run':
             said = '%s|\n%s' % run(Store(*ground), *fields[:3], unescape(' '.join(fields[3:])))
         if said is not None:
-            print(said)
+            yield said
 
 
 def waiting(session):
     """Bytes fed and not taken, line feeds too; of a line that is too long none. (No carriage returns where it is
     asked.)"""
     return sum(len(line) + 1 for line in session.heard) + len(session.rest)
-
-
-if __name__ == '__main__':
-    play(sys.argv[1])

@@ -1,6 +1,4 @@
-#!/usr/bin/env python3
-"""Writes the part `lives` of `test_player`'s stored run: lives_rows.py FOLDER, its plans (stdin) and what came of them
-(stdout).
+"""The part `lives` of `test_player`'s stored run: its plans (`ins`) and what came of them (`outs`).
 
 What came is worked out here by the calls of docs/design/DISK.md, and never taken from the program. An opening syncs and
 reads the two header slots and each sector of the journal; a commit of w sectors, of four entries at most, makes w
@@ -8,14 +6,13 @@ writes, a sync, the header's write and a sync. A batch without an entry makes no
 serve fails and is counted, the first write that fails is pending, and a commit shows after a stop just where its last
 sync was answered, or its header was pending and is kept."""
 import itertools
-import sys
 
 OPENING = ["1000 ann open white 300 0", "1000 bob join 1"]
 MOVES = ["1000 ann move 1 0 e4", "1000 bob move 1 1 e5", "1000 ann move 1 2 Nf3", "1000 bob move 1 3 Nc6",
          "1000 ann move 1 4 Bb5"]
 # A read and a refused act: neither is an entry.
 NOTHING = ["1000 - list", "1000 eve move 1 5 a6"]
-doing, told = [], []
+ins, outs = [], []
 
 
 def sectors(entries):
@@ -63,13 +60,13 @@ def lives(*plan):
 
 
 def play(*plan):
-    doing.append("plan 212 4 60")
+    ins.append("plan 212 4 60")
     for calls, fates, batches in plan:
-        doing.append(f"life {'-' if calls is None else calls} {fates or '-'}")
+        ins.append(f"life {'-' if calls is None else calls} {fates or '-'}")
         for batch in batches:
-            doing.extend(["batch", *batch])
-    doing.append("live")
-    told.extend(lives(*plan))
+            ins.extend(["batch", *batch])
+    ins.append("live")
+    outs.extend(lives(*plan))
 
 
 def cases():
@@ -92,14 +89,10 @@ play((3, "", [OPENING, MOVES[:1]]))
 play((None, "", [OPENING]), (6, "lk", [NOTHING, MOVES]), (None, "", [MOVES]), (5, "", [MOVES]), (6, "", [NOTHING]),
      (9, "k", [["1000 bob move 1 5 a6"], MOVES]), (None, "", []))
 # The drill plays the cases.
-doing.append("drill")
+ins.append("drill")
 shown = [lives(case) for case in cases()]
 none, every = sum(lines[-1] == "kept 2" for lines in shown), sum(lines[-1] == "kept 7" for lines in shown)
 assert (len(shown), none, every) == (28, 25, 3)
 for lines in shown:
-    told.extend(lines)
-told.append(f"drill {len(shown)} none {none} all {every}")
-
-for name, lines in (("stdin", doing), ("stdout", told)):
-    with open(f"{sys.argv[1]}/{name}", "w") as file:
-        file.write("\n".join(lines) + "\n")
+    outs.extend(lines)
+outs.append(f"drill {len(shown)} none {none} all {every}")

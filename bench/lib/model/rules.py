@@ -1,4 +1,3 @@
-#!/usr/bin/env python3
 """A plain and slow model of the chess game server's table of games.
 
 Written from the rules in words alone, by somebody who had not seen the code or its definitions;
@@ -8,13 +7,9 @@ the list of its entries, and every field of it is read off that whole list.
     t = Table(games_limit, plies_limit)
     t.command(at, who, line) -> list of answer lines
 
-`at` is an int, `who` a name or None, `line` a str of the bytes before the line feed (latin-1: one character a byte).
-
-As a program: rules.py GAMES PLIES [FILE]  reads lines `MOMENT WHO LINE` (WHO `-` for no name) and prints the answers.
-"""
+`at` is an int, `who` a name or None, `line` a str of the bytes before the line feed (latin-1: one character a byte)."""
 
 import re
-import sys
 
 # --------------------------------------------------------------------- squares
 
@@ -906,21 +901,7 @@ class Table:
         return lines
 
 
-# ------------------------------------------------------------------- a program
-
 def split_input(text):
     """`MOMENT WHO LINE` -> (moment, who or None, line)."""
     moment, who, line = text.split(' ', 2)
     return int(moment), None if who == '-' else who, line
-
-
-def main(args):
-    table = Table(int(args[0]), int(args[1]))
-    source = open(args[2], 'rb') if len(args) > 2 else sys.stdin.buffer
-    for raw in source.read().split(b'\n')[:-1]:
-        for answer in table.command(*split_input(raw.decode('latin-1'))):
-            sys.stdout.write(answer + '\n')
-
-
-if __name__ == '__main__':
-    main(sys.argv[1:])

@@ -1,12 +1,8 @@
-#!/usr/bin/env python3
-"""sockets.py FILE
+"""Plays the lines of the part `sockets` of `test_player` (see there) by the rules in words alone, on the plain model of
+the table and of the sessions of a hub (hub.py): what each client is sent. A turn takes in all that the clients have
+sent, answers, and closes whose connection is over (docs/client/PROTOCOL.md, "Sessions over a socket"); how much of it
+comes in one turn is not told here. """
 
-Plays the lines of the part `sockets` of `test_player` (see there) by the rules in words alone, on the plain model of
-the table and of the sessions of a hub (hub.py): what each client is sent. Prints what it is to print. A turn takes in
-all that the clients have sent, answers, and closes whose connection is over (docs/client/PROTOCOL.md, "Sessions over a
-socket"); how much of it comes in one turn is not told here. """
-
-import sys
 from lib.model.hub import Hub, Store
 
 GAMES, PLIES, MOMENT, LINES = 4, 60, 1000, 64
@@ -100,46 +96,39 @@ class Server:
                 self.close(client)
         return worked
 
-    def tell(self):
+    def told(self):
         for client in self.clients:
-            for line in client.heard:
-                print(client.letter, line)
+            yield from (f'{client.letter} {line}' for line in client.heard)
             client.heard = []
 
 
-def play(path):
+def play(lines):
+    """What is printed for these lines."""
     server = Server()
-    with open(path, encoding='latin-1') as file:
-        for text in file.read().split('\n')[:-1]:
-            if text == 'turns':
-                while server.turn():
-                    pass
-                server.tell()
-                continue
-            letters, _, act = text.partition(' ')
-            if text == 'told':
-                server.tell()
-            elif text == 'away':
-                print('away', server.away)
-            elif text == 'elsewhere':
-                # It listens on 127.0.0.1 alone.
-                print('elsewhere false')
-            elif letters == 'turns':
-                for _ in range(int(act)):
-                    server.turn()
-            elif letters == 'moment':
-                server.moment = int(act)
-            elif letters == 'silence':
-                server = Server(int(act))
-            elif act == '?':
-                for _ in range(TURNS):
-                    if all(server.client(letter).heard for letter in letters):
-                        break
-                    server.turn()
-                server.tell()
-            else:
-                server.act(letters, act)
-
-
-if __name__ == '__main__':
-    play(sys.argv[1])
+    for text in lines:
+        letters, _, act = text.partition(' ')
+        if text == 'turns':
+            while server.turn():
+                pass
+        if text in ('turns', 'told'):
+            yield from server.told()
+        elif text == 'away':
+            yield f'away {server.away}'
+        elif text == 'elsewhere':
+            # It listens on 127.0.0.1 alone.
+            yield 'elsewhere false'
+        elif letters == 'turns':
+            for _ in range(int(act)):
+                server.turn()
+        elif letters == 'moment':
+            server.moment = int(act)
+        elif letters == 'silence':
+            server = Server(int(act))
+        elif act == '?':
+            for _ in range(TURNS):
+                if all(server.client(letter).heard for letter in letters):
+                    break
+                server.turn()
+            yield from server.told()
+        else:
+            server.act(letters, act)

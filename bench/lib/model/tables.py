@@ -1,11 +1,6 @@
-#!/usr/bin/env python3
-"""tables.py FILE
+"""Plays the lines of the part `table` of `test_player` (see there) by the rules in words alone, on the plain model of
+the table. Records are made by images.py, and read by reader.py, both from docs/design/DISK.md. """
 
-Plays the lines of the part `table` of `test_player` (see there) by the rules in words alone, on the plain model of the
-table, and prints what it is to print. Records are made by images.py, and read by reader.py, both from
-docs/design/DISK.md. """
-
-import sys
 from lib.model.images import entry_record, snapshot_of
 from lib.model.reader import HEAD, META, MOVES, Fault, Record, enter, read_entry, read_head, read_moves, read_snapshot
 from lib.model.rules import Table, split_input
@@ -95,13 +90,7 @@ class Player:
         return 'damaged' if table is None else 'a table'
 
 
-def play(path):
+def play(lines):
+    """What is printed for these lines."""
     player = Player()
-    with open(path, encoding='latin-1') as file:
-        for text in file.read().split('\n')[:-1]:
-            for line in player.play(text):
-                print(line)
-
-
-if __name__ == '__main__':
-    play(sys.argv[1])
+    return [said for text in lines for said in player.play(text)]

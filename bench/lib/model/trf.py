@@ -1,18 +1,37 @@
-#!/usr/bin/env python3
-"""What `chess-club trf` writes, by docs/use/NIGHT.md, "A round": trf.py trf --players FILE --archive FILE --rounds
-CSV,GAMES .. prints the report of a tournament. Of its other words there is no model."""
+"""What `chess-club trf` writes, by docs/use/NIGHT.md, "A round": `told` has the report of a tournament by the words
+`trf --players FILE --archive FILE --rounds CSV,GAMES ..`. Of its other words there is no model."""
 
 import argparse
 import csv
-import sys
-from lib.model.export import games_of
-from lib.night import games_in, place_of, points_of, read_notes, rounds_of, unescaped
-from lib.program import Wrong
+from lib.night import game_in, games_in, lines_behind, place_of, points_of, read_notes, rounds_of, unescaped
+from lib.program import Wrong, wrong_if
 
 # the lines of the tournament, and which option says what stands there
 OPTIONS = {'012': 'name', '022': 'city', '032': 'federation', '042': 'begins', '052': 'ends', '092': 'kind',
-           '102': 'arbiter',
-           '112': 'deputy', '122': 'times'}
+           '102': 'arbiter', '112': 'deputy', '122': 'times'}
+FRONT = b'{"game":'
+MOST_BEHIND = 4194304
+
+
+def games_of(path):
+    """The games of an archive, with what stands behind its lines: a line that lacks its line feed alone is a game's,
+    and the beginning of one is none."""
+    lines, behind = lines_behind(path)
+    games = [game_in(line) for line in lines]
+    if behind:
+        try:
+            games.append(game_in(behind.decode()))
+        except ValueError:
+            look_at_torn(behind)
+    wrong_if(len(dict(games)) < len(games), 'the archive has a game twice')
+    return games
+
+
+def look_at_torn(behind):
+    """What is not whole has to begin as a line does, as far as it goes, and to hide no other line."""
+    is_begun = all(byte in (wanted, 0) for byte, wanted in zip(behind, FRONT))
+    if not is_begun or FRONT in behind[1:] or len(behind) > MOST_BEHIND:
+        raise Wrong('something else stands behind the lines of the archive')
 
 
 def players_in(path):
@@ -68,7 +87,7 @@ def report(told, full, rounds, count):
     return lines
 
 
-def words_of():
+def words_of(given):
     words = argparse.ArgumentParser()
     words.add_argument('word', choices=['trf'])
     words.add_argument('--players', required=True)
@@ -77,20 +96,15 @@ def words_of():
     words.add_argument('--all-rounds')
     for option in OPTIONS.values():
         words.add_argument('--' + option, default='')
-    return words.parse_args()
+    return words.parse_args(given)
 
 
-def main():
-    given = words_of()
+def told(words):
+    """The lines of the report."""
+    given = words_of(words)
     full, games = players_in(given.players), dict(games_of(given.archive))
     rounds = [round_of(files, games, full) for files in given.rounds]
     # (of nobody a rating is known, and there are no teams)
-    told = {number: getattr(given, option) for number, option in OPTIONS.items()}
-    told.update({'062': len(full), '072': 0, '082': 0})
-    sys.stdout.reconfigure(encoding='utf-8')
-    for line in report(told, full, rounds, given.all_rounds):
-        print(line)
-
-
-if __name__ == '__main__':
-    main()
+    heads = {number: getattr(given, option) for number, option in OPTIONS.items()}
+    heads.update({'062': len(full), '072': 0, '082': 0})
+    return report(heads, full, rounds, given.all_rounds)
