@@ -450,7 +450,9 @@ INITIAL = fen_read(INITIAL_FEN)
 # --------------------------------------------------------------------- entries
 
 class Entry:
-    """kind: open join move offer accept decline resign claim fallen drop."""
+    """kind: open join move offer accept decline resign claim fallen drop; and ended, by no act that is known."""
+
+    given = {WHITE: 0, BLACK: 0}        # of an opening: the milliseconds that are held besides what the entries sum to
 
     def __init__(self, kind, game, at, **more):
         self.kind = kind
@@ -458,7 +460,7 @@ class Entry:
         self.at = at            # the effective moment
         # open: who, colour, initial, increment, period, start;  join: who
         # move: move;  offer, accept, decline, resign: side
-        # claim: side, fifty, move (or None)
+        # claim: side, fifty, move (or None);  ended: ending
         self.__dict__.update(more)
 
 
@@ -530,6 +532,8 @@ class Fields:
             self.ending = (DRAW, '5.2.3')
         elif last.kind == 'resign':
             self.ending = (WIN[other(last.side)], '5.1.2')
+        elif last.kind == 'ended':
+            self.ending = last.ending
         elif last.kind == 'fallen':
             self.ending = ending_of_flag(self.present)
         elif last.kind == 'claim' and self.right[i]:
@@ -568,7 +572,7 @@ class Fields:
     def time_held(self, entries, side):
         o = self.opened
         own = [k for k, (_, _, mover, _) in enumerate(self.moves) if mover == side]
-        held = 1000 * o.initial
+        held = 1000 * o.initial + o.given[side]
         held += 1000 * o.increment * len(own)
         held += 120000 * len([i for i, e in enumerate(entries) if e.kind == 'claim' and e.side != side
                               and not self.right[i]])

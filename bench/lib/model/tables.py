@@ -1,9 +1,9 @@
 """Plays the lines of the part `table` of `test_player` (see there) by the rules in words alone, on the plain model of
 the table. Records are made by images.py, and read by reader.py, both from docs/design/DISK.md. """
 
-from lib.model.images import entry_record, snapshot_of
+from lib.model.images import Noted, snapshot_of
 from lib.model.reader import HEAD, META, MOVES, Fault, Record, enter, read_entry, read_head, read_moves, read_snapshot
-from lib.model.rules import Table, split_input
+from lib.model.rules import split_input
 
 
 # ------------------------------------------------------------------- what records mean
@@ -29,11 +29,11 @@ def is_record(data):
 
 def read(records, entries, games, plies):
     """The table of a snapshot and the entries since, under these limits; None where they mean none."""
-    table = Table(games, plies)
+    table = Noted(games, plies)
     try:
         read_snapshot(records, table)
-        for entry in entries:
-            enter(table, entry)
+        for data in entries:
+            enter(table, read_entry(data))
     except Fault:
         return None
     return table
@@ -46,18 +46,7 @@ class Player:
         self.begin(256, 1024)
 
     def begin(self, games, plies):
-        self.records, self.since = None, []
-        self.take(Table(games, plies))
-
-    def take(self, table):
-        """Goes on with a table, and notes its entries."""
-        self.table, entered = table, table.enter
-
-        def noting(entry):
-            played = table.games.get(entry.game)
-            self.since.append(read_entry(entry_record(entry, played.fields().ply if played else 0)))
-            entered(entry)
-        table.enter = noting
+        self.records, self.table = None, Noted(games, plies)
 
     def play(self, text):
         """What is printed for a line."""
@@ -66,14 +55,12 @@ class Player:
             self.begin(*map(int, rest.split()))
             return []
         if text == 'records':
-            self.records, self.since = snapshot_of(self.table), []
+            self.records, self.table.noted = snapshot_of(self.table), []
             return [data.rstrip(b'\0').hex() for data in self.records]
         if word == 'reopen':
-            table = read(self.records, list(self.since), *map(int, rest.split()))
-            if table is None:
-                return ['damaged']
-            self.take(table)
-            return ['reopened']
+            table = read(self.records, self.table.noted, *map(int, rest.split()))
+            self.table = table or self.table
+            return ['reopened' if table else 'damaged']
         if word == 'changed':
             return [self.changed(*map(int, rest.split()))]
         return self.table.command(*split_input(text))
@@ -86,7 +73,7 @@ class Player:
         records[place] = records[place][:at] + bytes([value]) + records[place][at + 1:]
         if not is_record(records[place]):
             return 'no record'
-        table = read(records, list(self.since), self.table.games_limit, self.table.plies_limit)
+        table = read(records, self.table.noted, self.table.games_limit, self.table.plies_limit)
         return 'damaged' if table is None else 'a table'
 
 
