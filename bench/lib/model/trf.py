@@ -3,12 +3,9 @@
 
 import argparse
 import csv
-from lib.night import game_in, games_in, lines_behind, place_of, points_of, read_notes, rounds_of, unescaped
+from lib.night import OPTIONS, game_in, games_in, lines_behind, read_notes, report, unescaped
 from lib.program import Wrong, wrong_if
 
-# the lines of the tournament, and which option says what stands there
-OPTIONS = {'012': 'name', '022': 'city', '032': 'federation', '042': 'begins', '052': 'ends', '092': 'kind',
-           '102': 'arbiter', '112': 'deputy', '122': 'times'}
 FRONT = b'{"game":'
 MOST_BEHIND = 4194304
 
@@ -70,23 +67,6 @@ def round_of(files, games, full):
     return rows, played
 
 
-def player_line(number, name, points, place, rounds):
-    """The line of a player, in its columns."""
-    cells = ''.join(f'  {opponent} {colour} {result}' for opponent, colour, result in rounds)
-    return f'001 {number:>4}{"":6}{name[:33]:<33}{"":33}{points:>4.1f} {place:>4}{cells}'
-
-
-def report(told, full, rounds, count):
-    """The lines of a report. `told` is what stands in the lines of the tournament, `count` how many rounds there are to
-    be, if that is told; the others are as of rounds_of."""
-    lines = [f'{number} {text}' for number, text in sorted(told.items())]
-    lines += [f'XXR {count}'] if count else []
-    points, met = points_of(rounds), rounds_of(full, rounds)
-    for number, name in enumerate(full, 1):
-        lines.append(player_line(number, full[name], points[name], place_of(name, points), met[name]))
-    return lines
-
-
 def words_of(given):
     words = argparse.ArgumentParser()
     words.add_argument('word', choices=['trf'])
@@ -103,8 +83,4 @@ def told(words):
     """The lines of the report."""
     given = words_of(words)
     full, games = players_in(given.players), dict(games_of(given.archive))
-    rounds = [round_of(files, games, full) for files in given.rounds]
-    # (of nobody a rating is known, and there are no teams)
-    heads = {number: getattr(given, option) for number, option in OPTIONS.items()}
-    heads.update({'062': len(full), '072': 0, '082': 0})
-    return report(heads, full, rounds, given.all_rounds)
+    return report(vars(given), full, [round_of(files, games, full) for files in given.rounds])
