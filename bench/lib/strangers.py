@@ -1,17 +1,21 @@
-"""Strangers before a lobby: connections that have shown no token and ask, and players who move beside them. For
-bench/speed/lobby."""
+"""Connections that cost a lobby more than they say, in a process of their own, and players who move beside them. For
+bench/speed/lobby. `-m lib.strangers PORT ask COUNT LINE BURST` and `-m lib.strangers PORT KIND COUNT [TOKEN]` print
+`ready N`, and once standard input ends how many answers they had, or rounds they made, in how many seconds."""
 
+import asyncio
+import contextlib
 import selectors
+import socket
 import sys
 import time
 
 from lib.net import connect
 from lib.program import module
 from lib.server import Session
-from lib.web import TEXT, Guest, frame, handshake, token_of
+from lib.web import PING, TEXT, Guest, frame, handshake, token_of
 
-# (messages that a connection may say in a second, and at once)
-RATE, BURST = 20, 18
+# (messages that a connection may say in a second)
+RATE = 20
 # (seconds between two moves)
 PACE = 0.013
 
@@ -81,8 +85,8 @@ class Stranger:
         self.at = now + self.burst / RATE
 
 
-def crowd(port, line, count, burst):
-    """So many strangers, until standard input ends; then it prints how many answers they had."""
+def ask(port, count, line, burst):
+    """So many strangers who ask, until standard input ends."""
     them = []
     for _ in range(count):
         one = Stranger(port, line, burst)
@@ -97,7 +101,7 @@ def crowd(port, line, count, burst):
     while True:
         for key, _ in told.select(0.005):
             if key.data is None:
-                print('answers %d %.1f' % (sum(one.answers for one in them), time.monotonic() - began), flush=True)
+                print('%d %.1f' % (sum(one.answers for one in them), time.monotonic() - began), flush=True)
                 return
             if not key.data.read():
                 told.unregister(key.data.socket)
@@ -106,19 +110,105 @@ def crowd(port, line, count, burst):
             one.ask(now)
 
 
-class Crowd:
-    """A crowd in a process of its own."""
+class Rude:
+    """A connection that does what its kind does, round by round, and comes again where it is closed."""
 
-    def __init__(self, port, line, count, burst=1):
-        self.process = module('lib.strangers', port, line, count, burst)
+    rounds = 0
+
+    def __init__(self, port, kind, token):
+        self.port, self.kind, self.token, self.loop = port, kind, token, asyncio.get_running_loop()
+        self.host = '127.0.0.1:%d' % port
+
+    async def send(self, data):
+        await self.loop.sock_sendall(self.line, data)
+
+    async def hear(self):
+        data = await self.loop.sock_recv(self.line, 1 << 16)
+        if not data:
+            raise ConnectionError
+        return data
+
+    async def open_socket(self):
+        await self.send(handshake(self.host))
+        await self.hear()
+        if self.token:
+            await self.send(frame(TEXT, b'login ' + self.token.encode()))
+            await self.hear()
+
+    async def heads(self):
+        """A head that has no end, a byte at a time."""
+        for byte in b'GET / HTTP/1.1\r\nHost: %s\r\nX: %s' % (self.host.encode(), b'x' * 4000):
+            await self.send(bytes((byte,)))
+            Rude.rounds += 1
+
+    async def files(self):
+        """The page's largest file, again and again over one connection."""
+        while True:
+            await self.send(b'GET /game.js HTTP/1.1\r\nHost: %s\r\n\r\n' % self.host.encode())
+            head, _, body = (await self.hear()).partition(b'\r\n\r\n')
+            left = int(head.lower().split(b'content-length: ')[1].split(b'\r\n')[0]) - len(body)
+            while left > 0:
+                left -= len(await self.hear())
+            Rude.rounds += 1
+
+    async def churn(self):
+        """A socket that is opened and closed."""
+        await self.open_socket()
+        Rude.rounds += 1
+
+    async def pings(self):
+        """Pings, as many as the socket takes."""
+        await self.open_socket()
+        while True:
+            await self.send(frame(PING, b'') * 150)
+            await self.hear()
+            Rude.rounds += 1
+
+    async def players(self):
+        """All players, 18 times at once and 20 times a second."""
+        await self.open_socket()
+        while True:
+            await self.send(frame(TEXT, b'players') * 18)
+            await self.hear()
+            Rude.rounds += 18
+            await asyncio.sleep(0.9)
+
+    async def run(self):
+        while True:
+            self.line = socket.socket()
+            self.line.setblocking(False)
+            self.line.setsockopt(socket.IPPROTO_TCP, socket.TCP_NODELAY, 1)
+            with contextlib.suppress(OSError, IndexError):
+                await self.loop.sock_connect(self.line, ('127.0.0.1', self.port))
+                await getattr(self, self.kind)()
+            self.line.close()
+            await asyncio.sleep(0.001)
+
+
+async def do(port, kind, count, token=''):
+    """So many connections of a kind, until standard input ends."""
+    tasks = [asyncio.create_task(Rude(port, kind, token).run()) for _ in range(count)]
+    print('ready %d' % count, flush=True)
+    began = time.monotonic()
+    await asyncio.to_thread(sys.stdin.read)
+    print('%d %.1f' % (Rude.rounds, time.monotonic() - began), flush=True)
+    for task in tasks:
+        task.cancel()
+
+
+class Crowd:
+    """So many who do this, in a process of their own: `count` of them came."""
+
+    def __init__(self, port, kind, count, *words):
+        self.process = module('lib.strangers', port, kind, count, *words)
         self.count = int(self.process.stdout.readline().split()[1])
 
     def end(self):
-        """How many answers it had a second."""
+        """How many answers they had, or rounds they made, a second."""
         self.process.stdin.close()
-        _, answers, seconds = self.process.stdout.readline().split()
+        rounds, seconds = self.process.stdout.readline().split()
         self.process.wait()
-        return int(answers) / float(seconds)
+        return int(rounds) / float(seconds)
 
 
 def play(port, plays):
@@ -163,4 +253,8 @@ def moves(boards, seconds, pace=PACE):
 
 
 if __name__ == '__main__':
-    crowd(int(sys.argv[1]), sys.argv[2], int(sys.argv[3]), int(sys.argv[4]))
+    to, kind, count, *words = sys.argv[1:]
+    if kind == 'ask':
+        ask(int(to), int(count), words[0], int(words[1]))
+    else:
+        asyncio.run(do(int(to), kind, int(count), *words))
