@@ -216,7 +216,7 @@ class Fuzz:
                     men[pawn] = (other(side), 'P')
                     target = square_name((f, rank))
                     for g in (f - 1, f + 1):
-                        if on_board((g, rank)) and (g, rank - d) not in men and r.random() < 0.7:
+                        if 1 <= g <= 8 and (g, rank - d) not in men and r.random() < 0.7:
                             men[(g, rank - d)] = (side, 'P')
             else:
                 free = []

@@ -33,10 +33,6 @@ def square_of(text):
     return None
 
 
-def on_board(sq):
-    return 1 <= sq[0] <= 8 and 1 <= sq[1] <= 8
-
-
 def up(colour):
     """The direction in which the pawns of a colour go."""
     return 1 if colour == WHITE else -1
@@ -86,17 +82,11 @@ def attacks(men, a, b):
 
 def attacked(men, sq, by):
     """Whether some man of colour `by` attacks sq."""
-    for a, man in men.items():
-        if man[0] == by and sq in WAYS[man][a] and attacks(men, a, sq):
-            return True
-    return False
+    return any(man[0] == by and sq in WAYS[man][a] and attacks(men, a, sq) for a, man in men.items())
 
 
 def king_of(men, colour):
-    for sq, man in men.items():
-        if man == (colour, 'K'):
-            return sq
-    return None
+    return next((sq for sq, man in men.items() if man == (colour, 'K')), None)
 
 
 # ------------------------------------------------------------------- positions
@@ -120,44 +110,39 @@ class Position:
         self.target = target
         self.half = half
         self.full = full
-        self._worked = None     # kept for speed alone
+        self.worked = None      # kept for speed alone
 
     def whole(self):
         """All six fields, to compare positions field by field."""
         return (frozenset(self.men.items()), self.side, self.rights, self.target, self.half, self.full)
 
 
-class Worked:
-    """What was worked out of a position, whatever its counters; kept for speed alone."""
-
-    def __init__(self):
-        self.legal = self.same = self.texts = None
-
-
-WORKED = {}                     # placement, side, rights and target -> Worked
+WORKED = {}                     # placement, side, rights and target -> what was worked out of them
 MOST_WORKED = 6000
 
 
-def worked(p):
-    if p._worked is None:
-        key = p.whole()[:4]
-        if key not in WORKED and len(WORKED) >= MOST_WORKED:
-            WORKED.clear()
-        p._worked = WORKED.setdefault(key, Worked())
-    return p._worked
+def worked_out(work):
+    """Of a position what this function says, kept for speed alone: it is the same whatever the counters."""
+    def once(p):
+        if p.worked is None:
+            key = p.whole()[:4]
+            if key not in WORKED and len(WORKED) >= MOST_WORKED:
+                WORKED.clear()
+            p.worked = WORKED.setdefault(key, {})
+        if work not in p.worked:
+            p.worked[work] = work(p)
+        return p.worked[work]
+    return once
 
 
 def valid(p):
     men = p.men
     for colour in (WHITE, BLACK):
         mine = [man for man in men.values() if man[0] == colour]
-        if mine.count((colour, 'K')) != 1:
+        if mine.count((colour, 'K')) != 1 or len(mine) > 16:
             return False
-        if len(mine) > 16:
-            return False
-    for sq, (_, kind) in men.items():
-        if kind == 'P' and sq[1] in (1, 8):
-            return False
+    if any(kind == 'P' and sq[1] in (1, 8) for sq, (_, kind) in men.items()):
+        return False
     if attacked(men, king_of(men, other(p.side)), p.side):
         return False
     for right in p.rights:
@@ -165,21 +150,25 @@ def valid(p):
         if men.get(king) != (colour, 'K') or men.get(rook) != (colour, 'R'):
             return False
     if p.target is not None:
-        f, r = p.target
-        d = up(p.side)
-        if r != (6 if p.side == WHITE else 3):
+        (f, r), d = p.target, up(p.side)
+        if r != (6 if p.side == WHITE else 3) or men.get((f, r - d)) != (other(p.side), 'P'):
             return False
-        if p.target in men:
-            return False
-        if men.get((f, r - d)) != (other(p.side), 'P'):
-            return False
-        if (f, r + d) in men:
+        if p.target in men or (f, r + d) in men:
             return False
     return 0 <= p.half <= 65535 and 1 <= p.full <= 65535
 
 
 # ------------------------------------------------------------------ candidates
 # A move is (from, to, promotion), promotion being None or one of Q R B N.
+
+def pawn_reaches(p, a):
+    """Where a pawn on a goes, and where it takes."""
+    men, d, home = p.men, up(p.side), 2 if p.side == WHITE else 7
+    one, two = (a[0], a[1] + d), (a[0], a[1] + 2 * d)
+    reached = [] if one in men else [one] if a[1] != home or two in men else [one, two]
+    beside = [(f, a[1] + d) for f in (a[0] - 1, a[0] + 1) if 1 <= f <= 8]
+    return reached + [b for b in beside if b == p.target or b in men and men[b][0] != p.side]
+
 
 def candidates(p):
     men, side = p.men, p.side
@@ -188,46 +177,20 @@ def candidates(p):
         man = men.get(a)
         if man is None or man[0] != side:
             continue
-        kind = man[1]
-        if kind == 'P':
-            d = up(side)
-            reached = []
-            one, two = (a[0], a[1] + d), (a[0], a[1] + 2 * d)
-            if one not in men:
-                reached.append(one)
-                if a[1] == (2 if side == WHITE else 7) and two not in men:
-                    reached.append(two)
-            for b in ((a[0] - 1, a[1] + d), (a[0] + 1, a[1] + d)):
-                if not on_board(b):
-                    continue
-                if b in men and men[b][0] != side:
-                    reached.append(b)
-                elif b == p.target:
-                    reached.append(b)
-            for b in reached:
-                if b[1] == (8 if side == WHITE else 1):
-                    for became in 'QRBN':
-                        found.append((a, b, became))
-                else:
-                    found.append((a, b, None))
-            continue
-        for b in WAYS[man][a]:
-            if attacks(men, a, b) and (b not in men or men[b][0] != side):
-                found.append((a, b, None))
+        if man[1] == 'P':
+            for b in pawn_reaches(p, a):
+                found += [(a, b, became) for became in ('QRBN' if b[1] == (8 if side == WHITE else 1) else (None,))]
+        else:
+            found += [(a, b, None) for b in WAYS[man][a] if attacks(men, a, b) and men.get(b, ' ')[0] != side]
     for right in 'KQkq':
-        if right not in p.rights:
-            continue
         king, rook, colour = RIGHTS[right]
-        if colour != side:
+        if right not in p.rights or colour != side:
             continue
         d = sign(rook[0] - king[0])
         between = [(f, king[1]) for f in range(min(king[0], rook[0]) + 1, max(king[0], rook[0]))]
-        if any(sq in men for sq in between):
-            continue
         path = [(king[0] + i * d, king[1]) for i in (0, 1, 2)]
-        if any(attacked(men, sq, other(side)) for sq in path):
-            continue
-        found.append((king, path[2], None))
+        if not any(sq in men for sq in between) and not any(attacked(men, sq, other(side)) for sq in path):
+            found.append((king, path[2], None))
     return found
 
 
@@ -267,16 +230,15 @@ def following(p, m):
 
 # ----------------------------------------------------------------------- legal
 
+def leaves_king(p, m):
+    """Whether the king of who moves is attacked then."""
+    men = following(p, m).men
+    return attacked(men, king_of(men, p.side), other(p.side))
+
+
+@worked_out
 def legal_moves(p):
-    known = worked(p)
-    if known.legal is None:
-        found = []
-        for m in candidates(p):
-            men = following(p, m).men
-            if not attacked(men, king_of(men, p.side), other(p.side)):
-                found.append(m)
-        known.legal = found
-    return known.legal
+    return [m for m in candidates(p) if not leaves_king(p, m)]
 
 
 def in_check(p):
@@ -291,15 +253,11 @@ def perft(p, depth):
 
 # -------------------------------------------------------------------- sameness
 
+@worked_out
 def same_key(p):
     """Equal exactly for same positions (9.2)."""
-    known = worked(p)
-    if known.same is None:
-        passing = frozenset()
-        if p.target is not None:
-            passing = frozenset(m for m in legal_moves(p) if is_en_passant(p, m))
-        known.same = (p.side, p.rights, frozenset(p.men.items()), passing)
-    return known.same
+    passing = frozenset(m for m in legal_moves(p) if is_en_passant(p, m)) if p.target is not None else frozenset()
+    return p.side, p.rights, frozenset(p.men.items()), passing
 
 
 def times(p, line):
@@ -394,17 +352,15 @@ def san(p, m):
     return bare_san(p, m) + suffix(p, m)
 
 
+@worked_out
 def texts(p):
     """Map: every text that names a legal move -> that move."""
-    known = worked(p)
-    if known.texts is None:
-        found = {}
-        for m in legal_moves(p):
-            for text in dict.fromkeys((san(p, m), bare_san(p, m), coordinate(m))):
-                assert text not in found, (fen_write(p), text)
-                found[text] = m
-        known.texts = found
-    return known.texts
+    found = {}
+    for m in legal_moves(p):
+        for text in dict.fromkeys((san(p, m), bare_san(p, m), coordinate(m))):
+            assert text not in found, (fen_write(p), text)
+            found[text] = m
+    return found
 
 
 def reads(p, text):
@@ -561,13 +517,8 @@ class Fields:
         if not made:
             return False
         since = made[-1]
-        for i, e in enumerate(entries):
-            if i > since and e.kind == 'decline' and e.side != side:
-                return False
-        for i, _, mover, _ in self.moves:
-            if i > since and mover != side:
-                return False
-        return True
+        is_declined = any(e.kind == 'decline' and e.side != side for e in entries[since + 1:])
+        return not is_declined and not any(i > since and mover != side for i, _, mover, _ in self.moves)
 
     def time_held(self, entries, side):
         o = self.opened
@@ -600,10 +551,7 @@ class Fields:
         return max(0, self.held[side] - self.turn(at))
 
     def seat_of(self, who):
-        for colour in (WHITE, BLACK):
-            if self.seats[colour] == who:
-                return colour
-        return None
+        return next((colour for colour in (WHITE, BLACK) if self.seats[colour] == who), None)
 
     def result(self):
         return self.ending[0] if self.ending else '*'
@@ -883,9 +831,8 @@ class Table:
         g = self.fields(f)
         offers = ''.join(s for s in (WHITE, BLACK) if g.offers[s]) or '-'
         return ['ok show %d %s %s %d %s %d %d %s %s %s' % (
-            f['game'], g.seats[WHITE] or '-', g.seats[BLACK] or '-', g.ply,
-            g.side, g.left(WHITE, at), g.left(BLACK, at), offers, g.result(),
-            g.ending[1] if g.ending else '-')]
+            f['game'], g.seats[WHITE] or '-', g.seats[BLACK] or '-', g.ply, g.side, g.left(WHITE, at),
+            g.left(BLACK, at), offers, g.result(), g.ending[1] if g.ending else '-')]
 
     def fen(self, at, who, f):
         g = self.fields(f)
@@ -899,9 +846,7 @@ class Table:
         lines = ['ok list %d' % len(self.games)]
         for number in sorted(self.games):
             g = self.games[number].fields()
-            lines.append('%d %s %s %d %s' % (
-                number, g.seats[WHITE] or '-', g.seats[BLACK] or '-', g.ply,
-                g.result()))
+            lines.append('%d %s %s %d %s' % (number, g.seats[WHITE] or '-', g.seats[BLACK] or '-', g.ply, g.result()))
         return lines
 
 
