@@ -226,7 +226,7 @@ class Fuzz:
                 if sq in men or sq in free or kind == 'P' and sq[1] in (1, 8):
                     continue
                 men[sq] = (r.choice('wb'), kind)
-            if kind_count(men, WHITE) > 16 or kind_count(men, BLACK) > 16:
+            if any(sum(man[0] == colour for man in men.values()) > 16 for colour in (WHITE, BLACK)):
                 continue
             half = r.choice([0, 0, 1, 60, 96, 99, 100, 140, 147, 148, 149, 149])
             full = r.choice([1, 1, 2, 50, 9998, 9999])
@@ -237,23 +237,19 @@ class Fuzz:
 
     def open(self):
         r = self.r
-        initial = pick(r, [(1, 4), (2, 4), (5, 4), (10, 4), (60, 5), (300, 6),
-                           (3600, 6), (86400, 6), (0, 0.3), (86401, 0.3)])
+        initial = pick(r, [(1, 4), (2, 4), (5, 4), (10, 4), (60, 5), (300, 6), (3600, 6), (86400, 6), (0, 0.3),
+                           (86401, 0.3)])
         increment = pick(r, [(0, 8), (1, 3), (2, 3), (30, 2), (60, 1), (61, 0.3)])
-        period = ''
-        words = str(initial)
+        words, script = str(initial), []
         if r.random() < 0.35:
             moves = pick(r, [(1, 5), (2, 5), (3, 5), (5, 3), (20, 2), (255, 1), (0, 0.3), (256, 0.3)])
             second = pick(r, [(1, 5), (10, 5), (30, 5), (86400, 2), (0, 0.3), (86401, 0.3)])
             words = '%d/%d:%d' % (moves, initial, second)
-        start = pick(r, [(None, 6), ('known', 8), ('random', 5), ('bad', 1.2),
-                         ('mutated', 0.8), ('script', 8), ('bare', 1)])
-        script = []
-        if start == 'known' or start == 'mutated':
-            fen = r.choice(STARTS).format(
-                h=r.choice([0, 0, 0, 10, 94, 97, 98, 99, 100, 140, 145, 147, 148, 149]))
-            if start == 'mutated':
-                fen = self.mutate(fen)
+        start = pick(r, [(None, 6), ('known', 8), ('random', 5), ('bad', 1.2), ('mutated', 0.8), ('script', 8),
+                         ('bare', 1)])
+        if start in ('known', 'mutated'):
+            fen = r.choice(STARTS).format(h=r.choice([0, 0, 0, 10, 94, 97, 98, 99, 100, 140, 145, 147, 148, 149]))
+            fen = self.mutate(fen) if start == 'mutated' else fen
         elif start == 'random':
             fen = self.random_start()
         elif start == 'bad':
@@ -270,21 +266,15 @@ class Fuzz:
             if r.random() < 0.8:
                 words, increment = r.choice(['3600', '300']), 0
         line = 'open %s %s %d' % (r.choice(['white', 'black']), words, increment)
-        if start is not None:
-            line += ' ' + fen
-        line = line[:255]
+        line = (line if start is None else line + ' ' + fen)[:255]
         who = None if r.random() < 0.02 else r.choice(PLAYERS)
         answer = self.send(self.moment(), who, line)[0].split(' ')
         if answer[:2] == ['ok', 'open']:
             number = int(answer[2])
-            self.habits[number] = {
-                'style': pick(r, [('any', 5), ('knights', 6), ('greedy', 4),
-                                  ('quiet', 5), ('pawns', 4), ('hunt', 3)]),
-                'claims': r.choice([0, 0, 0.03, 0.15]),
-                'offers': r.choice([0, 0.02, 0.1, 0.3]),
-                'resigns': r.choice([0, 0, 0.01]),
-                'script': script,
-            }
+            style = pick(r, [('any', 5), ('knights', 6), ('greedy', 4), ('quiet', 5), ('pawns', 4), ('hunt', 3)])
+            self.habits[number] = {'style': style, 'claims': r.choice([0, 0, 0.03, 0.15]),
+                                   'offers': r.choice([0, 0.02, 0.1, 0.3]), 'resigns': r.choice([0, 0, 0.01]),
+                                   'script': script}
             if script:
                 self.habits[number]['claims'] = r.choice([0, 0, 0.05, 0.3])
             if r.random() < 0.9:
@@ -299,17 +289,14 @@ class Fuzz:
         p = f.present
         moves = legal_moves(p)
         x = r.random()
+        calm = [m for m in moves if p.men[m[0]][1] != 'P' and m[1] not in p.men]
         if style == 'knights' and x < 0.9:
             if f.ply >= 2:
-                back = f.moves[-2][3]
-                back = (back[1], back[0], None)
-                if back in moves and r.random() < 0.93:
-                    return back
-            calm = [m for m in moves if p.men[m[0]][1] != 'P' and m[1] not in p.men]
-            knights = [m for m in calm if p.men[m[0]][1] == 'N']
-            return r.choice(knights or calm or moves)
+                there, back, _ = f.moves[-2][3]
+                if (back, there, None) in moves and r.random() < 0.93:
+                    return back, there, None
+            return r.choice([m for m in calm if p.men[m[0]][1] == 'N'] or calm or moves)
         if style == 'quiet' and x < 0.96:
-            calm = [m for m in moves if p.men[m[0]][1] != 'P' and m[1] not in p.men]
             return r.choice(calm or moves)
         if style in ('greedy', 'hunt') and x < 0.9:
             named = texts(p)
@@ -605,7 +592,3 @@ class Fuzz:
         while self.done < self.n:
             self.step()
         del self.inputs[self.n:], self.answers[self.n:]
-
-
-def kind_count(men, colour):
-    return sum(1 for man in men.values() if man[0] == colour)
