@@ -5,8 +5,8 @@ use Rattle.chess_store.specs.declared.fault.StoreFault.TheVariants.{Exists, TooS
 use Rattle.chess_store.specs.declared.fault.StoreFault.TheVariants.{NoMemory, Worn, Failed}
 use Rattle.chess_hub.specs.declared.fault.HubFault.{HubFault}
 use Rattle.chess_hub.specs.declared.fault.HubFault.TheVariants as hub
-use Rattle.board_session.specs.declared.board_loop.BoardFault.{BoardFault}
-use Rattle.board_session.specs.declared.board_loop.BoardFault.TheVariants as board
+use Rattle.server_words.specs.declared.board_loop.BoardFault.{BoardFault}
+use Rattle.server_words.specs.declared.board_loop.BoardFault.TheVariants as board
 use Rattle.server_words.specs.declared.ends.End.{End}
 use Rattle.server_words.specs.declared.ends.End.TheVariants as ends
 use Rattle.server_words.specs.declared.ends.Fault.{Fault}

@@ -6,3 +6,6 @@ pub mod JournalFaults
 pub mod Games
 pub mod PlayFaults
 pub mod Entry
+pub mod BoardAnswer
+pub mod BoardLine
+pub mod BoardRun

@@ -3,7 +3,7 @@ ghost use Rattle.std.specs.Prelude.{◌≡◌, ◌≢◌};
 ghost use Rattle.clap.specs.Values.{kind_of};
 ghost use Rattle.server_words.specs.End.{end_of, name_of, name_of_hub, name_of_store, of_board, status_of};
 
-use board_session::BoardFault;
+use crate::board_loop::BoardFault;
 use chess_hub::HubFault;
 use chess_store::StoreFault;
 use clap::error::ErrorKind;

@@ -2,10 +2,11 @@
 ghost use Rattle.std.specs.Prelude.{IfErr};
 ghost use Rattle.server_words.specs.Faults.{IsBoardFault};
 
+use crate::board_loop::board_reads;
 use crate::ends::{Fault, fault_of_board};
-use board_session::{Reads, board_reads};
 use server_telling::{Teller, TellingReader, TellingWriter};
 use std::io::{Read, Write};
+use text_lines::Reads;
 
 /// Answers the lines of a reader on a writer, over one board.
 pub fn play_board<R: Eprint, I: Read, O: Write>(

@@ -1,5 +1,5 @@
 //! The loop over readers and writers that give and take little, or fail.
-use board_session::{BoardFault, board};
+use server_words::{BoardFault, board};
 use std::alloc::Global;
 use std::io::{self, Error, ErrorKind, Read, Write};
 use std::process::Abort;
@@ -117,6 +117,9 @@ const AFTER_E4: Text = (
     b"",
 );
 
+const AFTER_THREE: &[u8] =
+    b"rnbqkbnr/pppppppp/8/8/4P3/8/PPPP1PPP/RNBQKBNR b KQkq e3 0 1\nno 9 BadMove\nno 1 BadLine\n";
+
 const BAD_LINE: &[u8] = b"no 1 BadLine\n";
 
 const BAD: Text = (1, BAD_LINE, b"");
@@ -126,7 +129,7 @@ const BYE: Text = (0, b"", b"bye LineTooLong\n");
 const NOTHING: Text = (0, b"", b"");
 
 // An input, and what comes of it, whether it comes and goes whole or byte by byte.
-static TEXTS: [(Text, Text); 23] = [
+static TEXTS: [(Text, Text); 24] = [
     (NOTHING, NOTHING),
     ((1, b"hello", b""), NOTHING),
     ((1, b"\n", b""), BAD),
@@ -135,6 +138,10 @@ static TEXTS: [(Text, Text); 23] = [
     ((1, b"move e2e4\r\n", b""), AFTER_E4),
     ((1, b"move e2e4\r\r\n", b""), BAD),
     ((1, b"move e2e4\nmove e2e4", b""), AFTER_E4),
+    (
+        (1, b"move e2e4\nmove e2e4\nhello\n", b""),
+        (1, AFTER_THREE, b""),
+    ),
     // Lines without a form.
     ((1, b"move\nmove \n", b""), (2, BAD_LINE, b"")),
     ((1, b"Move e2e4\n", b""), BAD),

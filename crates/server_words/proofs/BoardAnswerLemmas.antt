@@ -13,12 +13,12 @@ use Rattle.chess_san.proofs.OneMove.{coordinate_one}
 use Rattle.chess_board.proofs.ValidNext.{IsValid-next}
 use Rattle.chess_notation.specs.Fen.{IsFenOf, fen_of}
 use Rattle.chess_fen.proofs.Positions.{IsFenOf-fen_of, fen_of-IsFenOf}
-use Rattle.board_session.specs.Field.{AsksMove}
-use Rattle.board_session.specs.Answer.{IsMoveText, IsAtLimit, MakesMove, StopsAtLimit, RefusesMove, AnswersText, IsAnswer, as_line}
-use Rattle.board_session.proofs.FieldLemmas.{Asks, asks, asked_text}
-use Rattle.board_session.proofs.FieldLemmas.Asks.{Asks_one, Asks_none}
-use Rattle.board_session.proofs.MoveTexts.{MovesBy, moves_by}
-use Rattle.board_session.proofs.MoveTexts.MovesBy.{Moves_one, Moves_none}
+use Rattle.server_words.specs.BoardLine.{AsksMove}
+use Rattle.server_words.specs.BoardAnswer.{IsMoveText, IsAtLimit, MakesMove, StopsAtLimit, RefusesMove, AnswersText, IsAnswer, as_line}
+use Rattle.server_words.proofs.BoardLineLemmas.{Asks, asks, asked_text}
+use Rattle.server_words.proofs.BoardLineLemmas.Asks.{Asks_one, Asks_none}
+use Rattle.server_words.proofs.MoveTexts.{MovesBy, moves_by}
+use Rattle.server_words.proofs.MoveTexts.MovesBy.{Moves_one, Moves_none}
 
 -- an answer, and the position after it
 pub record HasAnswer (before : Position) (line : List ℕ) : Type 0 where

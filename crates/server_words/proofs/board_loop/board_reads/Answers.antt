@@ -1,7 +1,7 @@
 use Rattle.std.proofs.Common.{ap, ◌∙◌, Err}
 use Rattle.text_lines.specs.declared.answerer.LoopFault.TheVariants as loop
-use Rattle.board_session.proofs.RunLemmas.{text-from, at-fault, front-all, taken-long, front-part, taken-part}
-use Rattle.board_session.proofs.board_loop.board_reads.Goals as goal
+use Rattle.server_words.proofs.BoardRunLemmas.{text-from, at-fault, front-all, taken-long, front-part, taken-part}
+use Rattle.server_words.proofs.board_loop.board_reads.Goals as goal
 
 pub returns-in-Ok-clause-whole : goal.returns-in-Ok-clause-whole
 returns-in-Ok-clause-whole g c =

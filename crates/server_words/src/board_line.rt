@@ -1,6 +1,6 @@
 //! What a line asks for.
 ghost use Rattle.std.specs.Prelude.{◌↔◌, IsTrue};
-ghost use Rattle.board_session.specs.Field.{IsCommand, IsVisibleText};
+ghost use Rattle.server_words.specs.BoardLine.{IsCommand, IsVisibleText};
 
 use std::str;
 

@@ -4,9 +4,9 @@ use Rattle.std.specs.Io.KnownBytes.{Appends, Consumes}
 use Rattle.chess_board.specs.Position.{Position}
 use Rattle.chess_board.specs.Initial.{initial}
 use Rattle.text_lines.specs.Texts.{IsText}
-use Rattle.board_session.specs.Answer.{IsAnswer}
-use Rattle.board_session.specs.declared.board_loop.BoardFault.{BoardFault}
-use Rattle.board_session.specs.declared.board_loop.BoardFault.TheVariants.{Read, Write}
+use Rattle.server_words.specs.BoardAnswer.{IsAnswer}
+use Rattle.server_words.specs.declared.board_loop.BoardFault.{BoardFault}
+use Rattle.server_words.specs.declared.board_loop.BoardFault.TheVariants.{Read, Write}
 
 -- what the input calls for: the answers to its lines, each at the position that the line before left, from the initial
 -- position on, and then the farewell to a line that is too long

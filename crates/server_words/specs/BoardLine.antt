@@ -1,8 +1,8 @@
 -- What a line asks for.
 use Rattle.std.specs.Prelude.{ℕ, ◌≡◌, ◌<◌, ◌≤◌, List, ◌++◌, length, codes}
 use Rattle.std.specs.List.{All}
-use Rattle.board_session.specs.declared.line.BoardCommand.{BoardCommand}
-use Rattle.board_session.specs.declared.line.BoardCommand.TheVariants.{Move, Bad}
+use Rattle.server_words.specs.declared.board_line.BoardCommand.{BoardCommand}
+use Rattle.server_words.specs.declared.board_line.BoardCommand.TheVariants.{Move, Bad}
 
 -- one or more visible characters of ASCII, which leaves out the space
 pub record IsVisibleText (text : List ℕ) : Type 0 where

@@ -3,8 +3,8 @@ use Rattle.std.proofs.lemmas.List.Elements.{All-weaker}
 use Rattle.std.proofs.lemmas.Str.{IsUtf8-from_ascii}
 use Rattle.std.proofs.lemmas.Str.Ascii.{IsAscii-from_all}
 use Rattle.std.specs.Prelude.{◌≤◌, ◌<◌}
-use Rattle.board_session.specs.Field.{IsVisibleText}
-use Rattle.board_session.proofs.line.parse.Goals as goal
+use Rattle.server_words.specs.BoardLine.{IsVisibleText}
+use Rattle.server_words.proofs.board_line.parse.Goals as goal
 
 -- a field is of ASCII, so it is text
 pub unreachable-requires : goal.unreachable-requires

@@ -2,9 +2,9 @@
 ghost use Rattle.std.specs.Prelude.{◌≡◌, ◌≤◌, ℕ, List, [], length, codes};
 ghost use Rattle.chess_notation.specs.Coordinate.{IsCoordinateOf};
 ghost use Rattle.chess_notation.specs.Fen.{IsFenOf};
-ghost use Rattle.board_session.specs.Answer.{AnswersText, IsAnswer, IsAtLimit, as_line};
+ghost use Rattle.server_words.specs.BoardAnswer.{AnswersText, IsAnswer, IsAtLimit, as_line};
 
-use crate::line::{BoardCommand, parse};
+use crate::board_line::{BoardCommand, parse};
 use arrayvec::ArrayString;
 use chess_board::{Board, Move};
 use chess_fen::ShownBoard;

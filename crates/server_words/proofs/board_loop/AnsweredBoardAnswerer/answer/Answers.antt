@@ -1,5 +1,5 @@
-use Rattle.board_session.proofs.AnswerLemmas.{valid_after}
-use Rattle.board_session.proofs.board_loop.AnsweredBoardAnswerer.answer.Goals as goal
+use Rattle.server_words.proofs.BoardAnswerLemmas.{valid_after}
+use Rattle.server_words.proofs.board_loop.AnsweredBoardAnswerer.answer.Goals as goal
 
 pub returns-clause-ready : goal.returns-clause-ready
 returns-clause-ready c =

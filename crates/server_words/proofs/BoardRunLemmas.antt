@@ -6,11 +6,11 @@ use Rattle.chess_board.specs.Position.{Position, IsValid}
 use Rattle.chess_board.specs.Initial.{initial}
 use Rattle.text_lines.specs.Texts as loop
 use Rattle.text_lines.specs.declared.answerer.LoopFault.{LoopFault}
-use Rattle.board_session.specs.Answer.{IsAnswer}
-use Rattle.board_session.specs.Run.{IsBoardText, AppendsText, AppendsFront, AnswersTaken, AnswersInPart}
-use Rattle.board_session.proofs.AnswerLemmas.{answers, valid_after, one_answer}
+use Rattle.server_words.specs.BoardAnswer.{IsAnswer}
+use Rattle.server_words.specs.BoardRun.{IsBoardText, AppendsText, AppendsFront, AnswersTaken, AnswersInPart}
+use Rattle.server_words.proofs.BoardAnswerLemmas.{answers, valid_after, one_answer}
 use Rattle.chess_board.proofs.Deciding.{IsValid-initial}
-use Rattle.board_session.proofs.Cuts.{BringsLines, brings}
+use Rattle.server_words.proofs.BoardCuts.{BringsLines, brings}
 
 abbrev IsRun : Position → List (List ℕ) → List ℕ → Position → Type 0
 IsRun p lines text q = loop.IsRun IsAnswer p lines text q

@@ -18,7 +18,7 @@ use Rattle.chess_board.proofs.LegalMoves.{legal_moves_of-legal, legal_moves_of-e
 use Rattle.chess_board.proofs.Candidates.{IsOnBoard-from_man}
 use Rattle.chess_notation.specs.Name.{square_name}
 use Rattle.chess_notation.specs.Coordinate.{IsPromotionText, IsCoordinateOf}
-use Rattle.board_session.specs.Answer.{IsMoveText}
+use Rattle.server_words.specs.BoardAnswer.{IsMoveText}
 
 -- the letter of what a pawn becomes, and whether it can become that
 letter_of : Option Kind → List ℕ

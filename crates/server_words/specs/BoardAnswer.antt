@@ -6,7 +6,7 @@ use Rattle.chess_board.specs.Next.{next}
 use Rattle.chess_board.specs.Legal.{IsLegal}
 use Rattle.chess_notation.specs.Coordinate.{IsCoordinateOf}
 use Rattle.chess_notation.specs.Fen.{IsFenOf}
-use Rattle.board_session.specs.Field.{AsksMove}
+use Rattle.server_words.specs.BoardLine.{AsksMove}
 
 -- a text and its line feed
 abbrev pub as_line : List ℕ → List ℕ

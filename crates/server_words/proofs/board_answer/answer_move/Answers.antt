@@ -1,5 +1,5 @@
-use Rattle.board_session.proofs.AnswerLemmas.{text-no_move}
-use Rattle.board_session.proofs.answer.answer_move.Goals as goal
+use Rattle.server_words.proofs.BoardAnswerLemmas.{text-no_move}
+use Rattle.server_words.proofs.board_answer.answer_move.Goals as goal
 
 pub returns-in-Some : goal.returns-in-Some
 returns-in-Some c = c.answer_coordinate.ensures c.args.text.now c.in-Some.ensures.found

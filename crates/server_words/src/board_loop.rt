@@ -2,10 +2,10 @@
 ghost use Rattle.std.specs.Prelude.{◌≡◌, ℕ, List, IfSome, OnOk, OnErr, IsErrOf};
 ghost use Rattle.chess_board.specs.Position.{IsValid};
 ghost use Rattle.chess_board.specs.Initial.{initial};
-ghost use Rattle.board_session.specs.Run.{IsBoardText, AppendsText, AppendsFront, AnswersTaken, AnswersInPart};
-ghost use Rattle.board_session.specs.Run.{BoardIsOfSource};
+ghost use Rattle.server_words.specs.BoardRun.{IsBoardText, AppendsText, AppendsFront, AnswersTaken, AnswersInPart};
+ghost use Rattle.server_words.specs.BoardRun.{BoardIsOfSource};
 
-use crate::answer::answer;
+use crate::board_answer::answer;
 use chess_board::Board;
 use chess_fen::ShownBoard;
 use std::convert::Infallible;
@@ -41,7 +41,7 @@ impl Model for AnsweredBoard {
 
 impl Answerer for AnsweredBoard {
     ghost use Rattle.chess_board.specs.Position.{IsValid};
-    ghost use Rattle.board_session.specs.Answer.{IsAnswer};
+    ghost use Rattle.server_words.specs.BoardAnswer.{IsAnswer};
 
     type Fault = Infallible;
 

@@ -8,7 +8,7 @@ use Rattle.std.specs.List.{All, list_all}
 use Rattle.std.proofs.lemmas.Bool.Decides.{Decides-and, Decides-ltb, Decides-by_and, nat_tests}
 use Rattle.std.proofs.lemmas.List.Prefix.{front_rest}
 use Rattle.std.proofs.lemmas.Slice.Eq.{bytes_eq-Decides}
-use Rattle.board_session.specs.Field.{AsksMove}
+use Rattle.server_words.specs.BoardLine.{AsksMove}
 
 -- the two ways of a line
 pub data Asks (line : List ℕ) : Type 0 where

@@ -1,8 +1,8 @@
 use Rattle.std.proofs.Common.{subst}
 use Rattle.chess_board.specs.Position.{Position}
 use Rattle.chess_board.specs.Legal.{IsLegal}
-use Rattle.board_session.proofs.AnswerLemmas.{text-illegal}
-use Rattle.board_session.proofs.answer.answer_coordinate.Goals as goal
+use Rattle.server_words.proofs.BoardAnswerLemmas.{text-illegal}
+use Rattle.server_words.proofs.board_answer.answer_coordinate.Goals as goal
 
 pub returns-in-None : goal.returns-in-None
 returns-in-None c = λ text coordinate.

@@ -1,7 +1,7 @@
 use Rattle.std.proofs.Common.{sym, refl, ◌∙◌}
 use Rattle.std.proofs.lemmas.Bool.{false≢true}
-use Rattle.board_session.proofs.AnswerLemmas.{text-made, text-illegal}
-use Rattle.board_session.proofs.answer.answer_at_limit.Goals as goal
+use Rattle.server_words.proofs.BoardAnswerLemmas.{text-made, text-illegal}
+use Rattle.server_words.proofs.board_answer.answer_at_limit.Goals as goal
 
 pub returns-then-legal : goal.returns-then-legal
 returns-then-legal c = λ text coordinate.

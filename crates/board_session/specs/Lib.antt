@@ -1,3 +1,0 @@
-pub mod Field
-pub mod Answer
-pub mod Run
