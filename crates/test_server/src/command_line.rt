@@ -15,8 +15,8 @@ fn words_of(rt: &impl Abort, alloc: Global, line: &str) -> Vec<String> {
     words
 }
 
-/// What a word asks for: its place among the words, 7 where clocks stand still between two servers; whether it is forced
-/// or quiet; its port; its turns, or games; and its silence, or plies.
+/// What a word asks for: its place among the words, 7 where clocks stand still between two servers; whether it is
+/// forced or quiet; its port; its turns, or games; and its silence, or plies.
 type Said = (u8, bool, u16, Option<u32>, Option<u64>);
 
 // The port of a place, 0 of the socket s; `None` of another socket.
