@@ -207,9 +207,10 @@ abbrev pub first_due : {S : Type 0} → ℕ → List (Guest S) → Option ℕ
 first_due at [] = None
 first_due at (guest ∷ guests) = earlier (due_at at guest) (first_due at guests)
 
--- It has no socket yet, something may have come of it, and nothing was ever read.
+-- Something may have come of it, nothing waits for it and nothing of its time is taken: nothing was ever read, or
+-- nothing was since its socket opened, as of one that is about to show a token.
 abbrev pub is_unheard : {S : Type 0} → Guest S → Bool
-is_unheard guest = guest.can_read && not (is_some guest.number) && guest.paid_until == 0 && not guest.is_lost
+is_unheard guest = may_have guest && length guest.waits.items == 0 && guest.paid_until == 0 && not guest.is_lost
 
 -- Who else is attended: who has no socket yet; and who has one and acts for nobody.
 abbrev pub is_other : Others → Desk → Option ℕ → Bool
@@ -234,26 +235,32 @@ pub record IsPassedOver {S : Type 0} (old new : Guest S) (room after : Room) : T
   pub talk : after.talk ≡ room.talk
   pub left : after.left ≤ room.left
 
-pub record IsCalled {S : Type 0} (others : Others) (among_fresh : Bool) (remaining : S → Option (List ℕ)) (site : Site)
-    (at : ℕ)
-    (old new : Guest S)
-    (room after : Room) : Type 0 where
-  pub other : is_other others room.talk.desk old.number ≡ true
-  pub may : may_call others room.talk.desk ≡ true
-  pub due : IsDue among_fresh at old
-  pub served : IsServed remaining site at old new room.talk after.talk
+-- who is called in a pass, and at which moment
+pub record Pass : Type 0 where
+  pub others : Others
+  pub among_fresh : Bool
+  pub at : ℕ
+
+pub record IsCalled {S : Type 0} (pass : Pass) (remaining : S → Option (List ℕ)) (site : Site)
+    (old new : Guest S) (room after : Room) : Type 0 where
+  pub other : is_other pass.others room.talk.desk old.number ≡ true
+  pub may : may_call pass.others room.talk.desk ≡ true
+  pub due : IsDue pass.among_fresh pass.at old
+  pub served : IsServed remaining site pass.at old new room.talk after.talk
   pub takes : after.left < room.left
 
-abbrev pub IsOthersTurn : {S : Type 0} → Others → Bool → (S → Option (List ℕ)) → Site → ℕ → Guest S → Guest S → Room
-    → Room → Type 0
-IsOthersTurn others among_fresh remaining site at old new room after =
-    IsPassedOver old new room after ⊎ IsCalled others among_fresh remaining site at old new room after
+abbrev pub IsOthersTurn : {S : Type 0} → Pass → (S → Option (List ℕ)) → Site → Guest S → Guest S → Room → Room → Type 0
+IsOthersTurn pass remaining site old new room after =
+    IsPassedOver old new room after ⊎ IsCalled pass remaining site old new room after
+
+abbrev pub pass_of : Others → Bool → ℕ → Pass
+pass_of others among_fresh at = record { others = others; among_fresh = among_fresh; at = at }
 
 -- So many of them at most are attended in a turn.
 abbrev pub others_most : ℕ
 others_most = 16
 
--- Of so many nothing was ever read that a turn does not attend them all: who was read once keeps nobody out.
+-- So many of them are there that a turn does not attend them all: who was read and heard keeps nobody out.
 abbrev pub is_crowded : {S : Type 0} → List (Guest S) → Bool
 is_crowded guests = nat_lt others_most (count_by is_unheard guests)
 
@@ -270,12 +277,12 @@ pub record AreAttended {S : Type 0} (remaining : S → Option (List ℕ)) (site 
   pub players : InTurn (IsPlayersTurn remaining site at) old first talk said
   pub second : List (Guest S)
   pub came : Room
-  pub newcomers : InTurn (IsOthersTurn Newcomers true remaining site at) first second (full_room said) came
+  pub newcomers : InTurn (IsOthersTurn (pass_of Newcomers true at) remaining site) first second (full_room said) came
   pub third : List (Guest S)
   pub asked : Room
-  pub fresh : InTurn (IsOthersTurn Strangers true remaining site at) second third (full_room came.talk) asked
+  pub fresh : InTurn (IsOthersTurn (pass_of Strangers true at) remaining site) second third (full_room came.talk) asked
   pub last : Room
-  pub strangers : InTurn (IsOthersTurn Strangers false remaining site at) third new (full_room asked.talk) last
+  pub strangers : InTurn (IsOthersTurn (pass_of Strangers false at) remaining site) third new (full_room asked.talk) last
   pub after_is : after ≡ last.talk
 
 -- ---- what goes

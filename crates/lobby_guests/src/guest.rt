@@ -203,11 +203,12 @@ impl<S> Guest<S> {
             && self.has_something()
     }
 
-    /// Whether it has no socket yet, something may have come of it, and nothing was ever read.
+    /// Whether something may have come of it, nothing waits for it and nothing of its time is taken: nothing was ever
+    /// read, or nothing was since its socket opened, as of one that is about to show a token.
     pub fn is_unheard(&self) -> bool
         ensures { result ≡ is_unheard self.now }
     {
-        self.can_read && self.number.is_none() && self.paid_until == 0 && !self.is_lost
+        self.may_have() && self.waits.is_empty() && self.paid_until == 0 && !self.is_lost
     }
 
     /// Whether the time of one that acts for a player is not taken too far ahead.

@@ -1,7 +1,7 @@
 //! All browsers that are connected, by the names of their sockets, which grow.
 #![tactic(auto, using(lobby_talk::proofs::Each::zipped_none, lobby_talk::proofs::Each::zipped_vec))]
 
-ghost use Rattle.std.specs.Prelude.{ℕ, Bool, true, false, ◌≡◌, ◌++◌, ◌∷◌, [], List, Option, OnOk, count_by};
+ghost use Rattle.std.specs.Prelude.{ℕ, Bool, true, false, nat_lt, ◌≡◌, ◌++◌, ◌∷◌, [], List, Option, OnOk, count_by};
 ghost use Rattle.std.specs.Option.{option_map};
 ghost use Rattle.std.specs.List.{AllZip};
 ghost use Rattle.lobby_guests.specs.Counting.{refusals_in, CountsLogins};
@@ -9,7 +9,9 @@ ghost use Rattle.lobby_talk.specs.Counting.{counted_up};
 ghost use Rattle.lobby_guests.specs.Guests as guests;
 ghost use Rattle.lobby_guests.specs.Guests.{IsAsBefore, IsServed, IsPlayersTurn, IsOthersTurn, InTurn, Room, full_room};
 ghost use Rattle.lobby_guests.specs.Guests.{AreAttended, AreTold, AreDelivered, IsWritten, IsLookedAfter, IsClosedIf};
-ghost use Rattle.lobby_guests.specs.Guests.{AreClosed, AreParted, IsCaughtUp, first_wanted, has_waiting};
+ghost use Rattle.lobby_guests.specs.Guests.{AreClosed, AreParted, IsCaughtUp, first_wanted, has_waiting, pass_of};
+ghost use Rattle.lobby_guests.specs.Rests.{LeavesOthers};
+ghost use Rattle.lobby_guests.specs.declared.rounds.Others.TheVariants.{Strangers};
 ghost use Rattle.lobby_guests.specs.Waiting as waiting;
 ghost use Rattle.lobby_talk.specs.Replaying.{IsReplayed};
 ghost use Rattle.lobby_talk.specs.Talking.{IsTalkAsBefore};
@@ -116,7 +118,7 @@ fn attend_other<S: Read + Write, K: KeepsLinks>(
     piece: &mut [u8; PIECE_ROOM],
     coming: &mut Coming,
 ) -> Result<bool, AllocError>
-    ensures { OnOk result (IsOthersTurn others is_fresh S.remaining site.now at guest.old guest.new
+    ensures { OnOk result (IsOthersTurn (pass_of others is_fresh at) S.remaining site.now guest.old guest.new
         (record { talk = talk.old; left = round.old.left }) (record { talk = talk.new; left = round.new.left })) }
 {
     if !round.is_at(guest.key())
@@ -147,7 +149,7 @@ fn attend_others<S: Read + Write, K: KeepsLinks>(
     coming: &mut Coming,
 ) -> Result<bool, AllocError>
     ensures { OnOk result ((room : Room) × (room.talk ≡ talk.new)
-        × InTurn (IsOthersTurn others is_fresh S.remaining site.now at) guests.old.items guests.new.items
+        × InTurn (IsOthersTurn (pass_of others is_fresh at) S.remaining site.now) guests.old.items guests.new.items
         (full_room talk.old) room) }
 {
     let mut any = false;
@@ -161,8 +163,34 @@ fn attend_others<S: Read + Write, K: KeepsLinks>(
     Ok(any | can_more)
 }
 
-/// Reads for players, and says to the desk what came next of each of them; and then for some of the others. It tells
-/// whether there was anything.
+// Attends some of those who act for nobody and were heard before, where these do not rest.
+fn attend_rested<S: Read + Write, K: KeepsLinks>(
+    guests: &mut Vec<Guest<S>>,
+    rests: bool,
+    round: &mut Round,
+    site: &Site,
+    talk: &mut Talk,
+    at: u64,
+    links: &mut K,
+    piece: &mut [u8; PIECE_ROOM],
+    coming: &mut Coming,
+) -> Result<bool, AllocError>
+    ensures turned { OnOk result ((room : Room) × (room.talk ≡ talk.new)
+        × InTurn (IsOthersTurn (pass_of Strangers false at) S.remaining site.now) guests.old.items guests.new.items
+        (full_room talk.old) room) }
+    ensures rests { rests ≡ true → (guests.new.items ≡ guests.old.items) × (talk.new ≡ talk.old) }
+{
+    if rests {
+        return Ok(false);
+    }
+    let strange = Others::Strangers;
+    attend_others(
+        guests, strange, false, round, site, talk, at, links, piece, coming,
+    )
+}
+
+/// Reads for players, and says to the desk what came next of each of them; and then for some of the others, of whom
+/// those who were heard before may rest. It tells whether there was anything.
 pub fn attend_all<S: Read + Write, K: KeepsLinks>(
     guests: &mut Vec<Guest<S>>,
     rounds: &mut Rounds,
@@ -173,8 +201,9 @@ pub fn attend_all<S: Read + Write, K: KeepsLinks>(
     piece: &mut [u8; PIECE_ROOM],
     counts: &mut Counts,
 ) -> Result<bool, AllocError>
-    ensures attended { OnOk result (AreAttended S.remaining site.now at guests.old.items guests.new.items
-        talk.old talk.new) }
+    ensures attended { OnOk result ((attended : AreAttended S.remaining site.now at guests.old.items guests.new.items
+        talk.old talk.new) × (nat_lt at rounds.old.rests_until ≡ true → LeavesOthers attended)) }
+    ensures rests { OnOk result (rounds.new.rests_until ≡ rounds.old.rests_until) }
     ensures logins { OnOk result (counts.new.logins_refused ≡ counts.old.logins_refused) }
 {
     let mut coming = Coming::new();
@@ -207,11 +236,11 @@ pub fn attend_all<S: Read + Write, K: KeepsLinks>(
         piece,
         &mut coming,
     )?;
+    let rests = rounds.rests(at);
     let round = &mut rounds.strangers;
-    let other = attend_others(
+    let other = attend_rested(
         guests,
-        strange,
-        false,
+        rests,
         round,
         site,
         talk,
@@ -376,8 +405,9 @@ pub fn write_all<S: Read + Write>(
     site: &Site,
     talk: &Talk,
 ) -> bool
-    ensures { (first : List (Guest S)) × AllZip (IsWritten S.contents site.now) guests.old.items first
+    ensures written { (first : List (Guest S)) × AllZip (IsWritten S.contents site.now) guests.old.items first
         × AllZip (IsWritten S.contents site.now) first guests.new.items }
+    ensures rests { rounds.new.rests_until ≡ rounds.old.rests_until }
 {
     let players = write_players(guests, site, talk);
     let others = write_others(guests, site, talk, &mut rounds.written);
@@ -406,7 +436,7 @@ pub fn first_due<S>(connections: &[Guest<S>], at: u64) -> Option<u64>
     first
 }
 
-// Of how many that have no socket yet nothing was ever read, and may have come.
+// Of how many something may have come, and nothing of their time is taken.
 fn count_unheard<S>(connections: &[Guest<S>]) -> usize
     ensures { result ≡ count_by guests.is_unheard connections.now }
 {
@@ -416,7 +446,8 @@ fn count_unheard<S>(connections: &[Guest<S>]) -> usize
         .count()
 }
 
-/// Whether so many wait to be heard for the first time that a turn does not attend them all.
+/// Whether so many wait to be read or heard, who were not since they came or their sockets opened, that a turn does not
+/// attend them all.
 pub fn is_crowded<S>(connections: &[Guest<S>]) -> bool
     ensures { result ≡ guests.is_crowded connections.now }
 {

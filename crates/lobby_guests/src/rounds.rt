@@ -1,12 +1,19 @@
-//! Whose turn it is among those who act for nobody: a few of them in each turn, and in a round.
-ghost use Rattle.std.specs.Prelude.{◌≡◌, ◌≤◌, ◌<◌, ◌&&◌, nat_lt, nat_le, true};
-ghost use Rattle.lobby_guests.specs.Guests.{others_most};
+//! Whose turn it is among those who act for nobody: a few of them in each turn, and in a round; and how long they rest.
+ghost use Rattle.std.specs.Prelude.{◌≡◌, ◌≤◌, ◌<◌, ◌/◌, ◌&&◌, nat_lt, nat_le, true};
+ghost use Rattle.lobby_guests.specs.Guests.{others_most, taken_until};
+ghost use Rattle.lobby_guests.specs.Rests.{rested, rest_over};
+
+use lobby_desk::Message;
 
 /// So many of them are attended in a turn at most, of those who have no socket yet and of those who have one.
 pub const ATTENDED_MOST: usize = 16;
 
 /// To so many of them something is written in a turn at most.
 const WRITTEN_MOST: usize = 64;
+
+/// For each so many bytes of a message that is told, those who act for nobody and were heard before rest for a
+/// millisecond: so the server and the lobby make answers to them for some hundredths of the time.
+const BYTES_A_REST: u64 = 1_000;
 
 /// Those who are attended behind the players.
 #[derive(Clone, Copy, PartialEq, Eq)]
@@ -105,6 +112,8 @@ pub struct Rounds {
     pub fresh: Round,
     pub strangers: Round,
     pub written: Round,
+    /// Until this moment the others rest, for what was told.
+    pub rests_until: u64,
 }
 
 impl Rounds {
@@ -115,6 +124,42 @@ impl Rounds {
             fresh: Round::new(),
             strangers: Round::new(),
             written: Round::new(),
+            rests_until: 0,
+        }
+    }
+
+    /// Whether those who act for nobody and were heard before rest at a moment.
+    pub fn rests(&self, at: u64) -> bool
+        ensures { result ≡ nat_lt at self.now.rests_until }
+    {
+        at < self.rests_until
+    }
+
+    /// The moment at which they rest no more, where that is behind this one.
+    pub fn rest_over(&self, at: u64) -> Option<u64>
+        ensures { result ≡ rest_over at self.now.rests_until }
+    {
+        if self.rests(at) {
+            Some(self.rests_until)
+        } else {
+            None
+        }
+    }
+
+    // They rest for a message of so many bytes.
+    fn rest_for(&mut self, at: u64, bytes: usize)
+        ensures { self.new.rests_until ≡ taken_until at self.old.rests_until (bytes / 1000) }
+    {
+        let rest = bytes as u64 / BYTES_A_REST;
+        self.rests_until = self.rests_until.max(at).saturating_add(rest);
+    }
+
+    /// They rest for each of these messages, from a moment on.
+    pub fn rest_for_all(&mut self, told: &[Message], at: u64)
+        ensures { self.new.rests_until ≡ rested at self.old.rests_until told.now }
+    {
+        for one in told {
+            self.rest_for(at, one.text.len());
         }
     }
 }

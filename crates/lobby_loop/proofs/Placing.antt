@@ -1,11 +1,9 @@
 -- Who is looked after, and then judged.
-use Rattle.std.proofs.Common.{ℕ, ◌≡◌, ◌⊎◌, ◌||◌, ◌∙◌, Bool, true, false, List, [], ◌∷◌, inl, inr, refl, ap, sym, subst}
+use Rattle.std.proofs.Common.{ℕ, ◌≡◌, ◌||◌, ◌∙◌, Bool, true, false, List, [], ◌∷◌, inl, inr, refl, sym, subst}
 use Rattle.std.specs.List.{AllZip}
 use Rattle.lobby_guests.specs.declared.guest.Guest.{Guest}
-use Rattle.std.specs.Prelude.{Result}
 use Rattle.websocket.specs.Content.{ping as Ping}
 use Rattle.lobby_web.specs.declared.browser.Browser.{Browser}
-use Rattle.lobby_web.specs.declared.socket.Unsaid.{Unsaid}
 use Rattle.lobby_web.specs.Browsing.{SaysTo}
 use Rattle.lobby_guests.specs.Guests.{IsAsBefore, IsLookedAfter}
 use Rattle.lobby_loop.specs.declared.hall.Hall.{Hall}

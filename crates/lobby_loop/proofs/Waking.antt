@@ -52,6 +52,9 @@ module _ {S : Type 0} where
     talk = refl;
     server = server_as_before hall.server;
     site = refl;
+    come = refl;
+    away = refl;
+    rests = refl;
   }
 
   pub woken_more : (a b c : Hall S) → IsWoken a b → IsWoken b c → IsWoken a c
@@ -60,6 +63,9 @@ module _ {S : Type 0} where
     talk = next.talk ∙ one.talk;
     server = server_twice a.server b.server c.server one.server next.server;
     site = next.site ∙ one.site;
+    come = next.come ∙ one.come;
+    away = next.away ∙ one.away;
+    rests = next.rests ∙ one.rests;
   }
 
   -- a browser comes to a hall that is as before
@@ -76,6 +82,9 @@ module _ {S : Type 0} where
     talk = admits.talk ∙ same.talk;
     server = admits.server ∙ same.server;
     site = admits.site ∙ same.site;
+    has_come = λ is. admits.has_come (same.come ∙ is);
+    away = admits.away ∙ same.away;
+    rests = admits.rests ∙ same.rests;
   }
 
   -- or is turned away
@@ -86,4 +95,7 @@ module _ {S : Type 0} where
     talk = away.talk ∙ same.talk;
     server = away.server ∙ same.server;
     site = away.site ∙ same.site;
+    has_come = λ is. away.come ∙ (same.come ∙ is);
+    away = away.away ∙ same.away;
+    rests = away.rests ∙ same.rests;
   }

@@ -40,6 +40,9 @@ pub record IsWoken {S : Type 0} (old new : Hall S) : Type 0 where
   pub talk : new.talk ≡ old.talk
   pub server : IsServerAsBefore old.server new.server
   pub site : new.site ≡ old.site
+  pub come : new.has_come ≡ old.has_come
+  pub away : new.away_at ≡ old.away_at
+  pub rests : new.rounds.rests_until ≡ old.rounds.rests_until
 
 -- At this path this file is served from now on, or none, and nothing else happens.
 pub record Files {S : Type 0} (path : List ℕ) (file : Option File) (old new : Hall S) : Type 0 where

@@ -1,5 +1,5 @@
 -- One turn of all that are connected.
-use Rattle.std.specs.Prelude.{ℕ, ◌≡◌, ◌⊎◌, ◌||◌, ◌+◌, ◌-◌, ◌^◌, ◌==◌, nat_le, Bool, true, false, List, [], ◌∷◌, ◌++◌}
+use Rattle.std.specs.Prelude.{ℕ, ◌≡◌, ◌⊎◌, ◌||◌, ◌+◌, ◌-◌, ◌^◌, ◌==◌, nat_le, nat_lt, Bool, true, false, List, [], ◌∷◌, ◌++◌}
 use Rattle.std.specs.Prelude.{Option, None, Some, is_some, length, if◌then◌else◌}
 use Rattle.std.specs.declared.net.ip_addr.IpAddr.{IpAddr}
 use Rattle.std.specs.List.{AllZip}
@@ -13,7 +13,8 @@ use Rattle.lobby_talk.specs.declared.talk.Talk.{Talk}
 use Rattle.lobby_talk.specs.Talking.{Begins, MovesAnew}
 use Rattle.lobby_guests.specs.Origins.{IsPlain, IsFrom}
 use Rattle.lobby_guests.specs.Guests.{IsNewGuest, ComesFrom, AreAttended, AreDelivered, IsWritten, IsLookedAfter}
-use Rattle.lobby_guests.specs.Guests.{AreParted, has_waiting}
+use Rattle.lobby_guests.specs.Guests.{AreParted, has_waiting, earlier, first_due}
+use Rattle.lobby_guests.specs.Rests.{rested, rest_over, LeavesOthers}
 use Rattle.lobby_talk.specs.Held.{TakesIn, HandsOn, IsKept}
 use Rattle.lobby_talk.specs.Replaying.{IsReplayed}
 use Rattle.lobby_loop.specs.Seating.{AreSeated}
@@ -60,12 +61,15 @@ pub record BeginsHall {S : Type 0} (site : Site) (players : List Player) (is_pau
   pub guests : now.guests.items ≡ []
   pub server : now.server ≡ None
 
--- Nobody came or went, and nothing was read, said, told or written.
+-- Nobody came or went, and nothing was read, said, told or written. Those who rest do so as long.
 pub record IsHallAsBefore {S : Type 0} (old new : Hall S) : Type 0 where
   pub guests : new.guests ≡ old.guests
   pub talk : new.talk ≡ old.talk
   pub server : new.server ≡ old.server
   pub site : new.site ≡ old.site
+  pub come : new.has_come ≡ old.has_come
+  pub away : new.away_at ≡ old.away_at
+  pub rests : new.rounds.rests_until ≡ old.rounds.rests_until
 
 -- Nothing came of the server, and nothing went to it.
 abbrev pub IsServerAsBefore : {S : Type 0} → Option (Link S) → Option (Link S) → Type 0
@@ -78,9 +82,12 @@ pub record Admits {S : Type 0} (stream : S) (old new : Hall S) : Type 0 where
   pub guests : (new.guests.items ≡ old.guests.items)
       ⊎ ((guest : Guest S) × IsNewGuest stream guest × (new.guests.items ≡ old.guests.items ++ guest ∷ []))
   pub come : (new.guests.items ≡ old.guests.items) ⊎ (new.has_come ≡ true)
+  pub has_come : old.has_come ≡ true → new.has_come ≡ true
   pub talk : new.talk ≡ old.talk
   pub server : new.server ≡ old.server
   pub site : new.site ≡ old.site
+  pub away : new.away_at ≡ old.away_at
+  pub rests : new.rounds.rests_until ≡ old.rounds.rests_until
 
 -- Whoever comes has this socket's name, comes from a peer of this address, and came at this moment.
 abbrev pub ComesBy : {S : Type 0} → ℕ → IpAddr → ℕ → Hall S → Hall S → Type 0
@@ -107,6 +114,9 @@ pub record ServerComes {S : Type 0} (stream : S) (old new : Hall S) : Type 0 whe
   pub talk : MovesAnew old.talk Here new.talk
   pub guests : new.guests ≡ old.guests
   pub site : new.site ≡ old.site
+  pub come : new.has_come ≡ old.has_come
+  pub away : new.away_at ≡ old.away_at
+  pub rests : new.rounds.rests_until ≡ old.rounds.rests_until
 
 -- the last moment of a turn at which the server was not there
 abbrev pub away_after : Bool → ℕ → ℕ → ℕ
@@ -119,7 +129,9 @@ HasPlaces {S} has_come at attended new =
     (looked : List (Guest S)) × AllZip IsLookedAfter attended looked
     × AreSeated at new.away_at new.talk.desk looked new.guests.items
 
--- What comes is taken in: the server is heard, and the desk is told where its connection is lost; then each browser is.
+-- What comes is taken in: the server is heard, and the desk is told where its connection is lost; then each browser is,
+-- but until their rest is over none of those who act for nobody and were heard before. For all that is told then they
+-- rest on.
 pub record TakesAllIn {S : Type 0} (remaining : S → Option (List ℕ)) (at : ℕ) (old new : Hall S) : Type 0 where
   pub server_heard : Option (Link S)
   pub heard : Talk
@@ -130,6 +142,8 @@ pub record TakesAllIn {S : Type 0} (remaining : S → Option (List ℕ)) (at : �
   pub parts : PartsFromServer is_gone server_heard new.server heard parted
   pub attended : List (Guest S)
   pub attends : AreAttended remaining old.site at old.guests.items attended parted new.talk
+  pub rests : nat_lt at old.rounds.rests_until ≡ true → LeavesOthers attends
+  pub rested_is : new.rounds.rests_until ≡ rested at old.rounds.rests_until new.talk.told.items
   pub looks : AllZip IsLookedAfter attended new.guests.items
   pub places : HasPlaces old.has_come at attended new
   pub away : new.away_at ≡ away_after (is_some new.server) old.away_at at
@@ -154,6 +168,15 @@ pub record HandsAllOut {S : Type 0} (contents : S → Option (List ℕ)) (old ne
   pub writes : AllZip (IsWritten contents old.site) first written
   pub parted_from : AreParted written new.guests.items rest new.talk
   pub site : new.site ≡ old.site
+  pub rests : new.rounds.rests_until ≡ old.rounds.rests_until
+
+-- the next moment at which there is something to do though no socket is ready, where anybody is there: somebody's next
+-- message is taken, those who rest do so no more, or it is looked after who is silent
+abbrev pub next_moment : {S : Type 0} → Hall S → Option ℕ
+next_moment hall =
+    let at = hall.counts.at in
+    if length hall.guests.items == 0 then None
+    else earlier (earlier (first_due at hall.guests.items) (rest_over at hall.rounds.rests_until)) (Some hall.look_at)
 
 -- There is more to be done at once: an answer to `line G` is to be made, or to be told.
 abbrev pub has_more : {S : Type 0} → Hall S → Bool

@@ -217,8 +217,8 @@ impl Lobby {
         self.hall.renew(players);
     }
 
-    // Where many wait to be heard for the first time, who comes next waits at the listener, a second at most: else so
-    // many could come that these make room before they are heard.
+    // Where many wait to be heard, as who is about to show a token, who comes next waits at the listener, a second at
+    // most: else so many could come that these make room before they are heard.
     fn hold(&mut self, at: u64)
         ensures hall { self.new.hall ≡ self.old.hall }
         ensures few { is_crowded self.old.hall.guests.items ≡ false → self.new.ask_at ≡ self.old.ask_at }
