@@ -546,14 +546,16 @@ export class GameView {
     drawOutcome(this);
   }
 
-  /** A new game of the same times, with the colours changed. */
+  /** A new game of the same times, with the colours changed: offered to the opponent, or taken where he offers it. An
+   * arbiter, whose word would pair the two at once, opens it. */
   async rematch() {
-    const times = readTimes(this.tags.TimeControl || '');
+    const times = readTimes(this.tags.TimeControl || ''), { white, black } = this.standing, { app } = this;
     if (!times) return;
     const period = times.moves ? `${times.moves}/${times.initial}:${times.second}` : times.initial;
-    const start = this.tags.FEN ? ` ${this.tags.FEN}` : '';
-    this.app.openGame(`open ${this.seat() === 'w' ? 'black' : 'white'} ${period} ${times.increment}${start}`,
-      (text) => this.note(text));
+    const rest = `${period} ${times.increment}${this.tags.FEN ? ` ${this.tags.FEN}` : ''}`;
+    const note = (text) => this.note(text);
+    if (app.isArbiter()) app.openGame(`open ${this.seat() === 'w' ? 'black' : 'white'} ${rest}`, note);
+    else app.challenges.say(`${black} ${white} ${rest}`, note);
   }
 
   /** Offers a way to another game: the opponent has opened one. */

@@ -2,6 +2,7 @@
 
 import { AgainView } from './again.js';
 import { ArbiterView } from './arbiter.js';
+import { Challenges } from './challenges.js';
 import { GameView } from './game.js';
 import { HallView, wholeScreen } from './hall.js';
 import { t } from './language.js';
@@ -38,14 +39,15 @@ class Page {
     address.search = '';
     this.view = null;
     this.wire = new Wire(address.href, {
-      opened: (server) => this.opened(server), notice: (lines) => this.notice(lines), changed: () => this.changed(),
-      unnamed: () => this.who.unnamed(),
+      opened: (server) => this.opened(server), notice: (lines) => this.notice(lines), offers: () => this.challenges.look(),
+      changed: () => this.changed(), unnamed: () => this.who.unnamed(),
     });
     this.table = new TableView(this);
     this.game = new GameView(this);
     this.hall = new HallView(this, () => this.table.rows);
     this.desk = new ArbiterView(this, () => this.table.rows);
     this.study = new AgainView(this);
+    this.challenges = new Challenges(this);
     this.listen();
     this.route();
     this.changed();
@@ -117,6 +119,8 @@ class Page {
   /** Somebody else is here, or nobody. */
   shows() {
     this.offers.named();
+    this.challenges.fillPlayers();
+    this.challenges.look();
     if (this.view && this.view.render) this.view.render();
   }
 
@@ -308,6 +312,7 @@ class Page {
   async askPlayers() {
     const answer = await this.wire.say('players');
     if (answer[0].startsWith('ok players')) this.players = readPlayers(answer.slice(1));
+    this.challenges.fillPlayers();
     this.desk.playersTold();
   }
 
@@ -333,6 +338,7 @@ class Page {
     }
     this.table.notice(number, sent, standing);
     this.offers.look(false);
+    if (sent.startsWith('pair ')) this.challenges.look();
     if (standing) this.learnNames([standing.white, standing.black]);
     if (this.view === this.game && this.game.number === number) this.game.notice(act, answer, standing);
     if (this.view === this.hall) this.hall.notice(number, sent, answer, standing);
@@ -346,10 +352,12 @@ class Page {
     if (own) this.begun.add(number);
     if (!me || own || here) return;
     if (word === 'open' && !arbiter && this.view === this.game && this.game.isOpponent(by)) this.game.suggest({ by, number });
-    if (word !== 'join' || standing.white !== me && standing.black !== me) return;
+    if (word !== 'join' && word !== 'pair' || standing.white !== me && standing.black !== me) return;
+    const isOwnPair = word === 'pair' && (by === standing.white || by === standing.black);
+    const pairedBy = word === 'pair' && !isOwnPair ? by : arbiter;
     const other = this.nameWords(standing.white === me ? standing.black : standing.white);
-    this.begin(number, arbiter ? t`Your game ${number} against ${other}, paired by ${this.nameWords(arbiter)}, has
-      begun`
+    this.begin(number, pairedBy ? t`Your game ${number} against ${other}, paired by ${this.nameWords(pairedBy)}, has
+      begun` : isOwnPair ? t`Your game ${number} against ${other} ${t`has begun`}`
       : t`${other} has joined your game ${number}`);
   }
 

@@ -237,7 +237,10 @@ export class TableView {
       return;
     }
     this.note('');
-    this.app.openGame(`open ${colour} ${this.times.line()}${fen ? ' ' + fen : ''}`, (text) => this.note(text));
+    const rest = `${this.times.line()}${fen ? ' ' + fen : ''}`, note = (text) => this.note(text), me = this.app.me();
+    const other = form.against.value, pair = colour === 'white' ? `${me} ${other}` : `${other} ${me}`;
+    if (other) this.app.challenges.say(`${pair} ${rest}`, note);
+    else this.app.openGame(`open ${colour} ${rest}`, note);
   }
 }
 

@@ -18,7 +18,7 @@ export const LOST = Object.freeze(['lost']);
 export const UNSENT = Object.freeze(['unsent']);
 
 export class Wire {
-  /** told: {opened, notice(lines), changed, unnamed}; changed() is called whenever `state` is another, unnamed() where an
+  /** told: {opened, notice(lines), offers, changed, unnamed}; changed() is called whenever `state` is another, unnamed() where an
    * answer says that the connection has shown no token. */
   constructor(address, told) {
     this.address = address;
@@ -89,6 +89,8 @@ export class Wire {
       this.serverTold(lines[0].split(' ')[1]);
     } else if (word === 'told') {
       this.told.notice(lines);
+    } else if (word === 'offers') {
+      if (this.told.offers) this.told.offers();
     } else {
       const waited = this.waiting.shift();
       if (waited) waited.answered(lines);

@@ -741,4 +741,8 @@ export const WORDS = {
   'Print': 'Drucken',
   'FEN or PGN': 'FEN oder PGN',
   'New links to print': 'Neue Links zum Drucken',
+  'You offer {0} a game, {1}: you are {2}.': 'Du bietest {0} eine Partie an, {1}: du hast {2}.',
+  '{0} offers you a game, {1}: you are {2}.': '{0} bietet dir eine Partie an, {1}: du hast {2}.',
+  'Anybody': 'Wer mag',
+  'Your opponent': 'Gegner',
 };

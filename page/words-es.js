@@ -733,4 +733,8 @@ export const WORDS = {
   'Print': 'Imprimir',
   'FEN or PGN': 'FEN o PGN',
   'New links to print': 'Enlaces nuevos para imprimir',
+  'You offer {0} a game, {1}: you are {2}.': 'Ofreces a {0} una partida, {1}: llevas las {2}.',
+  '{0} offers you a game, {1}: you are {2}.': '{0} te ofrece una partida, {1}: llevas las {2}.',
+  'Anybody': 'Cualquiera',
+  'Your opponent': 'Tu rival',
 };

@@ -745,4 +745,8 @@ export const WORDS = {
   'Print': 'Imprimer',
   'FEN or PGN': 'FEN ou PGN',
   'New links to print': 'Nouveaux liens à imprimer',
+  'You offer {0} a game, {1}: you are {2}.': 'Vous proposez une partie à {0}, {1} : vous avez les {2}.',
+  '{0} offers you a game, {1}: you are {2}.': '{0} vous propose une partie, {1} : vous avez les {2}.',
+  'Anybody': 'N’importe qui',
+  'Your opponent': 'Votre adversaire',
 };

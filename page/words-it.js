@@ -735,4 +735,8 @@ export const WORDS = {
   'Print': 'Stampa',
   'FEN or PGN': 'FEN o PGN',
   'New links to print': 'Nuovi link da stampare',
+  'You offer {0} a game, {1}: you are {2}.': 'Offri una partita a {0}, {1}: hai il {2}.',
+  '{0} offers you a game, {1}: you are {2}.': '{0} ti offre una partita, {1}: hai il {2}.',
+  'Anybody': 'Chiunque',
+  'Your opponent': 'Il tuo avversario',
 };

@@ -739,4 +739,8 @@ export const WORDS = {
   'Print': 'Afdrukken',
   'FEN or PGN': 'FEN of PGN',
   'New links to print': 'Nieuwe links om af te drukken',
+  'You offer {0} a game, {1}: you are {2}.': 'Je biedt {0} een partij aan, {1}: je speelt met {2}.',
+  '{0} offers you a game, {1}: you are {2}.': '{0} biedt je een partij aan, {1}: je speelt met {2}.',
+  'Anybody': 'Wie wil',
+  'Your opponent': 'Je tegenstander',
 };

@@ -733,4 +733,8 @@ export const WORDS = {
   'Print': 'Drukuj',
   'FEN or PGN': 'FEN lub PGN',
   'New links to print': 'Nowe linki do druku',
+  'You offer {0} a game, {1}: you are {2}.': 'Proponujesz partię, {1}, przeciwnik: {0}, twój kolor: {2}.',
+  '{0} offers you a game, {1}: you are {2}.': '{0} proponuje ci partię, {1}, twój kolor: {2}.',
+  'Anybody': 'Ktokolwiek',
+  'Your opponent': 'Twój przeciwnik',
 };

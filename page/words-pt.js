@@ -727,4 +727,8 @@ export const WORDS = {
   'Print': 'Imprimir',
   'FEN or PGN': 'FEN ou PGN',
   'New links to print': 'Novos links para imprimir',
+  'You offer {0} a game, {1}: you are {2}.': 'Ofereces uma partida a {0}, {1}: tens as {2}.',
+  '{0} offers you a game, {1}: you are {2}.': '{0} oferece-te uma partida, {1}: tens as {2}.',
+  'Anybody': 'Qualquer um',
+  'Your opponent': 'O teu adversário',
 };

@@ -156,7 +156,7 @@ shown_then : (players : List Player) (past : List Step) (event : DeskInput) → 
     ≡ shown_over None (told_now event (known_in players past) (unanswered_in players past) (told_in players past))
 shown_then players past (Opened c) is = is
 shown_then players past (Closed c) is = is
-shown_then players past (Said c text) is = is
+shown_then players past (Said c text at) is = is
 shown_then players past (Hurried c) is = is
 shown_then players past (Heard line) is =
     shown_if (is_counted (known_in players past) line) (shown_in players past) (told_in players past) (unanswered_in players past)
@@ -213,7 +213,7 @@ event_entered : (event : DeskInput) (k : Known) (sent : List Sent) (shown : Opti
     IsOfName event k sent shown → IsEntered event k sent told
 event_entered (Opened c) k sent shown told is h = tt
 event_entered (Closed c) k sent shown told is h = tt
-event_entered (Said c text) k sent shown told is h = tt
+event_entered (Said c text at) k sent shown told is h = tt
 event_entered (Hurried c) k sent shown told is h = tt
 event_entered (Heard line) k sent shown told is h = heard_entered (is_counted k line) k.owed sent shown told is h
 event_entered (Renewed later) k sent shown told is h = tt

@@ -18,16 +18,18 @@ use Rattle.lobby_desk.proofs.Lines.{message}
 abbrev may_pair : List ℕ → Bool
 may_pair text = not (bytes_eq (as_name text) (black_name text)) && nat_le 1 (length (pair_times text)) && nat_le (length (pair_times text)) 244
 
-whole_none : (a b c d e f : Bool) →
-    is_as_sort (if a then sorts.Players else (if b then sorts.Who else (if c then sorts.Pause else (if d then sorts.Resume
-    else (if e then sorts.Lobby else (if f then sorts.LeaveLobby else sorts.Nothing)))))) ≡ false
-whole_none true b c d e f = refl
-whole_none false true c d e f = refl
-whole_none false false true d e f = refl
-whole_none false false false true e f = refl
-whole_none false false false false true f = refl
-whole_none false false false false false true = refl
-whole_none false false false false false false = refl
+whole_none : (z a b o c d e f : Bool) →
+    is_as_sort (if z then sorts.Unpair else (if a then sorts.Players else (if b then sorts.Who else (if o then sorts.Offers else (if c then sorts.Pause else (if d then sorts.Resume
+    else (if e then sorts.Lobby else (if f then sorts.LeaveLobby else sorts.Nothing)))))))) ≡ false
+whole_none true a b o c d e f = refl
+whole_none false true b o c d e f = refl
+whole_none false false true o c d e f = refl
+whole_none false false false true c d e f = refl
+whole_none false false false false true d e f = refl
+whole_none false false false false false true e f = refl
+whole_none false false false false false false true f = refl
+whole_none false false false false false false false true = refl
+whole_none false false false false false false false false = refl
 
 own_none : (a b c d e f g p : Bool) (last : Sort) → is_as_sort last ≡ false →
     is_as_sort (if a then sorts.Login else (if b then sorts.Watch else (if c then sorts.Line else (if d then sorts.Leave
@@ -46,8 +48,8 @@ own_not_as : (w text : List ℕ) → is_as_sort (own_sort w text) ≡ false
 own_not_as w text =
     own_none (bytes_eq w (codes "login")) (bytes_eq w (codes "watch")) (bytes_eq w (codes "line"))
     (bytes_eq w (codes "leave") && not (bytes_eq text (codes "leave lobby"))) (bytes_eq w (codes "link")) (bytes_eq w (codes "close"))
-    (bytes_eq w (codes "pair")) (may_pair text) (whole_sort text)
-    (whole_none (bytes_eq text (codes "players")) (bytes_eq text (codes "who")) (bytes_eq text (codes "pause entries"))
+    (bytes_eq w (codes "pair")) (may_pair text) (if bytes_eq w (codes "unpair") then sorts.Unpair else whole_sort text)
+    (whole_none (bytes_eq w (codes "unpair")) (bytes_eq text (codes "players")) (bytes_eq text (codes "who")) (bytes_eq text (codes "offers")) (bytes_eq text (codes "pause entries"))
     (bytes_eq text (codes "resume entries")) (bytes_eq text (codes "lobby")) (bytes_eq text (codes "leave lobby")))
 
 plays_if : (a b c d e p : Bool) (last : Sort) → is_as_sort last ≡ false →
@@ -264,16 +266,18 @@ own_pair false false false false false false true true last none h = refl
 own_pair false false false false false false true false last none h = absurd (false≢true h)
 own_pair false false false false false false false p last none h = absurd (false≢true (sym none ∙ h))
 
-whole_no_pair : (a b c d e f : Bool) →
-    is_pair_sort (if a then sorts.Players else (if b then sorts.Who else (if c then sorts.Pause else (if d then sorts.Resume
-    else (if e then sorts.Lobby else (if f then sorts.LeaveLobby else sorts.Nothing)))))) ≡ false
-whole_no_pair true b c d e f = refl
-whole_no_pair false true c d e f = refl
-whole_no_pair false false true d e f = refl
-whole_no_pair false false false true e f = refl
-whole_no_pair false false false false true f = refl
-whole_no_pair false false false false false true = refl
-whole_no_pair false false false false false false = refl
+whole_no_pair : (z a b o c d e f : Bool) →
+    is_pair_sort (if z then sorts.Unpair else (if a then sorts.Players else (if b then sorts.Who else (if o then sorts.Offers else (if c then sorts.Pause else (if d then sorts.Resume
+    else (if e then sorts.Lobby else (if f then sorts.LeaveLobby else sorts.Nothing)))))))) ≡ false
+whole_no_pair true a b o c d e f = refl
+whole_no_pair false true b o c d e f = refl
+whole_no_pair false false true o c d e f = refl
+whole_no_pair false false false true c d e f = refl
+whole_no_pair false false false false true d e f = refl
+whole_no_pair false false false false false true e f = refl
+whole_no_pair false false false false false false true f = refl
+whole_no_pair false false false false false false false true = refl
+whole_no_pair false false false false false false false false = refl
 
 as_no_pair : (p : Bool) → is_pair_sort (if p then sorts.As else sorts.Nothing) ≡ false
 as_no_pair true = refl
@@ -285,8 +289,8 @@ pairs_so text is =
     let w = word_of text in
     own_pair (bytes_eq w (codes "login")) (bytes_eq w (codes "watch")) (bytes_eq w (codes "line"))
     (bytes_eq w (codes "leave") && not (bytes_eq text (codes "leave lobby"))) (bytes_eq w (codes "link")) (bytes_eq w (codes "close"))
-    (bytes_eq w (codes "pair")) (may_pair text) (whole_sort text)
-    (whole_no_pair (bytes_eq text (codes "players")) (bytes_eq text (codes "who")) (bytes_eq text (codes "pause entries"))
+    (bytes_eq w (codes "pair")) (may_pair text) (if bytes_eq w (codes "unpair") then sorts.Unpair else whole_sort text)
+    (whole_no_pair (bytes_eq w (codes "unpair")) (bytes_eq text (codes "players")) (bytes_eq text (codes "who")) (bytes_eq text (codes "offers")) (bytes_eq text (codes "pause entries"))
     (bytes_eq text (codes "resume entries")) (bytes_eq text (codes "lobby")) (bytes_eq text (codes "leave lobby")))
     (pair_if (bytes_eq w (codes "name")) (is_read text) (is_act_word w) (bytes_eq w (codes "drop")) (bytes_eq w (codes "as"))
     (as_sort text) (own_sort w text) (as_no_pair (is_act_word (word_of (as_line text)))) (ap is_pair_sort is))

@@ -1,5 +1,5 @@
 -- What a plan leaves and tells.
-use Rattle.std.proofs.Common.{ℕ, ◌≡◌, Bool, true, false, ◌&&◌, not, List, [], ◌∷◌, Option, None, Some, refl, sym, ap, ◌∙◌, subst}
+use Rattle.std.proofs.Common.{ℕ, ◌≡◌, inl, inr, Bool, true, false, ◌&&◌, not, List, [], ◌∷◌, Option, None, Some, refl, sym, ap, ◌∙◌, subst}
 use Rattle.std.specs.Prelude.{if◌then◌else◌, is_some}
 use Rattle.std.proofs.lemmas.Bool.{false≢true}
 use Rattle.lobby_words.specs.declared.words.Sort.{Sort}
@@ -7,6 +7,8 @@ use Rattle.lobby_words.specs.declared.words.Sort.TheVariants as sorts
 use Rattle.lobby_words.specs.declared.refusals.Refusal.{Refusal}
 use Rattle.lobby_words.specs.declared.refusals.Refusal.TheVariants as refusals
 use Rattle.lobby_words.specs.declared.planning.Order.{Order}
+use Rattle.lobby_words.specs.declared.planning.Accord.{Accord}
+use Rattle.lobby_words.specs.declared.planning.Accord.TheVariants as accords
 use Rattle.lobby_words.specs.declared.listing.Seat.{Seat}
 use Rattle.lobby_words.specs.declared.planning.Plan.{Plan}
 use Rattle.lobby_words.specs.declared.planning.Plan.TheVariants as plans
@@ -14,17 +16,18 @@ use Rattle.lobby_words.specs.declared.planning.Standing.{Standing}
 use Rattle.lobby_words.specs.declared.planning.Identity.{Identity}
 use Rattle.lobby_words.specs.declared.players.Player.{Player}
 use Rattle.lobby_table.specs.declared.watching.Watch.{Watch}
-use Rattle.lobby_words.specs.Words.{as_line, black_name, pair_line, is_link_sort, is_close_sort, is_leave_sort, is_leave_lobby_sort, or_0}
-use Rattle.lobby_words.specs.Plans.{asked, barred, entered_plan, act_plan, named_plan, as_plan, black_plan, white_plan, pair_plan, drop_plan, arbiter_plan, players_plan, order_plan, login_plan, order_of, numbered_plan, plan_of}
+use Rattle.lobby_words.specs.Words.{rest_of, as_name, as_line, black_name, pair_line, is_message, sort_of, is_pair_sort, is_unpair_sort, is_link_sort, is_close_sort, is_leave_sort, is_leave_lobby_sort, or_0}
+use Rattle.lobby_words.specs.Plans.{asked, barred, entered_plan, act_plan, named_plan, as_plan, black_plan, white_plan, agreed_plan, offered_plan, pair_plan, offers_plan, drop_plan, arbiter_plan, players_plan, order_plan, login_plan, order_of, numbered_plan, plan_of}
 use Rattle.lobby_desk.specs.Lines.{lines_of, is_said}
 use Rattle.lobby_table.specs.Sending.{act_lines, name_line, notice_lines}
 use Rattle.lobby_table.specs.Refusals.{game_named}
-use Rattle.lobby_desk.specs.Events.{MessageValue, plan_asker, sort_asker}
+use Rattle.lobby_desk.specs.Events.{MessageValue, Said, plan_asker, sort_asker}
 use Rattle.lobby_table.specs.Owed.{ForItself, ForPositions, ForTable, ForGame, ForAct, Owed, Asker, Dropper, Pairer}
 use Rattle.lobby_table.specs.Owed.{owed_lines}
 use Rattle.lobby_table.specs.Watching.{risen}
 use Rattle.lobby_desk.specs.Tellings.{left_game, IsToldOrSent}
-use Rattle.lobby_desk.specs.Who.{View, name_of, plan_watches, plan_table, IsAnswered}
+use Rattle.lobby_offers.specs.Offers.{Offered, is_party, other_party, is_agreed, may_offer, accord_by, parted, accord_noted, ends_offers, offers_said}
+use Rattle.lobby_desk.specs.Who.{View, name_of, plan_watches, plan_table, IsAnswered, offers_now}
 use Rattle.lobby_words.specs.Players.{known_name}
 use Rattle.lobby_desk.specs.History.{IsArbiter}
 use Rattle.lobby_words.proofs.ByName.{named_is}
@@ -81,14 +84,37 @@ white_last : (players : List Player) (s : Standing) (who : Identity) (white said
 white_last players s who None said text c same = refl
 white_last players s who (Some white) said text c same = black_last players s who white s.black said text c same
 
+-- a pairing of who is no arbiter
+agreed_last : (players : List Player) (s : Standing) (who : Identity) (said : Option (List ℕ)) (text : List ℕ) (c : ℕ) →
+    s.black ≡ known_name players (black_name text) → LastIs (agreed_plan s who) said text c (Pairer c who.name (black_name text) text)
+agreed_last players s who said text c same =
+    elim s.is_paused as (λ b. LastIs (if b then plans.Refuse refusals.EntriesPaused else barred s.pair_bar (white_plan s who s.named)) said text c (Pairer c who.name (black_name text) text)) [
+      | true ↦ refl
+      | false ↦ barred_last s.pair_bar (white_plan s who s.named) said text c (Pairer c who.name (black_name text) text)
+          (white_last players s who s.named said text c same)
+    ]
+
+offered_last : (players : List Player) (s : Standing) (who : Identity) (accord : Accord) (said : Option (List ℕ)) (text : List ℕ) (c : ℕ) →
+    s.black ≡ known_name players (black_name text) → LastIs (offered_plan s who accord) said text c (Pairer c who.name (black_name text) text)
+offered_last players s who accords.Nothing said text c same = refl
+offered_last players s who accords.Offered said text c same = refl
+offered_last players s who accords.Agreed said text c same = agreed_last players s who said text c same
+
 pair_last : (players : List Player) (s : Standing) (who : Option Identity) (said : Option (List ℕ)) (text : List ℕ) (c : ℕ) →
     s.black ≡ known_name players (black_name text) → LastIs (pair_plan s who) said text c (Pairer c (name_of who) (black_name text) text)
 pair_last players s None said text c same = refl
 pair_last players s (Some who) said text c same =
-    elim who.is_arbiter as (λ b. LastIs (if b then white_plan s who s.named else plans.Refuse refusals.NotArbiter) said text c (Pairer c who.name (black_name text) text)) [
+    elim who.is_arbiter as (λ b. LastIs (if b then white_plan s who s.named else offered_plan s who s.accord) said text c (Pairer c who.name (black_name text) text)) [
       | true ↦ white_last players s who s.named said text c same
-      | false ↦ refl
+      | false ↦ offered_last players s who s.accord said text c same
     ]
+
+-- what is asked of the offers
+offers_last : (ends : Bool) (at : ℕ) (who : Option Identity) (said : Option (List ℕ)) (text : List ℕ) (c : ℕ) →
+    LastIs (offers_plan ends at who) said text c (Asker c ForItself)
+offers_last ends at None said text c = refl
+offers_last true at (Some who) said text c = refl
+offers_last false at (Some who) said text c = refl
 
 drop_last : (s : Standing) (who : Option Identity) (game : ℕ) (said : Option (List ℕ)) (text : List ℕ) (c : ℕ) →
     LastIs (drop_plan s who game) said text c (Dropper c (name_of who) text)
@@ -146,6 +172,8 @@ planned_last players true sorts.Read s game said text c same = asked_last s plan
 planned_last players true sorts.Act s game said text c same = act_last s s.who said text c
 planned_last players true sorts.As s game said text c same = as_last s s.who said text c
 planned_last players true sorts.Pair s game said text c same = pair_last players s s.who said text c same
+planned_last players true sorts.Unpair s game said text c same = offers_last true s.at s.who said text c
+planned_last players true sorts.Offers s game said text c same = offers_last false s.at s.who said text c
 planned_last players true sorts.Drop s game said text c same = numbered_last s game said text c
 planned_last players true sorts.Login s game said text c same = login_last s.holder said text c
 planned_last players true sorts.Players s game said text c same = players_last s s.who said text c
@@ -208,14 +236,34 @@ white_does : (P : Plan → Type 0) (s : Standing) (who : Identity) (white : Opti
 white_does P s who None none h = none refusals.NoPlayer
 white_does P s who (Some white) none h = black_does P s who white s.black none (h white)
 
-pub pair_does : (P : Plan → Type 0) (s : Standing) (who : Option Identity) → ((r : Refusal) → P (plans.Refuse r)) →
-    ((by : Identity) (one other : List ℕ) → P (plans.Pair by one other)) → P (pair_plan s who)
-pair_does P s None none h = none refusals.NoToken
-pair_does P s (Some who) none h =
-    elim who.is_arbiter as (λ b. P (if b then white_plan s who s.named else plans.Refuse refusals.NotArbiter)) [
-      | true ↦ white_does P s who s.named none (h who)
-      | false ↦ none refusals.NotArbiter
+agreed_does : (P : Plan → Type 0) (s : Standing) (who : Identity) → ((r : Refusal) → P (plans.Refuse r)) →
+    ((one other : List ℕ) → P (plans.Pair who one other)) → P (agreed_plan s who)
+agreed_does P s who none h =
+    elim s.is_paused as (λ b. P (if b then plans.Refuse refusals.EntriesPaused else barred s.pair_bar (white_plan s who s.named))) [
+      | true ↦ none refusals.EntriesPaused
+      | false ↦ barred_does P s.pair_bar (white_plan s who s.named) none (white_does P s who s.named none h)
     ]
+
+offered_does : (P : Plan → Type 0) (s : Standing) (who : Identity) (accord : Accord) → ((r : Refusal) → P (plans.Refuse r)) →
+    P (plans.Offer who) → ((one other : List ℕ) → P (plans.Pair who one other)) → P (offered_plan s who accord)
+offered_does P s who accords.Nothing none offer h = none refusals.NotArbiter
+offered_does P s who accords.Offered none offer h = offer
+offered_does P s who accords.Agreed none offer h = agreed_does P s who none h
+
+pub pair_does : (P : Plan → Type 0) (s : Standing) (who : Option Identity) → ((r : Refusal) → P (plans.Refuse r)) →
+    ((by : Identity) → P (plans.Offer by)) → ((by : Identity) (one other : List ℕ) → P (plans.Pair by one other)) → P (pair_plan s who)
+pair_does P s None none offer h = none refusals.NoToken
+pair_does P s (Some who) none offer h =
+    elim who.is_arbiter as (λ b. P (if b then white_plan s who s.named else offered_plan s who s.accord)) [
+      | true ↦ white_does P s who s.named none (h who)
+      | false ↦ offered_does P s who s.accord none (offer who) (h who)
+    ]
+
+pub offers_does : (P : Plan → Type 0) (ends : Bool) (at : ℕ) (who : Option Identity) → ((r : Refusal) → P (plans.Refuse r)) →
+    ((by : Identity) → P (plans.Unpair by)) → ((by : Identity) → P (plans.Offers by at)) → P (offers_plan ends at who)
+offers_does P ends at None none ended told = none refusals.NoToken
+offers_does P true at (Some who) none ended told = ended who
+offers_does P false at (Some who) none ended told = told who
 
 drop_does : (P : Plan → Type 0) (s : Standing) (who : Option Identity) (game : ℕ) → ((r : Refusal) → P (plans.Refuse r)) →
     ((one : Identity) → P (plans.Drop one game)) → P (drop_plan s who game)
@@ -284,7 +332,12 @@ planned false sort s game c watches table = (refl, refl)
 planned true sorts.Read s game c watches table = asked_does (Stays c watches table) s plans.Read (refl, refl) (refl, refl)
 planned true sorts.Act s game c watches table = act_does (Stays c watches table) s s.who (λ _. (refl, refl)) (λ _. (refl, refl))
 planned true sorts.As s game c watches table = as_does (Stays c watches table) s s.who (λ _. (refl, refl)) (λ _ _. (refl, refl))
-planned true sorts.Pair s game c watches table = pair_does (Stays c watches table) s s.who (λ _. (refl, refl)) (λ _ _ _. (refl, refl))
+planned true sorts.Pair s game c watches table =
+    pair_does (Stays c watches table) s s.who (λ _. (refl, refl)) (λ _. (refl, refl)) (λ _ _ _. (refl, refl))
+planned true sorts.Unpair s game c watches table =
+    offers_does (Stays c watches table) true s.at s.who (λ _. (refl, refl)) (λ _. (refl, refl)) (λ _. (refl, refl))
+planned true sorts.Offers s game c watches table =
+    offers_does (Stays c watches table) false s.at s.who (λ _. (refl, refl)) (λ _. (refl, refl)) (λ _. (refl, refl))
 planned true sorts.Drop s game c watches table = dropped_does (Stays c watches table) s game (λ _. (refl, refl)) (λ _ _. (refl, refl))
 planned true sorts.Login s game c watches table = login_does (Stays c watches table) s.holder (λ _. (refl, refl)) (λ _. (refl, refl))
 planned true sorts.Players s game c watches table = players_does (Stays c watches table) s s.who (refl, refl) (refl, refl)
@@ -314,30 +367,33 @@ pub planned_table : (m : Bool) (sort : Sort) (s : Standing) (game : Option ℕ) 
 planned_table m sort s game c table = (planned m sort s game c [] table).1
 
 -- a message is answered at once where nothing goes out by its plan
-act_sent : (b : Bool) (name text : List ℕ) (rest : List (List ℕ)) (c : ℕ) (tells : List MessageValue) → tells ≡ [] →
-    IsToldOrSent (if b then text ∷ rest else name_line name ∷ text ∷ rest) c tells
-act_sent true name text rest c tells h = h
-act_sent false name text rest c tells h = h
+act_sent : (table : List ℕ) (b : Bool) (name text : List ℕ) (rest : List (List ℕ)) (c : ℕ) (tells : List MessageValue) → tells ≡ [] →
+    IsToldOrSent table (if b then text ∷ rest else name_line name ∷ text ∷ rest) c tells
+act_sent table true name text rest c tells h = h
+act_sent table false name text rest c tells h = h
 
 pub answered_or_sent : (players : List Player) (v : View) (plan : Plan) (said : Option (List ℕ)) (text : List ℕ) (c : ℕ) (tells : List MessageValue) → IsAnswered players v plan c tells →
-    IsToldOrSent (lines_of plan said text) c tells
-answered_or_sent players v (plans.Refuse refusal) said text c tells h = (h.0, h.2)
+    IsToldOrSent v.known.table (lines_of plan said text) c tells
+answered_or_sent players v (plans.Refuse refusal) said text c tells h = inl (h.0, h.2)
+answered_or_sent players v (plans.Offer who) said text c tells h = inr (h.0, h.2)
+answered_or_sent players v (plans.Unpair who) said text c tells h = inr (h.0, h.2)
+answered_or_sent players v (plans.Offers who at) said text c tells h = inl (h.0, h.2)
 answered_or_sent players v plans.Read said text c tells h = h
-answered_or_sent players v (plans.Act who) said text c tells h = act_sent (is_said said who.name) who.name text (notice_lines (game_named text)) c tells h
-answered_or_sent players v (plans.ActAs who name) said text c tells h = act_sent (is_said said name) name (as_line text) (notice_lines (game_named text)) c tells h
-answered_or_sent players v (plans.Pair who white black) said text c tells h = act_sent (is_said said white) white (pair_line text) [] c tells h
+answered_or_sent players v (plans.Act who) said text c tells h = act_sent v.known.table (is_said said who.name) who.name text (notice_lines (game_named text)) c tells h
+answered_or_sent players v (plans.ActAs who name) said text c tells h = act_sent v.known.table (is_said said name) name (as_line text) (notice_lines (game_named text)) c tells h
+answered_or_sent players v (plans.Pair who white black) said text c tells h = act_sent v.known.table (is_said said white) white (pair_line text) [] c tells h
 answered_or_sent players v (plans.Drop who game) said text c tells h = h
-answered_or_sent players v (plans.Login who) said text c tells h = (h.0, h.2)
-answered_or_sent players v plans.Players said text c tells h = (h.0, h.2)
-answered_or_sent players v (plans.Seated form) said text c tells h = (h.0, h.2)
-answered_or_sent players v plans.Who said text c tells h = (h.0, h.2)
-answered_or_sent players v plans.Pause said text c tells h = (h.0, h.2)
-answered_or_sent players v plans.Resume said text c tells h = (h.0, h.2)
-answered_or_sent players v (plans.Order order) said text c tells h = (h.0, h.2)
+answered_or_sent players v (plans.Login who) said text c tells h = inl (h.0, h.2)
+answered_or_sent players v plans.Players said text c tells h = inl (h.0, h.2)
+answered_or_sent players v (plans.Seated form) said text c tells h = inl (h.0, h.2)
+answered_or_sent players v plans.Who said text c tells h = inl (h.0, h.2)
+answered_or_sent players v plans.Pause said text c tells h = inl (h.0, h.2)
+answered_or_sent players v plans.Resume said text c tells h = inl (h.0, h.2)
+answered_or_sent players v (plans.Order order) said text c tells h = inl (h.0, h.2)
 answered_or_sent players v plans.Lobby said text c tells h = h
-answered_or_sent players v plans.LeaveLobby said text c tells h = (h.0, h.2)
+answered_or_sent players v plans.LeaveLobby said text c tells h = inl (h.0, h.2)
 answered_or_sent players v (plans.Watch game) said text c tells h = h
-answered_or_sent players v (plans.Leave game) said text c tells h = (h.0, h.2)
+answered_or_sent players v (plans.Leave game) said text c tells h = inl (h.0, h.2)
 answered_or_sent players v (plans.Line game) said text c tells h = h
 
 -- ---- who orders
@@ -381,7 +437,9 @@ planned_orders false sort s game = tt
 planned_orders true sorts.Read s game = asked_does (OfOrder (Orders true sorts.Read s)) s plans.Read tt tt
 planned_orders true sorts.Act s game = act_does (OfOrder (Orders true sorts.Act s)) s s.who (λ _. tt) (λ _. tt)
 planned_orders true sorts.As s game = as_does (OfOrder (Orders true sorts.As s)) s s.who (λ _. tt) (λ _ _. tt)
-planned_orders true sorts.Pair s game = pair_does (OfOrder (Orders true sorts.Pair s)) s s.who (λ _. tt) (λ _ _ _. tt)
+planned_orders true sorts.Pair s game = pair_does (OfOrder (Orders true sorts.Pair s)) s s.who (λ _. tt) (λ _. tt) (λ _ _ _. tt)
+planned_orders true sorts.Unpair s game = offers_does (OfOrder (Orders true sorts.Unpair s)) true s.at s.who (λ _. tt) (λ _. tt) (λ _. tt)
+planned_orders true sorts.Offers s game = offers_does (OfOrder (Orders true sorts.Offers s)) false s.at s.who (λ _. tt) (λ _. tt) (λ _. tt)
 planned_orders true sorts.Drop s game = dropped_does (OfOrder (Orders true sorts.Drop s)) s game (λ _. tt) (λ _ _. tt)
 planned_orders true sorts.Login s game = login_does (OfOrder (Orders true sorts.Login s)) s.holder (λ _. tt) (λ _. tt)
 planned_orders true sorts.Players s game = players_does (OfOrder (Orders true sorts.Players s)) s s.who tt tt
@@ -398,6 +456,38 @@ planned_orders true sorts.Line s game = line_does (OfOrder (Orders true sorts.Li
 planned_orders true sorts.Name s game = tt
 planned_orders true sorts.Nothing s game = tt
 
+-- a message that asks for a link changes nothing that is offered
+link_no_pair : (sort : Sort) → is_link_sort sort ≡ true → is_pair_sort sort ≡ false
+link_no_pair sorts.Pair h = absurd (false≢true h)
+link_no_pair _ h = refl
+
+link_no_unpair : (sort : Sort) → is_link_sort sort ≡ true → is_unpair_sort sort ≡ false
+link_no_unpair sorts.Unpair h = absurd (false≢true h)
+link_no_unpair _ h = refl
+
+and_none : (a b : Bool) → b ≡ false → (a && b) ≡ false
+and_none true b h = h
+and_none false b h = refl
+
+link_none : (players : List Player) (acts_for : ℕ → Option Identity) (who : Option Identity) (c : ℕ) (text : List ℕ) (at : ℕ) (offers : List Offered) →
+    is_link_sort (sort_of text) ≡ true → offers ≡ offers_said (accord_by players acts_for who text at offers) who c text at offers
+link_none players acts_for None c text at offers link = refl
+link_none players acts_for (Some who) c text at offers link =
+    let one = as_name text in
+    let other = black_name text in
+    let accord = accord_by players acts_for (Some who) text at offers in
+    let ends : ends_offers text ≡ false = and_none (is_message text) (is_unpair_sort (sort_of text)) (link_no_unpair (sort_of text) link) in
+    let may : may_offer players who text ≡ false =
+    ap (λ (b : Bool). b && not who.is_arbiter && is_party who.name text && is_some (known_name players one) && is_some (known_name players other))
+    (and_none (is_message text) (is_pair_sort (sort_of text)) (link_no_pair (sort_of text) link)) in
+    sym (ap (λ (b : Bool). if b then parted who.name (rest_of text) offers else accord_noted accord who.name c text at offers) ends
+    ∙ ap (λ (b : Bool). accord_noted (if b then (if is_agreed acts_for (other_party who.name text) text at offers then accords.Agreed else accords.Offered)
+    else accords.Nothing) who.name c text at offers) may)
+
+pub link_offers : (players : List Player) (acts_for : ℕ → Option Identity) (c : ℕ) (text : List ℕ) (at : ℕ) (offers : List Offered) →
+    is_link_sort (sort_of text) ≡ true → offers ≡ offers_now players acts_for (Said c text at) offers
+link_offers players acts_for c text at offers link = link_none players acts_for (acts_for c) c text at offers link
+
 abbrev or_this : Order → Option Order → Order
 or_this one None = one
 or_this one (Some order) = order
@@ -406,6 +496,9 @@ or_this one (Some order) = order
 pub is_order : (plan : Plan) (order : Order) → order_of plan ≡ Some order → plan ≡ plans.Order order
 is_order (plans.Order one) order is = ap plans.Order (ap (or_this one) is)
 is_order (plans.Refuse r) order is = absurd (false≢true (ap is_some is))
+is_order (plans.Offer who) order is = absurd (false≢true (ap is_some is))
+is_order (plans.Unpair who) order is = absurd (false≢true (ap is_some is))
+is_order (plans.Offers who at) order is = absurd (false≢true (ap is_some is))
 is_order plans.Read order is = absurd (false≢true (ap is_some is))
 is_order (plans.Act who) order is = absurd (false≢true (ap is_some is))
 is_order (plans.ActAs who name) order is = absurd (false≢true (ap is_some is))

@@ -146,7 +146,7 @@ now_counted : (event : DeskInput) (k : Known) (acts : List Acted) → AreCounted
     AreCounted (refused_now event k) (acted_now event k ++ acts)
 now_counted (Opened c) k acts h = h
 now_counted (Closed c) k acts h = h
-now_counted (Said c text) k acts h = h
+now_counted (Said c text at) k acts h = h
 now_counted (Hurried c) k acts h = h
 now_counted (Heard line) k acts h =
     elim (is_counted k line) as (λ b. AreCounted (if b then refused_next k.owed (answer k.begun line) k.refused else k.refused)

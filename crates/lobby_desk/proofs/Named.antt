@@ -6,6 +6,7 @@ use Rattle.std.specs.Str.{bytes_eq}
 use Rattle.std.proofs.lemmas.Bool.{false≢true, and_parts}
 use Rattle.lobby_words.specs.declared.words.Sort.{Sort}
 use Rattle.lobby_words.specs.declared.words.Sort.TheVariants as sorts
+use Rattle.lobby_words.specs.declared.refusals.Refusal.{Refusal}
 use Rattle.lobby_words.specs.declared.refusals.Refusal.TheVariants as refusals
 use Rattle.lobby_words.specs.declared.planning.Plan.{Plan}
 use Rattle.lobby_words.specs.declared.planning.Plan.TheVariants as plans
@@ -15,7 +16,9 @@ use Rattle.lobby_words.specs.declared.players.Player.{Player}
 use Rattle.lobby_words.specs.Players.{known_name}
 use Rattle.lobby_words.specs.Words.{rest_of, as_name, as_line, black_name, pair_line, line_said, actor, is_message, sort_of, is_act_sort, is_pair_sort, is_drop_sort, is_name_sort, is_act_word, is_play_word, is_digit, are_digits, is_show_word, is_read, u32_in, or_0}
 use Rattle.lobby_words.specs.Naming.{takes_name}
-use Rattle.lobby_words.specs.Plans.{entered_plan, act_plan, named_plan, as_plan, black_plan, white_plan, pair_plan, numbered_plan, plan_of}
+use Rattle.lobby_words.specs.declared.planning.Accord.{Accord}
+use Rattle.lobby_words.specs.declared.planning.Accord.TheVariants as accords
+use Rattle.lobby_words.specs.Plans.{barred, entered_plan, act_plan, named_plan, as_plan, black_plan, white_plan, offered_plan, pair_plan, offers_plan, numbered_plan, plan_of}
 use Rattle.lobby_words.specs.Answers.{is_whole, act_game, answer}
 use Rattle.lobby_desk.specs.Lines.{lines_of, is_said}
 use Rattle.lobby_table.specs.Sending.{act_lines, join_line, name_line, game_line, notice_lines}
@@ -243,14 +246,37 @@ white_fits : (players : List Player) (s : Standing) (who : Identity) (white said
 white_fits players s who None said text c other = tt
 white_fits players s who (Some white) said text c other = black_fits players s who white s.black said text c (known_is players (as_name text) white other)
 
+barred_fits : (bar : Option Refusal) (said : Option (List ℕ)) (text : List ℕ) (o : Owed) (plan : Plan) → FitsPlan said text o plan →
+    FitsPlan said text o (barred bar plan)
+barred_fits None said text o plan h = h
+barred_fits (Some refusal) said text o plan h = tt
+
+offered_fits : (players : List Player) (s : Standing) (who : Identity) (accord : Accord) (said : Option (List ℕ)) (text : List ℕ) (c : ℕ) →
+    s.named ≡ known_name players (as_name text) → FitsPlan said text (Pairer c who.name (black_name text) text) (offered_plan s who accord)
+offered_fits players s who accords.Nothing said text c other = tt
+offered_fits players s who accords.Offered said text c other = tt
+offered_fits players s who accords.Agreed said text c other =
+    elim s.is_paused as (λ b. FitsPlan said text (Pairer c who.name (black_name text) text) (if b then plans.Refuse refusals.EntriesPaused else barred s.pair_bar (white_plan s who s.named))) [
+      | true ↦ tt
+      | false ↦ barred_fits s.pair_bar said text (Pairer c who.name (black_name text) text) (white_plan s who s.named)
+          (white_fits players s who s.named said text c (sym other))
+    ]
+
 pair_fits : (players : List Player) (s : Standing) (who : Option Identity) (said : Option (List ℕ)) (text : List ℕ) (c : ℕ) →
     s.named ≡ known_name players (as_name text) → FitsPlan said text (Pairer c (name_of who) (black_name text) text) (pair_plan s who)
 pair_fits players s None said text c other = tt
 pair_fits players s (Some who) said text c other =
-    elim who.is_arbiter as (λ b. FitsPlan said text (Pairer c who.name (black_name text) text) (if b then white_plan s who s.named else plans.Refuse refusals.NotArbiter)) [
+    elim who.is_arbiter as (λ b. FitsPlan said text (Pairer c who.name (black_name text) text) (if b then white_plan s who s.named else offered_plan s who s.accord)) [
       | true ↦ white_fits players s who s.named said text c (sym other)
-      | false ↦ tt
+      | false ↦ offered_fits players s who s.accord said text c other
     ]
+
+-- what is asked of the offers
+offers_fits : (ends : Bool) (at : ℕ) (who : Option Identity) (said : Option (List ℕ)) (text : List ℕ) (o : Owed) →
+    FitsPlan said text o (offers_plan ends at who)
+offers_fits ends at None said text o = tt
+offers_fits true at (Some who) said text o = tt
+offers_fits false at (Some who) said text o = tt
 
 leave_fits : (s : Standing) (game : Option ℕ) (said : Option (List ℕ)) (text : List ℕ) (o : Owed) →
     FitsPlan said text o (numbered_plan sorts.Leave s game)
@@ -266,6 +292,8 @@ planned_fits players true sorts.Read s game said text c is other =
 planned_fits players true sorts.Act s game said text c is other = own_fits s s.who said text c is
 planned_fits players true sorts.As s game said text c is other = as_fits players s s.who said text c is other
 planned_fits players true sorts.Pair s game said text c is other = pair_fits players s s.who said text c other
+planned_fits players true sorts.Unpair s game said text c is other = offers_fits true s.at s.who said text (Asker c ForItself)
+planned_fits players true sorts.Offers s game said text c is other = offers_fits false s.at s.who said text (Asker c ForItself)
 planned_fits players true sorts.Drop s game said text c is other =
     dropped_does (FitsPlan said text (Dropper c (name_of s.who) text)) s game (λ _. tt)
     (λ one g. (show_silent g, tt))
@@ -334,7 +362,7 @@ pub record WasPaired (black text : List ℕ) : Type 0 where
 paired_now : (players : List Player) (past : List Step) (event : DeskInput) (c : ℕ) (black text : List ℕ) → PairsNow players past event c black text → WasPaired black text
 paired_now players past (Opened d) c black text h = absurd h
 paired_now players past (Closed d) c black text h = absurd h
-paired_now players past (Said d said) c black text h =
+paired_now players past (Said d said at) c black text h =
     record { pairs = h.4; named = known_is (players_in players past) (black_name text) black h.5 }
 paired_now players past (Hurried d) c black text h = absurd h
 paired_now players past (Heard line) c black text h = absurd h
@@ -484,9 +512,9 @@ done_waits players past old (Linked c text later token) lines tells now agrees b
     λ taken. waits_still (known_in players past).owed (unanswered_in players past) (shown_in players past) (name_in past) lines step.0.none (before taken)
 done_waits players past old (ServerTurned is_here) lines tells now agrees before step =
     λ taken. waits_still [] [] None None lines step.none (tt, refl)
-done_waits players past old (Said c text) lines tells now agrees before step =
+done_waits players past old (Said c text at) lines tells now agrees before step =
     let k = known_in players past in
-    let fits = said_fits (players_in players past) old c text lines tells now step in
+    let fits = said_fits (players_in players past) old c text lines tells now step.0 in
     let named = subst (λ (n : Option (List ℕ)). AreFor (owed_lines (asker c (name_of (old.who c)) text) lines) (sent_under n lines)) agrees.said fits in
     let by = subst (λ (who : Option Identity). AreFor (owed_lines (asker c (name_of who) text) lines) (sent_under (name_in past) lines)) (agrees.who c) named in
     λ taken. waits_more (known_in players past).owed (owed_lines (asker c (name_of (player_in players past c)) text) lines) (unanswered_in players past)
@@ -550,7 +578,7 @@ event_named : (players : List Player) (past : List Step) (event : DeskInput) →
     IsOfName event (known_in players past) (unanswered_in players past) (shown_in players past)
 event_named players past (Opened c) before = tt
 event_named players past (Closed c) before = tt
-event_named players past (Said c text) before = tt
+event_named players past (Said c text at) before = tt
 event_named players past (Hurried c) before = tt
 event_named players past (Heard line) before = heard_named players past line before (is_counted (known_in players past) line) refl
 event_named players past (Renewed later) before = tt

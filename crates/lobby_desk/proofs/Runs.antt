@@ -1,6 +1,6 @@
 -- What is promised holds of each run.
 use Rattle.std.proofs.Common.{ℕ, ◌≡◌, ◌<◌, ◌+◌, ◌^◌, ◌⊎◌, inl, inr, Bool, true, false, ◌&&◌, ◌||◌, ◌==◌, not, List, [], ◌∷◌, ◌++◌, Option, None, Some, IfSome, codes, refl, sym, ap, ◌∙◌, subst, arith}
-use Rattle.std.specs.Prelude.{if◌then◌else◌, option_map, is_some}
+use Rattle.std.specs.Prelude.{if◌then◌else◌, option_map, is_some, nat_le, ◌-◌}
 use Rattle.std.specs.List.{AllByRecursion}
 use Rattle.std.specs.Str.{bytes_eq}
 use Rattle.std.proofs.lemmas.Bool.{false≢true}
@@ -14,13 +14,15 @@ use Rattle.lobby_words.specs.declared.planning.Plan.{Plan}
 use Rattle.lobby_words.specs.declared.planning.Plan.TheVariants as plans
 use Rattle.lobby_words.specs.declared.planning.Standing.{Standing}
 use Rattle.lobby_words.specs.declared.planning.Identity.{Identity}
+use Rattle.lobby_words.specs.declared.planning.Accord.{Accord}
+use Rattle.lobby_words.specs.declared.planning.Accord.TheVariants as accords
 use Rattle.lobby_words.specs.declared.players.Player.{Player}
 use Rattle.lobby_words.specs.declared.listing.Seat.{Seat}
 use Rattle.lobby_table.specs.declared.refusals.RefusedActs.{RefusedActs}
 use Rattle.lobby_table.specs.declared.pairings.Pairing.{Pairing}
 use Rattle.lobby_table.specs.declared.watching.Watch.{Watch}
 use Rattle.lobby_words.specs.Words.{word_of, rest_of, as_name, as_line, black_name, pair_line, is_pair, line_said, is_message, sort_of, is_act_sort, is_as_sort, is_pair_sort, is_drop_sort, is_name_sort, is_login_sort, u32_in, or_0}
-use Rattle.lobby_words.specs.Plans.{asked, barred, entered_plan, act_plan, named_plan, as_plan, black_plan, white_plan, pair_plan, arbiter_plan, order_plan, drop_plan, login_plan, numbered_plan, plan_of}
+use Rattle.lobby_words.specs.Plans.{asked, barred, entered_plan, act_plan, named_plan, as_plan, black_plan, white_plan, agreed_plan, offered_plan, pair_plan, offers_plan, arbiter_plan, order_plan, drop_plan, login_plan, numbered_plan, plan_of}
 use Rattle.lobby_desk.specs.Lines.{lines_of, said_after, is_said, IsNamed}
 use Rattle.lobby_table.specs.Sending.{act_lines, name_line, game_line, join_line, notice_lines}
 use Rattle.lobby_words.specs.Answers.{is_shown, first_line, act_game, answer}
@@ -32,15 +34,16 @@ use Rattle.lobby_desk.specs.Events.{is_asked_behind, game_if, asked_after}
 use Rattle.lobby_table.specs.Owed.{ForItself, ForPositions, ForTable, ForGame, ForAct, Owed, Nobody, Naming, Asker}
 use Rattle.lobby_table.specs.Owed.{Dropper, Pairer, Followers, Behind, owed_last, owed_acted, owed_some, owed_lines}
 use Rattle.lobby_desk.specs.Tellings.{Known, is_counted, open_now, watch_heard, watch_next, watches_now, table_heard, table_next, table_now, owed_answered, owed_now, known_now, presence, lost, AreToldAll, IsTold}
-use Rattle.lobby_desk.specs.Who.{View, BeginsView, IsSaid, IsHeard, IsDropped, IsPaired, IsSentFor, IsSentNext, IsSentHeard, IsDone, IsRenewed, IsLinked, IsKnown, who_noted, name_of, speaker}
-use Rattle.lobby_words.specs.Players.{known_name, renewed, holder_of}
-use Rattle.lobby_desk.specs.History.{Step, comes, has_come, shown_by, player_said, player_after, players_in, player_in, is_drop, is_pairing, name_as, name_for, name_behind, name_through, name_before, name_in, ActsUnder, ActsRight, NoActs, NoDrops, sort_asks, IsOf, open_in, known_in, IsArbiter, AsksNow, HasAsked, HasPaired, IsDropOf, IsJoinOf, IsNoticeOf, IsRight, AreWhole, AllRight, AllTold, IsRun}
+use Rattle.lobby_desk.specs.Who.{View, BeginsView, IsSaid, IsHeard, IsDropped, IsPaired, IsSentFor, IsSentNext, IsSentHeard, IsDone, IsRenewed, IsLinked, IsKnown, who_noted, name_of, speaker, offers_now}
+use Rattle.lobby_words.specs.Players.{known_name, is_named, renewed, holder_of}
+use Rattle.lobby_offers.specs.Offers.{Offered, is_answered, is_agreed, other_party, may_offer, accord_by, accord_of, offers_said}
+use Rattle.lobby_desk.specs.History.{Step, comes, has_come, shown_by, player_said, player_after, players_in, player_in, is_drop, is_pairing, name_as, name_for, name_behind, name_through, name_before, name_in, ActsUnder, ActsRight, NoActs, NoDrops, sort_asks, IsOf, open_in, known_in, offers_in, accord_in, is_agreement, IsArbiter, MayPair, AsksNow, HasAsked, HasPaired, IsDropOf, IsJoinOf, IsNoticeOf, IsRight, AreWhole, AllRight, AllTold, IsRun}
 use Rattle.lobby_words.proofs.Numbers.{number_small}
 use Rattle.lobby_words.proofs.ByName.{named_is}
 use Rattle.lobby_table.proofs.Sent.{is_said_same}
 use Rattle.server_answers.specs.Entered.{Entered, entered_in}
 use Rattle.server_answers.proofs.DoneActs.{entered_only}
-use Rattle.lobby_desk.proofs.Carry.{act_does, as_does, pair_does, arbiter_does, players_does, link_does, OfOrder, Orders, planned_orders}
+use Rattle.lobby_desk.proofs.Carry.{act_does, as_does, pair_does, offers_does, arbiter_does, players_does, link_does, OfOrder, Orders, planned_orders}
 use Rattle.lobby_desk.proofs.As.{as_whole, as_acts, pair_whole, pair_acts}
 use Rattle.lobby_desk.proofs.Lines.{show_whole, fen_whole, pgn_whole, join_whole, join_line_acts, list_whole, name_whole, show_reads, fen_reads, pgn_reads, list_reads, name_names}
 
@@ -89,7 +92,12 @@ planned_who false sort s game before = refl
 planned_who true sorts.Read s game before = asked_who s plans.Read before refl
 planned_who true sorts.Act s game before = act_who s s.who before
 planned_who true sorts.As s game before = as_who s s.who before
-planned_who true sorts.Pair s game before = pair_does (λ plan. who_noted plan before ≡ before) s s.who (λ _. refl) (λ _ _ _. refl)
+planned_who true sorts.Pair s game before =
+    pair_does (λ plan. who_noted plan before ≡ before) s s.who (λ _. refl) (λ _. refl) (λ _ _ _. refl)
+planned_who true sorts.Unpair s game before =
+    offers_does (λ plan. who_noted plan before ≡ before) true s.at s.who (λ _. refl) (λ _. refl) (λ _. refl)
+planned_who true sorts.Offers s game before =
+    offers_does (λ plan. who_noted plan before ≡ before) false s.at s.who (λ _. refl) (λ _. refl) (λ _. refl)
 planned_who true sorts.Drop s game before = dropped_who s game before
 planned_who true sorts.Login s game before = login_who s.holder before
 planned_who true sorts.Players s game before = players_does (λ plan. who_noted plan before ≡ before) s s.who refl refl
@@ -249,8 +257,11 @@ acts_good text name game small under said own message is named =
     }
 
 -- the name under which the act of a message stands that is no `as`
-own_name : (players : List Player) (who : Identity) (text : List ℕ) → sort_of text ≡ sorts.Act → name_for players (Some who) text ≡ Some who.name
-own_name players who text is = ap (λ (sort : Sort). if is_as_sort sort || is_pair_sort sort then name_as players who.is_arbiter text else Some who.name) is
+own_name : (players : List Player) (agreed : Bool) (who : Identity) (text : List ℕ) → sort_of text ≡ sorts.Act →
+    name_for players agreed (Some who) text ≡ Some who.name
+own_name players agreed who text is =
+    ap (λ (sort : Sort). if is_as_sort sort then name_as players who.is_arbiter text
+    else (if is_pair_sort sort then name_as players (who.is_arbiter || agreed) text else Some who.name)) is
 
 -- where nothing bars it
 barred_good : (asks : List (List ℕ)) (text : List ℕ) (bar : Option Refusal) (under said : Option (List ℕ)) (plan : Plan) →
@@ -266,17 +277,17 @@ entered_good asks text s under said plan h =
     asked_good asks text s under said (barred s.bar plan) (barred_good asks text s.bar under said plan h)
 
 -- the plan for an act
-act_good : (players : List Player) (text : List ℕ) (s : Standing) (said : Option (List ℕ)) (who : Option Identity) → is_message text ≡ true →
+act_good : (players : List Player) (agreed : Bool) (text : List ℕ) (s : Standing) (said : Option (List ℕ)) (who : Option Identity) → is_message text ≡ true →
     sort_of text ≡ sorts.Act → IsNamed (act_plan s who) →
-    Good (text ∷ notice_lines (game_named text)) (name_for players who text) said (lines_of (act_plan s who) said text) (said_after (act_plan s who) said)
-act_good players text s said None message is = λ named. none_good (text ∷ notice_lines (game_named text)) None said
-act_good players text s said (Some who) message is =
+    Good (text ∷ notice_lines (game_named text)) (name_for players agreed who text) said (lines_of (act_plan s who) said text) (said_after (act_plan s who) said)
+act_good players agreed text s said None message is = λ named. none_good (text ∷ notice_lines (game_named text)) None said
+act_good players agreed text s said (Some who) message is =
     elim (s.is_paused && not who.is_arbiter) as (λ b. IsNamed (if b then plans.Refuse refusals.EntriesPaused else entered_plan s (plans.Act who)) →
-    Good (text ∷ notice_lines (game_named text)) (name_for players (Some who) text) said (lines_of (if b then plans.Refuse refusals.EntriesPaused else entered_plan s (plans.Act who)) said text)
+    Good (text ∷ notice_lines (game_named text)) (name_for players agreed (Some who) text) said (lines_of (if b then plans.Refuse refusals.EntriesPaused else entered_plan s (plans.Act who)) said text)
     (said_after (if b then plans.Refuse refusals.EntriesPaused else entered_plan s (plans.Act who)) said)) [
-      | true ↦ λ _. none_good (text ∷ notice_lines (game_named text)) (name_for players (Some who) text) said
-      | false ↦ entered_good (text ∷ notice_lines (game_named text)) text s (name_for players (Some who) text) said (plans.Act who)
-          (λ named. acts_good text who.name (game_named text) (named_small text) (name_for players (Some who) text) said (own_name players who text is) message is named)
+      | true ↦ λ _. none_good (text ∷ notice_lines (game_named text)) (name_for players agreed (Some who) text) said
+      | false ↦ entered_good (text ∷ notice_lines (game_named text)) text s (name_for players agreed (Some who) text) said (plans.Act who)
+          (λ named. acts_good text who.name (game_named text) (named_small text) (name_for players agreed (Some who) text) said (own_name players agreed who text is) message is named)
     ]
 
 -- the plan for an act of an arbiter under the name of another
@@ -288,22 +299,23 @@ named_good text s who (Some name) under said same message is =
     entered_good (as_line text ∷ notice_lines (game_named text)) text s under said (plans.ActAs who name)
     (λ named. acts_good (as_line text) name (game_named text) (named_small text) under said same (as_whole text message is) (as_acts text is) named)
 
-arbiter_good : (players : List Player) (text : List ℕ) (s : Standing) (said : Option (List ℕ)) (who : Identity) → s.named ≡ known_name players (as_name text) →
+arbiter_good : (players : List Player) (agreed : Bool) (text : List ℕ) (s : Standing) (said : Option (List ℕ)) (who : Identity) → s.named ≡ known_name players (as_name text) →
     is_message text ≡ true → sort_of text ≡ sorts.As → (b : Bool) → who.is_arbiter ≡ b →
     IsNamed (if b then named_plan s who s.named else plans.Refuse refusals.NotArbiter) →
-    Good (as_line text ∷ notice_lines (game_named text)) (name_for players (Some who) text) said (lines_of (if b then named_plan s who s.named else plans.Refuse refusals.NotArbiter) said text)
+    Good (as_line text ∷ notice_lines (game_named text)) (name_for players agreed (Some who) text) said (lines_of (if b then named_plan s who s.named else plans.Refuse refusals.NotArbiter) said text)
     (said_after (if b then named_plan s who s.named else plans.Refuse refusals.NotArbiter) said)
-arbiter_good players text s said who other message is true arbiter =
-    named_good text s who s.named (name_for players (Some who) text) said
-    (ap (λ (sort : Sort). if is_as_sort sort || is_pair_sort sort then name_as players who.is_arbiter text else Some who.name) is
+arbiter_good players agreed text s said who other message is true arbiter =
+    named_good text s who s.named (name_for players agreed (Some who) text) said
+    (ap (λ (sort : Sort). if is_as_sort sort then name_as players who.is_arbiter text
+    else (if is_pair_sort sort then name_as players (who.is_arbiter || agreed) text else Some who.name)) is
     ∙ (ap (λ (b : Bool). name_as players b text) arbiter ∙ sym other)) message is
-arbiter_good players text s said who other message is false arbiter = λ named. none_good (as_line text ∷ notice_lines (game_named text)) (name_for players (Some who) text) said
+arbiter_good players agreed text s said who other message is false arbiter = λ named. none_good (as_line text ∷ notice_lines (game_named text)) (name_for players agreed (Some who) text) said
 
-as_good : (players : List Player) (text : List ℕ) (s : Standing) (said : Option (List ℕ)) (who : Option Identity) → s.named ≡ known_name players (as_name text) →
+as_good : (players : List Player) (agreed : Bool) (text : List ℕ) (s : Standing) (said : Option (List ℕ)) (who : Option Identity) → s.named ≡ known_name players (as_name text) →
     is_message text ≡ true → sort_of text ≡ sorts.As → IsNamed (as_plan s who) →
-    Good (as_line text ∷ notice_lines (game_named text)) (name_for players who text) said (lines_of (as_plan s who) said text) (said_after (as_plan s who) said)
-as_good players text s said None other message is = λ named. none_good (as_line text ∷ notice_lines (game_named text)) None said
-as_good players text s said (Some who) other message is = arbiter_good players text s said who other message is who.is_arbiter refl
+    Good (as_line text ∷ notice_lines (game_named text)) (name_for players agreed who text) said (lines_of (as_plan s who) said text) (said_after (as_plan s who) said)
+as_good players agreed text s said None other message is = λ named. none_good (as_line text ∷ notice_lines (game_named text)) None said
+as_good players agreed text s said (Some who) other message is = arbiter_good players agreed text s said who other message is who.is_arbiter refl
 
 -- the plan for a pairing
 black_good : (text : List ℕ) (s : Standing) (who : Identity) (white : List ℕ) (black under said : Option (List ℕ)) → under ≡ Some white → is_message text ≡ true →
@@ -320,20 +332,56 @@ white_good : (text : List ℕ) (s : Standing) (who : Identity) (white under said
 white_good text s who None under said same message is = λ _. none_good (pair_line text ∷ []) under said
 white_good text s who (Some white) under said same message is = black_good text s who white s.black under said same message is
 
+-- the name under which the acts of a pairing stand
+pair_name : (players : List Player) (agreed : Bool) (who : Identity) (text : List ℕ) → sort_of text ≡ sorts.Pair →
+    name_for players agreed (Some who) text ≡ name_as players (who.is_arbiter || agreed) text
+pair_name players agreed who text is =
+    ap (λ (sort : Sort). if is_as_sort sort then name_as players who.is_arbiter text
+    else (if is_pair_sort sort then name_as players (who.is_arbiter || agreed) text else Some who.name)) is
+
+-- one of who is no arbiter
+agreed_good : (text : List ℕ) (s : Standing) (who : Identity) (under said : Option (List ℕ)) → under ≡ s.named → is_message text ≡ true →
+    sort_of text ≡ sorts.Pair → IsNamed (agreed_plan s who) →
+    Good (pair_line text ∷ []) under said (lines_of (agreed_plan s who) said text) (said_after (agreed_plan s who) said)
+agreed_good text s who under said same message is =
+    elim s.is_paused as (λ b. IsNamed (if b then plans.Refuse refusals.EntriesPaused else barred s.pair_bar (white_plan s who s.named)) →
+    Good (pair_line text ∷ []) under said (lines_of (if b then plans.Refuse refusals.EntriesPaused else barred s.pair_bar (white_plan s who s.named)) said text)
+    (said_after (if b then plans.Refuse refusals.EntriesPaused else barred s.pair_bar (white_plan s who s.named)) said)) [
+      | true ↦ λ _. none_good (pair_line text ∷ []) under said
+      | false ↦ barred_good (pair_line text ∷ []) text s.pair_bar under said (white_plan s who s.named)
+          (white_good text s who s.named under said same message is)
+    ]
+
+offered_good : (players : List Player) (text : List ℕ) (s : Standing) (said : Option (List ℕ)) (who : Identity) → s.named ≡ known_name players (as_name text) →
+    is_message text ≡ true → sort_of text ≡ sorts.Pair → who.is_arbiter ≡ false → (accord : Accord) → s.accord ≡ accord →
+    IsNamed (offered_plan s who accord) →
+    Good (pair_line text ∷ []) (name_for players (is_agreement s.accord) (Some who) text) said (lines_of (offered_plan s who accord) said text)
+    (said_after (offered_plan s who accord) said)
+offered_good players text s said who other message is player accords.Nothing same =
+    λ _. none_good (pair_line text ∷ []) (name_for players (is_agreement s.accord) (Some who) text) said
+offered_good players text s said who other message is player accords.Offered same =
+    λ _. none_good (pair_line text ∷ []) (name_for players (is_agreement s.accord) (Some who) text) said
+offered_good players text s said who other message is player accords.Agreed same =
+    agreed_good text s who (name_for players (is_agreement s.accord) (Some who) text) said
+    (pair_name players (is_agreement s.accord) who text is
+    ∙ (ap (λ (b : Bool). name_as players (b || is_agreement s.accord) text) player
+    ∙ (ap (λ (a : Accord). name_as players (is_agreement a) text) same ∙ sym other))) message is
+
 paired_good : (players : List Player) (text : List ℕ) (s : Standing) (said : Option (List ℕ)) (who : Identity) → s.named ≡ known_name players (as_name text) →
     is_message text ≡ true → sort_of text ≡ sorts.Pair → (b : Bool) → who.is_arbiter ≡ b →
-    IsNamed (if b then white_plan s who s.named else plans.Refuse refusals.NotArbiter) →
-    Good (pair_line text ∷ []) (name_for players (Some who) text) said (lines_of (if b then white_plan s who s.named else plans.Refuse refusals.NotArbiter) said text)
-    (said_after (if b then white_plan s who s.named else plans.Refuse refusals.NotArbiter) said)
+    IsNamed (if b then white_plan s who s.named else offered_plan s who s.accord) →
+    Good (pair_line text ∷ []) (name_for players (is_agreement s.accord) (Some who) text) said (lines_of (if b then white_plan s who s.named else offered_plan s who s.accord) said text)
+    (said_after (if b then white_plan s who s.named else offered_plan s who s.accord) said)
 paired_good players text s said who other message is true arbiter =
-    white_good text s who s.named (name_for players (Some who) text) said
-    (ap (λ (sort : Sort). if is_as_sort sort || is_pair_sort sort then name_as players who.is_arbiter text else Some who.name) is
-    ∙ (ap (λ (b : Bool). name_as players b text) arbiter ∙ sym other)) message is
-paired_good players text s said who other message is false arbiter = λ _. none_good (pair_line text ∷ []) (name_for players (Some who) text) said
+    white_good text s who s.named (name_for players (is_agreement s.accord) (Some who) text) said
+    (pair_name players (is_agreement s.accord) who text is
+    ∙ (ap (λ (b : Bool). name_as players (b || is_agreement s.accord) text) arbiter ∙ sym other)) message is
+paired_good players text s said who other message is false player =
+    offered_good players text s said who other message is player s.accord refl
 
 pair_good : (players : List Player) (text : List ℕ) (s : Standing) (said : Option (List ℕ)) (who : Option Identity) → s.named ≡ known_name players (as_name text) →
     is_message text ≡ true → sort_of text ≡ sorts.Pair → IsNamed (pair_plan s who) →
-    Good (pair_line text ∷ []) (name_for players who text) said (lines_of (pair_plan s who) said text) (said_after (pair_plan s who) said)
+    Good (pair_line text ∷ []) (name_for players (is_agreement s.accord) who text) said (lines_of (pair_plan s who) said text) (said_after (pair_plan s who) said)
 pair_good players text s said None other message is = λ _. none_good (pair_line text ∷ []) None said
 pair_good players text s said (Some who) other message is = paired_good players text s said who other message is who.is_arbiter refl
 
@@ -402,53 +450,62 @@ line_good text s under said (Some game) small named =
     asked_good (sort_asks sorts.Line game text) text s under said (plans.Line game)
     (λ _. reads_good under said (game_line (codes "pgn ") game ∷ []) (pgn_reads game small, tt) (pgn_whole game small, tt)) named
 
+-- what is asked of the offers
+offers_good : (text : List ℕ) (s : Standing) (under said : Option (List ℕ)) (ends : Bool) →
+    Good [] under said (lines_of (offers_plan ends s.at s.who) said text) (said_after (offers_plan ends s.at s.who) said)
+offers_good text s under said ends =
+    offers_does (λ p. Good [] under said (lines_of p said text) (said_after p said)) ends s.at s.who (λ _. none_good [] under said)
+    (λ _. none_good [] under said) (λ _. none_good [] under said)
+
 -- each plan for a message
 plan_good : (players : List Player) (text : List ℕ) (s : Standing) (said : Option (List ℕ)) (game : Option ℕ) (m : Bool) (sort : Sort) →
     s.named ≡ known_name players (as_name text) → is_message text ≡ m → sort_of text ≡ sort → IfSome game (λ g. g < 2 ^ 32) →
     IsNamed (plan_of m sort s game) →
-    Good (sort_asks sort (or_0 game) text) (name_for players s.who text) said (lines_of (plan_of m sort s game) said text) (said_after (plan_of m sort s game) said)
-plan_good players text s said game false sort other message is small named = none_good (sort_asks sort (or_0 game) text) (name_for players s.who text) said
+    Good (sort_asks sort (or_0 game) text) (name_for players (is_agreement s.accord) s.who text) said (lines_of (plan_of m sort s game) said text) (said_after (plan_of m sort s game) said)
+plan_good players text s said game false sort other message is small named = none_good (sort_asks sort (or_0 game) text) (name_for players (is_agreement s.accord) s.who text) said
 plan_good players text s said game true sorts.Read other message is small named =
-    asked_good (text ∷ []) text s (name_for players s.who text) said plans.Read
-    (λ _. reads_good (name_for players s.who text) said (text ∷ []) (is, tt) (message, tt)) named
-plan_good players text s said game true sorts.Act other message is small named = act_good players text s said s.who message is named
-plan_good players text s said game true sorts.As other message is small named = as_good players text s said s.who other message is named
+    asked_good (text ∷ []) text s (name_for players (is_agreement s.accord) s.who text) said plans.Read
+    (λ _. reads_good (name_for players (is_agreement s.accord) s.who text) said (text ∷ []) (is, tt) (message, tt)) named
+plan_good players text s said game true sorts.Act other message is small named = act_good players (is_agreement s.accord) text s said s.who message is named
+plan_good players text s said game true sorts.As other message is small named = as_good players (is_agreement s.accord) text s said s.who other message is named
 plan_good players text s said game true sorts.Pair other message is small named = pair_good players text s said s.who other message is named
-plan_good players text s said game true sorts.Drop other message is small named = dropped_good text s (name_for players s.who text) said game small named
-plan_good players text s said game true sorts.Login other message is small named = login_good text (name_for players s.who text) said s.holder
+plan_good players text s said game true sorts.Unpair other message is small named = offers_good text s (name_for players (is_agreement s.accord) s.who text) said true
+plan_good players text s said game true sorts.Offers other message is small named = offers_good text s (name_for players (is_agreement s.accord) s.who text) said false
+plan_good players text s said game true sorts.Drop other message is small named = dropped_good text s (name_for players (is_agreement s.accord) s.who text) said game small named
+plan_good players text s said game true sorts.Login other message is small named = login_good text (name_for players (is_agreement s.accord) s.who text) said s.holder
 plan_good players text s said game true sorts.Players other message is small named =
-    players_does (λ p. Good [] (name_for players s.who text) said (lines_of p said text) (said_after p said)) s s.who
-    (none_good [] (name_for players s.who text) said) (none_good [] (name_for players s.who text) said)
+    players_does (λ p. Good [] (name_for players (is_agreement s.accord) s.who text) said (lines_of p said text) (said_after p said)) s s.who
+    (none_good [] (name_for players (is_agreement s.accord) s.who text) said) (none_good [] (name_for players (is_agreement s.accord) s.who text) said)
 plan_good players text s said game true sorts.Who other message is small named =
-    silent_good text s.who (name_for players s.who text) said plans.Who (none_good [] (name_for players s.who text) said)
+    silent_good text s.who (name_for players (is_agreement s.accord) s.who text) said plans.Who (none_good [] (name_for players (is_agreement s.accord) s.who text) said)
 plan_good players text s said game true sorts.Pause other message is small named =
-    silent_good text s.who (name_for players s.who text) said plans.Pause (none_good [] (name_for players s.who text) said)
+    silent_good text s.who (name_for players (is_agreement s.accord) s.who text) said plans.Pause (none_good [] (name_for players (is_agreement s.accord) s.who text) said)
 plan_good players text s said game true sorts.Resume other message is small named =
-    silent_good text s.who (name_for players s.who text) said plans.Resume (none_good [] (name_for players s.who text) said)
-plan_good players text s said game true sorts.Link other message is small named = order_good text s (name_for players s.who text) said false
-plan_good players text s said game true sorts.Close other message is small named = order_good text s (name_for players s.who text) said true
+    silent_good text s.who (name_for players (is_agreement s.accord) s.who text) said plans.Resume (none_good [] (name_for players (is_agreement s.accord) s.who text) said)
+plan_good players text s said game true sorts.Link other message is small named = order_good text s (name_for players (is_agreement s.accord) s.who text) said false
+plan_good players text s said game true sorts.Close other message is small named = order_good text s (name_for players (is_agreement s.accord) s.who text) said true
 plan_good players text s said game true sorts.Lobby other message is small named =
-    asked_good (codes "list" ∷ []) text s (name_for players s.who text) said plans.Lobby
-    (λ _. reads_good (name_for players s.who text) said (codes "list" ∷ []) (list_reads, tt) (list_whole, tt)) named
-plan_good players text s said game true sorts.LeaveLobby other message is small named = none_good [] (name_for players s.who text) said
-plan_good players text s said game true sorts.Watch other message is small named = watch_good text s (name_for players s.who text) said game small named
-plan_good players text s said game true sorts.Leave other message is small named = leave_good text s (name_for players s.who text) said game
-plan_good players text s said game true sorts.Line other message is small named = line_good text s (name_for players s.who text) said game small named
-plan_good players text s said game true sorts.Name other message is small named = none_good [] (name_for players s.who text) said
-plan_good players text s said game true sorts.Nothing other message is small named = none_good [] (name_for players s.who text) said
+    asked_good (codes "list" ∷ []) text s (name_for players (is_agreement s.accord) s.who text) said plans.Lobby
+    (λ _. reads_good (name_for players (is_agreement s.accord) s.who text) said (codes "list" ∷ []) (list_reads, tt) (list_whole, tt)) named
+plan_good players text s said game true sorts.LeaveLobby other message is small named = none_good [] (name_for players (is_agreement s.accord) s.who text) said
+plan_good players text s said game true sorts.Watch other message is small named = watch_good text s (name_for players (is_agreement s.accord) s.who text) said game small named
+plan_good players text s said game true sorts.Leave other message is small named = leave_good text s (name_for players (is_agreement s.accord) s.who text) said game
+plan_good players text s said game true sorts.Line other message is small named = line_good text s (name_for players (is_agreement s.accord) s.who text) said game small named
+plan_good players text s said game true sorts.Name other message is small named = none_good [] (name_for players (is_agreement s.accord) s.who text) said
+plan_good players text s said game true sorts.Nothing other message is small named = none_good [] (name_for players (is_agreement s.accord) s.who text) said
 
 -- a message
 said_good : (players : List Player) (old : View) (c : ℕ) (text : List ℕ) (lines : List (List ℕ)) (tells : List MessageValue) (new : View) →
-    IsSaid players old c text lines tells new →
-    Good (sort_asks (sort_of text) (or_0 (u32_in (rest_of text))) text) (name_for players (old.who c) text) old.said lines new.said
+    (h : IsSaid players old c text lines tells new) →
+    Good (sort_asks (sort_of text) (or_0 (u32_in (rest_of text))) text) (name_for players (is_agreement h.standing.accord) (old.who c) text) old.said lines new.said
 said_good players old c text lines tells new h =
     let game = u32_in (rest_of text) in
     let named : IsNamed (plan_of (is_message text) (sort_of text) h.standing (u32_in (rest_of text))) = subst IsNamed h.planned h.named in
     let planned = plan_good players text h.standing old.said game (is_message text) (sort_of text) h.other refl refl (number_small (rest_of text)) named in
-    let done = subst (λ (plan : Plan). Good (sort_asks (sort_of text) (or_0 (u32_in (rest_of text))) text) (name_for players h.standing.who text) old.said (lines_of plan old.said text) (said_after plan old.said)) (sym h.planned) planned in
-    let by = subst (λ (who : Option Identity). Good (sort_asks (sort_of text) (or_0 (u32_in (rest_of text))) text) (name_for players who text) old.said (lines_of h.plan old.said text) (said_after h.plan old.said)) h.who done in
-    let lined = subst (λ (ls : List (List ℕ)). Good (sort_asks (sort_of text) (or_0 (u32_in (rest_of text))) text) (name_for players (old.who c) text) old.said ls (said_after h.plan old.said)) (sym h.lines_are) by in
-    subst (λ (n : Option (List ℕ)). Good (sort_asks (sort_of text) (or_0 (u32_in (rest_of text))) text) (name_for players (old.who c) text) old.said lines n) (sym h.said_is) lined
+    let done = subst (λ (plan : Plan). Good (sort_asks (sort_of text) (or_0 (u32_in (rest_of text))) text) (name_for players (is_agreement h.standing.accord) h.standing.who text) old.said (lines_of plan old.said text) (said_after plan old.said)) (sym h.planned) planned in
+    let by = subst (λ (who : Option Identity). Good (sort_asks (sort_of text) (or_0 (u32_in (rest_of text))) text) (name_for players (is_agreement h.standing.accord) who text) old.said (lines_of h.plan old.said text) (said_after h.plan old.said)) h.who done in
+    let lined = subst (λ (ls : List (List ℕ)). Good (sort_asks (sort_of text) (or_0 (u32_in (rest_of text))) text) (name_for players (is_agreement h.standing.accord) (old.who c) text) old.said ls (said_after h.plan old.said)) (sym h.lines_are) by in
+    subst (λ (n : Option (List ℕ)). Good (sort_asks (sort_of text) (or_0 (u32_in (rest_of text))) text) (name_for players (is_agreement h.standing.accord) (old.who c) text) old.said lines n) (sym h.said_is) lined
 
 -- what is known is the same if each part of it is
 abbrev known_of : List Owed → ℕ → List ℕ → List ℕ → List Watch → List ℕ → List Seat → List Pairing → List RefusedActs → Option Following → Bool → Known
@@ -504,7 +561,7 @@ watch_next_alike f g same before (o ∷ owed) watches = watch_alike f g same bef
 watches_alike : (event : DeskInput) (f g : ℕ → Bool) → ((c : ℕ) → f c ≡ g c) → (k : Known) → watches_now event f k ≡ watches_now event g k
 watches_alike (Opened c) f g same k = refl
 watches_alike (Closed c) f g same k = refl
-watches_alike (Said c text) f g same k = refl
+watches_alike (Said c text at) f g same k = refl
 watches_alike (Hurried c) f g same k = refl
 watches_alike (Heard line) f g same k =
     ap (λ (watches : List Watch). if is_counted k line then watches else k.watches) (watch_next_alike f g same k.last k.owed k.watches)
@@ -533,7 +590,7 @@ table_next_alike f g same (o ∷ owed) table = table_alike f g same o table
 tables_alike : (event : DeskInput) (f g : ℕ → Bool) → ((c : ℕ) → f c ≡ g c) → (k : Known) → table_now event f k ≡ table_now event g k
 tables_alike (Opened c) f g same k = refl
 tables_alike (Closed c) f g same k = refl
-tables_alike (Said c text) f g same k = refl
+tables_alike (Said c text at) f g same k = refl
 tables_alike (Hurried c) f g same k = refl
 tables_alike (Heard line) f g same k =
     ap (λ (table : List ℕ). if is_counted k line then table else k.table) (table_next_alike f g same k.owed k.table)
@@ -557,7 +614,7 @@ known_then event by lines f g same old new past known is =
 speaker_alike : (f g : ℕ → Option Identity) → ((c : ℕ) → f c ≡ g c) → (event : DeskInput) → speaker f event ≡ speaker g event
 speaker_alike f g same (Opened c) = refl
 speaker_alike f g same (Closed c) = refl
-speaker_alike f g same (Said c text) = ap name_of (same c)
+speaker_alike f g same (Said c text at) = ap name_of (same c)
 speaker_alike f g same (Hurried c) = refl
 speaker_alike f g same (Heard line) = refl
 speaker_alike f g same (Renewed later) = refl
@@ -573,7 +630,7 @@ told_alike : (event : DeskInput) (lines : List (List ℕ)) (tells : List Message
     IsTold event lines tells f k → IsTold event lines tells g k
 told_alike (Opened c) lines tells f g same k h = h
 told_alike (Closed c) lines tells f g same k h = h
-told_alike (Said c text) lines tells f g same k h = (sym (same c) ∙ h.0, h.1, h.2)
+told_alike (Said c text at) lines tells f g same k h = (sym (same c) ∙ h.0, h.1, h.2)
 told_alike (Hurried c) lines tells f g same k h = (sym (same c) ∙ h.0, h.1, h.2)
 told_alike (Heard line) lines tells f g same k h = h
 told_alike (Renewed later) lines tells f g same k h = h
@@ -698,6 +755,8 @@ asks_at true sorts.Read s game said text = tt
 asks_at true sorts.Act s game said text = tt
 asks_at true sorts.As s game said text = tt
 asks_at true sorts.Pair s game said text = tt
+asks_at true sorts.Unpair s game said text = tt
+asks_at true sorts.Offers s game said text = tt
 asks_at true sorts.Drop s game said text = dropped_asks s game said text
 asks_at true sorts.Login s game said text = tt
 asks_at true sorts.Players s game said text = tt
@@ -722,57 +781,78 @@ said_asks players old c text lines tells new h =
     let lined = subst (λ (ls : List (List ℕ)). AsksDrop (is_drop text) ls h.standing.who (is_message text)) (sym h.lines_are) by_plan in
     subst (λ (who : Option Identity). AsksDrop (is_drop text) lines who (is_message text)) h.who lined
 
--- the same of a pairing, and then a player has the name of Black
-abbrev pub AsksPair : Bool → List (List ℕ) → Option Identity → Bool → Option (List ℕ) → List ℕ → Type 0
-AsksPair false lines who m known black = Unit {0}
-AsksPair true [] who m known black = Unit {0}
-AsksPair true (line ∷ lines) who m known black = IsArbiter who × (m ≡ true) × (known ≡ Some black)
+-- The same of a pairing: who asks is an arbiter, or the two agree; and then a player has the name of Black.
+abbrev pub AsksPair : Bool → List (List ℕ) → Bool → Option Identity → Bool → Option (List ℕ) → List ℕ → Type 0
+AsksPair false lines agreed who m known black = Unit {0}
+AsksPair true [] agreed who m known black = Unit {0}
+AsksPair true (line ∷ lines) agreed who m known black = MayPair agreed who × (m ≡ true) × (known ≡ Some black)
 
-pair_none : (b : Bool) (who : Option Identity) (m : Bool) (known : Option (List ℕ)) (black : List ℕ) → AsksPair b [] who m known black
-pair_none true who m known black = tt
-pair_none false who m known black = tt
+pair_none : (b agreed : Bool) (who : Option Identity) (m : Bool) (known : Option (List ℕ)) (black : List ℕ) → AsksPair b [] agreed who m known black
+pair_none true agreed who m known black = tt
+pair_none false agreed who m known black = tt
 
-black_asks : (players : List Player) (s : Standing) (who : Identity) (white : List ℕ) (black said : Option (List ℕ)) (text : List ℕ) →
-    IsArbiter (Some who) → black ≡ known_name players (black_name text) →
-    AsksPair true (lines_of (black_plan s who white black) said text) (Some who) true (known_name players (black_name text)) (black_name text)
-black_asks players s who white None said text arbiter same = tt
-black_asks players s who white (Some black) said text arbiter same =
-    let name = black_name text in
-    let known = known_name players (black_name text) in
+-- whether a plan goes out for who may have a pairing made
+abbrev PairsBy : List Player → Bool → Option Identity → Option (List ℕ) → List ℕ → Plan → Type 0
+PairsBy players agreed who said text plan =
+    AsksPair true (lines_of plan said text) agreed who true (known_name players (black_name text)) (black_name text)
+
+black_asks : (players : List Player) (agreed : Bool) (s : Standing) (who : Identity) (white : List ℕ) (black said : Option (List ℕ)) (text : List ℕ) →
+    MayPair agreed (Some who) → black ≡ known_name players (black_name text) → PairsBy players agreed (Some who) said text (black_plan s who white black)
+black_asks players agreed s who white None said text may same = tt
+black_asks players agreed s who white (Some black) said text may same =
     let is : known_name players (black_name text) ≡ Some (black_name text) = sym same ∙ ap Some (sym (named_is players (black_name text) black (sym same))) in
-    elim s.is_here as (λ h. AsksPair true (lines_of (if h then plans.Pair who white black else plans.Refuse refusals.NoServer) said text) (Some who) true (known_name players (black_name text)) (black_name text)) [
-      | true ↦ elim (is_said said white) as (λ b. AsksPair true (if b then pair_line text ∷ [] else name_line white ∷ pair_line text ∷ []) (Some who) true (known_name players (black_name text)) (black_name text)) [
-        | true ↦ (arbiter, refl, is)
-        | false ↦ (arbiter, refl, is)
+    elim s.is_here as (λ h. PairsBy players agreed (Some who) said text (if h then plans.Pair who white black else plans.Refuse refusals.NoServer)) [
+      | true ↦ elim (is_said said white) as (λ b. AsksPair true (if b then pair_line text ∷ [] else name_line white ∷ pair_line text ∷ []) agreed (Some who) true (known_name players (black_name text)) (black_name text)) [
+        | true ↦ (may, refl, is)
+        | false ↦ (may, refl, is)
       ]
       | false ↦ tt
     ]
 
-white_asks : (players : List Player) (s : Standing) (who : Identity) (white said : Option (List ℕ)) (text : List ℕ) → IsArbiter (Some who) →
-    s.black ≡ known_name players (black_name text) →
-    AsksPair true (lines_of (white_plan s who white) said text) (Some who) true (known_name players (black_name text)) (black_name text)
-white_asks players s who None said text arbiter same = tt
-white_asks players s who (Some white) said text arbiter same = black_asks players s who white s.black said text arbiter same
+white_asks : (players : List Player) (agreed : Bool) (s : Standing) (who : Identity) (white said : Option (List ℕ)) (text : List ℕ) →
+    MayPair agreed (Some who) → s.black ≡ known_name players (black_name text) → PairsBy players agreed (Some who) said text (white_plan s who white)
+white_asks players agreed s who None said text may same = tt
+white_asks players agreed s who (Some white) said text may same = black_asks players agreed s who white s.black said text may same
+
+barred_asks : (players : List Player) (agreed : Bool) (bar : Option Refusal) (who : Identity) (said : Option (List ℕ)) (text : List ℕ) (plan : Plan) →
+    PairsBy players agreed (Some who) said text plan → PairsBy players agreed (Some who) said text (barred bar plan)
+barred_asks players agreed None who said text plan h = h
+barred_asks players agreed (Some refusal) who said text plan h = tt
+
+offered_asks : (players : List Player) (s : Standing) (who : Identity) (said : Option (List ℕ)) (text : List ℕ) →
+    s.black ≡ known_name players (black_name text) → (accord : Accord) → s.accord ≡ accord →
+    PairsBy players (is_agreement s.accord) (Some who) said text (offered_plan s who accord)
+offered_asks players s who said text same accords.Nothing is = tt
+offered_asks players s who said text same accords.Offered is = tt
+offered_asks players s who said text same accords.Agreed is =
+    elim s.is_paused as (λ b. PairsBy players (is_agreement s.accord) (Some who) said text (if b then plans.Refuse refusals.EntriesPaused else barred s.pair_bar (white_plan s who s.named))) [
+      | true ↦ tt
+      | false ↦ barred_asks players (is_agreement s.accord) s.pair_bar who said text (white_plan s who s.named)
+          (white_asks players (is_agreement s.accord) s who s.named said text (inr (ap is_agreement is)) same)
+    ]
 
 pair_asks_at : (players : List Player) (s : Standing) (who : Identity) (said : Option (List ℕ)) (text : List ℕ) → s.black ≡ known_name players (black_name text) →
     (b : Bool) → who.is_arbiter ≡ b →
-    AsksPair true (lines_of (if b then white_plan s who s.named else plans.Refuse refusals.NotArbiter) said text) (Some who) true (known_name players (black_name text)) (black_name text)
-pair_asks_at players s who said text same true arbiter = white_asks players s who s.named said text arbiter same
-pair_asks_at players s who said text same false arbiter = tt
+    PairsBy players (is_agreement s.accord) (Some who) said text (if b then white_plan s who s.named else offered_plan s who s.accord)
+pair_asks_at players s who said text same true arbiter = white_asks players (is_agreement s.accord) s who s.named said text (inl arbiter) same
+pair_asks_at players s who said text same false arbiter = offered_asks players s who said text same s.accord refl
 
 pair_asks : (players : List Player) (s : Standing) (who : Option Identity) (said : Option (List ℕ)) (text : List ℕ) → s.black ≡ known_name players (black_name text) →
-    AsksPair true (lines_of (pair_plan s who) said text) who true (known_name players (black_name text)) (black_name text)
+    PairsBy players (is_agreement s.accord) who said text (pair_plan s who)
 pair_asks players s None said text same = tt
 pair_asks players s (Some who) said text same = pair_asks_at players s who said text same who.is_arbiter refl
 
 pairs_at : (players : List Player) (m : Bool) (sort : Sort) (s : Standing) (game : Option ℕ) (said : Option (List ℕ)) (text : List ℕ) →
     s.black ≡ known_name players (black_name text) →
-    AsksPair (is_pair_sort sort) (lines_of (plan_of m sort s game) said text) s.who m (known_name players (black_name text)) (black_name text)
-pairs_at players false sort s game said text same = pair_none (is_pair_sort sort) s.who false (known_name players (black_name text)) (black_name text)
+    AsksPair (is_pair_sort sort) (lines_of (plan_of m sort s game) said text) (is_agreement s.accord) s.who m (known_name players (black_name text)) (black_name text)
+pairs_at players false sort s game said text same =
+    pair_none (is_pair_sort sort) (is_agreement s.accord) s.who false (known_name players (black_name text)) (black_name text)
 pairs_at players true sorts.Read s game said text same = tt
 pairs_at players true sorts.Act s game said text same = tt
 pairs_at players true sorts.As s game said text same = tt
 pairs_at players true sorts.Pair s game said text same = pair_asks players s s.who said text same
+pairs_at players true sorts.Unpair s game said text same = tt
+pairs_at players true sorts.Offers s game said text same = tt
 pairs_at players true sorts.Drop s game said text same = tt
 pairs_at players true sorts.Login s game said text same = tt
 pairs_at players true sorts.Players s game said text same = tt
@@ -790,13 +870,15 @@ pairs_at players true sorts.Name s game said text same = tt
 pairs_at players true sorts.Nothing s game said text same = tt
 
 said_pairs : (players : List Player) (old : View) (c : ℕ) (text : List ℕ) (lines : List (List ℕ)) (tells : List MessageValue) (new : View) →
-    IsSaid players old c text lines tells new →
-    AsksPair (is_pairing text) lines (old.who c) (is_message text) (known_name players (black_name text)) (black_name text)
+    (h : IsSaid players old c text lines tells new) →
+    AsksPair (is_pairing text) lines (is_agreement h.standing.accord) (old.who c) (is_message text) (known_name players (black_name text)) (black_name text)
 said_pairs players old c text lines tells new h =
+    let agreed = is_agreement h.standing.accord in
+    let known = known_name players (black_name text) in
     let planned = pairs_at players (is_message text) (sort_of text) h.standing (u32_in (rest_of text)) old.said text h.black in
-    let by_plan = subst (λ (plan : Plan). AsksPair (is_pairing text) (lines_of plan old.said text) h.standing.who (is_message text) (known_name players (black_name text)) (black_name text)) (sym h.planned) planned in
-    let lined = subst (λ (ls : List (List ℕ)). AsksPair (is_pairing text) ls h.standing.who (is_message text) (known_name players (black_name text)) (black_name text)) (sym h.lines_are) by_plan in
-    subst (λ (who : Option Identity). AsksPair (is_pairing text) lines who (is_message text) (known_name players (black_name text)) (black_name text)) h.who lined
+    let by_plan = subst (λ (plan : Plan). AsksPair (is_pairing text) (lines_of plan old.said text) agreed h.standing.who (is_message text) known (black_name text)) (sym h.planned) planned in
+    let lined = subst (λ (ls : List (List ℕ)). AsksPair (is_pairing text) ls agreed h.standing.who (is_message text) known (black_name text)) (sym h.lines_are) by_plan in
+    subst (λ (who : Option Identity). AsksPair (is_pairing text) lines agreed who (is_message text) known (black_name text)) h.who lined
 
 -- the answer to a message is owed to a drop, or to a pairing, that was asked for, if to any
 asked_if_drop : (players : List Player) (past : List Step) (c : ℕ) (by text : List ℕ) (sort : Sort) (game : Option ℕ) →
@@ -806,6 +888,8 @@ asked_if_drop players past c by text sorts.Read game h k = tt
 asked_if_drop players past c by text sorts.Act game h k = tt
 asked_if_drop players past c by text sorts.As game h k = tt
 asked_if_drop players past c by text sorts.Pair game h k = k refl
+asked_if_drop players past c by text sorts.Unpair game h k = tt
+asked_if_drop players past c by text sorts.Offers game h k = tt
 asked_if_drop players past c by text sorts.Drop game h k = h refl
 asked_if_drop players past c by text sorts.Login game h k = tt
 asked_if_drop players past c by text sorts.Players game h k = tt
@@ -822,29 +906,29 @@ asked_if_drop players past c by text sorts.Line game h k = tt
 asked_if_drop players past c by text sorts.Name game h k = tt
 asked_if_drop players past c by text sorts.Nothing game h k = tt
 
-asked_by : (players : List Player) (past : List Step) (c : ℕ) (text : List ℕ) (all : List (List ℕ)) (line : List ℕ) (lines : List (List ℕ)) (tells : List MessageValue) →
+asked_by : (players : List Player) (past : List Step) (c : ℕ) (text : List ℕ) (at : ℕ) (all : List (List ℕ)) (line : List ℕ) (lines : List (List ℕ)) (tells : List MessageValue) →
     AsksDrop (is_drop text) (line ∷ lines) (player_in players past c) (is_message text) → is_drop text ≡ true →
-    HasAsked players (record { event = Said c text; lines = all; tells = tells } ∷ past) c text
-asked_by players past c text all line lines tells asks is =
+    HasAsked players (record { event = Said c text at; lines = all; tells = tells } ∷ past) c text
+asked_by players past c text at all line lines tells asks is =
     let by = subst (λ (b : Bool). AsksDrop b (line ∷ lines) (player_in players past c) (is_message text)) is asks in
     inl (refl, refl, by.0, by.1, is)
 
-paired_by : (players : List Player) (past : List Step) (c : ℕ) (text : List ℕ) (all : List (List ℕ)) (line : List ℕ) (lines : List (List ℕ)) (tells : List MessageValue) →
-    AsksPair (is_pairing text) (line ∷ lines) (player_in players past c) (is_message text) (known_name (players_in players past) (black_name text)) (black_name text) →
-    is_pairing text ≡ true → HasPaired players (record { event = Said c text; lines = all; tells = tells } ∷ past) c (black_name text) text
-paired_by players past c text all line lines tells asks is =
-    let by = subst (λ (b : Bool). AsksPair b (line ∷ lines) (player_in players past c) (is_message text) (known_name (players_in players past) (black_name text)) (black_name text)) is asks in
+paired_by : (players : List Player) (past : List Step) (c : ℕ) (text : List ℕ) (at : ℕ) (all : List (List ℕ)) (line : List ℕ) (lines : List (List ℕ)) (tells : List MessageValue) →
+    AsksPair (is_pairing text) (line ∷ lines) (is_agreement (accord_in players past c text at)) (player_in players past c) (is_message text) (known_name (players_in players past) (black_name text)) (black_name text) →
+    is_pairing text ≡ true → HasPaired players (record { event = Said c text at; lines = all; tells = tells } ∷ past) c (black_name text) text
+paired_by players past c text at all line lines tells asks is =
+    let by = subst (λ (b : Bool). AsksPair b (line ∷ lines) (is_agreement (accord_in players past c text at)) (player_in players past c) (is_message text) (known_name (players_in players past) (black_name text)) (black_name text)) is asks in
     inl (refl, refl, by.0, by.1, is, by.2)
 
-asker_asked : (players : List Player) (past : List Step) (c : ℕ) (by text : List ℕ) (all lines : List (List ℕ)) (tells : List MessageValue) →
+asker_asked : (players : List Player) (past : List Step) (c : ℕ) (by text : List ℕ) (at : ℕ) (all lines : List (List ℕ)) (tells : List MessageValue) →
     AsksDrop (is_drop text) lines (player_in players past c) (is_message text) →
-    AsksPair (is_pairing text) lines (player_in players past c) (is_message text) (known_name (players_in players past) (black_name text)) (black_name text) →
-    AreAsked players (record { event = Said c text; lines = all; tells = tells } ∷ past) (owed_lines (asker c by text) lines)
-asker_asked players past c by text all [] tells asks pairs = tt
-asker_asked players past c by text all (line ∷ lines) tells asks pairs =
-    wait_lines players (record { event = Said c text; lines = all; tells = tells } ∷ past) (asker c by text)
-    (asked_if_drop players (record { event = Said c text; lines = all; tells = tells } ∷ past) c by text (sort_of text) (u32_in (rest_of text))
-    (asked_by players past c text all line lines tells asks) (paired_by players past c text all line lines tells pairs)) (line ∷ lines)
+    AsksPair (is_pairing text) lines (is_agreement (accord_in players past c text at)) (player_in players past c) (is_message text) (known_name (players_in players past) (black_name text)) (black_name text) →
+    AreAsked players (record { event = Said c text at; lines = all; tells = tells } ∷ past) (owed_lines (asker c by text) lines)
+asker_asked players past c by text at all [] tells asks pairs = tt
+asker_asked players past c by text at all (line ∷ lines) tells asks pairs =
+    wait_lines players (record { event = Said c text at; lines = all; tells = tells } ∷ past) (asker c by text)
+    (asked_if_drop players (record { event = Said c text at; lines = all; tells = tells } ∷ past) c by text (sort_of text) (u32_in (rest_of text))
+    (asked_by players past c text at all line lines tells asks) (paired_by players past c text at all line lines tells pairs)) (line ∷ lines)
 
 -- what is seen of the desk is what the past says
 pub record Agrees (players : List Player) (past : List Step) (now : View) : Type 0 where
@@ -852,6 +936,7 @@ pub record Agrees (players : List Player) (past : List Step) (now : View) : Type
   pub said : now.said ≡ name_in past
   pub opens : (c : ℕ) → now.is_open c ≡ open_in past c
   pub known : now.known ≡ known_in players past
+  pub offers : now.offers ≡ offers_in players past
   pub asked : AreAsked players past now.known.owed
   pub came : (c : ℕ) → has_come past c ≡ true → c < now.next
 
@@ -869,8 +954,8 @@ shown_if true false holder before = refl
 shown_if false b holder before = refl
 
 said_who : (players : List Player) (old : View) (c : ℕ) (text : List ℕ) (lines : List (List ℕ)) (tells : List MessageValue) (new : View) →
-    IsSaid players old c text lines tells new → (d : ℕ) → new.who d ≡ player_after players (Said c text) d (old.who d)
-said_who players old c text lines tells new h d =
+    (at : ℕ) → IsSaid players old c text lines tells new → (d : ℕ) → new.who d ≡ player_after players (Said c text at) d (old.who d)
+said_who players old c text lines tells new at h d =
     let plan : who_noted h.plan (old.who d) ≡ player_said players text (old.who d) =
     ap (λ (plan : Plan). who_noted plan (old.who d)) h.planned
     ∙ (planned_who (is_message text) (sort_of text) h.standing (u32_in (rest_of text)) (old.who d)
@@ -917,7 +1002,7 @@ pub record WasAsked (text : List ℕ) : Type 0 where
 asked_now : (players : List Player) (past : List Step) (event : DeskInput) (c : ℕ) (text : List ℕ) → AsksNow players past event c text → WasAsked text
 asked_now players past (Opened d) c text h = absurd h
 asked_now players past (Closed d) c text h = absurd h
-asked_now players past (Said d said) c text h = record { message = h.3; drop = h.4 }
+asked_now players past (Said d said at) c text h = record { message = h.3; drop = h.4 }
 asked_now players past (Hurried d) c text h = absurd h
 asked_now players past (Heard line) c text h = absurd h
 asked_now players past (Renewed later) c text h = absurd h
@@ -935,6 +1020,8 @@ drop_names_none sorts.Read h = absurd (false≢true h)
 drop_names_none sorts.Act h = absurd (false≢true h)
 drop_names_none sorts.As h = absurd (false≢true h)
 drop_names_none sorts.Pair h = absurd (false≢true h)
+drop_names_none sorts.Unpair h = absurd (false≢true h)
+drop_names_none sorts.Offers h = absurd (false≢true h)
 drop_names_none sorts.Drop h = refl
 drop_names_none sorts.Login h = absurd (false≢true h)
 drop_names_none sorts.Players h = absurd (false≢true h)
@@ -1064,7 +1151,7 @@ came_then : (players : List Player) (past : List Step) (old : View) (event : Des
 came_then players past old (Opened d) lines tells now agrees step c h =
     came_more (d == c) (has_come past c) d c old.next now.next step.number step.next_is (Decides-eqb d c).0 (agrees.came c) h
 came_then players past old (Closed d) lines tells now agrees step c h = subst (λ (n : ℕ). c < n) (sym step.next_is) (agrees.came c h)
-came_then players past old (Said d text) lines tells now agrees step c h = subst (λ (n : ℕ). c < n) (sym step.next_is) (agrees.came c h)
+came_then players past old (Said d text at) lines tells now agrees step c h = subst (λ (n : ℕ). c < n) (sym step.0.next_is) (agrees.came c h)
 came_then players past old (Hurried d) lines tells now agrees step c h = subst (λ (n : ℕ). c < n) (sym step.next_is) (agrees.came c h)
 came_then players past old (Heard line) lines tells now agrees step c h = subst (λ (n : ℕ). c < n) (sym step.next_is) (agrees.came c h)
 came_then players past old (Renewed later) lines tells now agrees step c h = subst (λ (n : ℕ). c < n) (sym step.next_is) (agrees.came c h)
@@ -1095,6 +1182,65 @@ linked_orders players old c text later token step =
     subst (OfOrder (Orders (is_message text) (sort_of text) step.standing)) step.planned
     (planned_orders (is_message text) (sort_of text) step.standing (u32_in (rest_of text)))
 
+-- ---- what is offered
+
+-- it depends on for whom each connection acts alone
+agreed_alike : (f g : ℕ → Option Identity) → ((c : ℕ) → f c ≡ g c) → (other text : List ℕ) (at : ℕ) (offers : List Offered) →
+    is_agreed f other text at offers ≡ is_agreed g other text at offers
+agreed_alike f g same other text at [] = refl
+agreed_alike f g same other text at (o ∷ offers) =
+    ap (λ (w : Option Identity). (bytes_eq o.text text && (bytes_eq o.by other && (is_named w o.by && nat_le (at - o.at) 600000)))
+    || is_agreed f other text at offers) (same o.from)
+    ∙ ap (λ (b : Bool). is_answered g other text at o || b) (agreed_alike f g same other text at offers)
+
+accord_same : (players : List Player) (f g : ℕ → Option Identity) → ((c : ℕ) → f c ≡ g c) → (who : Option Identity) (text : List ℕ) (at : ℕ) (offers : List Offered) →
+    accord_by players f who text at offers ≡ accord_by players g who text at offers
+accord_same players f g same None text at offers = refl
+accord_same players f g same (Some who) text at offers =
+    ap (λ (b : Bool). if may_offer players who text then (if b then accords.Agreed else accords.Offered) else accords.Nothing)
+    (agreed_alike f g same (other_party who.name text) text at offers)
+
+pub accord_alike : (players : List Player) (f g : ℕ → Option Identity) → ((c : ℕ) → f c ≡ g c) → (c : ℕ) (text : List ℕ) (at : ℕ) (offers : List Offered) →
+    accord_of players f c text at offers ≡ accord_of players g c text at offers
+accord_alike players f g same c text at offers =
+    accord_same players f g same (f c) text at offers
+    ∙ ap (λ (w : Option Identity). accord_by players g w text at offers) (same c)
+
+offers_alike : (players : List Player) (f g : ℕ → Option Identity) → ((c : ℕ) → f c ≡ g c) → (event : DeskInput) (offers : List Offered) →
+    offers_now players f event offers ≡ offers_now players g event offers
+offers_alike players f g same (Opened c) offers = refl
+offers_alike players f g same (Closed c) offers = refl
+offers_alike players f g same (Said c text at) offers =
+    ap (λ (a : Accord). offers_said a (f c) c text at offers) (accord_alike players f g same c text at offers)
+    ∙ ap (λ (w : Option Identity). offers_said (accord_of players g c text at offers) w c text at offers) (same c)
+offers_alike players f g same (Hurried c) offers = refl
+offers_alike players f g same (Heard line) offers = refl
+offers_alike players f g same (Renewed later) offers = refl
+offers_alike players f g same (Linked c text later token) offers = refl
+offers_alike players f g same (ServerTurned is_here) offers = refl
+
+-- what is offered then is what the past says
+offers_then : (players : List Player) (past : List Step) (event : DeskInput) (old now : View) → Agrees players past old →
+    now.offers ≡ offers_now (players_in players past) old.who event old.offers →
+    now.offers ≡ offers_now (players_in players past) (player_in players past) event (offers_in players past)
+offers_then players past event old now agrees is =
+    is ∙ (offers_alike (players_in players past) old.who (player_in players past) agrees.who event old.offers
+    ∙ ap (offers_now (players_in players past) (player_in players past) event) agrees.offers)
+
+-- what a message is between two players, as its plan has it
+abbrev agreement_in : List Player → List Step → ℕ → List ℕ → ℕ → Bool
+agreement_in players past c text at = is_agreement (accord_in players past c text at)
+
+said_accord : (players : List Player) (past : List Step) (old : View) (c : ℕ) (text : List ℕ) (at : ℕ) (lines : List (List ℕ)) (tells : List MessageValue) (now : View) →
+    Agrees players past old → (h : IsSaid (players_in players past) old c text lines tells now) → h.standing.at ≡ at →
+    is_agreement h.standing.accord ≡ agreement_in players past c text at
+said_accord players past old c text at lines tells now agrees h is =
+    let list = players_in players past in
+    ap is_agreement (h.accord
+    ∙ (ap (λ (t : ℕ). accord_of list old.who c text t old.offers) is
+    ∙ (accord_alike list old.who (player_in players past) agrees.who c text at old.offers
+    ∙ ap (accord_of list (player_in players past) c text at) agrees.offers)))
+
 done_good : (players : List Player) (past : List Step) (old : View) (event : DeskInput) (lines : List (List ℕ)) (tells : List MessageValue) (now : View) →
     Agrees players past old → IsDone (players_in players past) old event lines tells now → DoneGood players past event lines now
 done_good players past old (Opened c) lines tells now agrees step =
@@ -1107,15 +1253,17 @@ done_good players past old (Closed c) lines tells now agrees step =
 done_good players past old (Hurried c) lines tells now agrees step =
     none_done players past (Hurried c) lines now (λ none. none) step.none (step.said_is ∙ agrees.said)
     (λ d. step.who_is d ∙ agrees.who d)
-done_good players past old (Said c text) lines tells now agrees step =
+done_good players past old (Said c text at) lines tells now agrees step =
     let list = players_in players past in
-    let good = said_good (players_in players past) old c text lines tells now step in
+    let good = said_good list old c text lines tells now step.0 in
+    let agreed = said_accord players past old c text at lines tells now agrees step.0 step.1 in
+    let own = subst (λ (who : Option Identity). ActsRight (name_for list (is_agreement step.0.standing.accord) who text) old.said lines) (agrees.who c) good.acts in
+    let may = subst (λ (b : Bool). ActsRight (name_for list b (player_in players past c) text) old.said lines) agreed own in
     record {
-      who = λ d. said_who list old c text lines tells now step d ∙ ap (λ (before : Option Identity). player_after list (Said c text) d before) (agrees.who d);
+      who = λ d. said_who list old c text lines tells now at step.0 d ∙ ap (λ (before : Option Identity). player_after list (Said c text at) d before) (agrees.who d);
       said = good.name ∙ ap (λ (n : Option (List ℕ)). name_through n lines) agrees.said;
       right = (
-        subst (λ (n : Option (List ℕ)). ActsRight (name_for list (player_in players past c) text) n lines) agrees.said
-            (subst (λ (who : Option Identity). ActsRight (name_for list who text) old.said lines) (agrees.who c) good.acts),
+        subst (λ (n : Option (List ℕ)). ActsRight (name_for list (agreement_in players past c text at) (player_in players past c) text) n lines) agrees.said may,
         good.drops,
         good.of_text,
       );
@@ -1143,13 +1291,17 @@ asked_then : (players : List Player) (past : List Step) (old : View) (event : De
 asked_then players past old (Opened c) lines tells now agrees step = are_asked_later players (record { event = Opened c; lines = lines; tells = tells }) past old.known.owed agrees.asked
 asked_then players past old (Closed c) lines tells now agrees step = are_asked_later players (record { event = Closed c; lines = lines; tells = tells }) past old.known.owed agrees.asked
 asked_then players past old (Hurried c) lines tells now agrees step = are_asked_later players (record { event = Hurried c; lines = lines; tells = tells }) past old.known.owed agrees.asked
-asked_then players past old (Said c text) lines tells now agrees step =
-    let asks = subst (λ (who : Option Identity). AsksDrop (is_drop text) lines who (is_message text)) (agrees.who c) (said_asks (players_in players past) old c text lines tells now step) in
-    let pairs = subst (λ (who : Option Identity). AsksPair (is_pairing text) lines who (is_message text) (known_name (players_in players past) (black_name text)) (black_name text))
-    (agrees.who c) (said_pairs (players_in players past) old c text lines tells now step) in
-    are_asked_both players (record { event = Said c text; lines = lines; tells = tells } ∷ past) old.known.owed (owed_lines (asker c (name_of (old.who c)) text) lines)
-    (are_asked_later players (record { event = Said c text; lines = lines; tells = tells }) past old.known.owed agrees.asked)
-    (asker_asked players past c (name_of (old.who c)) text lines lines tells asks pairs)
+asked_then players past old (Said c text at) lines tells now agrees step =
+    let list = players_in players past in
+    let now_said : Step = record { event = Said c text at; lines = lines; tells = tells } in
+    let asks = subst (λ (who : Option Identity). AsksDrop (is_drop text) lines who (is_message text)) (agrees.who c) (said_asks list old c text lines tells now step.0) in
+    let by_plan = subst (λ (who : Option Identity). AsksPair (is_pairing text) lines (is_agreement step.0.standing.accord) who (is_message text) (known_name list (black_name text)) (black_name text))
+    (agrees.who c) (said_pairs list old c text lines tells now step.0) in
+    let pairs = subst (λ (b : Bool). AsksPair (is_pairing text) lines b (player_in players past c) (is_message text) (known_name list (black_name text)) (black_name text))
+    (said_accord players past old c text at lines tells now agrees step.0 step.1) by_plan in
+    are_asked_both players (now_said ∷ past) old.known.owed (owed_lines (asker c (name_of (old.who c)) text) lines)
+    (are_asked_later players now_said past old.known.owed agrees.asked)
+    (asker_asked players past c (name_of (old.who c)) text at lines lines tells asks pairs)
 asked_then players past old (Heard line) lines tells now agrees step =
     asked_heard players (record { event = Heard line; lines = lines; tells = tells } ∷ past) old.known.owed (answer old.known.begun line) lines
     (are_asked_later players (record { event = Heard line; lines = lines; tells = tells }) past old.known.owed agrees.asked)
@@ -1170,7 +1322,7 @@ pub record RunGood (players : List Player) (steps : List Step) (now : View) : Ty
 pub run_good : (players : List Player) (is_paused : Bool) (steps : List Step) (now : View) → IsRun players is_paused steps now →
     RunGood players steps now
 run_good players is_paused [] now run = record {
-  agrees = record { who = run.who; said = run.said; opens = run.none_open; known = begins_known players is_paused now run; asked = subst (AreAsked players []) (sym run.owed) tt; came = λ c h. absurd (false≢true h) };
+  agrees = record { who = run.who; said = run.said; opens = run.none_open; known = begins_known players is_paused now run; offers = run.offers; asked = subst (AreAsked players []) (sym run.owed) tt; came = λ c h. absurd (false≢true h) };
   right = tt;
   told = tt;
 }
@@ -1187,6 +1339,7 @@ run_good players is_paused (s ∷ past) now run =
             (known_in players past) step.known before.agrees.known
             ∙ ap (λ (by : List ℕ). known_now s.event by s.lines (open_in past) (known_in players past))
             (speaker_alike run.0.who (player_in players past) before.agrees.who s.event);
+        offers = offers_then players past s.event run.0 now before.agrees step.offers;
         asked = subst (AreAsked players (s ∷ past)) (sym step.known.owed) (asked_then players past run.0 s.event s.lines s.tells now before.agrees step.done);
         came = came_then players past run.0 s.event s.lines s.tells now before.agrees step.done;
       };

@@ -24,7 +24,10 @@ use Rattle.lobby_table.specs.Pairings.{game_joined, IsFree, IsOffered}
 use Rattle.lobby_desk.specs.Logging.{act_logged, is_of_act, one_if, log_texts}
 use Rattle.lobby_desk.specs.Tellings.{Known, is_counted, known_now, pairings_now, open_now, IsTold}
 use Rattle.lobby_table.specs.Owed.{is_number}
-use Rattle.lobby_desk.specs.Who.{View, BeginsView, IsStep, may_drop, speaker, players_now}
+use Rattle.lobby_desk.specs.Who.{View, BeginsView, IsStep, may_drop, speaker, players_now, offers_now}
+use Rattle.lobby_offers.specs.Offers.{Offered, accord_of}
+use Rattle.lobby_words.specs.declared.planning.Accord.{Accord}
+use Rattle.lobby_words.specs.declared.planning.Accord.TheVariants as accords
 
 -- one event, the lines that went to the server for it, and what connections were told
 pub record Step : Type 0 where
@@ -45,7 +48,7 @@ player_said players text before =
 abbrev pub player_after : List Player → DeskInput → ℕ → Option Identity → Option Identity
 player_after players (Opened d) c before = if d == c then None else before
 player_after players (Closed d) c before = if d == c then None else before
-player_after players (Said d text) c before = if d == c then player_said players text before else before
+player_after players (Said d text at) c before = if d == c then player_said players text before else before
 player_after players (Renewed later) c before = renewed players later before
 player_after players (Linked d text later token) c before = renewed players later before
 player_after players _ c before = before
@@ -107,16 +110,36 @@ NoActs lines = AllByRecursion (λ line. is_act line ≡ false) lines
 abbrev pub NoDrops : List (List ℕ) → Type 0
 NoDrops lines = AllByRecursion (λ line. is_drop line ≡ false) lines
 
+-- What is offered behind a past: the pairing that each player has said last who is no arbiter and one of the two in it,
+-- with the connection and the moment; until he or the other has said `unpair`, or one of them has said the pairing in
+-- which the other agreed.
+abbrev pub offers_in : List Player → List Step → List Offered
+offers_in players [] = []
+offers_in players (s ∷ past) =
+    offers_now (players_in players past) (player_in players past) s.event (offers_in players past)
+
+-- What a message at a moment is behind a past, between its player and another: two agree on a pairing where the one has
+-- offered it and the other says the very same, while that stands.
+abbrev pub accord_in : List Player → List Step → ℕ → List ℕ → ℕ → Accord
+accord_in players past c text at =
+    accord_of (players_in players past) (player_in players past) c text at (offers_in players past)
+
+abbrev pub is_agreement : Accord → Bool
+is_agreement accords.Agreed = true
+is_agreement _ = false
+
 -- The name under which the acts for a message may stand, where its connection has shown the token of this player: his
--- own; but for `as NAME LINE` that name, and for `pair WHITE ..` that of White, where he is an arbiter and a player has
--- it, and else none. Without a token there is none.
+-- own; but for `as NAME LINE` that name, where he is an arbiter and a player has it, and else none; and for
+-- `pair WHITE ..` that of White, where he is an arbiter, or the two agree, and a player has it, and else none. Without a
+-- token there is none.
 abbrev pub name_as : List Player → Bool → List ℕ → Option (List ℕ)
 name_as players is_arbiter text = if is_arbiter then known_name players (as_name text) else None
 
-abbrev pub name_for : List Player → Option Identity → List ℕ → Option (List ℕ)
-name_for players None text = None
-name_for players (Some who) text =
-    if is_as text || is_pairing text then name_as players who.is_arbiter text else Some who.name
+abbrev pub name_for : List Player → Bool → Option Identity → List ℕ → Option (List ℕ)
+name_for players agreed None text = None
+name_for players agreed (Some who) text =
+    if is_as text then name_as players who.is_arbiter text
+    else (if is_pairing text then name_as players (who.is_arbiter || agreed) text else Some who.name)
 
 -- The lines for a message: each act among them stands under this name; where there is none, none is an act.
 abbrev pub ActsRight : Option (List ℕ) → Option (List ℕ) → List (List ℕ) → Type 0
@@ -173,9 +196,13 @@ abbrev pub IsArbiter : Option Identity → Type 0
 IsArbiter None = ⊥
 IsArbiter (Some who) = who.is_arbiter ≡ true
 
+-- Who acts so, an arbiter or one who agrees with the other player, may have a pairing made.
+abbrev pub MayPair : Bool → Option Identity → Type 0
+MayPair agreed who = IsArbiter who ⊎ (agreed ≡ true)
+
 -- a connection that had shown a player's token has said this message, which asks for a drop
 abbrev pub AsksNow : List Player → List Step → DeskInput → ℕ → List ℕ → Type 0
-AsksNow players past (Said d said) c text =
+AsksNow players past (Said d said at) c text =
     (d ≡ c) × (said ≡ text) × (is_some (player_in players past c) ≡ true) × (is_message text ≡ true)
     × (is_drop text ≡ true)
 AsksNow players past _ c text = ⊥
@@ -213,10 +240,12 @@ pub record IsNoticeOf (players : List Player) (past : List Step) (line : List �
   pub waits : (known_in players past).owed ≡ Asker c (ForAct by text) ∷ others
   pub lines_are : lines ≡ notice_lines (asked_after text (act_game (answer (known_in players past).begun line)))
 
--- a connection that had shown an arbiter's token has said this message, a pairing in which Black is this player
+-- A connection that had shown an arbiter's token has said this message, a pairing in which Black is this player; or one
+-- of a player has, and the two agreed on it.
 abbrev pub PairsNow : List Player → List Step → DeskInput → ℕ → List ℕ → List ℕ → Type 0
-PairsNow players past (Said d said) c black text =
-    (d ≡ c) × (said ≡ text) × IsArbiter (player_in players past c) × (is_message text ≡ true) × (is_pairing text ≡ true)
+PairsNow players past (Said d said at) c black text =
+    (d ≡ c) × (said ≡ text) × MayPair (is_agreement (accord_in players past c text at)) (player_in players past c)
+    × (is_message text ≡ true) × (is_pairing text ≡ true)
     × (known_name (players_in players past) (black_name text) ≡ Some black)
 PairsNow players past _ c black text = ⊥
 
@@ -226,8 +255,8 @@ HasPaired players (s ∷ past) c black text =
     PairsNow players past s.event c black text ⊎ HasPaired players past c black text
 
 -- Behind the server's answer to the opening of a pairing, which a connection had said that had shown an arbiter's
--- token, Black joins the game that this answer names: under the name that the message has for Black, which was a
--- player's.
+-- token, or on which its two players had agreed, Black joins the game that this answer names: under the name that the
+-- message has for Black, which was a player's.
 pub record IsJoinOf (players : List Player) (past : List Step) (line : List ℕ) (lines : List (List ℕ)) : Type 0 where
   pub c : ℕ
   pub by : List ℕ
@@ -254,8 +283,9 @@ has_come (s ∷ past) c = comes s.event c || has_come past c
 -- A link is changed for a message of an arbiter's that asks for that; the players are then those before, but that the
 -- one whom the message names has its token, which nobody had.
 abbrev pub IsRight : List Player → List Step → DeskInput → List (List ℕ) → Type 0
-IsRight players past (Said c text) lines =
-    ActsRight (name_for (players_in players past) (player_in players past c) text) (name_in past) lines
+IsRight players past (Said c text at) lines =
+    ActsRight (name_for (players_in players past) (is_agreement (accord_in players past c text at))
+    (player_in players past c) text) (name_in past) lines
     × NoDrops lines × IsOf (asks_of text) lines
 IsRight players past (Heard line) lines =
     (lines ≡ []) ⊎ IsNoticeOf players past line lines ⊎ IsDropOf players past line lines
@@ -291,7 +321,7 @@ AreFree pairings said (line ∷ lines) =
 
 -- those for a message join no game but one that the server's answers told as waiting
 abbrev pub AreOffered : DeskInput → List Seat → List (List ℕ) → Type 0
-AreOffered (Said c text) seats lines = AllByRecursion (λ line. IsOffered seats (game_joined line)) lines
+AreOffered (Said c text at) seats lines = AllByRecursion (λ line. IsOffered seats (game_joined line)) lines
 AreOffered _ seats lines = Unit {0}
 
 abbrev pub AllPaired : List Player → List Step → Type 0

@@ -1,5 +1,5 @@
 -- What connections are told.
-use Rattle.std.specs.Prelude.{ℕ, ◌≡◌, Bool, true, false, ◌&&◌, ◌||◌, ◌==◌, not, List, [], ◌∷◌, ◌++◌, codes, decimal}
+use Rattle.std.specs.Prelude.{ℕ, ◌≡◌, ◌⊎◌, Bool, true, false, ◌&&◌, ◌||◌, ◌==◌, not, List, [], ◌∷◌, ◌++◌, codes, decimal}
 use Rattle.std.specs.Prelude.{Option, None, Some, is_some, if◌then◌else◌}
 use Rattle.std.specs.List.{list_any}
 use Rattle.lobby_words.specs.declared.listing.Seat.{Seat}
@@ -86,7 +86,7 @@ watch_next is_open before (o ∷ owed) watches = watch_heard is_open before o wa
 -- A connection watches a game from the answer to its `watch G` until it says `leave G` or is gone.
 abbrev pub watches_now : DeskInput → (ℕ → Bool) → Known → List Watch
 watches_now (Closed c) is_open k = none_watched c k.watches
-watches_now (Said c text) is_open k =
+watches_now (Said c text at) is_open k =
     if is_message text && is_leave_sort (sort_of text) then left_game c (u32_in (rest_of text)) k.watches else k.watches
 watches_now (Heard line) is_open k = if is_counted k line then watch_next is_open k.last k.owed k.watches else k.watches
 watches_now _ is_open k = k.watches
@@ -102,7 +102,7 @@ table_next is_open (o ∷ owed) table = table_heard is_open o table
 
 abbrev pub table_now : DeskInput → (ℕ → Bool) → Known → List ℕ
 table_now (Closed c) is_open k = risen c k.table
-table_now (Said c text) is_open k = if leaves_table text then risen c k.table else k.table
+table_now (Said c text at) is_open k = if leaves_table text then risen c k.table else k.table
 table_now (Heard line) is_open k = if is_counted k line then table_next is_open k.owed k.table else k.table
 table_now _ is_open k = k.table
 
@@ -188,7 +188,7 @@ owed_answered (o ∷ owed) now lines = owed ++ owed_lines (follower o now) lines
 
 -- For whom the next answers are: the server answers each line, in the order in which the lines went to it.
 abbrev pub owed_now : DeskInput → List ℕ → List (List ℕ) → Known → List Owed
-owed_now (Said c text) by lines k = k.owed ++ owed_lines (asker c by text) lines
+owed_now (Said c text at) by lines k = k.owed ++ owed_lines (asker c by text) lines
 owed_now (Heard line) by lines k =
     if is_counted k line then owed_answered k.owed (answer k.begun line) lines else k.owed
 owed_now (ServerTurned is_here) by lines k = []
@@ -229,10 +229,17 @@ known_now event by lines is_open k = record {
 abbrev pub IsToldOne : ℕ → List MessageValue → Type 0
 IsToldOne c tells = (text : List ℕ) × (tells ≡ to_one c text ∷ [])
 
+-- what those who are told of the table are told where a message changed what is offered; and this behind an answer
+abbrev pub offers_notice : List ℕ → MessageValue
+offers_notice table = record { to = table; kind = kinds.Whole; text = codes "offers\n" }
+
+abbrev pub AreToldOffers : List ℕ → ℕ → List MessageValue → Type 0
+AreToldOffers table c tells = (text : List ℕ) × (tells ≡ to_one c text ∷ offers_notice table ∷ [])
+
 -- A message is answered at once where nothing goes to the server for it.
-abbrev pub IsToldOrSent : List (List ℕ) → ℕ → List MessageValue → Type 0
-IsToldOrSent [] c tells = IsToldOne c tells
-IsToldOrSent (line ∷ lines) c tells = tells ≡ []
+abbrev pub IsToldOrSent : List ℕ → List (List ℕ) → ℕ → List MessageValue → Type 0
+IsToldOrSent table [] c tells = IsToldOne c tells ⊎ AreToldOffers table c tells
+IsToldOrSent table (line ∷ lines) c tells = tells ≡ []
 
 -- The answer to an act is the server's; but that to a pairing, once its game is joined, tells the game.
 abbrev pub pair_told : Option ℕ → List ℕ → List ℕ
@@ -340,7 +347,7 @@ AreToldAll is_open first text tells =
 abbrev pub IsTold : DeskInput → List (List ℕ) → List MessageValue → (ℕ → Bool) → Known → Type 0
 IsTold (Opened c) lines tells is_open k = IsToldOne c tells
 IsTold (Closed c) lines tells is_open k = tells ≡ []
-IsTold (Said c text) lines tells is_open k = (is_open c ≡ true) × (owes k.owed c ≡ false) × IsToldOrSent lines c tells
+IsTold (Said c text at) lines tells is_open k = (is_open c ≡ true) × (owes k.owed c ≡ false) × IsToldOrSent k.table lines c tells
 IsTold (Hurried c) lines tells is_open k =
     (is_open c ≡ true) × (owes k.owed c ≡ false) × (tells ≡ to_one c (codes "no 34 TooFast\n") ∷ [])
 IsTold (Heard line) lines tells is_open k = IsToldHeard (is_counted k line) k (answer k.begun line) lines tells

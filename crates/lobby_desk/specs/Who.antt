@@ -19,7 +19,8 @@ use Rattle.lobby_words.specs.declared.players.Player.{Player}
 use Rattle.lobby_table.specs.declared.visitors.Visitor.{Visitor}
 use Rattle.lobby_table.specs.declared.watching.Watch.{Watch}
 use Rattle.lobby_desk.specs.declared.desk.Desk.{Desk}
-use Rattle.lobby_words.specs.Words.{rest_of, as_name, black_name, actor, is_message, sort_of, u32_in, is_login_sort}
+use Rattle.lobby_words.specs.Words.{rest_of, as_name, black_name, is_pair, actor, is_message, sort_of, u32_in}
+use Rattle.lobby_words.specs.Words.{is_login_sort}
 use Rattle.lobby_words.specs.Waiting.{opens_game, joins_game}
 use Rattle.lobby_words.specs.Players.{holder_of, known_name, renewed, login_text, players_text, seated_text}
 use Rattle.lobby_words.specs.Players.{present_names, who_text, IsRelinked}
@@ -44,7 +45,8 @@ use Rattle.lobby_desk.specs.Tellings.{pairings_next, pairings_now, refused_heard
 use Rattle.lobby_desk.specs.Tellings.{follows_next, follows_now, misnamed_heard, misnamed_next, misnamed_now, owed_now}
 use Rattle.lobby_desk.specs.Tellings.{left_now, begun_now, last_now, owed_answered, presence, IsTold, IsToldFor}
 use Rattle.lobby_table.specs.Owed.{owes}
-use Rattle.lobby_desk.specs.Tellings.{IsToldNext}
+use Rattle.lobby_desk.specs.Tellings.{IsToldNext, offers_notice}
+use Rattle.lobby_offers.specs.Offers.{Offered, offered, accord_of, offers_said, offers_text}
 use Rattle.lobby_table.specs.Visitors.{who_in, until_in, open_in_map, IsPresence}
 
 abbrev pub who_of : Desk → ℕ → Option Identity
@@ -61,7 +63,7 @@ until_of desk c = until_in desk.visitors c
 abbrev pub is_of : DeskInput → ℕ → Bool
 is_of (Opened d) c = d == c
 is_of (Closed d) c = d == c
-is_of (Said d text) c = d == c
+is_of (Said d text at) c = d == c
 is_of (Linked d text players token) c = d == c
 is_of _ c = false
 
@@ -81,7 +83,7 @@ name_of (Some who) = who.name
 
 -- the name of the player for whom a connection acts that says a message
 abbrev pub speaker : (ℕ → Option Identity) → DeskInput → List ℕ
-speaker who (Said c text) = name_of (who c)
+speaker who (Said c text at) = name_of (who c)
 speaker who _ = []
 
 -- the player for whom a connection acts, after the plan for a message of it
@@ -107,6 +109,9 @@ paused_after _ before = before
 -- whether nothing goes out by a plan, so that a message is answered at once
 abbrev pub is_own : Plan → Bool
 is_own (plans.Refuse refusal) = true
+is_own (plans.Offer who) = true
+is_own (plans.Unpair who) = true
+is_own (plans.Offers who at) = true
 is_own (plans.Login who) = true
 is_own plans.Players = true
 is_own (plans.Seated form) = true
@@ -118,22 +123,32 @@ is_own plans.LeaveLobby = true
 is_own (plans.Leave game) = true
 is_own _ = false
 
--- Such an answer, where entries are paused or not, these connections are open, and each acts for this player: a refusal
--- says why; the player is told, or all players are, or those who have a seat, or are there; what is left is named. An
--- order is not carried out here.
-abbrev pub IsOwnText : Bool → List Player → List Seat → (ℕ → Bool) → (ℕ → Option Identity) → Plan → List ℕ → Type 0
-IsOwnText is_paused players seats is_open acts_for (plans.Refuse refusal) text = text ≡ refusal_text refusal
-IsOwnText is_paused players seats is_open acts_for (plans.Login who) text = text ≡ login_text players who
-IsOwnText is_paused players seats is_open acts_for plans.Players text = text ≡ players_text forms.Full players
-IsOwnText is_paused players seats is_open acts_for (plans.Seated form) text = text ≡ seated_text form seats players
-IsOwnText is_paused players seats is_open acts_for plans.Who text = IsPresence is_paused players is_open acts_for text
-IsOwnText is_paused players seats is_open acts_for plans.Pause text = text ≡ codes "ok pause entries\n"
-IsOwnText is_paused players seats is_open acts_for plans.Resume text = text ≡ codes "ok resume entries\n"
-IsOwnText is_paused players seats is_open acts_for (plans.Order order) text = text ≡ refusal_text refusals.NotWritten
-IsOwnText is_paused players seats is_open acts_for plans.LeaveLobby text = text ≡ codes "ok leave lobby\n"
-IsOwnText is_paused players seats is_open acts_for (plans.Leave game) text =
-    text ≡ codes "ok leave " ++ decimal game ++ codes "\n"
-IsOwnText is_paused players seats is_open acts_for _ text = Unit {0}
+-- what such an answer rests on: whether entries are paused, who has a seat in which game, what is offered, which
+-- connections are open, and for whom each acts
+pub record Seen : Type 0 where
+  pub paused : Bool
+  pub seats : List Seat
+  pub offers : List Offered
+  pub is_open : ℕ → Bool
+  pub acts_for : ℕ → Option Identity
+
+-- Such an answer: a refusal says why; the player is told, or all players are, or those who have a seat, or are there, or
+-- what is offered to him and by him; what is left is named. An order is not carried out here.
+abbrev pub IsOwnText : Seen → List Player → Plan → List ℕ → Type 0
+IsOwnText seen players (plans.Refuse refusal) text = text ≡ refusal_text refusal
+IsOwnText seen players (plans.Offer who) text = text ≡ codes "ok offered\n"
+IsOwnText seen players (plans.Unpair who) text = text ≡ codes "ok unpair\n"
+IsOwnText seen players (plans.Offers who at) text = text ≡ offers_text seen.acts_for who.name at seen.offers
+IsOwnText seen players (plans.Login who) text = text ≡ login_text players who
+IsOwnText seen players plans.Players text = text ≡ players_text forms.Full players
+IsOwnText seen players (plans.Seated form) text = text ≡ seated_text form seen.seats players
+IsOwnText seen players plans.Who text = IsPresence seen.paused players seen.is_open seen.acts_for text
+IsOwnText seen players plans.Pause text = text ≡ codes "ok pause entries\n"
+IsOwnText seen players plans.Resume text = text ≡ codes "ok resume entries\n"
+IsOwnText seen players (plans.Order order) text = text ≡ refusal_text refusals.NotWritten
+IsOwnText seen players plans.LeaveLobby text = text ≡ codes "ok leave lobby\n"
+IsOwnText seen players (plans.Leave game) text = text ≡ codes "ok leave " ++ decimal game ++ codes "\n"
+IsOwnText seen players _ text = Unit {0}
 
 abbrev pub known : Desk → Known
 known desk = record {
@@ -155,8 +170,8 @@ abbrev pub IsReady : Desk → ℕ → Type 0
 IsReady desk c = (open_of desk c ≡ true) × (owes (known desk).owed c ≡ false)
 
 -- what is seen of a desk: the number of the connection that comes next, which are open, for whom each acts, the name
--- that was said last to the server, whether that is there, whether entries are paused, how many games may be, and what
--- is known
+-- that was said last to the server, whether that is there, whether entries are paused, how many games may be, what is
+-- offered, and what is known
 pub record View : Type 0 where
   pub next : ℕ
   pub is_open : ℕ → Bool
@@ -165,6 +180,7 @@ pub record View : Type 0 where
   pub here : Bool
   pub paused : Bool
   pub limits : Limits
+  pub offers : List Offered
   pub known : Known
 
 abbrev pub view : Desk → View
@@ -177,13 +193,29 @@ view desk =
       here = desk.line.is_here;
       paused = desk.is_paused;
       limits = desk.limits;
+      offers = map offered desk.offers.items;
       known = known desk;
     }
+
+abbrev pub seen : View → Seen
+seen v = record {
+  paused = v.paused;
+  seats = v.known.seats;
+  offers = v.offers;
+  is_open = v.is_open;
+  acts_for = v.who;
+}
+
+-- Behind the answer those who are told of the table are told where the message changed what is offered.
+abbrev pub offers_told : Plan → List ℕ → List MessageValue
+offers_told (plans.Offer who) table = offers_notice table ∷ []
+offers_told (plans.Unpair who) table = offers_notice table ∷ []
+offers_told _ table = []
 
 -- What a connection is told by the plan for its message: such an answer, where nothing goes out; else nothing yet.
 abbrev pub IsAnsweredIf : Bool → List Player → View → Plan → ℕ → List MessageValue → Type 0
 IsAnsweredIf true players v plan c tells =
-    (text : List ℕ) × IsOwnText v.paused players v.known.seats v.is_open v.who plan text × (tells ≡ to_one c text ∷ [])
+    (text : List ℕ) × IsOwnText (seen v) players plan text × (tells ≡ to_one c text ∷ offers_told plan v.known.table)
 IsAnsweredIf false players v plan c tells = tells ≡ []
 
 abbrev pub IsAnswered : List Player → View → Plan → ℕ → List MessageValue → Type 0
@@ -196,6 +228,7 @@ pub record BeginsView (is_paused : Bool) (now : View) : Type 0 where
   pub who : (c : ℕ) → now.who c ≡ None
   pub said : now.said ≡ None
   pub paused : now.paused ≡ is_paused
+  pub offers : now.offers ≡ []
   pub owed : now.known.owed ≡ []
   pub left : now.known.left ≡ 0
   pub begun : now.known.begun ≡ []
@@ -212,9 +245,9 @@ abbrev pub Begins : Bool → Desk → Type 0
 Begins is_paused desk = BeginsView is_paused (view desk)
 
 -- a message, or one that comes too fast
-abbrev pub said_event : Bool → ℕ → List ℕ → DeskInput
-said_event true c text = Hurried c
-said_event false c text = Said c text
+abbrev pub said_event : Bool → ℕ → List ℕ → ℕ → DeskInput
+said_event true c text at = Hurried c
+said_event false c text at = Said c text at
 
 -- Why a message does not open a game, or does not join one, by the games that are known and the limits, where it would
 -- under this name: no game more of this player may wait for a second one; or, but for an arbiter's message, no more may
@@ -236,13 +269,29 @@ abbrev pub bar_of : Limits → Known → Option Identity → List ℕ → Option
 bar_of limits k None text = None
 bar_of limits k (Some who) text = name_bar limits k who.is_arbiter (actor who.name text) text
 
+-- Why the two players of a pairing may not play it, where no arbiter pairs them: White may open no game more, or one of
+-- the two may play in no one more.
+abbrev pub or_bar : Option Refusal → Option Refusal → Option Refusal
+or_bar None bar = bar
+or_bar (Some first) bar = Some first
+
+abbrev pub opening_bar : Limits → Known → List ℕ → Option Refusal
+opening_bar limits k name =
+    open_bar (is_crowded limits k.seats k.owed name) (is_nearly_full limits k.seats k.owed)
+    (player_bar limits k false name)
+
+abbrev pub pair_bar_of : Limits → Known → List ℕ → Option Refusal
+pair_bar_of limits k text =
+    if is_pair text then or_bar (opening_bar limits k (as_name text)) (player_bar limits k false (black_name text))
+    else None
+
 -- who has the token that a message shows; nobody where it shows none
 abbrev pub holder_shown : List Player → List ℕ → Option Identity
 holder_shown players text = if is_login_sort (sort_of text) then holder_of players (rest_of text) else None
 
--- what the plan for a message of a connection rests on
-abbrev pub standing_of : Desk → ℕ → List ℕ → Standing
-standing_of desk c text = record {
+-- what the plan for a message of a connection at a moment rests on
+abbrev pub standing_of : Desk → ℕ → List ℕ → ℕ → Standing
+standing_of desk c text at = record {
   who = who_of desk c;
   holder = holder_shown desk.players.items text;
   named = known_name desk.players.items (as_name text);
@@ -251,7 +300,10 @@ standing_of desk c text = record {
   is_here = desk.line.is_here;
   is_full = is_full desk.watches.items c (u32_in (rest_of text));
   bar = bar_of desk.limits (known desk) (who_of desk c) text;
-  is_paused = opens_game text && desk.is_paused;
+  accord = accord_of desk.players.items (who_of desk) c text at (map offered desk.offers.items);
+  pair_bar = pair_bar_of desk.limits (known desk) text;
+  is_paused = (opens_game text || is_pair text) && desk.is_paused;
+  at = at;
   names = desk.limits.names;
 }
 
@@ -259,7 +311,8 @@ standing_of desk c text = record {
 abbrev pub order_asked : Desk → ℕ → List ℕ → ℕ → Option Order
 order_asked desk c text at =
     if is_too_fast (until_of desk c) at then None
-    else order_of (plan_of (is_message text) (sort_of text) (standing_of desk c text) (u32_in (rest_of text)))
+    else order_of (plan_of (is_message text) (sort_of text) (standing_of desk c text at)
+    (u32_in (rest_of text)))
 
 -- The plan for a message is carried out: these lines go out, and of the players for whom connections act no more
 -- changes than a login says.
@@ -274,7 +327,9 @@ pub record IsSaid (players : List Player) (old : View) (c : ℕ) (text : List �
   pub here : standing.is_here ≡ old.here
   pub full : standing.is_full ≡ is_full old.known.watches c (u32_in (rest_of text))
   pub bar : standing.bar ≡ bar_of old.limits old.known (old.who c) text
-  pub paused : standing.is_paused ≡ (opens_game text && old.paused)
+  pub accord : standing.accord ≡ accord_of players old.who c text standing.at old.offers
+  pub pair_bar : standing.pair_bar ≡ pair_bar_of old.limits old.known text
+  pub paused : standing.is_paused ≡ ((opens_game text || is_pair text) && old.paused)
   pub names : standing.names ≡ old.limits.names
   pub plan : Plan
   pub planned : plan ≡ plan_of (is_message text) (sort_of text) standing (u32_in (rest_of text))
@@ -418,7 +473,8 @@ pub record IsLinked (players : List Player) (old : View) (c : ℕ) (text : List 
 abbrev pub IsDone : List Player → View → DeskInput → List (List ℕ) → List MessageValue → View → Type 0
 IsDone players old (Opened c) lines tells new = IsOpened old c lines tells new
 IsDone players old (Closed c) lines tells new = IsClosed old c lines new
-IsDone players old (Said c text) lines tells new = IsSaid players old c text lines tells new
+IsDone players old (Said c text at) lines tells new =
+    (said : IsSaid players old c text lines tells new) × (said.standing.at ≡ at)
 IsDone players old (Hurried c) lines tells new = IsHurried old lines new
 IsDone players old (Heard line) lines tells new = IsHeard old line lines new
 IsDone players old (Renewed later) lines tells new = IsRenewed players old later lines new
@@ -442,12 +498,19 @@ pub record IsKnown (event : DeskInput) (by : List ℕ) (lines : List (List ℕ))
   pub follows : new.follows ≡ follows_now event old
   pub misnamed : new.misnamed ≡ misnamed_now event old
 
+-- what is offered after an event, by for whom connections act before it
+abbrev pub offers_now : List Player → (ℕ → Option Identity) → DeskInput → List Offered → List Offered
+offers_now players who (Said c text at) offers =
+    offers_said (accord_of players who c text at offers) (who c) c text at offers
+offers_now players who _ offers = offers
+
 -- a step: what comes in, the lines that go to the server, and what connections are told; the limits stay
 pub record IsStep (players : List Player) (old : View) (event : DeskInput) (lines : List (List ℕ))
     (tells : List MessageValue) (new : View) : Type 0 where
   pub done : IsDone players old event lines tells new
   pub opens : (c : ℕ) → new.is_open c ≡ open_now event c (old.is_open c)
   pub limits : new.limits ≡ old.limits
+  pub offers : new.offers ≡ offers_now players old.who event old.offers
   pub known : IsKnown event (speaker old.who event) lines old.is_open old.known new.known
   pub told : IsTold event lines tells old.is_open old.known
 
@@ -497,6 +560,7 @@ pub record Carried (message : Planned) (old : Desk) (before after : Outgoing) (n
   pub last : new.line.last ≡ old.line.last
   pub players : new.players ≡ old.players
   pub next : new.next ≡ old.next
+  pub offers : new.offers ≡ old.offers
 
 -- No answer of the server changes this.
 pub record IsElseSame (old new : Desk) : Type 0 where
@@ -508,6 +572,7 @@ pub record IsElseSame (old new : Desk) : Type 0 where
   pub last : new.line.last ≡ old.line.last
   pub players : new.players ≡ old.players
   pub next : new.next ≡ old.next
+  pub offers : new.offers ≡ old.offers
 
 -- An answer of the server is taken, by whose it is; the first that was owed is taken off before.
 pub record AnswersTo (o : Owed) (now : List ℕ) (old : Desk) (before after : Outgoing) (new : Desk) : Type 0 where

@@ -10,7 +10,9 @@ ghost use Rattle.lobby_desk.specs.Tellings.{token_told};
 ghost use Rattle.lobby_table.specs.Visitors.{who_in, open_in_map, until_in};
 ghost use Rattle.lobby_desk.specs.Who.{who_noted, plan_watches, plan_table};
 ghost use Rattle.lobby_desk.specs.Who.{paused_after, is_own, IsOwnText};
+ghost use Rattle.lobby_offers.specs.Offers.{offered};
 
+use lobby_offers::{Offer, offers_text};
 use lobby_table::{
     Due, ServerLine, Visitor, Watch, present_rows, put, rise, unwatch, waiting_act, who_acts,
 };
@@ -40,15 +42,25 @@ pub fn own_answer(
     plan: &Plan,
     players: &[Player],
     seats: &[Seat],
+    offers: &[Offer],
     visitors: &BTreeMap<u64, Visitor>,
 ) -> Result<Option<String>, AllocError>
     ensures own { IfOk result (λ answer. is_some answer ≡ is_own plan.now) }
     ensures text { IfOk result (λ answer. IfSome answer (λ text.
-        IsOwnText is_paused players.now seats.now (open_in_map visitors.now) (who_in visitors.now) plan.now
+        IsOwnText (record {
+          paused = is_paused;
+          seats = seats.now;
+          offers = map offered offers.now;
+          is_open = open_in_map visitors.now;
+          acts_for = who_in visitors.now;
+        }) players.now plan.now
         (string_bytes text))) }
 {
     match plan {
         Plan::Refuse(refusal) => Ok(Some(String::from_str(alloc, refusal.line())?)),
+        Plan::Offer(_) => Ok(Some(String::from_str(alloc, "ok offered\n")?)),
+        Plan::Unpair(_) => Ok(Some(String::from_str(alloc, "ok unpair\n")?)),
+        Plan::Offers(who, at) => Ok(Some(offers_text(alloc, offers, visitors, who, *at)?)),
         Plan::Login(who) => Ok(Some(login_line(alloc, who, players)?)),
         Plan::Players => Ok(Some(player_rows(alloc, players)?)),
         Plan::Seated(form) => Ok(Some(seated_rows(alloc, *form, players, seats)?)),

@@ -135,12 +135,12 @@ at_with players is_paused traffic out K L desk wire told more so_far = record {
 }
 
 keeps_said : (how : Saying) (c : ℕ) (text bytes : List ℕ) → kept (saying how c text) bytes ≡ bytes
-keeps_said InTime c text bytes = refl
+keeps_said (InTime at) c text bytes = refl
 keeps_said TooFast c text bytes = refl
 keeps_said (WithLink later token) c text bytes = refl
 
 same_said : (how : Saying) (c : ℕ) (text : List ℕ) (traffic : Traffic) → behind (saying how c text) traffic ≡ traffic
-same_said InTime c text traffic = refl
+same_said (InTime at) c text traffic = refl
 same_said TooFast c text traffic = refl
 same_said (WithLink later token) c text traffic = refl
 
@@ -199,7 +199,7 @@ abbrev IsNoOpening : DeskInput → Type 0
 IsNoOpening e = (c : ℕ) → comes e c ≡ false
 
 said_opens_none : (how : Saying) (d : ℕ) (text : List ℕ) → IsNoOpening (saying how d text)
-said_opens_none InTime d text = λ c. refl
+said_opens_none (InTime at) d text = λ c. refl
 said_opens_none TooFast d text = λ c. refl
 said_opens_none (WithLink later token) d text = λ c. refl
 
@@ -485,7 +485,7 @@ opened_behind from c (n ∷ ns) le (one, all) = (opened_apart from c n ns le one
 
 -- what one says no other says
 said_apart : (how : Saying) (c d : ℕ) (text : List ℕ) → d ≢ c → IsApart c (saying how d text)
-said_apart InTime c d text other = other
+said_apart (InTime at) c d text other = other
 said_apart TooFast c d text other = other
 said_apart (WithLink later token) c d text other = other
 

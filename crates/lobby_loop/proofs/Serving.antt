@@ -33,7 +33,7 @@ use Rattle.lobby_loop.specs.Doing.{Doing, Took, Tried, Gave, WasTold, Wrote, Spo
 -- an event that says nothing of what a connection said, and does not open it
 abbrev pub IsApart : ℕ → DeskInput → Type 0
 IsApart c (Opened d) = d ≢ c
-IsApart c (Said d text) = d ≢ c
+IsApart c (Said d text at) = d ≢ c
 IsApart c (Hurried d) = d ≢ c
 IsApart c (Linked d text players token) = d ≢ c
 IsApart c _ = Unit {0}
@@ -49,7 +49,7 @@ AreApart (n ∷ ns) e = ApartFrom n e × AreApart ns e
 message_apart : (c : ℕ) (e : DeskInput) (before : List DeskInput) → IsApart c e → message_of c e before ≡ before
 message_apart c (Opened d) before apart = ap (λ (b : Bool). if b then [] else before) (ne_eqb d c apart)
 message_apart c (Closed d) before apart = refl
-message_apart c (Said d text) before apart = ap (λ (b : Bool). if b then Said d text ∷ before else before) (ne_eqb d c apart)
+message_apart c (Said d text at) before apart = ap (λ (b : Bool). if b then Said d text at ∷ before else before) (ne_eqb d c apart)
 message_apart c (Hurried d) before apart = ap (λ (b : Bool). if b then Hurried d ∷ before else before) (ne_eqb d c apart)
 message_apart c (Linked d text players token) before apart =
     ap (λ (b : Bool). if b then Linked d text players token ∷ before else before) (ne_eqb d c apart)
@@ -60,7 +60,7 @@ message_apart c (ServerTurned is_here) before apart = refl
 opening_apart : (c : ℕ) (e : DeskInput) → IsApart c e → is_opening c e ≡ false
 opening_apart c (Opened d) apart = ne_eqb d c apart
 opening_apart c (Closed d) apart = refl
-opening_apart c (Said d text) apart = refl
+opening_apart c (Said d text at) apart = refl
 opening_apart c (Hurried d) apart = refl
 opening_apart c (Linked d text players token) apart = refl
 opening_apart c (Renewed players) apart = refl
@@ -492,14 +492,14 @@ module _ {S : Type 0} (remaining contents : S → Option (List ℕ)) (site : Sit
   said_as (WithLink players token) c text shown before is is_not texts said =
       subst (λ (u : Bool). AllZip IsSaidAs (text ∷ texts) (if u then Linked c shown players token ∷ before else before)) (sym (eq-eqb c c refl))
       ((is, is_not), said)
-  said_as InTime c text shown before is is_not texts said =
-      subst (λ (u : Bool). AllZip IsSaidAs (text ∷ texts) (if u then Said c shown ∷ before else before)) (sym (eq-eqb c c refl))
+  said_as (InTime at) c text shown before is is_not texts said =
+      subst (λ (u : Bool). AllZip IsSaidAs (text ∷ texts) (if u then Said c shown at ∷ before else before)) (sym (eq-eqb c c refl))
       ((is, is_not), said)
 
   not_opening : (how : Saying) (c : ℕ) (shown : List ℕ) → is_opening c (saying how c shown) ≡ false
   not_opening TooFast c shown = refl
   not_opening (WithLink players token) c shown = refl
-  not_opening InTime c shown = refl
+  not_opening (InTime at) c shown = refl
 
   pub gave_text : (steps : List Step) (s : Step) (out : List MessageValue) (c : ℕ) (how : Saying) (text : Vec ℕ Global) (shown : List ℕ)
       (a b : Spot S) → b.waits ≡ a.waits → s.event ≡ saying how c shown → (IsUtf8 text.items → shown ≡ text.items) →

@@ -133,7 +133,7 @@ AreLate (Wrote site bytes ∷ past) = AreLate past
 -- what a connection has said since it came, the newest first
 abbrev pub message_of : ℕ → DeskInput → List DeskInput → List DeskInput
 message_of c (Opened d) before = if d == c then [] else before
-message_of c (Said d text) before = if d == c then Said d text ∷ before else before
+message_of c (Said d text at) before = if d == c then Said d text at ∷ before else before
 message_of c (Hurried d) before = if d == c then Hurried d ∷ before else before
 message_of c (Linked d text players token) before = if d == c then Linked d text players token ∷ before else before
 message_of c _ before = before
@@ -144,7 +144,7 @@ messages_of c (s ∷ past) = message_of c s.event (messages_of c past)
 
 -- A text, as the desk took it: what is no text as the empty one, and nothing of one that came too fast.
 abbrev pub IsSaidAs : List ℕ → DeskInput → Type 0
-IsSaidAs text (Said c shown) = (IsUtf8 text → shown ≡ text) × (¬ IsUtf8 text → shown ≡ [])
+IsSaidAs text (Said c shown at) = (IsUtf8 text → shown ≡ text) × (¬ IsUtf8 text → shown ≡ [])
 IsSaidAs text (Hurried c) = Unit {0}
 IsSaidAs text (Linked c shown players token) = (IsUtf8 text → shown ≡ text) × (¬ IsUtf8 text → shown ≡ [])
 IsSaidAs text _ = ⊥

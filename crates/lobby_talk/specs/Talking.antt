@@ -55,21 +55,21 @@ pub record MovesAnew (old : Talk) (event : DeskInput) (new : Talk) : Type 0 wher
   pub nothing : new.wire.items ≡ []
   pub next : new.next ≡ old.next
 
--- How the desk takes a message: it came in time; or too fast; or it asked for a player's link, for which the players'
+-- How the desk takes a message: it came in time, at this moment; or too fast; or it asked for a player's link, for which the players'
 -- file has these players and this token was made.
 pub data Saying : Type 0 where
-  InTime : Saying
+  InTime : (at : ℕ) → Saying
   TooFast : Saying
   WithLink : (players : List Player) → (token : List ℕ) → Saying
 
 abbrev pub saying : Saying → ℕ → List ℕ → DeskInput
-saying InTime c text = Said c text
+saying (InTime at) c text = Said c text at
 saying TooFast c text = Hurried c
 saying (WithLink players token) c text = Linked c text players token
 
 -- each just where it may be so
 abbrev pub IsSaying : Talk → ℕ → ℕ → List ℕ → Saying → Type 0
-IsSaying talk c at text InTime = is_too_fast (until_of talk.desk c) at ≡ false
+IsSaying talk c at text (InTime when) = (is_too_fast (until_of talk.desk c) at ≡ false) × (when ≡ at)
 IsSaying talk c at text TooFast = is_too_fast (until_of talk.desk c) at ≡ true
 IsSaying talk c at text (WithLink players token) = is_some (order_asked talk.desk c text at) ≡ true
 
@@ -96,4 +96,4 @@ IsTextSaid text c at old new =
 
 -- a message of a connection at a moment, as the desk takes it
 abbrev pub said_at : Talk → ℕ → ℕ → List ℕ → DeskInput
-said_at talk c at text = said_event (is_too_fast (until_of talk.desk c) at) c text
+said_at talk c at text = said_event (is_too_fast (until_of talk.desk c) at) c text at

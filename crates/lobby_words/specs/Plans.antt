@@ -4,6 +4,8 @@ use Rattle.lobby_words.specs.declared.words.Sort.{Sort}
 use Rattle.lobby_words.specs.declared.words.Sort.TheVariants as sorts
 use Rattle.lobby_words.specs.declared.planning.Identity.{Identity}
 use Rattle.lobby_words.specs.declared.planning.Order.{Order}
+use Rattle.lobby_words.specs.declared.planning.Accord.{Accord}
+use Rattle.lobby_words.specs.declared.planning.Accord.TheVariants as accords
 use Rattle.lobby_words.specs.declared.refusals.Refusal.{Refusal}
 use Rattle.lobby_words.specs.declared.refusals.Refusal.TheVariants as refusals
 use Rattle.lobby_words.specs.declared.planning.Plan.{Plan}
@@ -57,7 +59,7 @@ abbrev pub as_plan : Standing → Option Identity → Plan
 as_plan s None = plans.Refuse refusals.NoToken
 as_plan s (Some who) = if who.is_arbiter then named_plan s who s.named else plans.Refuse refusals.NotArbiter
 
--- a pairing: not without an arbiter's token, and not where one of the two names is no player's
+-- a pairing: not without a token, and not where one of the two names is no player's
 abbrev pub black_plan : Standing → Identity → List ℕ → Option (List ℕ) → Plan
 black_plan s who white None = plans.Refuse refusals.NoPlayer
 black_plan s who white (Some black) = asked s (plans.Pair who white black)
@@ -66,9 +68,25 @@ abbrev pub white_plan : Standing → Identity → Option (List ℕ) → Plan
 white_plan s who None = plans.Refuse refusals.NoPlayer
 white_plan s who (Some white) = black_plan s who white s.black
 
+-- A pairing of who is no arbiter: one that the other of the two has offered him is made, as an arbiter's, but not while
+-- entries are paused, and not where the games of the two bar it; another one is what he offers from now on.
+abbrev pub agreed_plan : Standing → Identity → Plan
+agreed_plan s who =
+    if s.is_paused then plans.Refuse refusals.EntriesPaused else barred s.pair_bar (white_plan s who s.named)
+
+abbrev pub offered_plan : Standing → Identity → Accord → Plan
+offered_plan s who accords.Nothing = plans.Refuse refusals.NotArbiter
+offered_plan s who accords.Offered = plans.Offer who
+offered_plan s who accords.Agreed = agreed_plan s who
+
 abbrev pub pair_plan : Standing → Option Identity → Plan
 pair_plan s None = plans.Refuse refusals.NoToken
-pair_plan s (Some who) = if who.is_arbiter then white_plan s who s.named else plans.Refuse refusals.NotArbiter
+pair_plan s (Some who) = if who.is_arbiter then white_plan s who s.named else offered_plan s who s.accord
+
+-- what is asked of the offers, an end of some or which there are: not without a token
+abbrev pub offers_plan : Bool → ℕ → Option Identity → Plan
+offers_plan ends at None = plans.Refuse refusals.NoToken
+offers_plan ends at (Some who) = if ends then plans.Unpair who else plans.Offers who at
 
 -- a drop: not without a token; whether who asks may drop the game, the server's answer to `show` tells
 abbrev pub drop_plan : Standing → Option Identity → ℕ → Plan
@@ -118,6 +136,8 @@ sort_plan sorts.Read s game = asked s plans.Read
 sort_plan sorts.Act s game = act_plan s s.who
 sort_plan sorts.As s game = as_plan s s.who
 sort_plan sorts.Pair s game = pair_plan s s.who
+sort_plan sorts.Unpair s game = offers_plan true s.at s.who
+sort_plan sorts.Offers s game = offers_plan false s.at s.who
 sort_plan sorts.Drop s game = numbered_plan sorts.Drop s game
 sort_plan sorts.Login s game = login_plan s.holder
 sort_plan sorts.Players s game = players_plan s s.who

@@ -100,18 +100,20 @@ abbrev pub whole_sort : List ℕ → Sort
 whole_sort text =
     if bytes_eq text (codes "players") then sorts.Players
     else (if bytes_eq text (codes "who") then sorts.Who
+    else (if bytes_eq text (codes "offers") then sorts.Offers
     else (if bytes_eq text (codes "pause entries") then sorts.Pause
     else (if bytes_eq text (codes "resume entries") then sorts.Resume
     else (if bytes_eq text (codes "lobby") then sorts.Lobby
     else (if bytes_eq text (codes "leave lobby") then sorts.LeaveLobby
-    else sorts.Nothing)))))
+    else sorts.Nothing))))))
 
 abbrev pub arbiter_sort : List ℕ → List ℕ → Sort
 arbiter_sort w text =
     if bytes_eq w (codes "link") then sorts.Link
     else (if bytes_eq w (codes "close") then sorts.Close
     else (if bytes_eq w (codes "pair") then pair_sort text
-    else whole_sort text))
+    else (if bytes_eq w (codes "unpair") then sorts.Unpair
+    else whole_sort text)))
 
 abbrev pub own_sort : List ℕ → List ℕ → Sort
 own_sort w text =
@@ -148,6 +150,10 @@ is_as_sort _ = false
 abbrev pub is_pair_sort : Sort → Bool
 is_pair_sort sorts.Pair = true
 is_pair_sort _ = false
+
+abbrev pub is_unpair_sort : Sort → Bool
+is_unpair_sort sorts.Unpair = true
+is_unpair_sort _ = false
 
 abbrev pub is_name_sort : Sort → Bool
 is_name_sort sorts.Name = true

@@ -1,12 +1,11 @@
 //! What is said at the lobby: what a message asks for and what is done about it, what the answers of the server say,
-//! and the players: whom a token shows, for whom a connection acts on when the players are others, and how they are
-//! told.
+//! and the players: whom a token shows, and how they are told.
 //!
 //! Modules: `words` tells what the first word of a message says, `planning` what is done about the message, `refusals`
 //! what the lobby itself refuses, `naming` under which name a line goes. `coming` takes the server's answers line by
 //! line, `answers` tells what they say by `server_answers`, and `listing` which games wait by them. `players` has a
-//! player and who holds a token, `linked` who has a new one, `renewing` who goes on when the players are others, `rows`
-//! how players are told, and `initials` what of their full names.
+//! player and who holds a token, `linked` who has a new one, `rows` how players are told, and `initials` what of their
+//! full names.
 #![tactic(auto)]
 
 mod answers;
@@ -18,7 +17,6 @@ mod naming;
 mod planning;
 mod players;
 mod refusals;
-mod renewing;
 mod rows;
 mod words;
 
@@ -33,15 +31,14 @@ pub use listing::{
 };
 pub use naming::{is_said, takes_name};
 pub use planning::{
-    Identity, Order, Plan, Standing, asks_for_link, order_of, plan_of, shows_token,
+    Accord, Identity, Order, Plan, Standing, asks_for_link, order_of, plan_of, shows_token,
 };
-pub use players::{Player, holder_of, is_token};
+pub use players::{Player, holder_of, is_same_sum, is_token};
 pub use refusals::Refusal;
-pub use renewing::renewed;
 pub use rows::{
     headed, is_among, known_name, login_line, player_by_name, player_rows, seated_rows, who_text,
 };
 pub use words::{
-    Sort, actor, are_message_bytes, as_line, as_name, black_name, cut_word, is_pair, is_play_word,
-    line_said, number_named, number_or_0, pair_times,
+    Sort, actor, are_message_bytes, as_line, as_name, black_name, cut_word, is_message, is_pair,
+    is_play_word, line_said, number_named, number_or_0, pair_times, sort_of,
 };

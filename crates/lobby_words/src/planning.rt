@@ -23,6 +23,17 @@ pub struct Order {
     pub closes: bool,
 }
 
+/// What a message is between its player, who is no arbiter, and another.
+#[derive(Clone, Copy)]
+pub enum Accord {
+    /// Nothing.
+    Nothing,
+    /// The player offers the other a game.
+    Offered,
+    /// The other has offered just this game, and the player takes it.
+    Agreed,
+}
+
 /// What is done about a message.
 #[derive(Clone, Copy)]
 pub enum Plan {
@@ -35,6 +46,12 @@ pub enum Plan {
     ActAs(Identity, Name),
     /// A game is opened under the name of White, and joined under that of Black.
     Pair(Identity, Name, Name),
+    /// The pairing that the message says is what the player offers from now on.
+    Offer(Identity),
+    /// What was offered between the player and the one that the message names stands no more.
+    Unpair(Identity),
+    /// Which games are offered to the player, and by him, at this moment.
+    Offers(Identity, u64),
     /// Who waits in the game is asked for, and the message is passed on under his name.
     Drop(Identity, u32),
     Login(Identity),
@@ -75,8 +92,14 @@ pub struct Standing {
     pub is_full: bool,
     /// Why the message does not open or join a game, by the games that are known.
     pub bar: Option<Refusal>,
-    /// Whether the message opens a game while entries are paused.
+    /// What the message is between its player and another.
+    pub accord: Accord,
+    /// Why the two players of a pairing may not play it, by the games that are known.
+    pub pair_bar: Option<Refusal>,
+    /// Whether the message opens a game, or is a pairing, while entries are paused.
     pub is_paused: bool,
+    /// The moment of the message, in milliseconds of a clock that does not go back.
+    pub at: u64,
     /// How full names are told to who acts for nobody.
     pub names: NameForm,
 }
@@ -184,6 +207,29 @@ fn white_plan(standing: &Standing, who: Identity, white: Option<Name>) -> Plan
     }
 }
 
+// A pairing on which both players agree.
+fn agreed_plan(standing: &Standing, who: Identity) -> Plan
+    ensures { result ≡ plans.agreed_plan standing.now who }
+{
+    if standing.is_paused {
+        Plan::Refuse(Refusal::EntriesPaused)
+    } else {
+        let plan = white_plan(standing, who, standing.named);
+        barred(standing.pair_bar, plan)
+    }
+}
+
+// A pairing of who is no arbiter.
+fn offered_plan(standing: &Standing, who: Identity) -> Plan
+    ensures { result ≡ plans.offered_plan standing.now who standing.now.accord }
+{
+    match standing.accord {
+        Accord::Nothing => Plan::Refuse(Refusal::NotArbiter),
+        Accord::Offered => Plan::Offer(who),
+        Accord::Agreed => agreed_plan(standing, who),
+    }
+}
+
 // A pairing.
 fn pair_plan(standing: &Standing) -> Plan
     ensures { result ≡ plans.pair_plan standing.now standing.now.who }
@@ -192,9 +238,25 @@ fn pair_plan(standing: &Standing) -> Plan
         None => Plan::Refuse(Refusal::NoToken),
         Some(who) => {
             if !who.is_arbiter {
-                Plan::Refuse(Refusal::NotArbiter)
+                offered_plan(standing, who)
             } else {
                 white_plan(standing, who, standing.named)
+            }
+        }
+    }
+}
+
+// What is asked of the offers: an end of some, or which there are.
+fn offers_plan(ends: bool, standing: &Standing) -> Plan
+    ensures { result ≡ plans.offers_plan ends standing.now.at standing.now.who }
+{
+    match standing.who {
+        None => Plan::Refuse(Refusal::NoToken),
+        Some(who) => {
+            if ends {
+                Plan::Unpair(who)
+            } else {
+                Plan::Offers(who, standing.at)
             }
         }
     }
@@ -293,6 +355,8 @@ fn sort_plan(sort: Sort, standing: &Standing, game: Option<u32>) -> Plan
         Sort::Act => act_plan(standing),
         Sort::As => as_plan(standing),
         Sort::Pair => pair_plan(standing),
+        Sort::Unpair => offers_plan(true, standing),
+        Sort::Offers => offers_plan(false, standing),
         Sort::Login => login_plan(standing.holder),
         Sort::Players => players_plan(standing),
         Sort::Who => arbiter_plan(standing, Plan::Who),

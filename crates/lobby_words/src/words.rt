@@ -14,6 +14,10 @@ pub enum Sort {
     As,
     /// A game is opened for one player and joined for another.
     Pair,
+    /// What was offered between the player and another stands no more.
+    Unpair,
+    /// Which games are offered to the player, and by him.
+    Offers,
     Drop,
     Login,
     Players,
@@ -219,6 +223,8 @@ fn whole_sort(text: &str) -> Sort
         Sort::Players
     } else if text == "who" {
         Sort::Who
+    } else if text == "offers" {
+        Sort::Offers
     } else if text == "pause entries" {
         Sort::Pause
     } else if text == "resume entries" {
@@ -249,7 +255,7 @@ fn own_sort(word: &str, text: &str) -> Sort
     }
 }
 
-// What a message asks for whose word is an arbiter's.
+// What a message asks for whose word is of links or of pairings.
 fn arbiter_sort(word: &str, text: &str) -> Sort
     ensures { result ≡ words.arbiter_sort word.now text.now }
 {
@@ -259,6 +265,8 @@ fn arbiter_sort(word: &str, text: &str) -> Sort
         Sort::Close
     } else if word == "pair" {
         pair_sort(text)
+    } else if word == "unpair" {
+        Sort::Unpair
     } else {
         whole_sort(text)
     }

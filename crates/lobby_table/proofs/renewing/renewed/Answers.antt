@@ -3,7 +3,7 @@ use Rattle.std.specs.Option.{option_copied}
 use Rattle.lobby_words.specs.declared.planning.Identity.{Identity}
 use Rattle.lobby_words.specs.declared.players.Player.{Player}
 use Rattle.lobby_words.specs.Players.{first_named, goes_on, renewed}
-use Rattle.lobby_words.proofs.renewing.renewed.Goals as goal
+use Rattle.lobby_table.proofs.renewing.renewed.Goals as goal
 
 pub returns-in-Some : goal.returns-in-Some
 returns-in-Some c =

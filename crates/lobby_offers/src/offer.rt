@@ -1,0 +1,61 @@
+//! One offer.
+ghost use Rattle.std.specs.Prelude.{◌≡◌};
+ghost use Rattle.lobby_words.specs.Players.{is_named};
+ghost use Rattle.lobby_table.specs.Visitors.{who_in};
+ghost use Rattle.lobby_offers.specs.Offers as spec;
+
+use lobby_table::{Visitor, who_acts};
+use lobby_words::{Identity, as_name, black_name};
+use player_name::Name;
+use std::collections::BTreeMap;
+
+// How long one stands, in milliseconds: 10 minutes.
+const STANDS_MOST: u64 = 600_000;
+
+/// A pairing that a player offers another.
+#[derive(Drop)]
+pub struct Offer {
+    /// The connection by which he said it.
+    pub from: u64,
+    pub by: Name,
+    /// The message: `pair WHITE BLACK TIMES`.
+    pub text: String,
+    /// When he said it.
+    pub at: u64,
+}
+
+// Whether it is the player of this name.
+fn is_named(who: &Option<Identity>, name: &str) -> bool
+    ensures { result ≡ is_named who.now name.now }
+{
+    match who {
+        None => false,
+        Some(who) => who.name.as_str() == name,
+    }
+}
+
+/// Whether a player is one of the two in a pairing.
+pub fn is_party(name: &str, text: &str) -> bool
+    ensures { result ≡ spec.is_party name.now text.now }
+{
+    as_name(text) == name || black_name(text) == name
+}
+
+/// The other one of the two.
+pub fn other_party<'a>(name: &str, text: &'a str) -> &'a str
+    ensures { result.now ≡ spec.other_party name.now text.entry.now }
+{
+    if as_name(text) == name {
+        black_name(text)
+    } else {
+        as_name(text)
+    }
+}
+
+/// Whether an offer still stands at a moment.
+pub fn stands(offer: &Offer, visitors: &BTreeMap<u64, Visitor>, now: u64) -> bool
+    ensures { result ≡ spec.stands (who_in visitors.now) now (spec.offered offer.now) }
+{
+    let who = who_acts(visitors, offer.from);
+    is_named(&who, offer.by.as_str()) && now.saturating_sub(offer.at) <= STANDS_MOST
+}

@@ -1,0 +1,100 @@
+// Games that players offer each other, by the lobby's word `pair`: what one offers stands for ten minutes, and the game is
+// there once the other has said the very same. Nothing waits at the table meanwhile, and nobody else can join.
+
+import { t } from './language.js';
+import { readRefusal, readTimes, timesOfOpen } from './lines.js';
+import { arrange, byId, make, say } from './make.js';
+import { sound } from './sound.js';
+import { colourWord, refusalWords, timesWords } from './words.js';
+
+const LOOKS = 20000;                 // milliseconds: nobody tells of one that has run out
+
+export class Challenges {
+  /** app: {wire, me(), isArbiter(), nameWords(name), players, reachable(), go(route), turns}. */
+  constructor(app) {
+    this.app = app;
+    this.items = new Map();            // of each offer that is shown, by its row, the element
+    setInterval(() => this.items.size && this.look(), LOOKS);
+  }
+
+  /** Which stand, as the lobby tells them. */
+  async look() {
+    const { app } = this, me = app.me();
+    if (!me || !app.wire.state.open) return this.show([]);
+    const [head, ...rows] = await app.wire.say('offers', true);
+    if (head.startsWith('ok offers ') && app.me() === me) this.show(rows);
+  }
+
+  show(rows) {
+    const come = rows.filter((row) => !this.items.has(row) && !this.isOwn(row));
+    for (const row of this.items.keys()) {
+      if (!rows.includes(row)) this.items.delete(row);
+    }
+    for (const row of rows) if (!this.items.has(row)) this.items.set(row, this.item(row));
+    arrange(byId('offered'), rows.map((row) => this.items.get(row)));
+    for (const row of come) {
+      const words = this.words(row);
+      say(words);
+      sound('offer');
+      this.app.turns.tell(words);
+    }
+  }
+
+  isOwn(row) {
+    return row.startsWith(`${this.app.me()} `);
+  }
+
+  /** Of a row `BY WHITE BLACK TIMES`: the other player, and what is offered in words. */
+  read(row) {
+    const [, white, black, ...times] = row.split(' '), isWhite = white === this.app.me();
+    return { other: isWhite ? black : white, name: this.app.nameWords(isWhite ? black : white),
+      times: timesWords(readTimes(timesOfOpen(`open white ${times.join(' ')}`))) + (times.length > 2 ? ', FEN' : ''),
+      colour: colourWord(isWhite ? 'w' : 'b'), line: row.slice(row.indexOf(' ') + 1) };
+  }
+
+  words(row) {
+    const { name, times, colour } = this.read(row);
+    return this.isOwn(row) ? t`You offer ${name} a game, ${times}: you are ${colour}.`
+      : t`${name} offers you a game, ${times}: you are ${colour}.`;
+  }
+
+  item(row) {
+    const { other, line } = this.read(row), part = () => this.part(other);
+    const button = (words, act, strong) => make('button', { type: 'button', class: strong ? 'strong' : '', onclick: act },
+      words);
+    return make('div', { class: 'banner good' }, make('p', {}, this.words(row)),
+      ...this.isOwn(row) ? [button(t`Take it back`, part, false)]
+        : [button(t`Accept`, () => this.say(line, (words) => this.refused(row, words)), true),
+          button(t`Decline`, part, false)]);
+  }
+
+  refused(row, words) {
+    const item = this.items.get(row);
+    if (item) item.querySelector('p').textContent = `${this.words(row)} ${words}`;
+  }
+
+  async part(other) {
+    await this.app.wire.say(`unpair ${other}`);
+    this.look();
+  }
+
+  /** Offers a game, or takes one that is offered in the same words: `WHITE BLACK TIMES`. */
+  async say(line, note) {
+    const [answer] = await this.app.wire.say(`pair ${line}`), refusal = readRefusal(answer);
+    if (answer.startsWith('ok pair ')) this.app.go(`/game/${answer.split(' ')[2]}`);
+    if (refusal) note(refusalWords(refusal));
+    else if (answer === 'unsent') note(t`There is no connection. Nothing was sent.`);
+    else this.look();
+  }
+
+  /** The opponents who may be chosen: anybody, or one player, by the full name. */
+  fillPlayers() {
+    const list = byId('against'), chosen = list.value, me = this.app.me();
+    const rows = [...this.app.players].filter(([name]) => name !== me)
+      .sort(([, a], [, b]) => a.full.localeCompare(b.full));
+    list.replaceChildren(make('option', { value: '' }, t`Anybody`),
+      ...rows.map(([name, { full }]) => make('option', { value: name }, full)));
+    list.value = rows.some(([name]) => name === chosen) ? chosen : '';
+    byId('against-field').hidden = !me || this.app.isArbiter() || rows.length === 0;
+  }
+}
