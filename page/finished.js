@@ -17,6 +17,7 @@ export class FinishedView {
     this.root = byId('finished-view');
     this.number = '';                  // the player whose games are shown, '' for those of all
     this.games = [];
+    this.items = new Map();            // game -> its element, which stays while more games come
     this.state = 'part';
     this.most = FIRST_SHOWN;
     this.form = byId('finished-form').elements;
@@ -49,7 +50,7 @@ export class FinishedView {
 
   async read() {
     const reading = new AbortController();
-    Object.assign(this, { reading, games: [], state: 'part' });
+    Object.assign(this, { reading, games: [], items: new Map(), state: 'part' });
     const state = await readKept((games) => {
       if (this.reading === reading) this.games = this.games.concat(games);
       this.renderSoon();
@@ -114,7 +115,7 @@ export class FinishedView {
     setText(byId('finished-count'), TOLD[this.state] || t`Games found: ${games.length}`);
     byId('finished-save').disabled = this.state !== 'whole' || !games.length;
     this.renderNames(games);
-    const items = games.slice(0, this.most).map((game) => this.item(game));
+    const items = games.slice(0, this.most).map((game) => this.itemOf(game));
     if (games.length > this.most) {
       items.push(make('li', { class: 'more' }, make('button', { type: 'button', onclick: () => this.showMore() },
         t`Show ${Math.min(2 * FIRST_SHOWN, games.length - this.most)} more`)));
@@ -138,6 +139,11 @@ export class FinishedView {
     this.most += 2 * FIRST_SHOWN;
     this.render();
     byId('finished-list').querySelectorAll('a')[place].focus();
+  }
+
+  itemOf(game) {
+    if (!this.items.has(game)) this.items.set(game, this.item(game));
+    return this.items.get(game);
   }
 
   item({ number, tags }) {

@@ -232,11 +232,11 @@ export class GameView {
 
   /** A notice of this game: an act was accepted. */
   notice({ by, sent, arbiter }, answer, standing) {
-    const ended = this.stand(standing);
+    const wasOver = Boolean(this.standing && this.standing.article), ended = this.stand(standing);
     if (!standing) {
       this.wasTaken = true;
       say(TAKEN_OFF);
-      this.seek();
+      if (wasOver) this.seek();
       this.render();
       return;
     }
