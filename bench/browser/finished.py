@@ -92,7 +92,8 @@ def finished_games(hall):
                 for script in (PALE, NAMELESS, TWICE, STUMBLES):
                     person.is_so(person.run(script) == [], '%s: %s' % (what, person.run(script)))
         person.media().screen(1280, 800)
-        person.is_so(person.complaints() == [], 'the console is quiet: %s' % person.complaints())
+        complaints = person.complaints()
+        person.is_so(complaints == [], 'the console is quiet: %s' % complaints)
 
 
 def finished_in_every_language(hall):
@@ -152,7 +153,8 @@ def a_kept_game(hall):
             for script in (PALE, NAMELESS, TWICE, STUMBLES):
                 sue.is_so(sue.run(script) == [], '%d: %s' % (width, sue.run(script)))
     sue.media().screen(1280, 800)
-    sue.is_so(sue.complaints() == [], 'the console is quiet: %s' % sue.complaints())
+    complaints = sue.complaints()
+    sue.is_so(complaints == [], 'the console is quiet: %s' % complaints)
 
 
 def many_kept_games(hall):
@@ -177,7 +179,8 @@ def many_kept_games(hall):
     begun = time.monotonic()
     sue.goes('game/%d' % (NOBODY + 1)).reads('#outcome', 'Draw by agreement', patience=10)
     sue.is_so(time.monotonic() - begun < 10, 'the oldest one is found')
-    sue.is_so(sue.complaints() == [], 'the console is quiet: %s' % sue.complaints())
+    complaints = sue.complaints()
+    sue.is_so(complaints == [], 'the console is quiet: %s' % complaints)
     keeps(hall, ())
 
 
