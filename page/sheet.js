@@ -106,7 +106,8 @@ export function drawActions(game) {
   show('join', !game.started() && !seat && me);
   show('drop', (game.app.isArbiter() || seat) && !game.started());
   byId('look-again').hidden = !game.started() || game.isPlaying();
-  show('again', standing.article && seat && game.tags.TimeControl);
+  const areHere = !game.kept || [standing.white, standing.black].every((name) => game.app.players.has(name));
+  show('again', standing.article && seat && game.tags.TimeControl && areHere);
   byId('move-form').hidden = !(runs && seat) || Boolean(game.proposed);
   byId('actions').hidden = Boolean(game.proposed) || ![...byId('actions').children].some((one) => !one.hidden);
 }
