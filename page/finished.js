@@ -148,7 +148,8 @@ export class FinishedView {
 
   item({ number, tags }) {
     const seat = (name, side) => make('span', { class: `seat ${side}` },
-      make('span', { class: 'unseen' }, side === 'white' ? t`white: ` : t`black: `), make('span', { class: 'name' }, name));
+      make('span', { class: 'unseen' }, side === 'white' ? t`white: ` : t`black: `),
+      make('span', { class: 'name' }, name));
     const { score, reason } = resultWords(tags.Result, tags.Article || '');
     return make('li', { class: 'game-row' }, make('a', { href: `#/game/${number}`, class: 'pairing' },
       make('span', { class: 'number' }, make('span', { class: 'unseen' }, t`Game `), String(number)),

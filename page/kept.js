@@ -64,7 +64,7 @@ export async function findKept(number) {
   return found;
 }
 
-/** How long a side's clock showed in milliseconds behind a position, or behind the last one before that it is told of. */
+/** What a side's clock showed behind a position, in milliseconds, by its last move that has a clock. */
 function leftAt(at, side, initial) {
   for (let one = at; one.parent; one = one.parent) {
     const found = one.parent.position.side === side && CLOCK.exec(one.comment);
@@ -85,7 +85,8 @@ export function toldOf({ number, tags, text }, nameOf) {
   const initial = Number(/(?:\/|^)(\d+)(?=[+:]|$)/.exec(tags.TimeControl || '')?.[1] || 0) * 1000;
   const standing = { number, white: nameOf(tags.White), black: nameOf(tags.Black), ply: line.length - 1,
     side: last.position.side, left: { w: leftAt(last, 'w', initial), b: leftAt(last, 'b', initial) }, offer: '',
-    result: tags.Result, article: tags.Article || '?', fen: fenOf(last.position), check: isInCheck(last.position), moves: [] };
+    result: tags.Result, article: tags.Article || '?', fen: fenOf(last.position), check: isInCheck(last.position),
+    moves: [] };
   return { standing, line };
 }
 
@@ -94,5 +95,6 @@ export function dateWords(date, language) {
   const found = /^(\d{4})\.(\d\d)\.(\d\d)$/.exec(date || '');
   if (!found) return !date || date.startsWith('????') ? '' : date;
   const [year, month, day] = found.slice(1).map(Number);
-  return new Date(year, month - 1, day).toLocaleDateString(language, { day: 'numeric', month: 'short', year: 'numeric' });
+  const form = { day: 'numeric', month: 'short', year: 'numeric' };
+  return new Date(year, month - 1, day).toLocaleDateString(language, form);
 }

@@ -21,8 +21,8 @@ NUMBERS = [str(row[0]) for row in KEPT]
 
 def kept_pgn(number, white, black, date, result, article, moves):
     tag = lambda name, value: '[%s "%s"]' % (name, str(value).replace('\\', '\\\\').replace('"', '\\"'))
-    rows = (('Event', 'Club evening'), ('Site', '?'), ('Date', date), ('Round', '?'), ('White', white), ('Black', black),
-            ('Result', result), ('Article', article), ('GameId', number), ('Termination', 'normal'),
+    rows = (('Event', 'Club evening'), ('Site', '?'), ('Date', date), ('Round', '?'), ('White', white),
+            ('Black', black), ('Result', result), ('Article', article), ('GameId', number), ('Termination', 'normal'),
             ('TimeControl', '300+3'))
     return '\n'.join(tag(*row) for row in rows) + '\n\n' + moves + '\n\n'
 
@@ -102,8 +102,8 @@ def finished_in_every_language(hall):
     keeps(hall, KEPT)
     for language in ('de', 'es', 'fr', 'it', 'nl', 'pl', 'pt'):
         sue.run('localStorage.setItem("language", arguments[0])', language)
-        for view, css in (('games', '#finished-list .pairing'), ('player/' + ANN.replace(' ', '%20'), '#finished-score'),
-                          ('game/' + NUMBERS[1], '#game-kept')):
+        for view, css in (('games', '#finished-list .pairing'), ('game/' + NUMBERS[1], '#game-kept'),
+                          ('player/' + ANN.replace(' ', '%20'), '#finished-score')):
             sue.goes(view).reload().finds(css, view + ' in ' + language)
             sue.until(lambda: 'Club' in sue.text('#game-kept') or len(sue.run(LISTED)) == 4, 'with its games')
             if view == 'games':
@@ -173,7 +173,8 @@ def many_kept_games(hall):
     whole = time.monotonic() - begun
     sue.is_so(shown < 5 and whole < 15, 'in time: %.1f s and %.1f s' % (shown, whole))
     begun = time.monotonic()
-    looks_for(sue, player='player c').until(lambda: 'Games found: 5000' not in sue.text('#finished-count'), 'looked for')
+    count = lambda: sue.text('#finished-count')
+    looks_for(sue, player='player c').until(lambda: 'Games found: 5000' not in count(), 'looked for')
     sue.is_so(time.monotonic() - begun < 4, 'at once')
     sue.click('#finished-list .more button').until(lambda: len(sue.run(LISTED)) == 150, 'more of them')
     begun = time.monotonic()

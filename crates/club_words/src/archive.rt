@@ -315,8 +315,8 @@ fn kept_of<'a>(values: &ArgMatches<'a>) -> Option<Option<&'a str>> {
     }
 }
 
-/// What `live` asks for; none where the address is none, a value cannot stand in a tag, or the games of no archive are to
-/// be written.
+/// What `live` asks for; none where the address is none, a value cannot stand in a tag, or the games of no archive are
+/// to be written.
 pub fn living_of<'a>(values: &ArgMatches<'a>) -> Option<Living<'a>> {
     Some(Living {
         source: source_of(values)?,
