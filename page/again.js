@@ -2,13 +2,14 @@
 // the browser. A game comes from the lobby, or from a PGN or a FEN that is pasted.
 
 import { Board } from './board.js';
+import { findKept } from './kept.js';
 import { t } from './language.js';
 import { readLine, readPgn, readRefusal, squaresOf } from './lines.js';
 import { byId, copy, make, read, save, say, setText, write } from './make.js';
 import { fenOf, isInCheck, legalMoves } from './rules.js';
 import { keepInSight } from './sheet.js';
 import { begin, endOf, graft, isMain, makeMain, pgnOf, play, readGame, takeOut } from './study.js';
-import { refusalWords, sanShown, sanWords } from './words.js';
+import { NO_GAME, refusalWords, sanShown, sanWords } from './words.js';
 
 const local = () => localStorage;
 
@@ -83,12 +84,23 @@ export class AgainView {
     const { number } = this, wire = this.app.wire;
     const [line, pgn] = await Promise.all([wire.say(`line ${number}`), wire.say(`pgn ${number}`)]);
     const refusal = readRefusal(line[0]), rows = line[0].startsWith('ok ') ? readLine(line.slice(1)) : [];
+    const archived = refusal && refusal.number === NO_GAME ? await findKept(number) : null;
     if (number !== this.number) return;
+    const game = archived && readGame(archived.text);
+    if (game) {
+      this.loaded(game);
+      return;
+    }
     if (refusal) this.note(refusalWords(refusal));
     const start = rows.length ? begin(rows[0].fen) : null;
     if (!start || !pgn[0].startsWith('ok ')) return;
-    const { tags } = readPgn(pgn.slice(1)), kept = this.kept(), isOwn = this.plays(tags);
     rows.slice(1).reduce((at, { text, san }) => play(at, text, san), start);
+    this.loaded({ tags: readPgn(pgn.slice(1)).tags, start });
+  }
+
+  /** A game as it was played, and behind that what was tried before. */
+  loaded({ tags, start }) {
+    const kept = this.kept(), isOwn = this.plays(tags);
     const isOfIt = kept && kept.tags.White === tags.White && kept.tags.Black === tags.Black
       && fenOf(kept.start.position) === fenOf(start.position);
     if (isOfIt && !isOwn) graft(start, kept.start);

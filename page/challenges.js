@@ -31,7 +31,7 @@ export class Challenges {
       if (!rows.includes(row)) this.items.delete(row);
     }
     for (const row of rows) if (!this.items.has(row)) this.items.set(row, this.item(row));
-    arrange(byId('offered'), rows.map((row) => this.items.get(row)));
+    arrange(byId('challenges'), rows.map((row) => this.items.get(row)));
     for (const row of come) {
       const words = this.words(row);
       say(words);

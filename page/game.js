@@ -2,7 +2,8 @@
 
 import { Board } from './board.js';
 import { Clock } from './clock.js';
-import { t } from './language.js';
+import { dateWords, findKept, toldOf } from './kept.js';
+import { language, t } from './language.js';
 import { placementOf, readLine, readPgn, readRefusal, readStanding, readTimes, sideOf, squaresOf } from './lines.js';
 import { byId, copy, focused, make, save, say, setText } from './make.js';
 import { drawActions, drawFacts, drawMoves, drawOutcome, drawPlayers } from './sheet.js';
@@ -35,6 +36,7 @@ const SHOWS = {
   },
 };
 const ASKS_AGAIN = 5000;             // for a game that was not told
+const LOOKING = t`Looking among the games that were kept …`;
 const TAKEN_OFF = t`This game was taken off the table.`;
 const PENALTY = 120000;              // milliseconds that a wrong claim gives to the opponent
 const LOOKS_SLOW = 1000, SAID_SLOW = 4000;        // after so long without an answer
@@ -110,7 +112,7 @@ export class GameView {
       this.close();
       Object.assign(this, { number, standing: null, line: [], tags: {}, gone: false });
       Object.assign(this, { back: null, turned: null, unsure: null, pending: null, wasTaken: false, wasAway: false });
-      Object.assign(this, { plan: null, proposed: '', offeredBy: '', adjournedBy: '' });
+      Object.assign(this, { plan: null, proposed: '', offeredBy: '', adjournedBy: '', kept: null, isSought: false });
       this.note('');
       this.suggest(null);
       byId('move-text').value = '';
@@ -145,13 +147,7 @@ export class GameView {
     const refusal = readRefusal(watched[0]);
     if (this.number !== number) return;
     if (refusal) {
-      this.gone = refusal.number === NO_GAME;
-      this.wasAway = !this.gone;
-      if (!this.gone) this.refreshLater();
-      this.wasTaken = this.gone && (this.wasTaken || Boolean(this.standing));      // (no number is given twice)
-      this.note(refusalWords(refusal));
-      if (this.gone) this.settleUnsure(null);
-      this.render();
+      this.notTold(refusal);
       return;
     }
     const standing = ours(watched) && readStanding(watched.slice(1));
@@ -166,7 +162,39 @@ export class GameView {
     this.render();
   }
 
+  /** The lobby does not tell of the game. One that is not on the table is looked for among those that were kept. */
+  notTold(refusal) {
+    if (refusal.number === NO_GAME && this.kept) return;
+    this.gone = refusal.number === NO_GAME;
+    this.wasAway = !this.gone;
+    this.wasTaken = this.gone && (this.wasTaken || Boolean(this.standing));      // (no number is given twice)
+    this.note(refusalWords(refusal));
+    if (this.gone) {
+      this.settleUnsure(null);
+      this.seek();
+    } else {
+      this.refreshLater();
+    }
+    this.render();
+  }
+
+  async seek() {
+    const { number } = this, nameOf = (full) => this.app.nameOf(full);
+    if (this.isSought) return;
+    this.isSought = true;
+    const kept = await findKept(number), told = kept && toldOf(kept, nameOf);
+    if (this.number !== number) return;
+    this.isSought = false;
+    if (told) {
+      this.stand(told.standing);
+      Object.assign(this, { kept, line: told.line, tags: kept.tags, wasTaken: false });
+      this.note('');
+    }
+    this.render();
+  }
+
   isThere() {
+    this.kept = null;
     if (this.wasAway) this.note('');
     this.wasAway = false;
     this.settleUnsure(this.standing);
@@ -204,10 +232,11 @@ export class GameView {
 
   /** A notice of this game: an act was accepted. */
   notice({ by, sent, arbiter }, answer, standing) {
-    const ended = this.stand(standing);
+    const wasOver = Boolean(this.standing && this.standing.article), ended = this.stand(standing);
     if (!standing) {
       this.wasTaken = true;
       say(TAKEN_OFF);
+      if (wasOver) this.seek();
       this.render();
       return;
     }
@@ -628,8 +657,16 @@ export class GameView {
   }
 
   async pgnText() {
+    if (this.kept) return this.kept.text;
     const answer = await this.app.wire.say(`pgn ${this.number}`);
     return answer[0].startsWith('ok pgn') ? readPgn(answer.slice(1)).text : '';
+  }
+
+  /** Where and when a game that was kept was played. */
+  keptWords() {
+    if (!this.kept) return '';
+    const { Event, Date: date } = this.kept.tags;
+    return [Event, dateWords(date, language)].filter((one) => one && one !== '?').join(' · ');
   }
 
   link() {
@@ -654,7 +691,8 @@ export class GameView {
     const standing = this.standing, focused = this.root.contains(document.activeElement) && document.activeElement;
     this.root.classList.toggle('empty', !standing || this.gone);
     byId('no-game').hidden = !this.gone;
-    setText(byId('no-game-words'), this.wasTaken ? TAKEN_OFF : refusalWords({ number: NO_GAME }));
+    setText(byId('no-game-words'), this.isSought ? LOOKING : this.wasTaken ? TAKEN_OFF
+      : refusalWords({ number: NO_GAME }));
     document.body.classList.toggle('plays', !this.gone && this.isPlaying());
     if (!standing || this.gone) return;
     if (this.plan && this.myTurn()) this.back = null;

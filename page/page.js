@@ -3,6 +3,7 @@
 import { AgainView } from './again.js';
 import { ArbiterView } from './arbiter.js';
 import { Challenges } from './challenges.js';
+import { FinishedView } from './finished.js';
 import { GameView } from './game.js';
 import { HallView, wholeScreen } from './hall.js';
 import { t } from './language.js';
@@ -48,6 +49,7 @@ class Page {
     this.desk = new ArbiterView(this, () => this.table.rows);
     this.study = new AgainView(this);
     this.challenges = new Challenges(this);
+    this.finished = new FinishedView(this);
     this.listen();
     this.route();
     this.changed();
@@ -101,6 +103,12 @@ class Page {
   nameWords(name) {
     const known = this.players.get(name);
     return known ? known.full : name;
+  }
+
+  /** The name in the protocol of who has this full name, where that is one player; else the name as it is. */
+  nameOf(full) {
+    const names = [...this.players].filter(([, player]) => player.full === full).map(([name]) => name);
+    return names.length === 1 ? names[0] : full;
   }
 
   go(route) {
@@ -178,13 +186,15 @@ class Page {
       history.replaceState(null, '', location.pathname + location.search + '#/');
       if (this.who.open(fragment)) this.wire.renew();
     }
-    const [, word, digits] = /^\/(game|hall|again|arbiter)(?:\/(\d{1,10}))?$/.exec(fragment) || [];
-    const number = Number(digits || 0), isGame = number > 0 && (word === 'game' || word === 'hall');
+    const [, word, digits] = /^\/(games?|hall|again|arbiter)(?:\/(\d{1,10}))?$/.exec(fragment) || [];
+    const isGame = Number(digits) > 0 && (word === 'game' || word === 'hall'), player = playerIn(fragment);
+    const number = player || Number(digits || 0);
     if (isGame) this.begun.add(number);
-    const view = isGame ? this.game : { hall: this.hall, arbiter: this.desk, again: this.study }[word] || this.table;
+    const view = isGame ? this.game : player ? this.finished
+      : { hall: this.hall, arbiter: this.desk, again: this.study, games: this.finished }[word] || this.table;
     document.body.classList.toggle('hall', word === 'hall');
     document.body.classList.toggle('one-game', isGame || view === this.study);
-    for (const other of [this.table, this.game, this.hall, this.desk, this.study]) {
+    for (const other of [this.table, this.game, this.hall, this.desk, this.study, this.finished]) {
       if (other !== view && !other.root.hidden) other.close();
     }
     const isOther = this.view && (this.view !== view || number && number !== view.number);
@@ -436,6 +446,16 @@ class Page {
   toContent() {
     if (this.view === this.game || this.view === this.study) this.view.board.focus();
     else byId('main').focus();
+  }
+}
+
+/** The name behind `/player/`; '' for any other fragment. */
+function playerIn(fragment) {
+  const found = /^\/player\/(.+)$/.exec(fragment);
+  try {
+    return found ? decodeURIComponent(found[1]) : '';
+  } catch (broken) {
+    return '';
   }
 }
 

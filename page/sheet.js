@@ -106,7 +106,8 @@ export function drawActions(game) {
   show('join', !game.started() && !seat && me);
   show('drop', (game.app.isArbiter() || seat) && !game.started());
   byId('look-again').hidden = !game.started() || game.isPlaying();
-  show('again', standing.article && seat && game.tags.TimeControl);
+  const areHere = !game.kept || [standing.white, standing.black].every((name) => game.app.players.has(name));
+  show('again', standing.article && seat && game.tags.TimeControl && areHere);
   byId('move-form').hidden = !(runs && seat) || Boolean(game.proposed);
   byId('actions').hidden = Boolean(game.proposed) || ![...byId('actions').children].some((one) => !one.hidden);
 }
@@ -160,6 +161,7 @@ export function drawFacts(game) {
   setText(byId('game-white'), white ? game.app.nameWords(white) : t`free seat`);
   setText(byId('game-black'), black ? game.app.nameWords(black) : t`free seat`);
   setText(byId('game-start'), game.tags.FEN ? t`From a position` : '');
+  setText(byId('game-kept'), game.keptWords());
   byId('fen-text').value = game.fenShown();
   byId('watching').hidden = Boolean(game.seat()) || !game.started();
 }

@@ -127,6 +127,8 @@ export class TableView {
     byId('own-games').hidden = groups.own.length === 0;
     byId('open-form').hidden = !me;
     byId('only-watching').hidden = Boolean(me);
+    byId('own-finished').hidden = !me;
+    byId('own-finished').href = `#/player/${me || ''}`;
     byId('open-game').disabled = !this.app.reachable();
     this.used = new Set();
     for (const kind of ['own', 'open', 'running', 'over']) this.renderGroup(kind, groups[kind]);
@@ -245,5 +247,5 @@ export class TableView {
 }
 
 const NOTHING = {
-  own: '', open: t`Nobody waits for an opponent.`, running: t`No game is being played.`, over: t`No game is over yet.`,
+  own: '', open: t`Nobody waits for an opponent.`, running: t`No game is being played.`, over: t`No finished game is on the table.`,
 };

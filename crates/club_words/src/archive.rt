@@ -51,6 +51,9 @@ it may be fetched at any moment: pages that show games live take its address. Wi
 each move has its player's clock behind it where the lobby's log knows it. With --initials
 the players are told by their initials, as where a club has minors.
 
+With --kept it writes all games of the archive to another file, the one that was kept last
+first, each with its number as the tag GameId: the lobby's page looks games up there.
+
 With --every it goes on until it is killed, and comes back to a server that was away.
 
 Exit status: 0; 1 with what is wrong on standard error; 2 for words that the program does
@@ -140,7 +143,7 @@ const FILE: OptionText = OptionText {
 };
 
 const LIVE_ARCHIVE: OptionText = OptionText {
-    help: "An archive whose games are written too; with --date those of this date",
+    help: "An archive whose games are written too, those from --since on",
     is_required: false,
     ..ARCHIVE
 };
@@ -150,6 +153,19 @@ const INITIALS: OptionText = OptionText {
     value: OptionValue::Nothing,
     help: "Tells the initials of players in place of their full names",
     is_required: false,
+};
+
+const SINCE: OptionText = OptionText {
+    name: "since",
+    help: "With --archive, the first date of games that are written; --date without it, and all without either",
+    ..DATE
+};
+
+const KEPT: OptionText = OptionText {
+    name: "kept",
+    help: "A file to which all games of the archive are written besides",
+    is_required: false,
+    ..FILE
 };
 
 const LIVE_EVERY: OptionText = OptionText {
@@ -191,6 +207,8 @@ pub const LIVE: WordText = WordText {
         SERVER,
         FILE,
         LIVE_ARCHIVE,
+        SINCE,
+        KEPT,
         PLAYERS_NAMED,
         LOG,
         EVENT,
@@ -202,13 +220,30 @@ pub const LIVE: WordText = WordText {
     ],
 };
 
-/// What is said where a date is given, and is none.
-pub fn no_date_told(alloc: Global, values: &ArgMatches<'_>) -> Result<Option<String>, AllocError> {
-    match values.get_str("date") {
+// What is said where an option gives a date that is none.
+fn no_date_in(
+    alloc: Global,
+    values: &ArgMatches<'_>,
+    name: &str,
+) -> Result<Option<String>, AllocError> {
+    match values.get_str(name) {
         Some(date) if !is_date(date) => Ok(Some(format!(in alloc;
-            "--date {date:?} is no date: it is YYYY.MM.DD, as 2026.11.27, with ?? for what is not known"
+            "--{name} {date:?} is no date: it is YYYY.MM.DD, as 2026.11.27, with ?? for what is not known"
         )?)),
         _ => Ok(None),
+    }
+}
+
+/// What is said where a date is given to `keep`, and is none.
+pub fn no_date_told(alloc: Global, values: &ArgMatches<'_>) -> Result<Option<String>, AllocError> {
+    no_date_in(alloc, values, "date")
+}
+
+/// What is said where one of the two dates is given to `live`, and is none.
+pub fn no_dates_told(alloc: Global, values: &ArgMatches<'_>) -> Result<Option<String>, AllocError> {
+    match no_date_in(alloc, values, "since")? {
+        None => no_date_in(alloc, values, "date"),
+        told => Ok(told),
     }
 }
 
@@ -272,13 +307,23 @@ pub fn exporting_of<'a>(values: &ArgMatches<'a>) -> Option<Exporting<'a>> {
     })
 }
 
-/// What `live` asks for; none where the address is none, or a value cannot stand in a tag.
+// The file of all games of the archive, if one is named; none where there is no archive.
+fn kept_of<'a>(values: &ArgMatches<'a>) -> Option<Option<&'a str>> {
+    match values.get_str("kept") {
+        Some(_) if values.get_str("archive").is_none() => None,
+        kept => Some(kept),
+    }
+}
+
+/// What `live` asks for; none where the address is none, a value cannot stand in a tag, or the games of no archive are
+/// to be written.
 pub fn living_of<'a>(values: &ArgMatches<'a>) -> Option<Living<'a>> {
     Some(Living {
         source: source_of(values)?,
         file: values.get_str("file")?,
         archive: values.get_str("archive"),
-        date: values.get_str("date"),
+        since: values.get_str("since").or(values.get_str("date")),
+        kept: kept_of(values)?,
         names: name_form(values.get_flag("initials")),
     })
 }

@@ -23,7 +23,8 @@ With --log it puts each act that the server took into a file, with its answer, a
 game stands behind it, before anybody is told; the file is made where there is none.
 Besides the page there are /board/G for a screen that shows game G, /boards for one that
 shows all, and /health with figures as Prometheus reads them. /live.pgn is the file of
---live, read anew when it has changed.
+--live, and /kept.pgn that of --kept, in which the page looks up games that are over: each is
+read anew when it has changed.
 
 It goes on until it is ended: kill it, by any signal. Nothing is lost by that.
 
@@ -155,6 +156,12 @@ const LIVE: OptionText = OptionText {
     is_required: false,
 };
 
+const KEPT: OptionText = OptionText {
+    name: "kept",
+    help: "A file of games that is served as /kept.pgn, where the page looks up those that are over",
+    ..LIVE
+};
+
 const LOG: OptionText = OptionText {
     name: "log",
     value: OptionValue::Text("FILE"),
@@ -217,6 +224,7 @@ pub const LOBBY: WordText = WordText {
         HOST,
         PROXY,
         LIVE,
+        KEPT,
         LOG,
         WAITING_MOST,
         PLAYING_MOST,
@@ -318,6 +326,7 @@ pub fn serving_of<'a>(
         proxy,
         limits: limits_of(values),
         live: values.get_str("live"),
+        kept: values.get_str("kept"),
         log: values.get_str("log"),
         hosts,
     }))

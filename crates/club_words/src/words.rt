@@ -1,5 +1,7 @@
 //! The words of the club's program, and what they ask for.
-use crate::archive::{EXPORT, KEEP, LIVE, exporting_of, keeping_of, living_of, no_date_told};
+use crate::archive::{
+    EXPORT, KEEP, LIVE, exporting_of, keeping_of, living_of, no_date_told, no_dates_told,
+};
 use crate::lobby::{EVIDENCE, LOBBY, PLAYER, adding_of, evidence_of, serving_of};
 use crate::rounds::{RESULTS, START, TRF, asking_of, no_day_told, reporting_of, starting_of};
 use clap::{ArgMatches, Command, Error};
@@ -71,7 +73,7 @@ fn word_given<'a>(
 fn no_date_given(alloc: Global, matches: &ArgMatches<'_>) -> Result<Option<String>, AllocError> {
     match matches.subcommand() {
         Some(("keep", values)) => no_date_told(alloc, values),
-        Some(("live", values)) => no_date_told(alloc, values),
+        Some(("live", values)) => no_dates_told(alloc, values),
         Some(("trf", values)) => no_day_told(alloc, values),
         _ => Ok(None),
     }
@@ -109,7 +111,9 @@ fn fault_of(matches: &ArgMatches<'_>) -> &'static str {
             "an address is none, a tag's value has a control character, or --lobby stands without --drop"
         }
         Some(("export", _)) => "--pgn and --csv cannot be used with one another",
-        Some(("live", _)) => "an address is none, or a tag's value has a control character",
+        Some(("live", _)) => {
+            "an address is none, a tag's value has a control character, or --kept stands without --archive"
+        }
         Some(("start", _)) => "an address, a board or a game is none",
         Some(("results", _)) => { "an address is none, or neither --archive nor --server is given" }
         Some(("trf", _)) => {

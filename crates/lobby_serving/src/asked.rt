@@ -19,4 +19,6 @@ pub struct Serving<'a> {
     pub log: Option<&'a str>,
     /// The file of games that is served as `/live.pgn`.
     pub live: Option<&'a str>,
+    /// The one that is served as `/kept.pgn`.
+    pub kept: Option<&'a str>,
 }

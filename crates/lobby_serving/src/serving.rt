@@ -1,8 +1,8 @@
 //! The word that serves browsers.
 use crate::asked::Serving;
+use crate::games_files::GamesFiles;
 use crate::health::Health;
 use crate::links::FileLinks;
-use crate::live::Live;
 use crate::log::FileLog;
 use crate::page::{has_port, site_of};
 use crate::players::Players;
@@ -108,7 +108,7 @@ struct Beside<'a, R> {
     telling: Telling<'a, R>,
     table: Table,
     health: Health,
-    live: Option<Live<'a>>,
+    games: GamesFiles<'a>,
     links: FileLinks<'a, R>,
 }
 
@@ -129,10 +129,7 @@ where
             },
             table: Table::new(rt.alloc(), serving.server),
             health: Health::new(rt.alloc()),
-            live: match serving.live {
-                Some(file) => Some(Live::new(file)),
-                None => None,
-            },
+            games: GamesFiles::new(serving),
             links: FileLinks::new(rt, serving.players, entries),
         }
     }
@@ -157,17 +154,13 @@ where
     fn turn<L: ActLog>(&mut self, lobby: &mut Lobby, log: &mut L, at: u64) -> Result<()> {
         self.table.look(self.rt, lobby, at)?;
         self.health.look(lobby, &self.table, at)?;
-        let mut live_rest = None;
-        if let Some(live) = &mut self.live {
-            live.look(self.rt, lobby, at)?;
-            live_rest = live.rest();
-        }
+        let games_rest = self.games.look(self.rt, lobby, at)?;
         let turned = lobby.turn(self.rt, at, log, &mut self.links)?;
         self.telling.tell_server(lobby.has_server());
         self.telling.tell_turned_away(lobby.turned_away(), at);
         self.telling
             .tell_logins_refused(lobby.counts().logins_refused, at);
-        lobby.rest(within(within(turned, self.table.rest(at)), live_rest))?;
+        lobby.rest(within(within(turned, self.table.rest(at)), games_rest))?;
         Ok(())
     }
 }

@@ -48,8 +48,10 @@ pub struct Living<'a> {
     pub source: Source<'a>,
     pub file: &'a str,
     pub archive: Option<&'a str>,
-    /// The date, where it is given.
-    pub date: Option<&'a str>,
+    /// The first date of which the archive's games are written, where it is given.
+    pub since: Option<&'a str>,
+    /// The file of all games of the archive.
+    pub kept: Option<&'a str>,
     /// How full names are told.
     pub names: NameForm,
 }

@@ -4,7 +4,8 @@
 //! what the clerk decides, `telling` does work again and again, and tells what goes wrong once. `rows` has the games of
 //! the server's list, `asking` asks for a game's PGN, `sources` has what PGNs are made with: `players` has the players
 //! of their file, `log_reader` the log, read on as it grows; `reading` reads files; `initials` tells of players by
-//! their initials. `specs/Games` says which games of a list are over, `specs/Names` how a tag tells of a player.
+//! their initials; `kept` writes the file of all games of an archive, and `written` a file anew where it has changed.
+//! `specs/Games` says which games of a list are over, `specs/Names` how a tag tells of a player.
 #![tactic(auto)]
 
 mod asked;
@@ -13,6 +14,7 @@ mod exporting;
 mod initials;
 mod keeper;
 mod keeping;
+mod kept;
 mod living;
 mod log_reader;
 mod players;
@@ -20,6 +22,7 @@ mod reading;
 mod rows;
 mod sources;
 mod telling;
+mod written;
 
 pub use asked::{Exporting, Form, Keeping, Living, Source};
 pub use exporting::export;

@@ -2,13 +2,14 @@
 use crate::asked::Living;
 use crate::asking::pgn_of;
 use crate::initials::push_told;
+use crate::kept::KeptFile;
 use crate::reading::found;
 use crate::rows::rows_of;
 use crate::sources::{Sources, link_to};
 use crate::telling::{Work, go_on};
-use anyhow::{Context, Result};
+use crate::written::WrittenFile;
+use anyhow::Result;
 use night_archive::{game_of, lines_of, pgn_of as pgn_in};
-use night_files::HeldFile;
 use night_links::Link;
 use server_answers::Row;
 use std::alloc::{AllocError, Global};
@@ -16,6 +17,7 @@ use std::fs::{self, File};
 use std::net::{Net, TcpStream};
 use std::rt::{Clock, Files};
 use text_parts::parts;
+use text_pgn::value_of;
 
 // A game, as it stands in the file.
 #[derive(Drop)]
@@ -24,12 +26,14 @@ struct Board {
     pgn: Vec<u8>,
 }
 
-// Who writes the file.
+// Who writes the files.
 #[derive(Drop)]
 struct Writer<'a, R> {
     rt: &'a R,
     living: &'a Living<'a>,
-    file: HeldFile<'a>,
+    file: WrittenFile<'a>,
+    // The file of all games of the archive, where one is asked for.
+    kept: Option<KeptFile<'a>>,
     sources: Sources<'a, R>,
     link: Option<Link>,
     // The games of the table as they were seen last.
@@ -37,8 +41,6 @@ struct Writer<'a, R> {
     // The games of the archive that are written, and how long it was when they were read.
     archived: Vec<Board>,
     archive_length: u64,
-    // What the file has, where that is known.
-    written: Option<Vec<u8>>,
 }
 
 // Whether both seats of a game are taken.
@@ -51,12 +53,14 @@ fn is_kept(row: &Row, archived: &[Board]) -> bool {
     row.result.is_some() && has_game(archived, row.game)
 }
 
-// Whether a PGN has a tag Date with this value.
-fn is_of_date(alloc: Global, pgn: &[u8], date: &str) -> Result<bool> {
-    let tag = format!(in alloc; "[Date \"{date}\"]")?;
-    match str::from_utf8(pgn) {
-        Ok(text) => Ok(parts(alloc, text, '\n')?.contains(&tag.as_str())),
-        Err(_) => Ok(false),
+// Whether a PGN has a tag Date with this value, or a later one. (What is not known of a date counts as late.)
+fn is_since(alloc: Global, pgn: &[u8], date: &str) -> Result<bool> {
+    let Ok(text) = str::from_utf8(pgn) else {
+        return Ok(false);
+    };
+    match value_of(alloc, text, "Date")? {
+        Some(value) => Ok(value.as_str() >= date),
+        None => Ok(false),
     }
 }
 
@@ -85,15 +89,20 @@ fn length_of<R: Files>(rt: &R, path: &str) -> Result<u64> {
     Ok(found(rt, path)?.len())
 }
 
-// Puts the game of a line of the archive behind others, where it is written: each one, or those of this night alone
-// where its date is given.
-fn push_line(boards: &mut Vec<Board>, alloc: Global, line: &str, date: Option<&str>) -> Result<()> {
+// Puts the game of a line of the archive behind others, where it is written: each one, or where a date is given those
+// from this date on.
+fn push_line(
+    boards: &mut Vec<Board>,
+    alloc: Global,
+    line: &str,
+    since: Option<&str>,
+) -> Result<()> {
     let Some(game) = game_of(alloc, line)? else {
         return Ok(());
     };
     let pgn = pgn_in(alloc, line)?;
-    let is_here = match date {
-        Some(date) => is_of_date(alloc, pgn.as_slice(), date)?,
+    let is_here = match since {
+        Some(date) => is_since(alloc, pgn.as_slice(), date)?,
         None => true,
     };
     if is_here {
@@ -103,11 +112,11 @@ fn push_line(boards: &mut Vec<Board>, alloc: Global, line: &str, date: Option<&s
 }
 
 // The games of an archive's text that are written.
-fn boards_of(alloc: Global, text: &str, date: Option<&str>) -> Result<Vec<Board>> {
+fn boards_of(alloc: Global, text: &str, since: Option<&str>) -> Result<Vec<Board>> {
     let lines = parts(alloc, text, '\n')?;
     let mut boards = Vec::new(alloc);
     for line in lines.as_slice() {
-        push_line(&mut boards, alloc, line, date)?;
+        push_line(&mut boards, alloc, line, since)?;
     }
     Ok(boards)
 }
@@ -152,22 +161,34 @@ impl<R> Writer<'_, R> {
     }
 }
 
+// The file of all games of the archive; none where it is not asked for, or there is no archive.
+fn kept_file<'a, R>(rt: &R, living: &Living<'a>) -> Result<Option<KeptFile<'a>>>
+where
+    R: Files<File = File> + AllocGlobal,
+{
+    match (living.kept, living.archive) {
+        (Some(file), Some(archive)) => Ok(Some(KeptFile::open(rt, file, archive)?)),
+        _ => Ok(None),
+    }
+}
+
 impl<'a, R: Files<File = File> + AllocGlobal + Eprint> Writer<'a, R> {
-    // No game was seen yet. It fails where another writes the file.
+    // No game was seen yet. It fails where another writes a file.
     fn new(rt: &'a R, living: &'a Living<'a>) -> Result<Self> {
-        let (alloc, path) = (rt.alloc(), living.file);
-        let file = HeldFile::open(rt, path).context(format_args!("opening {path}"))?;
+        let alloc = rt.alloc();
+        let file = WrittenFile::open(rt, living.file)?;
+        let kept = kept_file(rt, living)?;
         let sources = Sources::open(rt, &living.source)?;
         Ok(Writer {
             rt,
             living,
             file,
+            kept,
             sources,
             link: None,
             seen: Vec::new(alloc),
             archived: Vec::new(alloc),
             archive_length: 0,
-            written: fs::read(rt, path).ok(),
         })
     }
 
@@ -190,8 +211,17 @@ impl<'a, R: Files<File = File> + AllocGlobal + Eprint> Writer<'a, R> {
         let length = length_of(self.rt, path)?;
         if length != self.archive_length {
             let text = lines_of(self.rt, path)?;
-            self.archived = boards_of(self.rt.alloc(), text.as_str(), self.living.date)?;
+            self.archived = boards_of(self.rt.alloc(), text.as_str(), self.living.since)?;
             self.archive_length = length;
+        }
+        Ok(())
+    }
+
+    // Writes the file of all games of the archive anew, where it is another.
+    fn renew_kept(&mut self) -> Result<()> {
+        if let Some(kept) = &mut self.kept {
+            let players = self.sources.known().players;
+            kept.renew(self.rt, self.living.names, players, self.archive_length)?;
         }
         Ok(())
     }
@@ -228,23 +258,18 @@ impl<R> Work for Writer<'_, R>
 where
     R: Files<File = File> + Net<Stream = TcpStream> + AllocGlobal + Eprint,
 {
-    // (the file is written where it has changed)
+    // (a file is written where it has changed)
     fn work(&mut self, _is_once: bool) -> Result<()> {
         self.look()?;
         let text = self.text(self.rt.alloc())?;
-        if self.written.as_ref() != Some(&text) {
-            let path = self.living.file;
-            self.file
-                .replace(self.rt, text.as_slice())
-                .context(format_args!("writing {path}"))?;
-            self.written = Some(text);
-        }
-        Ok(())
+        self.file.put(self.rt, text)?;
+        self.renew_kept()
     }
 }
 
-/// Writes all games that are played on the server's table, those that are over, and those of the archive to a file:
-/// once, or again and again until it is killed. It fails where another writes the file, where the players' file is
+/// Writes all games that are played on the server's table, those that are over, and those of the archive to a file, and
+/// where it is asked for all games of the archive to another: once, or again and again until it is killed. It fails
+/// where another writes one of them, where the players' file is
 /// none, and, where it is done once, at whatever goes wrong.
 pub fn live<R>(rt: &R, living: &Living<'_>) -> Result<()>
 where

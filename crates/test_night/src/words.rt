@@ -47,7 +47,8 @@ fn keep_said(alloc: Global, keeping: &Keeping<'_>) -> Result<String, AllocError>
 fn live_said(alloc: Global, living: &Living<'_>) -> Result<String, AllocError> {
     let source = source_said(alloc, &living.source)?;
     let (file, archive) = (living.file, living.archive.unwrap_or("-"));
-    format!(in alloc; "live {source} {file} {archive}")
+    let (since, kept) = (living.since.unwrap_or("-"), living.kept.unwrap_or("-"));
+    format!(in alloc; "live {source} {file} {archive} {since} {kept}")
 }
 
 fn start_said(alloc: Global, starting: &Starting<'_>) -> Result<String, AllocError> {
@@ -110,7 +111,7 @@ fn check_line(rt: &impl Abort, alloc: Global, line: &str, wanted: Result<&str, E
 }
 
 // Command lines, and what each asks for, or why it is refused.
-static LINES: [(&str, Result<&str, ErrorKind>); 30] = [
+static LINES: [(&str, Result<&str, ErrorKind>); 32] = [
     (
         "chess-club lobby --players p --server 127.0.0.1:1",
         Ok("lobby p 127.0.0.1:8080 page 0 4 8 32"),
@@ -132,7 +133,15 @@ static LINES: [(&str, Result<&str, ErrorKind>); 30] = [
     ("chess-club export --archive a", Ok("export a false")),
     (
         "chess-club live --server s/ --file f --date 2026.11.??",
-        Ok("live s/ ? 2026.11.?? 0 f -"),
+        Ok("live s/ ? 2026.11.?? 0 f - 2026.11.?? -"),
+    ),
+    (
+        "chess-club live --server s/ --file f --archive a --since 2026.11.26 --date 2026.11.27 --kept k",
+        Ok("live s/ ? 2026.11.27 0 f a 2026.11.26 k"),
+    ),
+    (
+        "chess-club live --server s/ --file f --kept k",
+        Err(ErrorKind::ValueValidation),
     ),
     (
         "chess-club start --pairings p --round-file r --lobby 127.0.0.1:2 --token-file t --take 3=17 --short",

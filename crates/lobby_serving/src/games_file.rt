@@ -1,4 +1,4 @@
-//! The games that are served as they stand in a file.
+//! Files of games that are served as they stand.
 use crate::mark::{Mark, mark_in, mark_of};
 use bytes::Bytes;
 use lobby_loop::Lobby;
@@ -9,8 +9,24 @@ use std::io;
 use std::io::{ErrorKind, Read};
 use std::rt::Files;
 
-/// The path at which they are served.
-const PATH: &[u8] = b"/live.pgn";
+/// What a file has, by which it is served at a path of its own.
+#[derive(Clone, Copy)]
+pub enum Contents {
+    /// The games that are played.
+    Live,
+    /// The games that were kept.
+    Kept,
+}
+
+impl Contents {
+    // The path at which it is served.
+    fn path(self) -> &'static [u8] {
+        match self {
+            Contents::Live => b"/live.pgn",
+            Contents::Kept => b"/kept.pgn",
+        }
+    }
+}
 
 /// So many milliseconds lie at least between two looks at the file.
 const REST: u64 = 1_000;
@@ -97,16 +113,17 @@ impl Reading {
 
 // The file that is served of what was read. Its tag is made of its mark: of the bytes it would take a pass over all of
 // them, in one turn.
-fn served_of(alloc: Global, reading: Reading) -> Result<File, AllocError> {
+fn served_of(alloc: Global, contents: Contents, reading: Reading) -> Result<File, AllocError> {
     let mark = reading.mark.to_bytes(alloc)?;
-    let path = PATH.to_vec(alloc)?;
+    let path = contents.path().to_vec(alloc)?;
     let bytes = Bytes::from_vec(reading.bytes)?;
     File::marked(alloc, path, Kind::Pgn, bytes, mark.as_slice())
 }
 
-/// The file, and what was seen of it last.
+/// A file, and what was seen of it last.
 #[derive(Drop)]
-pub struct Live<'a> {
+pub struct GamesFile<'a> {
+    contents: Contents,
     file: &'a str,
     seen: Option<Mark>,
     next_at: u64,
@@ -116,10 +133,11 @@ pub struct Live<'a> {
     is_told: bool,
 }
 
-impl<'a> Live<'a> {
+impl<'a> GamesFile<'a> {
     /// It was not looked at.
-    pub fn new(file: &'a str) -> Self {
-        Live {
+    pub fn new(contents: Contents, file: &'a str) -> Self {
+        GamesFile {
+            contents,
             file,
             seen: None,
             next_at: 0,
@@ -145,7 +163,7 @@ impl<'a> Live<'a> {
         if !is_long {
             self.seen = None;
         }
-        lobby.take_off_file(PATH);
+        lobby.take_off_file(self.contents.path());
     }
 
     // Begins to read the file.
@@ -171,7 +189,7 @@ impl<'a> Live<'a> {
             return Ok(());
         }
         self.tell(rt, false);
-        lobby.put_file(served_of(rt.alloc(), reading)?)
+        lobby.put_file(served_of(rt.alloc(), self.contents, reading)?)
     }
 
     // Reads on.
@@ -215,17 +233,13 @@ impl<'a> Live<'a> {
         if found.is_some() {
             self.begin(rt, lobby);
         } else {
-            lobby.take_off_file(PATH);
+            lobby.take_off_file(self.contents.path());
         }
         Ok(())
     }
 
-    /// After so many milliseconds it is to be looked at again, though no socket is ready; none where that is no matter.
-    pub fn rest(&self) -> Option<u64> {
-        if self.reading.is_some() {
-            Some(0)
-        } else {
-            None
-        }
+    /// Whether it is being read: it is to be looked at again in the next turn.
+    pub fn is_reading(&self) -> bool {
+        self.reading.is_some()
     }
 }

@@ -1,0 +1,92 @@
+//! The games of an archive, for everybody to look up.
+use crate::initials::push_told;
+use crate::written::WrittenFile;
+use anyhow::Result;
+use lobby_words::{NameForm, Player};
+use night_archive::lines_of;
+use night_games::{Kept, games_kept};
+use std::alloc::Global;
+use std::fs::File;
+use std::rt::Files;
+use text_pgn::with_tag;
+
+/// The tag that has a game's number.
+const NUMBER: &str = "GameId";
+
+// Appends the PGN of a game with its number as a tag, and the full names of its players in a form.
+fn push_game(
+    text: &mut Vec<u8>,
+    alloc: Global,
+    form: NameForm,
+    players: &[Player],
+    kept: &Kept,
+) -> Result<()> {
+    let pgn = with_tag(alloc, kept.pgn.as_str(), NUMBER, kept.game)?;
+    push_told(text, alloc, form, players, pgn.as_bytes())
+}
+
+// The PGNs of games, so, in the order opposite to theirs.
+fn text_of(alloc: Global, form: NameForm, players: &[Player], games: &[Kept]) -> Result<Vec<u8>> {
+    let mut text = Vec::new(alloc);
+    for kept in games.iter().rev() {
+        push_game(&mut text, alloc, form, players, kept)?;
+    }
+    Ok(text)
+}
+
+/// A file of all games of an archive, the one that was kept last first.
+#[derive(Drop)]
+pub struct KeptFile<'a> {
+    file: WrittenFile<'a>,
+    archive: &'a str,
+    // How long the archive was whose games the file has; none where that is not known.
+    length: Option<u64>,
+}
+
+impl<'a> KeptFile<'a> {
+    /// Opens the file, or makes it. It fails where another writes it.
+    pub fn open<R: Files<File = File> + AllocGlobal>(
+        rt: &R,
+        file: &'a str,
+        archive: &'a str,
+    ) -> Result<Self> {
+        Ok(KeptFile {
+            file: WrittenFile::open(rt, file)?,
+            archive,
+            length: None,
+        })
+    }
+
+    // What the file is to have. (An archive that is not there yet has no games.)
+    fn text<R: Files + AllocGlobal>(
+        &self,
+        rt: &R,
+        form: NameForm,
+        players: &[Player],
+        length: u64,
+    ) -> Result<Vec<u8>> {
+        if length == 0 {
+            return Ok(Vec::new(rt.alloc()));
+        }
+        let lines = lines_of(rt, self.archive)?;
+        let games = games_kept(rt.alloc(), lines.as_str())?;
+        text_of(rt.alloc(), form, players, games.as_slice())
+    }
+
+    /// Writes the file anew where the archive, which is so long now, is another than when that was done last.
+    pub fn renew<R: Files<File = File> + AllocGlobal>(
+        &mut self,
+        rt: &R,
+        form: NameForm,
+        players: &[Player],
+        length: u64,
+    ) -> Result<()> {
+        if self.length == Some(length) {
+            return Ok(());
+        }
+        let text = self.text(rt, form, players, length)?;
+        self.file.put(rt, text)?;
+        self.length = Some(length);
+        Ok(())
+    }
+}

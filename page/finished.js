@@ -1,0 +1,177 @@
+// Games that are over and were kept: all of them, by player, day and result, or those of one player with the score.
+
+import { dateWords, readKept } from './kept.js';
+import { language, t } from './language.js';
+import { arrange, byId, make, save, setText } from './make.js';
+import { resultWords } from './words.js';
+
+const FIRST_SHOWN = 50, MOST_NAMED = 6;
+const DRAWS_AFTER = 150;             // milliseconds: the file comes in pieces
+const TOLD = {
+  none: t`No games are kept here.`, failed: t`The games that were kept cannot be read now.`, part: t`Reading …`,
+};
+
+export class FinishedView {
+  constructor(app) {
+    this.app = app;
+    this.root = byId('finished-view');
+    this.number = '';                  // the player whose games are shown, '' for those of all
+    this.games = [];
+    this.items = new Map();            // game -> its element, which stays while more games come
+    this.state = 'part';
+    this.most = FIRST_SHOWN;
+    this.form = byId('finished-form').elements;
+    byId('finished-form').addEventListener('submit', (event) => event.preventDefault());
+    byId('finished-form').addEventListener('input', () => this.found());
+    byId('finished-save').addEventListener('click', () => this.save());
+  }
+
+  // ---- coming and going
+
+  open(player) {
+    const name = String(player || '');
+    this.root.hidden = false;
+    if (name !== this.number) byId('finished-form').reset();
+    Object.assign(this, { number: name, most: FIRST_SHOWN });
+    if (!this.reading) this.read();
+    this.render();
+  }
+
+  close() {
+    this.root.hidden = true;
+    if (this.reading) this.reading.abort();
+    this.reading = null;
+  }
+
+  /** The games that this view has to be told of. */
+  needs() {
+    return [];
+  }
+
+  async read() {
+    const reading = new AbortController();
+    Object.assign(this, { reading, games: [], items: new Map(), state: 'part' });
+    const state = await readKept((games) => {
+      if (this.reading === reading) this.games = this.games.concat(games);
+      this.renderSoon();
+      return this.reading !== reading;
+    }, reading);
+    if (this.reading !== reading) return;
+    Object.assign(this, { reading: null, state });
+    this.render();
+  }
+
+  // ---- which games
+
+  /** Whether a game has a player by one of these names. */
+  static has({ tags }, names) {
+    return names.includes(tags.White) || names.includes(tags.Black);
+  }
+
+  /** The names under which the player of this page may stand in the archive: where full names are hidden, initials. */
+  names() {
+    const full = this.app.nameWords(this.number), names = [this.number, full];
+    return this.games.some((game) => FinishedView.has(game, names)) ? names : [initialsOf(full)];
+  }
+
+  /** The games that are looked for, the newest first. */
+  wanted() {
+    const { player, day, result } = this.form, text = player.value.trim().toLowerCase();
+    const date = day.value.replaceAll('-', '.'), names = this.number ? this.names() : [];
+    return this.games.filter((game) => {
+      const { White, Black, Date: played, Result } = game.tags;
+      return (!this.number || FinishedView.has(game, names)) && (!date || played === date)
+        && (!result.value || Result === result.value)
+        && (!text || [White, Black].some((name) => name.toLowerCase().includes(text)));
+    });
+  }
+
+  found() {
+    this.most = FIRST_SHOWN;
+    this.render();
+  }
+
+  save() {
+    const name = this.number ? `games-${this.number.replace(/[^\w-]+/g, '-')}` : 'games';
+    save(`${name}.pgn`, 'application/x-chess-pgn', this.wanted().map(({ text }) => text).join(''));
+  }
+
+  // ---- drawing
+
+  renderSoon() {
+    clearTimeout(this.soon);
+    this.soon = setTimeout(() => this.render(), DRAWS_AFTER);
+  }
+
+  render() {
+    if (this.root.hidden) return;
+    const games = this.wanted(), name = this.number && this.app.nameWords(this.number);
+    const title = name ? t`Games of ${name}` : t`Finished games`;
+    setText(byId('finished-title'), title);
+    this.app.titled(title);
+    byId('finished-all').hidden = byId('finished-score').hidden = !name;
+    byId('finished-player').hidden = Boolean(name);
+    setText(byId('finished-score'), name ? scoreWords(games, this.names()) : '');
+    setText(byId('finished-count'), TOLD[this.state] || t`Games found: ${games.length}`);
+    byId('finished-save').disabled = this.state !== 'whole' || !games.length;
+    this.renderNames(games);
+    const items = games.slice(0, this.most).map((game) => this.itemOf(game));
+    if (games.length > this.most) {
+      items.push(make('li', { class: 'more' }, make('button', { type: 'button', onclick: () => this.showMore() },
+        t`Show ${Math.min(2 * FIRST_SHOWN, games.length - this.most)} more`)));
+    }
+    arrange(byId('finished-list'), items);
+  }
+
+  /** The pages of players whose name is looked for. */
+  renderNames(games) {
+    const text = this.form.player.value.trim().toLowerCase(), names = new Set();
+    for (const { tags } of text ? games : []) {
+      for (const name of [tags.White, tags.Black]) if (name.toLowerCase().includes(text)) names.add(name);
+    }
+    byId('finished-names').hidden = !names.size || names.size > MOST_NAMED;
+    byId('finished-names').replaceChildren(t`All games and the score of: `, ...[...names].flatMap((name, place) => [
+      place ? ', ' : '', make('a', { href: `#/player/${encodeURIComponent(name)}` }, name)]));
+  }
+
+  showMore() {
+    const place = this.most;
+    this.most += 2 * FIRST_SHOWN;
+    this.render();
+    byId('finished-list').querySelectorAll('a')[place].focus();
+  }
+
+  itemOf(game) {
+    if (!this.items.has(game)) this.items.set(game, this.item(game));
+    return this.items.get(game);
+  }
+
+  item({ number, tags }) {
+    const seat = (name, side) => make('span', { class: `seat ${side}` },
+      make('span', { class: 'unseen' }, side === 'white' ? t`white: ` : t`black: `),
+      make('span', { class: 'name' }, name));
+    const { score, reason } = resultWords(tags.Result, tags.Article || '');
+    return make('li', { class: 'game-row' }, make('a', { href: `#/game/${number}`, class: 'pairing' },
+      make('span', { class: 'number' }, make('span', { class: 'unseen' }, t`Game `), String(number)),
+      make('span', { class: 'pair' }, seat(tags.White, 'white'), seat(tags.Black, 'black')),
+      make('span', { class: 'times' }, dateWords(tags.Date, language)),
+      make('span', { class: 'state', title: reason }, score)));
+  }
+}
+
+/** `A. L.` of `Ann Lee`. */
+function initialsOf(full) {
+  return full.split(' ').map((word) => (word ? `${[...word][0]}.` : '')).join(' ');
+}
+
+/** A player's points: `7½ of 12: 6 won, 3 drawn, 3 lost`. */
+function scoreWords(games, names) {
+  const count = { won: 0, drawn: 0, lost: 0 };
+  for (const { tags: { White, Result } } of games) {
+    const isWhite = names.includes(White);
+    count[Result === '1/2-1/2' ? 'drawn' : (Result === '1-0') === isWhite ? 'won' : 'lost'] += 1;
+  }
+  const whole = count.won + Math.floor(count.drawn / 2), half = count.drawn % 2 ? '½' : '';
+  const points = half && !whole ? half : `${whole}${half}`;
+  return t`Score: ${points} of ${games.length} (${count.won} won, ${count.drawn} drawn, ${count.lost} lost)`;
+}

@@ -1,0 +1,100 @@
+// The games that the club has kept, as the lobby serves them in one file: the one that was kept last stands first.
+
+import { endOf, readGame } from './study.js';
+import { fenOf, isInCheck } from './rules.js';
+import { squaresOf } from './lines.js';
+
+const FILE = 'kept.pgn';
+const BETWEEN = /\n\n(?=\[)/;        // a game ends with an empty line, and the next begins with a tag
+const TAG = /^\[(\w+) "((?:[^"\\]|\\.)*)"\]$/gm;
+const CLOCK = /\[%clk (\d+):(\d\d):(\d\d)\]/;
+
+/** What was read whole, by the tag of the file that it was. */
+let whole = { tag: '', games: [] };
+
+/** A game by its PGN: its number, the values of its tags, and the text. */
+function gameOf(text) {
+  const tags = {};
+  for (const [, name, value] of text.split('\n\n', 1)[0].matchAll(TAG)) tags[name] = value.replace(/\\(.)/g, '$1');
+  return { number: Number(tags.GameId), tags, text: `${text.trimEnd()}\n\n` };
+}
+
+/** Hands the games of the file to `take`, some at a time, until it says that it has enough, or it is stopped; whether
+ * there is such a file, and whether it was read whole: 'whole', 'part', 'none' or 'failed'. */
+export async function readKept(take, stopped = new AbortController()) {
+  try {
+    const answer = await fetch(FILE, { cache: 'no-cache', signal: stopped.signal });
+    if (!answer.ok) return answer.status === 404 ? 'none' : 'failed';
+    const tag = answer.headers.get('etag') || '';
+    if (tag && tag === whole.tag) {
+      take(whole.games);
+      stopped.abort();
+      return 'whole';
+    }
+    return await readOn(answer.body.pipeThrough(new TextDecoderStream()).getReader(), tag, take, stopped);
+  } catch (refused) {
+    return stopped.signal.aborted ? 'part' : 'failed';
+  }
+}
+
+async function readOn(reader, tag, take, stopped) {
+  const games = [];
+  for (let rest = '', done = false; !done;) {
+    const read = await reader.read(), pieces = (rest + (read.value || '')).split(BETWEEN);
+    ({ done } = read);
+    rest = done ? '' : pieces.pop();
+    const more = pieces.filter((text) => text.trim()).map(gameOf);
+    games.push(...more);
+    if (take(more) && !done) {
+      stopped.abort();
+      return 'part';
+    }
+  }
+  whole = { tag, games };
+  return 'whole';
+}
+
+/** The game of this number, or null. */
+export async function findKept(number) {
+  let found = null;
+  await readKept((games) => {
+    found = found || games.find((game) => game.number === number) || null;
+    return Boolean(found);
+  });
+  return found;
+}
+
+/** What a side's clock showed behind a position, in milliseconds, by its last move that has a clock. */
+function leftAt(at, side, initial) {
+  for (let one = at; one.parent; one = one.parent) {
+    const found = one.parent.position.side === side && CLOCK.exec(one.comment);
+    if (found) return ((Number(found[1]) * 60 + Number(found[2])) * 60 + Number(found[3])) * 1000;
+  }
+  return initial;
+}
+
+/** A game as the lobby would tell it were it on the table: {standing, line}; null where its moves cannot be read. Who
+ * played is told by `nameOf` of what the tags have. */
+export function toldOf({ number, tags, text }, nameOf) {
+  const game = readGame(text);
+  if (!game || game.wrong) return null;
+  const line = [{ san: '', text: '-', ...squaresOf('-'), fen: fenOf(game.start.position) }], last = endOf(game.start);
+  for (let [at] = game.start.next; at; [at] = at.next) {
+    line.push({ san: at.san, text: at.text, ...squaresOf(at.text), fen: fenOf(at.position) });
+  }
+  const initial = Number(/(?:\/|^)(\d+)(?=[+:]|$)/.exec(tags.TimeControl || '')?.[1] || 0) * 1000;
+  const standing = { number, white: nameOf(tags.White), black: nameOf(tags.Black), ply: line.length - 1,
+    side: last.position.side, left: { w: leftAt(last, 'w', initial), b: leftAt(last, 'b', initial) }, offer: '',
+    result: tags.Result, article: tags.Article || '?', fen: fenOf(last.position), check: isInCheck(last.position),
+    moves: [] };
+  return { standing, line };
+}
+
+/** A tag's date in the browser's way, `2026.11.27`; the text itself where a part of it is not known. */
+export function dateWords(date, language) {
+  const found = /^(\d{4})\.(\d\d)\.(\d\d)$/.exec(date || '');
+  if (!found) return !date || date.startsWith('????') ? '' : date;
+  const [year, month, day] = found.slice(1).map(Number);
+  const form = { day: 'numeric', month: 'short', year: 'numeric' };
+  return new Date(year, month - 1, day).toLocaleDateString(language, form);
+}
