@@ -11,7 +11,7 @@ use lobby_serving::serve;
 use night_boards::start;
 use night_games::print_evidence;
 use night_keeping::{export, keep, live};
-use night_outcomes::{write_report, write_results};
+use night_outcomes::{decide_result, write_report, write_results};
 use std::process::ExitCode;
 
 fn main(rt: HostRuntime) -> ExitCode {
@@ -30,6 +30,7 @@ fn do_words(rt: &HostRuntime) -> Result<(), NotDone> {
         Word::Live(living) => live(rt, &living),
         Word::Start(starting) => start(rt, &starting),
         Word::Results(asking) => write_results(rt, &asking),
+        Word::Decide(deciding) => decide_result(rt, &deciding),
         Word::Report(reporting) => write_report(rt, &reporting),
     }
     .map_err(NotDone::Work)

@@ -1,12 +1,14 @@
-//! The words of a league's rounds, with the texts of their help: games are opened, results and the report written.
+//! The words of a league's rounds, with the texts of their help: games are opened, results decided, these and the
+//! report written.
 use crate::addresses::server_named;
 use crate::days::is_day;
 use crate::options::{ARCHIVE, PLAYERS, SERVER};
 use clap::ArgMatches;
 use command_lines::{OptionText, OptionValue, WordText};
 use night_boards::{Round, Said, Starting};
-use night_outcomes::{Asking, Reporting, Source};
+use night_outcomes::{Asking, Deciding, Reporting, Source};
 use night_report::Tournament;
+use night_rounds::verdict_of;
 use std::alloc::{AllocError, Global};
 use std::net::SocketAddr;
 
@@ -22,7 +24,7 @@ Where it cannot know which game is a board's, or whether it has one, it says so,
 board alone, and ends with status 1. Look at the games then, and give it again with --take for the
 game that is the board's, or with --after where none up to a game is: it is opened then.
 
-A row of --pairings with a board and White alone is a bye: nothing is opened for it. By
+A row of --pairings with White and no Black is a bye: nothing is opened for it. By
 --players a name that is not in that file is refused before anything is opened. So is an
 initial time of less than 60 seconds, since 15+10 is 15 seconds here, but with --short.
 
@@ -38,11 +40,14 @@ prints
 
 const HELP_OF_RESULTS: &str = "\
 It writes a line for each board, as CSV: the board, White, Black, the result (* while the
-game goes on), the article of the Laws by which it ended, and the game. Asked are the
-archive, where --archive names one, and then the server, where --server does. In the archive
-a game is the board's where it has the names of its players, or by --players their full
-names. Of each game that goes on or was not found it says so on standard error; where one is
-of others than the board's players it ends with status 1 besides.
+game goes on), the article of the Laws by which it ended, and the game; the result that the
+server tells; where an arbiter decided otherwise (--decisions) who did and why; and a note,
+as why there is no result, or that it is a draw by the Laws: that decides nothing. Asked are
+the archive, where --archive names one, and then the server, where --server does. In the
+archive a game is the board's where it has the names of its players, or by --players their
+full names. Notes stand on standard error too. Where a game is of others than the board's
+players, a line of the archive is no game's, or the server is away, it ends with status 1
+once all lines are written.
 
 Exit status: 0; 1 with what is wrong on standard error; 2 for words that the program does
 not know.
@@ -51,21 +56,41 @@ Example:
   chess-club results --pairings round1.csv --round-file round1.games \\
       --archive night.jsonl --players club.players
 prints
-  board,white,black,result,article,game
-  1,ann,bob,1-0,5.1.1,17";
+  board,white,black,result,article,game,server,arbiter,reason,note
+  1,ann,bob,1-0,5.1.1,17,1-0,,,";
+
+const HELP_OF_DECIDE: &str = "\
+It puts an arbiter's decision about a board of --pairings behind the others of --decisions,
+a file that is made where there is none. The last decision about a board counts, in place of
+what the server says, for results and trf that are given this file; nothing is taken back.
+
+The result is 1-0, 0-1, 1/2-1/2, 1/2-0 or 0-1/2 (half a point for one alone), 0-0 (both have
+lost), or of who did not come +/-, -/+ or -/-, with a sign of equality before the last two:
+--result=-/+.
+
+Exit status: 0; 1 with what is wrong on standard error; 2 for words that the program does
+not know.
+
+Example:
+  chess-club decide --pairings round1.csv --decisions round1.decisions --board 3 \\
+      --result 1/2-1/2 --article 6.9 --arbiter \"Eve Moss\" --reason \"only a knight is left\"
+prints
+  board 3: 1/2-1/2 is decided";
 
 const HELP_OF_TRF: &str = "\
 It writes the tournament's report, TRF-16: who played whom in each round, with the results
 and points. Players are numbered by their place in the players' file. Asked for results are
-the archive, where --archive names one, and then the server, where --server does. Where a
-game is of others than its board's players it writes nothing, and ends with status 1.
+the archive, where --archive names one, and then the server, where --server does; the last
+decision of an arbiter about a board counts in their place. Where a game is of others than
+its board's players it writes nothing, and ends with status 1; where a line of the archive
+is no game's or the server is away, that status is behind the report.
 
 Exit status: 0; 1 with what is wrong on standard error; 2 for words that the program does
 not know.
 
 Example:
   chess-club trf --players club.players --archive night.jsonl --name \"Club league\" \\
-      --rounds round1.csv,round1.games --rounds round2.csv,round2.games >league.trf";
+      --rounds round1.csv,round1.games,round1.decisions --rounds round2.csv,round2.games >league.trf";
 
 const PAIRINGS: OptionText = OptionText {
     name: "pairings",
@@ -78,6 +103,53 @@ const ROUND_FILE: OptionText = OptionText {
     name: "round-file",
     value: OptionValue::Text("FILE"),
     help: "Which game is which board's",
+    is_required: true,
+};
+
+const DECISIONS: OptionText = OptionText {
+    name: "decisions",
+    value: OptionValue::Text("FILE"),
+    help: "The arbiters' decisions about the round's boards",
+    is_required: false,
+};
+
+const DECISIONS_KEPT: OptionText = OptionText {
+    is_required: true,
+    ..DECISIONS
+};
+
+const BOARD: OptionText = OptionText {
+    name: "board",
+    value: OptionValue::Text("NUMBER"),
+    help: "The board",
+    is_required: true,
+};
+
+const RESULT: OptionText = OptionText {
+    name: "result",
+    value: OptionValue::Text("RESULT"),
+    help: "1-0, 0-1, 1/2-1/2, 1/2-0, 0-1/2, 0-0, +/-, -/+ or -/-",
+    is_required: true,
+};
+
+const ARTICLE: OptionText = OptionText {
+    name: "article",
+    value: OptionValue::Text("TEXT"),
+    help: "The article of the Laws by which it is decided, as 6.9",
+    is_required: false,
+};
+
+const ARBITER_NAMED: OptionText = OptionText {
+    name: "arbiter",
+    value: OptionValue::Text("TEXT"),
+    help: "Who decides it",
+    is_required: true,
+};
+
+const REASON: OptionText = OptionText {
+    name: "reason",
+    value: OptionValue::Text("TEXT"),
+    help: "Why, in words",
     is_required: true,
 };
 
@@ -129,7 +201,7 @@ const PLAYERS_NAMED: OptionText = OptionText {
 const ROUNDS: OptionText = OptionText {
     name: "rounds",
     value: OptionValue::Texts("CSV,GAMES"),
-    help: "The two files of a round; it is given once for each round, in their order",
+    help: "A round's files, behind them ,DECISIONS where there are any; once for each round, in their order",
     is_required: true,
 };
 
@@ -229,8 +301,24 @@ pub const RESULTS: WordText = WordText {
         PAIRINGS,
         ROUND_FILE,
         PLAYERS_NAMED,
+        DECISIONS,
         ARCHIVE_IF_ANY,
         SERVER_IF_ANY,
+    ],
+};
+
+pub const DECIDE: WordText = WordText {
+    name: "decide",
+    about: "Decides the result of a board",
+    help: HELP_OF_DECIDE,
+    options: &[
+        PAIRINGS,
+        DECISIONS_KEPT,
+        BOARD,
+        RESULT,
+        ARTICLE,
+        ARBITER_NAMED,
+        REASON,
     ],
 };
 
@@ -278,6 +366,7 @@ fn round_of<'a>(values: &ArgMatches<'a>) -> Option<Round<'a>> {
     Some(Round {
         pairings: values.get_str("pairings")?,
         games: values.get_str("round-file")?,
+        decisions: values.get_str("decisions"),
     })
 }
 
@@ -312,6 +401,19 @@ fn number_of(text: &str) -> Option<u32> {
         Ok(number) if number > 0 => Some(number),
         _ => None,
     }
+}
+
+/// What `decide` asks for; none where a board or a result is none.
+pub fn deciding_of<'a>(values: &ArgMatches<'a>) -> Option<Deciding<'a>> {
+    Some(Deciding {
+        pairings: values.get_str("pairings")?,
+        file: values.get_str("decisions")?,
+        board: number_of(values.get_str("board")?)?,
+        verdict: verdict_of(values.get_str("result")?)?,
+        article: text_of(values, "article"),
+        arbiter: values.get_str("arbiter")?,
+        reason: values.get_str("reason")?,
+    })
 }
 
 // A board and its game, `3=17`.
@@ -375,10 +477,23 @@ pub fn starting_of<'a>(
     }))
 }
 
-// The files of a round, `round1.csv,round1.games`.
+// The file of the games, and that of the decisions where one stands behind it.
+fn games_and_decisions(text: &str) -> (&str, Option<&str>) {
+    match text.split_once(',') {
+        Some((games, decisions)) => (games, Some(decisions)),
+        None => (text, None),
+    }
+}
+
+// The files of a round, `round1.csv,round1.games` or `round1.csv,round1.games,round1.decisions`.
 fn files_of(text: &str) -> Option<Round<'_>> {
-    let (pairings, games) = text.split_once(',')?;
-    Some(Round { pairings, games })
+    let (pairings, files) = text.split_once(',')?;
+    let (games, decisions) = games_and_decisions(files);
+    Some(Round {
+        pairings,
+        games,
+        decisions,
+    })
 }
 
 fn text_of<'a>(values: &ArgMatches<'a>, name: &str) -> &'a str {

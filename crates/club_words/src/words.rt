@@ -3,7 +3,9 @@ use crate::archive::{
     EXPORT, KEEP, LIVE, exporting_of, keeping_of, living_of, no_date_told, no_dates_told,
 };
 use crate::lobby::{EVIDENCE, LOBBY, PLAYER, adding_of, evidence_of, serving_of};
-use crate::rounds::{RESULTS, START, TRF, asking_of, no_day_told, reporting_of, starting_of};
+use crate::rounds::{
+    DECIDE, RESULTS, START, TRF, asking_of, deciding_of, no_day_told, reporting_of, starting_of,
+};
 use clap::{ArgMatches, Command, Error};
 use command_lines::{CLUB, WordText, command_line, read_by, read_or_told};
 use lobby_players::Adding;
@@ -11,7 +13,7 @@ use lobby_serving::Serving;
 use night_boards::Starting;
 use night_games::Evidence;
 use night_keeping::{Exporting, Keeping, Living};
-use night_outcomes::{Asking, Reporting};
+use night_outcomes::{Asking, Deciding, Reporting};
 use std::alloc::{AllocError, Global};
 
 /// What the program is to do.
@@ -33,15 +35,17 @@ pub enum Word<'a> {
     Start(Starting<'a>),
     /// To write the results of a round.
     Results(Asking<'a>),
+    /// To decide the result of a board.
+    Decide(Deciding<'a>),
     /// To write the report of a tournament.
     Report(Reporting<'a>),
 }
 
 // The words, in the order in which help lists them. (They have a function of their own, since each step of a function
 // that has texts tells of all their bytes.)
-fn words() -> [WordText; 9] {
+fn words() -> [WordText; 10] {
     [
-        LOBBY, PLAYER, EVIDENCE, KEEP, EXPORT, LIVE, START, RESULTS, TRF,
+        LOBBY, PLAYER, EVIDENCE, KEEP, EXPORT, LIVE, START, RESULTS, DECIDE, TRF,
     ]
 }
 
@@ -93,6 +97,7 @@ fn word_of<'a>(alloc: Global, matches: &ArgMatches<'a>) -> Result<Option<Word<'a
         "live" => living_of(values).map(Word::Live),
         "start" => starting_of(alloc, values)?.map(Word::Start),
         "results" => asking_of(values).map(Word::Results),
+        "decide" => deciding_of(values).map(Word::Decide),
         "trf" => reporting_of(alloc, values)?.map(Word::Report),
         _ => None,
     })
@@ -116,6 +121,8 @@ fn fault_of(matches: &ArgMatches<'_>) -> &'static str {
         }
         Some(("start", _)) => "an address, a board or a game is none",
         Some(("results", _)) => { "an address is none, or neither --archive nor --server is given" }
+        Some(("decide", _)) =>
+            "a board is a number from 1 on, and a result as 1-0, 1/2-1/2, 0-0 or +/-",
         Some(("trf", _)) => {
             "an address, a number or a round's files are none, or neither --archive nor --server is given"
         }

@@ -6,6 +6,8 @@ use std::net::SocketAddr;
 pub struct Round<'a> {
     pub pairings: &'a str,
     pub games: &'a str,
+    /// The file of arbiters' decisions, where one is named.
+    pub decisions: Option<&'a str>,
 }
 
 /// What the arbiter said of boards.

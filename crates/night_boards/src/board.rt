@@ -3,7 +3,8 @@ use crate::round_file::RoundFile;
 use crate::table::{Table, has_times, look, show_game};
 use anyhow::Result;
 use night_rounds::{
-    Game, Note, Pairing, Row, Seats, Stage, Step, Times, candidates, newest, step_of, times_text,
+    Against, Game, Note, Pairing, Row, Seats, Stage, Step, Times, candidates, newest, step_of,
+    times_text,
 };
 use std::alloc::{AllocError, Global};
 
@@ -244,7 +245,7 @@ fn taken_of(takes: &[(u32, u32)], number: u32) -> Option<u32> {
 pub fn boards_of(alloc: Global, pairings: &[Pairing], takes: &[(u32, u32)]) -> Result<Vec<Board>> {
     let mut boards = Vec::new(alloc);
     for pairing in pairings {
-        if let Some(game) = pairing.game {
+        if let Against::Game(game) = pairing.against {
             boards.push(Board {
                 alloc,
                 pairing: *pairing,

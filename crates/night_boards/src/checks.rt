@@ -1,7 +1,7 @@
 //! What is asked of pairings before anything is opened.
 use anyhow::Result;
 use lobby_words::Player;
-use night_rounds::Pairing;
+use night_rounds::{Against, Pairing};
 use player_name::Name;
 
 // The seconds below which an initial time is taken for minutes.
@@ -22,9 +22,9 @@ fn check_player(players: &[Player], row: usize, name: &Name) -> Result<()> {
 // The same of the players of a row.
 fn check_pairing(players: &[Player], row: usize, pairing: &Pairing) -> Result<()> {
     check_player(players, row, &pairing.white)?;
-    match &pairing.game {
-        Some(game) => check_player(players, row, &game.black),
-        None => Ok(()),
+    match &pairing.against {
+        Against::Game(game) => check_player(players, row, &game.black),
+        Against::Bye(_) => Ok(()),
     }
 }
 
@@ -55,7 +55,7 @@ pub fn check_times(pairings: &[Pairing]) -> Result<()> {
     let mut row: usize = 1;
     for pairing in pairings {
         row = row.saturating_add(1);
-        if let Some(game) = pairing.game {
+        if let Against::Game(game) = pairing.against {
             check_time(row, game.times.initial)?;
         }
     }

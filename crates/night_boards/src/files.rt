@@ -1,7 +1,7 @@
 //! The files that are only read.
 use anyhow::{Context, Result, bail};
 use night_files::{cut_lines, tell_left_out, torn_fault};
-use night_rounds::{Note, Pairing, note_of, read};
+use night_rounds::{Against, Note, Pairing, note_of, read};
 use std::alloc::Global;
 use std::fs;
 use std::rt::Files;
@@ -127,9 +127,9 @@ pub fn check_notes(file: &str, notes: &[Note], pairings: &[Pairing]) -> Result<(
 
 // Whether a note is of a pairing.
 fn is_of(note: &Note, pairing: &Pairing) -> bool {
-    match pairing.game {
-        None => false,
-        Some(game) => {
+    match pairing.against {
+        Against::Bye(_) => false,
+        Against::Game(game) => {
             note.board == pairing.board
                 && note.white.as_str() == pairing.white.as_str()
                 && note.black.as_str() == game.black.as_str()

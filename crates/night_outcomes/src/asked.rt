@@ -1,6 +1,7 @@
 //! What is asked of rounds that are over.
 use night_boards::Round;
 use night_report::Tournament;
+use night_rounds::Verdict;
 
 /// Where results are looked for.
 #[derive(Clone, Copy)]
@@ -26,4 +27,18 @@ pub struct Reporting<'a> {
     pub rounds: Vec<Round<'a>>,
     pub source: Source<'a>,
     pub tournament: Tournament<'a>,
+}
+
+/// A decision of an arbiter that is put to a round's decisions.
+#[derive(Clone, Copy)]
+pub struct Deciding<'a> {
+    pub pairings: &'a str,
+    /// The file of decisions.
+    pub file: &'a str,
+    pub board: u32,
+    pub verdict: Verdict,
+    /// As `6.9`; empty where none is named.
+    pub article: &'a str,
+    pub arbiter: &'a str,
+    pub reason: &'a str,
 }

@@ -1,15 +1,22 @@
 //! What came of the games of rounds: in the archive and on the table, as the results of a round and as the report of a
-//! tournament.
+//! tournament; and what an arbiter decides instead.
 //!
-//! Modules: `asked` has what is asked, `outcomes` finds what came of a game by the tags of its PGN or by the table,
-//! `results_word` and `report_word` write it.
+//! Modules: `asked` has what is asked, `archived` reads the archive's games, `tags` the tags of a PGN, `outcomes` finds
+//! what came of a game by these or by the table, `laws` what the Laws say of that, `decisions` reads and writes the
+//! decisions of arbiters, `results_word`, `report_word` and `decide_word` do the words.
 #![tactic(auto)]
 
+mod archived;
 mod asked;
+mod decide_word;
+mod decisions;
+mod laws;
 mod outcomes;
 mod report_word;
 mod results_word;
+mod tags;
 
-pub use asked::{Asking, Reporting, Source};
+pub use asked::{Asking, Deciding, Reporting, Source};
+pub use decide_word::decide_result;
 pub use report_word::write_report;
 pub use results_word::write_results;

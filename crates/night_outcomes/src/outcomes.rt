@@ -1,20 +1,21 @@
 //! What came of games: in the archive, and on the table.
+use crate::archived::ArchivedGames;
 use crate::asked::Source;
-use anyhow::{Context, Result, bail};
+use crate::laws::{is_asked, said_by_laws};
+use crate::tags::{PgnTags, tags_in};
+use anyhow::{Result, bail};
 use command_lines::tell;
 use lobby_players::full_name;
 use lobby_words::Player;
-use night_archive::{game_of, lines_told, pgn_of};
-use night_links::{Link, refused};
-use night_rounds::{Note, Pairing, game_in, last_of};
+use night_links::{Answer, Link, refused};
+use night_rounds::{Against, Decision, Note, Pairing, game_in, last_about, last_of, verdict_text};
 use player_name::Name;
 use server_answers::{Ending, Refusal, Seats, Shown, refusal_of, result_text, shown_of};
 use sockets::ServerAddress;
 use std::alloc::{AllocError, Global};
 use std::net::{Net, TcpStream};
 use std::rt::Files;
-use text_parts::parts;
-use text_pgn::{is_move, is_tag, value_in, without_escapes};
+use text_pgn::without_escapes;
 
 /// What came of a game: the result as PGN has it, the article by which it ended, and whether both sides made a move in
 /// it, or it was played on from a position.
@@ -43,20 +44,20 @@ impl Found {
     }
 }
 
-// A game of the archive, with its line, and the adjourned game that it continues.
+// The server, where it is asked: a connection, or why there is none any more.
 #[derive(Drop)]
-struct ArchivedGame {
-    game: u32,
-    line: String,
-    continues: Option<u32>,
+enum Server {
+    NotAsked,
+    Linked(Link),
+    Away(String),
 }
 
 /// Where it is looked for what came of games.
 #[derive(Drop)]
 pub struct Outcomes<'a> {
     alloc: Global,
-    archived: Vec<ArchivedGame>,
-    link: Option<Link>,
+    archived: ArchivedGames,
+    server: Server,
     players: &'a [Player],
     // What is to be told of boards.
     words: Vec<String>,
@@ -64,6 +65,43 @@ pub struct Outcomes<'a> {
     has_others: bool,
     // Whether a board's game was played on as another.
     has_halves: bool,
+}
+
+/// A board of a round, as it is asked for: the file of the pairings, what was noted, and the decisions of arbiters.
+#[derive(Clone, Copy)]
+pub struct Boards<'a> {
+    pub file: &'a str,
+    pub notes: &'a [Note],
+    pub decisions: &'a [Decision],
+}
+
+/// What is known of a board's game; none where nothing came of it. And what is to be told besides: why not, or what the
+/// Laws say of it.
+#[derive(Drop)]
+pub struct Told {
+    pub ended: Option<Ended>,
+    pub note: String,
+}
+
+// A text, and behind it another one where there is one.
+fn joined(alloc: Global, text: &str, more: Option<String>) -> Result<String, AllocError> {
+    let mut all = String::from_str(alloc, text)?;
+    if let Some(more) = more {
+        if !all.is_empty() {
+            all.push_str("; ")?;
+        }
+        all.push_str(more.as_str())?;
+    }
+    Ok(all)
+}
+
+// That a game goes on, where it does.
+fn going_on(ended: &Ended) -> &'static str {
+    if ended.result.as_str() == "*" {
+        "its game goes on"
+    } else {
+        ""
+    }
 }
 
 /// The game of a board, where it was opened and noted.
@@ -74,157 +112,20 @@ pub fn noted_game(notes: &[Note], board: u32) -> Option<u32> {
     }
 }
 
-// How many of these words are moves.
-fn moves_among(words: &[&str]) -> u32 {
-    let mut moves: u32 = 0;
-    for word in words {
-        if is_move(word) {
-            moves = moves.saturating_add(1);
-        }
-    }
-    moves
-}
-
-// How many moves stand in a line that is no tag's.
-fn moves_in(alloc: Global, line: &str) -> Result<u32, AllocError> {
-    if is_tag(line) {
-        return Ok(0);
-    }
-    let words = parts(alloc, line, ' ')?;
-    Ok(moves_among(words.as_slice()))
-}
-
-// What the tags of a PGN tell, who played, from which position, what came of it and which game it continues, and how
-// many moves it has.
-#[derive(Clone, Copy)]
-struct PgnTags<'a> {
-    white: &'a str,
-    black: &'a str,
-    fen: &'a str,
-    result: &'a str,
-    article: &'a str,
-    continues: &'a str,
-    plies: u32,
-}
-
-// What a line has as the value of this tag, and else what was told before it.
-fn told_in<'a>(line: &'a str, tag: &str, before: &'a str) -> &'a str {
-    value_in(line, tag).unwrap_or(before)
-}
-
-impl<'a> PgnTags<'a> {
-    // The same with what a line tells, in which so many moves stand.
-    fn with_line(self, line: &'a str, moves: u32) -> PgnTags<'a> {
-        PgnTags {
-            white: told_in(line, "White", self.white),
-            black: told_in(line, "Black", self.black),
-            fen: told_in(line, "FEN", self.fen),
-            result: told_in(line, "Result", self.result),
-            article: told_in(line, "Article", self.article),
-            continues: told_in(line, "Continues", self.continues),
-            plies: self.plies.saturating_add(moves),
-        }
-    }
-
-    fn ended(self, alloc: Global) -> Result<Ended, AllocError> {
-        Ok(Ended {
-            result: String::from_str(alloc, self.result)?,
-            article: String::from_str(alloc, self.article)?,
-            is_played: self.plies >= 2 || !self.fen.is_empty(),
-        })
-    }
-}
-
-// What the lines of a PGN tell; `*` where they do not tell the result.
-fn tags_among<'a>(alloc: Global, lines: &[&'a str]) -> Result<PgnTags<'a>, AllocError> {
-    let mut tags = PgnTags {
-        white: "",
-        black: "",
-        fen: "",
-        result: "*",
-        article: "",
-        continues: "",
-        plies: 0,
-    };
-    for line in lines {
-        tags = tags.with_line(line, moves_in(alloc, line)?);
-    }
-    Ok(tags)
-}
-
-// What a PGN tells.
-fn tags_in(alloc: Global, pgn: &str) -> Result<PgnTags<'_>, AllocError> {
-    let lines = parts(alloc, pgn, '\n')?;
-    tags_among(alloc, lines.as_slice())
-}
-
-// The adjourned game that the game of an archive's line continues.
-fn continued_in(alloc: Global, line: &str) -> Result<Option<u32>, AllocError> {
-    let pgn = pgn_of(alloc, line)?;
-    let Ok(pgn) = String::from_utf8(pgn) else {
-        return Ok(None);
-    };
-    let tags = tags_in(alloc, pgn.as_str())?;
-    Ok(tags.continues.parse::<u32>().ok())
-}
-
-// Puts the game of a line, where it tells one.
-fn put_game(games: &mut Vec<ArchivedGame>, alloc: Global, line: &str) -> Result<(), AllocError> {
-    let Some(game) = game_of(alloc, line)? else {
-        return Ok(());
-    };
-    let continues = continued_in(alloc, line)?;
-    let line = String::from_str(alloc, line)?;
-    games.push(ArchivedGame {
-        game,
-        line,
-        continues,
-    })?;
-    Ok(())
-}
-
-fn put_games(
-    games: &mut Vec<ArchivedGame>,
-    alloc: Global,
-    lines: &[&str],
-) -> Result<(), AllocError> {
-    for line in lines {
-        put_game(games, alloc, line)?;
-    }
-    Ok(())
-}
-
-// The games of an archive's text.
-fn games_in(alloc: Global, text: &str) -> Result<Vec<ArchivedGame>, AllocError> {
-    let lines = parts(alloc, text, '\n')?;
-    let mut games = Vec::new(alloc);
-    put_games(&mut games, alloc, lines.as_slice())?;
-    Ok(games)
-}
-
-// The games of an archive, where one is named.
-fn archive_of<R: Files + AllocGlobal + Eprint>(
-    rt: &R,
-    file: Option<&str>,
-) -> Result<Vec<ArchivedGame>> {
-    let Some(file) = file else {
-        return Ok(Vec::new(rt.alloc()));
-    };
-    let text = lines_told(rt, file)?;
-    Ok(games_in(rt.alloc(), text.as_str())?)
-}
-
-// The connection to the server, where one is named.
-fn link_of<R: Net<Stream = TcpStream> + AllocGlobal>(
+// The server, where one is named.
+fn server_of<R: Net<Stream = TcpStream> + AllocGlobal>(
     rt: &R,
     server: Option<&str>,
-) -> Result<Option<Link>> {
+) -> Result<Server> {
     let Some(text) = server else {
-        return Ok(None);
+        return Ok(Server::NotAsked);
     };
-    match ServerAddress::named(text) {
-        Some(server) => Ok(Some(Link::open(rt, server)?)),
-        None => bail!("{text} is no address"),
+    let Some(server) = ServerAddress::named(text) else {
+        bail!("{text} is no address");
+    };
+    match Link::open(rt, server) {
+        Ok(link) => Ok(Server::Linked(link)),
+        Err(error) => Ok(Server::Away(format!(in rt.alloc(); "{error:#}")?)),
     }
 }
 
@@ -331,16 +232,17 @@ fn found_told(
 }
 
 impl<'a> Outcomes<'a> {
-    /// Reads the archive, and connects to the server, where these are named. In the archive players stand by their full
-    /// names, or by those of the protocol.
+    /// Reads the archive, and connects to the server, where these are named; where the server is away that is told of
+    /// each board that only it might know. In the archive players stand by their full names, or by those of the
+    /// protocol.
     pub fn open<R>(rt: &R, source: Source<'_>, players: &'a [Player]) -> Result<Outcomes<'a>>
     where
         R: Files + Net<Stream = TcpStream> + AllocGlobal + Eprint,
     {
         Ok(Outcomes {
             alloc: rt.alloc(),
-            archived: archive_of(rt, source.archive)?,
-            link: link_of(rt, source.server)?,
+            archived: ArchivedGames::read(rt, source.archive)?,
+            server: server_of(rt, source.server)?,
             players,
             words: Vec::new(rt.alloc()),
             has_others: false,
@@ -367,17 +269,6 @@ impl<'a> Outcomes<'a> {
             black: full_name(self.players, black.as_str()),
         };
         others_text(self.alloc, game, "of the archive", found, wanted)
-    }
-
-    // The PGN that the archive has under a game's number.
-    fn pgn(&self, game: u32) -> Result<Option<String>> {
-        for archived in self.archived.as_slice() {
-            if archived.game == game {
-                let pgn = pgn_of(self.alloc, archived.line.as_str())?;
-                return Ok(Some(String::from_utf8(pgn).context(format_args!("game {game}"))?));
-            }
-        }
-        Ok(None)
     }
 
     // What a game's PGN tells of a board's game, which names its players so.
@@ -416,19 +307,32 @@ impl<'a> Outcomes<'a> {
 
     // What the archive tells of a board's game.
     fn archived(&self, white: &Name, black: &Name, game: u32) -> Result<Found> {
-        match self.pgn(game)? {
+        match self.archived.pgn(game)? {
             None => Ok(Found::Nothing),
             Some(pgn) => Ok(self.found_in(white, black, game, pgn.as_str())?),
         }
     }
 
+    // The answer of the server to a line; none where it is not asked, or away, as from a fault on.
+    fn ask(&mut self, line: &str) -> Result<Option<Answer>> {
+        let Server::Linked(link) = &mut self.server else {
+            return Ok(None);
+        };
+        match link.ask(line) {
+            Ok(answer) => Ok(Some(answer)),
+            Err(error) => {
+                self.server = Server::Away(format!(in self.alloc; "{error:#}")?);
+                Ok(None)
+            }
+        }
+    }
+
     // What the server tells of a board's game.
     fn on_table(&mut self, white: &Name, black: &Name, game: u32) -> Result<Found> {
-        let Some(link) = &mut self.link else {
+        let line = format!(in self.alloc; "show {game}")?;
+        let Some(answer) = self.ask(line.as_str())? else {
             return Ok(Found::Nothing);
         };
-        let line = format!(in self.alloc; "show {game}")?;
-        let answer = link.ask(line.as_str())?;
         found_told(
             self.alloc,
             white,
@@ -439,12 +343,20 @@ impl<'a> Outcomes<'a> {
         )
     }
 
+    // Why a game was not found.
+    fn not_found(&self, game: u32) -> Result<String, AllocError> {
+        match &self.server {
+            Server::Away(why) => format!(in self.alloc;
+                "game {game} was not found, and the server is away: {why}"
+            ),
+            _ => format!(in self.alloc; "game {game} was not found"),
+        }
+    }
+
     // What is told of a board's game that is not on the table: what the archive told, if it told anything.
     fn without_table(&self, game: u32, archived: Found) -> Result<Found, AllocError> {
         match archived {
-            Found::Nothing => Ok(Found::Unknown(format!(in self.alloc;
-                "game {game} was not found"
-            )?)),
+            Found::Nothing => Ok(Found::Unknown(self.not_found(game)?)),
             archived => Ok(archived),
         }
     }
@@ -473,86 +385,141 @@ impl<'a> Outcomes<'a> {
 
     // What is known of a board's game. Of a bye nothing is.
     fn found_at(&mut self, pairing: &Pairing, game: Option<u32>) -> Result<Found> {
-        match (&pairing.game, game) {
-            (None, _) => Ok(Found::Nothing),
-            (Some(paired), Some(game)) => self.found(&pairing.white, &paired.black, game),
-            (Some(_), None) => {
+        match (&pairing.against, game) {
+            (Against::Bye(_), _) => Ok(Found::Nothing),
+            (Against::Game(paired), Some(game)) => self.found(&pairing.white, &paired.black, game),
+            (Against::Game(_), None) => {
                 Ok(Found::Unknown(String::from_str(self.alloc, "no game was opened for it")?))
             }
         }
     }
 
-    // Has it told later what is to be told of a board.
+    // The PGN of a game: of the archive, and else of the table.
+    fn pgn(&mut self, game: u32) -> Result<Option<String>> {
+        if let Some(pgn) = self.archived.pgn(game)? {
+            return Ok(Some(pgn));
+        }
+        let line = format!(in self.alloc; "pgn {game}")?;
+        match self.ask(line.as_str())? {
+            Some(answer) => Ok(Some(answer.behind)),
+            None => Ok(None),
+        }
+    }
+
+    // What the Laws say of what came of a game, or that it goes on.
+    fn note_of_ended(&mut self, game: u32, ended: &Ended) -> Result<String> {
+        let pgn = if is_asked(ended) {
+            self.pgn(game)?
+        } else {
+            None
+        };
+        let said = match pgn {
+            Some(pgn) => said_by_laws(self.alloc, pgn.as_str(), ended)?,
+            None => None,
+        };
+        Ok(joined(self.alloc, going_on(ended), said)?)
+    }
+
+    // Why nothing came of a board's game, that it goes on, or what the Laws say of it.
+    fn note_of(&mut self, game: Option<u32>, found: &Found) -> Result<String> {
+        match (found, game) {
+            (Found::Others(why), _) | (Found::Unknown(why), _) => {
+                Ok(String::from_str(self.alloc, why.as_str())?)
+            }
+            (Found::Ended(ended), Some(game)) => self.note_of_ended(game, ended),
+            _ => Ok(String::new(self.alloc)),
+        }
+    }
+
+    // That a board's game was played on as another, which the board's notes do not name.
+    fn half_of(&self, board: u32, game: Option<u32>) -> Result<Option<String>, AllocError> {
+        let Some(game) = game else {
+            return Ok(None);
+        };
+        let Some(later) = self.archived.continued_by(game) else {
+            return Ok(None);
+        };
+        let why = format!(in self.alloc;
+            "game {game} was played on as game {later}: give start with --take {board}={later}"
+        )?;
+        Ok(Some(why))
+    }
+
+    // Has it told later what is to be told of a board, where that is anything.
     fn put_word(&mut self, file: &str, board: u32, why: &str) -> Result<(), AllocError> {
+        if why.is_empty() {
+            return Ok(());
+        }
         let word = format!(in self.alloc; "{file}, board {board}: {why}")?;
         self.words.push(word)?;
         Ok(())
     }
 
-    // Has it told later why nothing came of a board's game, or that it goes on.
-    fn put_why(&mut self, file: &str, board: u32, found: &Found) -> Result<(), AllocError> {
-        match found {
-            Found::Others(why) => {
-                self.has_others = true;
-                self.put_word(file, board, why.as_str())
-            }
-            Found::Unknown(why) => self.put_word(file, board, why.as_str()),
-            Found::Ended(ended) if ended.result.as_str() == "*" => {
-                self.put_word(file, board, "its game goes on")
-            }
-            _ => Ok(()),
-        }
-    }
-
-    // The last game of the archive that continues a game.
-    fn continued_by(&self, game: u32) -> Option<u32> {
-        let mut later = None;
-        for archived in self.archived.as_slice() {
-            if archived.continues == Some(game) {
-                later = Some(archived.game);
-            }
-        }
-        later
-    }
-
-    // Has it told later that a board's game was played on as another, which the board's notes do not name.
-    fn put_half(&mut self, file: &str, board: u32, game: u32) -> Result<(), AllocError> {
-        let Some(later) = self.continued_by(game) else {
-            return Ok(());
-        };
-        self.has_halves = true;
-        let why = format!(in self.alloc;
-            "game {game} was played on as game {later}: give start with --take {board}={later}"
-        )?;
-        self.put_word(file, board, why.as_str())
-    }
-
-    // Has it told later what is to be told of a board's game.
-    fn put_words(
+    // Has it told later what an arbiter decided of a board, and what the server says.
+    fn put_decision(
         &mut self,
         file: &str,
-        board: u32,
-        game: Option<u32>,
+        decision: &Decision,
         found: &Found,
     ) -> Result<(), AllocError> {
-        self.put_why(file, board, found)?;
-        match game {
-            Some(game) => self.put_half(file, board, game),
-            None => Ok(()),
+        let told = match found {
+            Found::Ended(ended) => ended.result.as_str(),
+            _ => "nothing",
+        };
+        let (arbiter, verdict) = (
+            decision.ground.arbiter.as_str(),
+            verdict_text(decision.verdict),
+        );
+        let why = format!(in self.alloc; "{arbiter} decided {verdict}; the server says {told}")?;
+        self.put_word(file, decision.board, why.as_str())
+    }
+
+    // Has it told later what is to be told of a board.
+    fn put_words(
+        &mut self,
+        boards: Boards<'_>,
+        board: u32,
+        found: &Found,
+        half: &Option<String>,
+    ) -> Result<(), AllocError> {
+        match last_about(boards.decisions, board) {
+            Some(decision) => self.put_decision(boards.file, decision, found),
+            None => {
+                self.has_others = self.has_others || matches!(found, Found::Others(_));
+                self.has_halves = self.has_halves || half.is_some();
+                Ok(())
+            }
         }
     }
 
-    /// What came of the game of a board, in the round of this file with these notes; none where that is not known. Of a
-    /// game that goes on, is not known or was played on as another there is a word to be told.
-    pub fn of(&mut self, file: &str, notes: &[Note], pairing: &Pairing) -> Result<Option<Ended>> {
-        let game = noted_game(notes, pairing.board);
-        let found = self.found_at(pairing, game)?;
-        self.put_words(file, pairing.board, game, &found)?;
-        Ok(found.ended())
+    // What was found of a board, with its note.
+    fn told(&mut self, boards: Boards<'_>, pairing: &Pairing, found: Found) -> Result<Told> {
+        let board = pairing.board;
+        let game = noted_game(boards.notes, board);
+        let half = self.half_of(board, game)?;
+        self.put_words(boards, board, &found, &half)?;
+        let why = self.note_of(game, &found)?;
+        let note = joined(self.alloc, why.as_str(), half)?;
+        self.put_word(boards.file, board, note.as_str())?;
+        Ok(Told {
+            ended: found.ended(),
+            note,
+        })
     }
 
-    /// Tells the words of the boards.
+    /// What is known of a board's game. Where nothing came of it, it goes on or was played on as another, where the
+    /// Laws say something of its result or an arbiter decided otherwise, there is a word to be told.
+    pub fn of(&mut self, boards: Boards<'_>, pairing: &Pairing) -> Result<Told> {
+        let game = noted_game(boards.notes, pairing.board);
+        let found = self.found_at(pairing, game)?;
+        self.told(boards, pairing, found)
+    }
+
+    /// Tells what was left out of the archive, and the words of the boards.
     pub fn tell<R: Eprint>(&self, rt: &R) -> Result<()> {
+        for fault in self.archived.faults.as_slice() {
+            tell(rt, fault.as_str())?;
+        }
         for word in self.words.as_slice() {
             tell(rt, word.as_str())?;
         }
@@ -570,16 +537,25 @@ impl<'a> Outcomes<'a> {
         Ok(())
     }
 
-    /// Whether a board has the result of a game that was played on as another.
-    pub fn has_halves(&self) -> bool {
-        self.has_halves
+    /// What was wrong, though all boards were told: lines of the archive that were left out, a server that is away, or
+    /// the result of a game that was played on as another.
+    pub fn fault(&self) -> Option<&'static str> {
+        if !self.archived.faults.is_empty() {
+            Some("lines of the archive were left out")
+        } else if matches!(self.server, Server::Away(_)) {
+            Some("the server is away")
+        } else if self.has_halves {
+            Some("a board has the result of a game that was adjourned and played on")
+        } else {
+            None
+        }
     }
 }
 
-/// Fails where a board has the result of a game that was played on as another.
-pub fn check_halves(has_halves: bool) -> Result<()> {
-    if has_halves {
-        bail!("a board has the result of a game that was adjourned and played on");
+/// Fails where something was wrong.
+pub fn check_fault(fault: Option<&str>) -> Result<()> {
+    match fault {
+        Some(fault) => bail!("{fault}"),
+        None => Ok(()),
     }
-    Ok(())
 }

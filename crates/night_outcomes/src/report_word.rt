@@ -1,12 +1,13 @@
 //! The word that writes the report of a tournament.
 use crate::asked::Reporting;
-use crate::outcomes::{Ended, Outcomes, check_halves};
+use crate::decisions::decisions_of;
+use crate::outcomes::{Boards, Ended, Outcomes, check_fault};
 use anyhow::{Context, Result};
 use lobby_players::players_of;
 use lobby_words::Player;
-use night_boards::{Paired, Round, paired_of};
-use night_report::{Meeting, Play, Score, Tournament, report};
-use night_rounds::Pairing;
+use night_boards::{Round, paired_of};
+use night_report::{Meeting, Opponent, Play, Score, Tournament, report};
+use night_rounds::{Against, Pairing, Scored, counted};
 use player_name::Name;
 use std::alloc::{AllocError, Global};
 use std::io::{self, Write};
@@ -56,38 +57,63 @@ fn play_of(ended: &Option<Ended>) -> Play {
     }
 }
 
-// What a board is in the report.
-fn meeting_of(players: &[&Player], pairing: &Pairing, ended: &Option<Ended>) -> Result<Meeting> {
-    let black = match &pairing.game {
-        None => None,
-        Some(game) => Some(number_of(players, &game.black)?),
-    };
-    Ok(Meeting {
-        white: number_of(players, &pairing.white)?,
-        black,
+// What came of a board by its game.
+fn scored_of(ended: &Option<Ended>) -> Scored {
+    Scored {
         score: score_of(ended),
         play: play_of(ended),
+    }
+}
+
+// Whom White has at a board.
+fn opponent_of(players: &[&Player], pairing: &Pairing) -> Result<Opponent> {
+    match &pairing.against {
+        Against::Bye(bye) => Ok(Opponent::Bye(*bye)),
+        Against::Game(game) => Ok(Opponent::Player(number_of(players, &game.black)?)),
+    }
+}
+
+// What a board is in the report.
+fn meeting_of(players: &[&Player], pairing: &Pairing, scored: Scored) -> Result<Meeting> {
+    Ok(Meeting {
+        white: number_of(players, &pairing.white)?,
+        black: opponent_of(players, pairing)?,
+        score: scored.score,
+        play: scored.play,
     })
 }
 
 // The same, where a fault names the board.
-fn meeting(players: &[&Player], pairing: &Pairing, ended: Option<Ended>) -> Result<Meeting> {
+fn meeting(players: &[&Player], pairing: &Pairing, scored: Scored) -> Result<Meeting> {
     let board = pairing.board;
-    meeting_of(players, pairing, &ended).context(format_args!("board {board}"))
+    meeting_of(players, pairing, scored).context(format_args!("board {board}"))
 }
 
-fn put_meetings(
-    meetings: &mut Vec<Meeting>,
-    file: &str,
-    paired: &Paired,
+// What a board is in the report, by what came of its game and the decisions about it.
+fn met_at(
+    boards: Boards<'_>,
+    pairing: &Pairing,
     players: &[&Player],
     outcomes: &mut Outcomes<'_>,
-) -> Result<()> {
-    for pairing in paired.pairings.as_slice() {
-        let ended = outcomes.of(file, paired.notes.as_slice(), pairing)?;
-        meetings.push(meeting(players, pairing, ended)?)?;
+) -> Result<Meeting> {
+    let told = outcomes.of(boards, pairing)?;
+    let scored = counted(boards.decisions, pairing.board, scored_of(&told.ended));
+    meeting(players, pairing, scored)
+}
+
+// The meetings of a round's boards.
+fn meetings_by(
+    alloc: Global,
+    boards: Boards<'_>,
+    pairings: &[Pairing],
+    players: &[&Player],
+    outcomes: &mut Outcomes<'_>,
+) -> Result<Vec<Meeting>> {
+    let mut meetings = Vec::new(alloc);
+    for pairing in pairings {
+        meetings.push(met_at(boards, pairing, players, outcomes)?)?;
     }
-    Ok(())
+    Ok(meetings)
 }
 
 // The meetings of a round.
@@ -98,9 +124,19 @@ fn meetings_of<R: Files + AllocGlobal + Eprint>(
     outcomes: &mut Outcomes<'_>,
 ) -> Result<Vec<Meeting>> {
     let paired = paired_of(rt, round.pairings, round.games)?;
-    let mut meetings = Vec::new(rt.alloc());
-    put_meetings(&mut meetings, round.pairings, &paired, players, outcomes)?;
-    Ok(meetings)
+    let decisions = decisions_of(rt, round.decisions, paired.pairings.as_slice())?;
+    let boards = Boards {
+        file: round.pairings,
+        notes: paired.notes.as_slice(),
+        decisions: decisions.as_slice(),
+    };
+    meetings_by(
+        rt.alloc(),
+        boards,
+        paired.pairings.as_slice(),
+        players,
+        outcomes,
+    )
 }
 
 // The same, where a fault names the file of the pairings.
@@ -141,11 +177,11 @@ fn rounds_of<R: Files + AllocGlobal + Eprint>(
     Ok(met)
 }
 
-// The meetings of each round, and whether a board has the result of a game that was played on as another.
+// The meetings of each round, and what was wrong, though all were told.
 #[derive(Drop)]
 struct Met {
     rounds: Vec<Vec<Meeting>>,
-    has_halves: bool,
+    fault: Option<&'static str>,
 }
 
 // What was met in the rounds, by what came of their games; it is told what is to be told of boards. It fails where a
@@ -164,7 +200,7 @@ where
     outcomes.check_names()?;
     Ok(Met {
         rounds,
-        has_halves: outcomes.has_halves(),
+        fault: outcomes.fault(),
     })
 }
 
@@ -188,15 +224,14 @@ fn text_of(
     Ok(report(alloc, tournament, names.as_slice(), rounds)?)
 }
 
-// Writes the report of what was met. It fails behind that where a board has the result of a game that was played on as
-// another.
+// Writes the report of what was met. It fails behind that where something was wrong.
 fn write_met<R>(rt: &R, tournament: &Tournament<'_>, players: &[&Player], met: &Met) -> Result<()>
 where
     R: AllocGlobal + Print,
 {
     let text = text_of(rt.alloc(), tournament, players, met.rounds.as_slice())?;
     io::writer(rt).write_all(text.as_slice())?;
-    check_halves(met.has_halves)
+    check_fault(met.fault)
 }
 
 // Writes the report of a tournament of these players.
@@ -210,7 +245,8 @@ where
 }
 
 /// Writes the report of a tournament; none where a board's game is of others than its players, since it would lack
-/// points. It fails behind that where a board has the result of a game that was played on as another.
+/// points. It fails behind that where a board has the result of a game that was played on as another, where a line of
+/// the archive was left out, or the server is away.
 pub fn write_report<R>(rt: &R, reporting: &Reporting<'_>) -> Result<()>
 where
     R: Files + Net<Stream = TcpStream> + AllocGlobal + Print + Eprint,

@@ -1,62 +1,76 @@
 //! The word that writes the results of a round.
 use crate::asked::Asking;
-use crate::outcomes::{Ended, Outcomes, check_halves, noted_game};
+use crate::decisions::decisions_of;
+use crate::outcomes::{Boards, Outcomes, Told, check_fault, noted_game};
 use anyhow::Result;
 use lobby_players::players_of;
 use lobby_words::Player;
 use night_boards::{Paired, paired_of};
-use night_rounds::{Note, Outcome, Pairing, results};
+use night_report::Bye;
+use night_rounds::{Against, Decision, Note, Outcome, Pairing, results};
 use std::alloc::{AllocError, Global};
 use std::io::{self, Write};
 use std::net::{Net, TcpStream};
 use std::rt::Files;
 
 // What came of each board's game.
-fn endings(
+fn told_of(
     alloc: Global,
-    file: &str,
-    paired: &Paired,
+    boards: Boards<'_>,
+    pairings: &[Pairing],
     outcomes: &mut Outcomes<'_>,
-) -> Result<Vec<Option<Ended>>> {
-    let mut endings = Vec::new(alloc);
-    for pairing in paired.pairings.as_slice() {
-        endings.push(outcomes.of(file, paired.notes.as_slice(), pairing)?)?;
+) -> Result<Vec<Told>> {
+    let mut told = Vec::new(alloc);
+    for pairing in pairings {
+        told.push(outcomes.of(boards, pairing)?)?;
     }
-    Ok(endings)
+    Ok(told)
+}
+
+// What stands in the place of a result where nothing came of a game, or there is none.
+fn no_result(against: &Against) -> &'static str {
+    match against {
+        Against::Game(_) => "*",
+        Against::Bye(Bye::Pairing) => "bye",
+        Against::Bye(Bye::Full) => "bye F",
+        Against::Bye(Bye::Half) => "bye H",
+        Against::Bye(Bye::Zero) => "bye Z",
+    }
 }
 
 // The result and the article of a board, by what came of its game.
-fn result_of<'a>(pairing: &Pairing, ended: &'a Option<Ended>) -> (&'a str, &'a str) {
-    match ended {
+fn result_of<'a>(pairing: &Pairing, told: &'a Told) -> (&'a str, &'a str) {
+    match &told.ended {
         Some(ended) => (ended.result.as_str(), ended.article.as_str()),
-        None if pairing.game.is_none() => ("bye", ""),
-        None => ("*", ""),
+        None => (no_result(&pairing.against), ""),
     }
 }
 
-// A row of the results.
-fn outcome_of<'a>(notes: &[Note], pairing: &'a Pairing, ended: &'a Option<Ended>) -> Outcome<'a> {
-    let (result, article) = result_of(pairing, ended);
+// What a board's row tells, but for a decision.
+fn outcome_of<'a>(notes: &[Note], pairing: &'a Pairing, told: &'a Told) -> Outcome<'a> {
+    let (result, article) = result_of(pairing, told);
     Outcome {
         board: pairing.board,
         white: pairing.white.as_str(),
-        black: match &pairing.game {
-            Some(game) => game.black.as_str(),
-            None => "",
+        black: match &pairing.against {
+            Against::Game(game) => game.black.as_str(),
+            Against::Bye(_) => "",
         },
         result,
         article,
         game: noted_game(notes, pairing.board),
+        note: told.note.as_str(),
     }
 }
 
 fn put_outcomes<'a>(
     rows: &mut Vec<Outcome<'a>>,
-    paired: &'a Paired,
-    endings: &'a [Option<Ended>],
+    notes: &[Note],
+    pairings: &'a [Pairing],
+    told: &'a [Told],
 ) -> Result<(), AllocError> {
-    for (pairing, ended) in paired.pairings.iter().zip(endings) {
-        rows.push(outcome_of(paired.notes.as_slice(), pairing, ended))?;
+    for (pairing, told) in pairings.iter().zip(told) {
+        rows.push(outcome_of(notes, pairing, told))?;
     }
     Ok(())
 }
@@ -64,12 +78,13 @@ fn put_outcomes<'a>(
 // The text of a round's results.
 fn text_of(
     alloc: Global,
-    paired: &Paired,
-    endings: &[Option<Ended>],
+    boards: Boards<'_>,
+    pairings: &[Pairing],
+    told: &[Told],
 ) -> Result<Vec<u8>, AllocError> {
     let mut rows = Vec::new(alloc);
-    put_outcomes(&mut rows, paired, endings)?;
-    results(alloc, rows.as_slice())
+    put_outcomes(&mut rows, boards.notes, pairings, told)?;
+    results(alloc, boards.decisions, rows.as_slice())
 }
 
 // The players of a file, where one is named.
@@ -83,41 +98,62 @@ fn players_in<R: Files + AllocGlobal>(rt: &R, file: Option<&str>) -> Result<Vec<
 // The text of a round's results, by what came of its games.
 fn results_of(
     alloc: Global,
-    file: &str,
-    paired: &Paired,
+    boards: Boards<'_>,
+    pairings: &[Pairing],
     outcomes: &mut Outcomes<'_>,
 ) -> Result<Vec<u8>> {
-    let endings = endings(alloc, file, paired, outcomes)?;
-    Ok(text_of(alloc, paired, endings.as_slice())?)
+    let told = told_of(alloc, boards, pairings, outcomes)?;
+    Ok(text_of(alloc, boards, pairings, told.as_slice())?)
 }
 
 // Writes the results of a round, and tells before what is to be told of boards.
-fn write_outcomes<R>(rt: &R, file: &str, paired: &Paired, outcomes: &mut Outcomes<'_>) -> Result<()>
+fn write_outcomes<R>(
+    rt: &R,
+    boards: Boards<'_>,
+    pairings: &[Pairing],
+    outcomes: &mut Outcomes<'_>,
+) -> Result<()>
 where
     R: AllocGlobal + Print + Eprint,
 {
-    let text = results_of(rt.alloc(), file, paired, outcomes)?;
+    let text = results_of(rt.alloc(), boards, pairings, outcomes)?;
     outcomes.tell(rt)?;
     Ok(io::writer(rt).write_all(text.as_slice())?)
 }
 
-// The same. It fails behind that where a board's game is of others than its players, or was played on as another.
-fn write_checked<R>(rt: &R, file: &str, paired: &Paired, outcomes: &mut Outcomes<'_>) -> Result<()>
+// The same. It fails behind that where something was wrong.
+fn write_checked<R>(
+    rt: &R,
+    boards: Boards<'_>,
+    pairings: &[Pairing],
+    outcomes: &mut Outcomes<'_>,
+) -> Result<()>
 where
     R: AllocGlobal + Print + Eprint,
 {
-    write_outcomes(rt, file, paired, outcomes)?;
+    write_outcomes(rt, boards, pairings, outcomes)?;
     outcomes.check_names()?;
-    check_halves(outcomes.has_halves())
+    check_fault(outcomes.fault())
 }
 
 // Writes the results of a round, for which these players are known.
-fn write_round<R>(rt: &R, asking: &Asking<'_>, players: &[Player], paired: &Paired) -> Result<()>
+fn write_round<R>(
+    rt: &R,
+    asking: &Asking<'_>,
+    players: &[Player],
+    paired: &Paired,
+    decisions: &[Decision],
+) -> Result<()>
 where
     R: Files + Net<Stream = TcpStream> + AllocGlobal + Print + Eprint,
 {
+    let boards = Boards {
+        file: asking.round.pairings,
+        notes: paired.notes.as_slice(),
+        decisions,
+    };
     let mut outcomes = Outcomes::open(rt, asking.source, players)?;
-    let written = write_checked(rt, asking.round.pairings, paired, &mut outcomes);
+    let written = write_checked(rt, boards, paired.pairings.as_slice(), &mut outcomes);
     drop(outcomes);
     written
 }
@@ -127,12 +163,14 @@ fn write_with<R>(rt: &R, asking: &Asking<'_>, players: &[Player]) -> Result<()>
 where
     R: Files + Net<Stream = TcpStream> + AllocGlobal + Print + Eprint,
 {
-    let paired = paired_of(rt, asking.round.pairings, asking.round.games)?;
-    write_round(rt, asking, players, &paired)
+    let round = asking.round;
+    let paired = paired_of(rt, round.pairings, round.games)?;
+    let decisions = decisions_of(rt, round.decisions, paired.pairings.as_slice())?;
+    write_round(rt, asking, players, &paired, decisions.as_slice())
 }
 
 /// Writes the results of a round as CSV. It fails behind that where a board's game is of others than its players, or
-/// was played on as another.
+/// was played on as another, where a line of the archive was left out, or the server is away.
 pub fn write_results<R>(rt: &R, asking: &Asking<'_>) -> Result<()>
 where
     R: Files + Net<Stream = TcpStream> + AllocGlobal + Print + Eprint,

@@ -1,5 +1,9 @@
 -- What a player's round is in a report.
-use Rattle.std.specs.Prelude.{ℕ, ◌==◌, Bool, false, List, [], ◌∷◌, Option, None, Some, if◌then◌else◌}
+use Rattle.std.specs.Prelude.{ℕ, ◌==◌, Bool, false, List, [], ◌∷◌, if◌then◌else◌}
+use Rattle.night_report.specs.declared.cells.Opponent.{Opponent}
+use Rattle.night_report.specs.declared.cells.Opponent.TheVariants as opponents
+use Rattle.night_report.specs.declared.cells.Bye.{Bye}
+use Rattle.night_report.specs.declared.cells.Bye.TheVariants as byes
 use Rattle.night_report.specs.declared.cells.Cell.{Cell}
 use Rattle.night_report.specs.declared.cells.Meeting.{Meeting}
 use Rattle.night_report.specs.declared.cells.Score.{Score}
@@ -28,12 +32,18 @@ abbrev pub white_sign : Score → Play → ℕ
 white_sign scores.White play = win_sign play
 white_sign scores.Black play = loss_sign play
 white_sign scores.Draw play = draw_sign play
+white_sign scores.HalfWhite play = draw_sign play
+white_sign scores.HalfBlack play = loss_sign play
+white_sign scores.Neither play = loss_sign play
 white_sign scores.Open play = 32
 
 abbrev pub white_halves : Score → ℕ
 white_halves scores.White = 2
 white_halves scores.Black = 0
 white_halves scores.Draw = 1
+white_halves scores.HalfWhite = 1
+white_halves scores.HalfBlack = 0
+white_halves scores.Neither = 0
 white_halves scores.Open = 0
 
 -- with the colours changed; so Black's are White's of this
@@ -41,12 +51,31 @@ abbrev pub turned : Score → Score
 turned scores.White = scores.Black
 turned scores.Black = scores.White
 turned scores.Draw = scores.Draw
+turned scores.HalfWhite = scores.HalfBlack
+turned scores.HalfBlack = scores.HalfWhite
+turned scores.Neither = scores.Neither
 turned scores.Open = scores.Open
 
--- `w`, and White's opponent; without one a bye, `U`, which is a win
-abbrev pub white_cell : Meeting → Option ℕ → Cell
-white_cell m None = record { opponent = 0; colour = 45; sign = 85; halves = 2 }
-white_cell m (Some black) =
+-- a bye's sign, `U`, `F`, `H` or `Z`, and half points
+abbrev pub bye_sign : Bye → ℕ
+bye_sign byes.Pairing = 85
+bye_sign byes.Full = 70
+bye_sign byes.Half = 72
+bye_sign byes.Zero = 90
+
+abbrev pub bye_halves : Bye → ℕ
+bye_halves byes.Pairing = 2
+bye_halves byes.Full = 2
+bye_halves byes.Half = 1
+bye_halves byes.Zero = 0
+
+abbrev pub bye_cell : Bye → Cell
+bye_cell bye = record { opponent = 0; colour = 45; sign = bye_sign bye; halves = bye_halves bye }
+
+-- `w`, and White's opponent, or a bye
+abbrev pub white_cell : Meeting → Opponent → Cell
+white_cell m (opponents.Bye bye) = bye_cell bye
+white_cell m (opponents.Player black) =
     record { opponent = black; colour = 119; sign = white_sign m.score m.play; halves = white_halves m.score }
 
 abbrev pub black_cell : Meeting → Cell
@@ -60,11 +89,11 @@ black_cell m =
 
 -- who is not paired: `Z`, no point
 abbrev pub absent : Cell
-absent = record { opponent = 0; colour = 45; sign = 90; halves = 0 }
+absent = bye_cell byes.Zero
 
-abbrev pub is_number : ℕ → Option ℕ → Bool
-is_number n None = false
-is_number n (Some m) = m == n
+abbrev pub is_number : ℕ → Opponent → Bool
+is_number n (opponents.Bye bye) = false
+is_number n (opponents.Player m) = m == n
 
 -- the round of the player of this number, by the first meeting in which the player has a seat
 abbrev pub cell_in : ℕ → List Meeting → Cell

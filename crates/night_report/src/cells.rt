@@ -8,6 +8,11 @@ pub enum Score {
     White,
     Black,
     Draw,
+    /// White has a draw, and Black has lost, as an arbiter may decide (FIDE article 11.3.2.2); and the other way round.
+    HalfWhite,
+    HalfBlack,
+    /// Both have lost.
+    Neither,
     /// The game goes on, or has not begun.
     Open,
 }
@@ -20,11 +25,31 @@ pub enum Play {
     Forfeit,
 }
 
+/// Why a player has no opponent in a round, by its sign in a report.
+#[derive(Clone, Copy)]
+pub enum Bye {
+    /// `U`: none was left to be paired with. It is worth a point.
+    Pairing,
+    /// `F`: a point, as was asked for.
+    Full,
+    /// `H`: half a point, as was asked for.
+    Half,
+    /// `Z`: no point, for who is away.
+    Zero,
+}
+
+/// Whom a player has in a round: an opponent, by the starting number, or nobody.
+#[derive(Clone, Copy)]
+pub enum Opponent {
+    Player(u32),
+    Bye(Bye),
+}
+
 /// Two players of a round by their starting numbers, or one who has a bye.
 #[derive(Clone, Copy)]
 pub struct Meeting {
     pub white: u32,
-    pub black: Option<u32>,
+    pub black: Opponent,
     pub score: Score,
     pub play: Play,
 }
@@ -74,7 +99,8 @@ fn white_sign(score: Score, play: Play) -> u8
     match score {
         Score::White => win_sign(play),
         Score::Black => loss_sign(play),
-        Score::Draw => draw_sign(play),
+        Score::Draw | Score::HalfWhite => draw_sign(play),
+        Score::HalfBlack | Score::Neither => loss_sign(play),
         Score::Open => b' ',
     }
 }
@@ -86,8 +112,8 @@ fn white_halves(score: Score) -> u8
 {
     match score {
         Score::White => 2,
-        Score::Draw => 1,
-        Score::Black | Score::Open => 0,
+        Score::Draw | Score::HalfWhite => 1,
+        Score::Black | Score::HalfBlack | Score::Neither | Score::Open => 0,
     }
 }
 
@@ -98,7 +124,46 @@ fn turned(score: Score) -> Score
     match score {
         Score::White => Score::Black,
         Score::Black => Score::White,
-        Score::Draw | Score::Open => score,
+        Score::HalfWhite => Score::HalfBlack,
+        Score::HalfBlack => Score::HalfWhite,
+        Score::Draw | Score::Neither | Score::Open => score,
+    }
+}
+
+// The sign of a bye.
+fn bye_sign(bye: Bye) -> u8
+    ensures { result ≡ spec.bye_sign bye }
+{
+    match bye {
+        Bye::Pairing => b'U',
+        Bye::Full => b'F',
+        Bye::Half => b'H',
+        Bye::Zero => b'Z',
+    }
+}
+
+// Its half points.
+fn bye_halves(bye: Bye) -> u8
+    ensures halves { result ≡ spec.bye_halves bye }
+    ensures few { result ≤ 2 }
+{
+    match bye {
+        Bye::Pairing | Bye::Full => 2,
+        Bye::Half => 1,
+        Bye::Zero => 0,
+    }
+}
+
+// The round of who has a bye.
+fn bye_cell(bye: Bye) -> Cell
+    ensures cell { result ≡ spec.bye_cell bye }
+    ensures few { result.halves ≤ 2 }
+{
+    Cell {
+        opponent: 0,
+        colour: b'-',
+        sign: bye_sign(bye),
+        halves: bye_halves(bye),
     }
 }
 
@@ -107,13 +172,8 @@ fn white_cell(meeting: Meeting) -> Cell
     ensures few { result.halves ≤ 2 }
 {
     match meeting.black {
-        None => Cell {
-            opponent: 0,
-            colour: b'-',
-            sign: b'U',
-            halves: 2,
-        },
-        Some(black) => Cell {
+        Opponent::Bye(bye) => bye_cell(bye),
+        Opponent::Player(black) => Cell {
             opponent: black,
             colour: b'w',
             sign: white_sign(meeting.score, meeting.play),
@@ -135,12 +195,12 @@ fn black_cell(meeting: Meeting) -> Cell
     }
 }
 
-fn is_number(number: u32, black: Option<u32>) -> bool
+fn is_number(number: u32, black: Opponent) -> bool
     ensures { result ≡ spec.is_number number black }
 {
     match black {
-        None => false,
-        Some(black) => black == number,
+        Opponent::Bye(_) => false,
+        Opponent::Player(black) => black == number,
     }
 }
 
@@ -157,10 +217,5 @@ pub fn cell_of(number: u32, round: &[Meeting]) -> Cell
             return black_cell(*meeting);
         }
     }
-    Cell {
-        opponent: 0,
-        colour: b'-',
-        sign: b'Z',
-        halves: 0,
-    }
+    bye_cell(Bye::Zero)
 }

@@ -4,3 +4,4 @@ pub mod TimesBack
 pub mod NotesBack
 pub mod RunsKept
 pub mod NewestKept
+pub mod DecisionTexts

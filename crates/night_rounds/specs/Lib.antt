@@ -4,5 +4,7 @@ pub mod Round
 pub mod Newer
 pub mod Notes
 pub mod Steps
+pub mod Decisions
+pub mod Counting
 pub mod Results
 pub mod Runs

@@ -5,7 +5,8 @@ use Rattle.std.specs.List.{list_any}
 use Rattle.std.specs.Str.{bytes_eq}
 use Rattle.csv.specs.Reading.{AreRecords, default_config, strip_bom}
 use Rattle.csv.specs.declared.parser.State.TheVariants as st
-use Rattle.night_rounds.specs.declared.rows.Game.{Game}
+use Rattle.night_rounds.specs.declared.rows.Against.{Against}
+use Rattle.night_rounds.specs.declared.rows.Against.TheVariants as against
 use Rattle.night_rounds.specs.declared.rows.Pairing.{Pairing}
 use Rattle.night_rounds.specs.declared.faults.RowFault.{RowFault}
 use Rattle.night_rounds.specs.declared.faults.RowFault.TheVariants as row_faults
@@ -14,12 +15,12 @@ use Rattle.night_rounds.specs.declared.faults.Fault.TheVariants as faults
 use Rattle.night_rounds.specs.Rows.{row_in, is_header}
 
 -- who plays in a pairing
-abbrev pub has_black : List ℕ → Option Game → Bool
-has_black name None = false
-has_black name (Some game) = bytes_eq game.black name
+abbrev pub has_black : List ℕ → Against → Bool
+has_black name (against.Bye bye) = false
+has_black name (against.Game game) = bytes_eq game.black name
 
 abbrev pub has_player : List ℕ → Pairing → Bool
-has_player name p = bytes_eq p.white name || has_black name p.game
+has_player name p = bytes_eq p.white name || has_black name p.against
 
 abbrev pub is_board : ℕ → Pairing → Bool
 is_board board p = p.board == board
@@ -31,16 +32,16 @@ has_board board pairings = list_any (is_board board) pairings
 abbrev pub is_paired : List ℕ → List Pairing → Bool
 is_paired name pairings = list_any (has_player name) pairings
 
-abbrev pub is_black_paired : Option Game → List Pairing → Bool
-is_black_paired None pairings = false
-is_black_paired (Some game) pairings = is_paired game.black pairings
+abbrev pub is_black_paired : Against → List Pairing → Bool
+is_black_paired (against.Bye bye) pairings = false
+is_black_paired (against.Game game) pairings = is_paired game.black pairings
 
 -- why a pairing may not stand behind others: a board, and a player, has one pairing in a round
 abbrev pub clash_of : List Pairing → Pairing → Option RowFault
 clash_of before p =
     if has_board p.board before then Some row_faults.BoardTwice
     else (if is_paired p.white before then Some row_faults.WhiteTwice
-    else (if is_black_paired p.game before then Some row_faults.BlackTwice else None))
+    else (if is_black_paired p.against before then Some row_faults.BlackTwice else None))
 
 abbrev pub placed : List Pairing → Pairing → Option RowFault → Result (List Pairing) RowFault
 placed before p None = Ok (before ++ (p ∷ []))

@@ -1,5 +1,6 @@
 -- A row of the pairings.
-use Rattle.std.specs.Prelude.{ℕ, ℤ, pos, ◌==◌, Bool, ◌&&◌, List, [], length, get_or, codes, Option, None, Some, Result}
+use Rattle.std.specs.Prelude.{ℕ, ℤ, pos, ◌==◌, Bool, ◌&&◌, ◌||◌, List, [], length, get_or, codes}
+use Rattle.std.specs.Prelude.{Option, None, Some, Result}
 use Rattle.std.specs.Prelude.{Ok, Err, option_map, int_div, if◌then◌else◌}
 use Rattle.std.specs.Str.{bytes_eq}
 use Rattle.jiff.specs.Words.{parse_timestamp}
@@ -7,6 +8,9 @@ use Rattle.lobby_words.specs.Words.{u32_in}
 use Rattle.lobby_words.specs.Waiting.{is_name}
 use Rattle.night_rounds.specs.declared.rows.Game.{Game}
 use Rattle.night_rounds.specs.declared.rows.Pairing.{Pairing}
+use Rattle.night_rounds.specs.declared.rows.Against.TheVariants as against
+use Rattle.night_report.specs.declared.cells.Bye.{Bye}
+use Rattle.night_report.specs.declared.cells.Bye.TheVariants as byes
 use Rattle.night_rounds.specs.declared.faults.RowFault.{RowFault}
 use Rattle.night_rounds.specs.declared.faults.RowFault.TheVariants as faults
 use Rattle.night_rounds.specs.declared.times.Times.{Times}
@@ -46,19 +50,30 @@ with_black white times start (Some black) =
 abbrev pub game_by_fields : List ℕ → List ℕ → List ℕ → List ℕ → Result Game RowFault
 game_by_fields white black times start = with_black white times start (name_in black)
 
+-- the bye that stands in the place of the times: nothing or `U`, `F`, `H` or `Z`
+abbrev pub bye_in : List ℕ → Option Bye
+bye_in text =
+    if is_empty text || bytes_eq text (codes "U") then Some byes.Pairing
+    else (if bytes_eq text (codes "F") then Some byes.Full
+    else (if bytes_eq text (codes "H") then Some byes.Half
+    else (if bytes_eq text (codes "Z") then Some byes.Zero else None)))
+
 -- a row of White alone, who has no opponent in this round
-abbrev pub is_bye : List ℕ → List ℕ → List ℕ → Bool
-is_bye black times start = is_empty black && is_empty times && is_empty start
+abbrev pub bye_of : List ℕ → List ℕ → List ℕ → Option Bye
+bye_of black times start = if is_empty black && is_empty start then bye_in times else None
 
 abbrev pub with_game : ℕ → List ℕ → Result Game RowFault → Result Pairing RowFault
-with_game board white (Ok game) = Ok (record { board = board; white = white; game = Some game })
+with_game board white (Ok game) = Ok (record { board = board; white = white; against = against.Game game })
 with_game board white (Err fault) = Err fault
+
+abbrev pub with_bye : ℕ → List ℕ → List ℕ → List ℕ → List ℕ → Option Bye → Result Pairing RowFault
+with_bye board white black times start None = with_game board white (game_by_fields white black times start)
+with_bye board white black times start (Some bye) =
+    Ok (record { board = board; white = white; against = against.Bye bye })
 
 abbrev pub with_white : ℕ → List ℕ → List ℕ → List ℕ → Option (List ℕ) → Result Pairing RowFault
 with_white board black times start None = Err faults.BadWhite
-with_white board black times start (Some white) =
-    if is_bye black times start then Ok (record { board = board; white = white; game = None })
-    else with_game board white (game_by_fields white black times start)
+with_white board black times start (Some white) = with_bye board white black times start (bye_of black times start)
 
 -- a board's number is not 0
 abbrev pub board_of : Option ℕ → Option ℕ

@@ -5,17 +5,17 @@ ghost use Rattle.night_rounds.specs.Round as spec;
 
 use crate::faults::{Fault, RowFault};
 use crate::records::records_of;
-use crate::rows::{Game, Pairing, is_header, pairing_of};
+use crate::rows::{Against, Pairing, is_header, pairing_of};
 use csv::{Error, ErrorKind, StringRecord};
 use player_name::Name;
 use std::alloc::{AllocError, Global};
 
-fn has_black(game: Option<Game>, name: &Name) -> bool
-    ensures { result ≡ spec.has_black name.now game }
+fn has_black(against: Against, name: &Name) -> bool
+    ensures { result ≡ spec.has_black name.now against }
 {
-    match game {
-        None => false,
-        Some(game) => game.black.as_str() == name.as_str(),
+    match against {
+        Against::Bye(_) => false,
+        Against::Game(game) => game.black.as_str() == name.as_str(),
     }
 }
 
@@ -23,7 +23,7 @@ fn has_black(game: Option<Game>, name: &Name) -> bool
 fn has_player(pairing: &Pairing, name: &Name) -> bool
     ensures { result ≡ spec.has_player name.now pairing.now }
 {
-    pairing.white.as_str() == name.as_str() || has_black(pairing.game, name)
+    pairing.white.as_str() == name.as_str() || has_black(pairing.against, name)
 }
 
 fn has_board(pairings: &[Pairing], board: u32) -> bool
@@ -38,12 +38,12 @@ fn is_paired(pairings: &[Pairing], name: &Name) -> bool
     pairings.iter().any(|pairing| has_player(pairing, name))
 }
 
-fn is_black_paired(pairings: &[Pairing], game: Option<Game>) -> bool
-    ensures { result ≡ spec.is_black_paired game pairings.now }
+fn is_black_paired(pairings: &[Pairing], against: Against) -> bool
+    ensures { result ≡ spec.is_black_paired against pairings.now }
 {
-    match game {
-        None => false,
-        Some(game) => is_paired(pairings, &game.black),
+    match against {
+        Against::Bye(_) => false,
+        Against::Game(game) => is_paired(pairings, &game.black),
     }
 }
 
@@ -55,7 +55,7 @@ fn clash_of(pairings: &[Pairing], pairing: &Pairing) -> Option<RowFault>
         Some(RowFault::BoardTwice)
     } else if is_paired(pairings, &pairing.white) {
         Some(RowFault::WhiteTwice)
-    } else if is_black_paired(pairings, pairing.game) {
+    } else if is_black_paired(pairings, pairing.against) {
         Some(RowFault::BlackTwice)
     } else {
         None

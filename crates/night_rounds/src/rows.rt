@@ -11,6 +11,7 @@ use crate::times::{Times, times_of};
 use csv::StringRecord;
 use jiff::Timestamp;
 use lobby_words::number_named;
+use night_report::Bye;
 use player_name::Name;
 use std::alloc::{AllocError, Global};
 
@@ -23,12 +24,19 @@ pub struct Game {
     pub start: Option<i64>,
 }
 
-/// Who plays at a board. Where there is no game, White has no opponent in this round.
+/// What White has in a round: a game, or no opponent.
+#[derive(Clone, Copy)]
+pub enum Against {
+    Game(Game),
+    Bye(Bye),
+}
+
+/// Who plays at a board.
 #[derive(Clone, Copy)]
 pub struct Pairing {
     pub board: u32,
     pub white: Name,
-    pub game: Option<Game>,
+    pub against: Against,
 }
 
 // A field of a row, empty where it has none.
@@ -89,11 +97,28 @@ struct Fields<'a> {
     start: &'a str,
 }
 
-// Whether White has no opponent.
-fn is_bye(fields: Fields<'_>) -> bool
-    ensures { result ≡ spec.is_bye fields.entry.black.now fields.entry.times.now fields.entry.start.now }
+// The bye of a text that stands in the place of the times.
+fn bye_in(text: &str) -> Option<Bye>
+    ensures { result ≡ spec.bye_in text.now }
 {
-    fields.black.is_empty() && fields.times.is_empty() && fields.start.is_empty()
+    match text {
+        "" | "U" => Some(Bye::Pairing),
+        "F" => Some(Bye::Full),
+        "H" => Some(Bye::Half),
+        "Z" => Some(Bye::Zero),
+        _ => None,
+    }
+}
+
+// The bye of fields, where White has no opponent.
+fn bye_of(fields: Fields<'_>) -> Option<Bye>
+    ensures { result ≡ spec.bye_of fields.entry.black.now fields.entry.times.now fields.entry.start.now }
+{
+    if fields.black.is_empty() && fields.start.is_empty() {
+        bye_in(fields.times)
+    } else {
+        None
+    }
 }
 
 // The game of White and fields.
@@ -146,18 +171,18 @@ pub fn pairing_of(
         times: cell(row, 3),
         start: cell(row, 4),
     };
-    if is_bye(fields) {
+    if let Some(bye) = bye_of(fields) {
         return Ok(Ok(Pairing {
             board,
             white,
-            game: None,
+            against: Against::Bye(bye),
         }));
     }
     match game_of(alloc, white, fields)? {
         Ok(game) => Ok(Ok(Pairing {
             board,
             white,
-            game: Some(game),
+            against: Against::Game(game),
         })),
         Err(fault) => Ok(Err(fault)),
     }

@@ -1,5 +1,5 @@
-//! A tournament's report: what no clause says, how much room there is, and the sign of a draw of less than a move each.
-use night_report::{Fault, Meeting, Play, Score, Tournament, report};
+//! A tournament's report: what no clause says, how much room there is, and signs of what seldom comes.
+use night_report::{Bye, Fault, Meeting, Opponent, Play, Score, Tournament, report};
 use std::alloc::Global;
 use std::process::Abort;
 
@@ -42,14 +42,42 @@ fn there_is_room(rt: HostRuntime) {
 // A draw in which nobody made a move.
 const SHORT: Meeting = Meeting {
     white: 1,
-    black: Some(2),
+    black: Opponent::Player(2),
     score: Score::Draw,
     play: Play::Short,
 };
 
+// What an arbiter decides: half a point for White alone, and that neither came; and a bye of half a point.
+const HALF: Meeting = Meeting {
+    score: Score::HalfWhite,
+    play: Play::Board,
+    ..SHORT
+};
+
+const NOBODY: Meeting = Meeting {
+    score: Score::Neither,
+    play: Play::Forfeit,
+    ..SHORT
+};
+
+const BYE: Meeting = Meeting {
+    black: Opponent::Bye(Bye::Half),
+    ..SHORT
+};
+
+// The end of Bob's line, where he and Ann met so in the one round.
+const ENDS: [(Meeting, &[u8]); 4] = [
+    (SHORT, b" 0.5    1     1 b D\n"),
+    (HALF, b" 0.0    2     1 b 0\n"),
+    (NOBODY, b" 0.0    1     1 b -\n"),
+    (BYE, b" 0.0    2  0000 - Z\n"),
+];
+
 #[test]
-fn a_short_draw(rt: HostRuntime) {
-    let round = Vec::from_array(rt.alloc(), [SHORT]).expect(&rt, "memory");
-    let text = report(rt.alloc(), &EVENT, &["Ann", "Bob"], &[round]).expect(&rt, "a report");
-    assert!(rt; text.as_slice().ends_with(b" 0.5    1     1 b D\n"));
+fn ends_of_a_report(rt: HostRuntime) {
+    for (meeting, end) in ENDS {
+        let round = Vec::from_array(rt.alloc(), [meeting]).expect(&rt, "memory");
+        let text = report(rt.alloc(), &EVENT, &["Ann", "Bob"], &[round]).expect(&rt, "a report");
+        assert!(rt; text.as_slice().ends_with(end));
+    }
 }

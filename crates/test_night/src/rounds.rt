@@ -1,23 +1,29 @@
 //! The texts of a round: worked examples, what no clause says, and that calls succeed. (Clauses settle what is to be
 //! done about a board.)
+use night_report::{Bye, Play, Score};
 use night_rounds::{
-    Fault, Outcome, Pairing, Row, RowFault, candidates, newest, note_of, note_text, read, results,
-    times_of, times_text,
+    Against, Decision, Fault, Outcome, Pairing, Row, RowFault, Scored, candidates, counted,
+    decision_of, decision_text, newest, note_of, note_text, read, results, times_of, times_text,
 };
 use player_name::Name;
 use std::alloc::Global;
 use std::process::Abort;
 
 const FILE: &[u8] =
-    b"board,white,black,times,start\r\n\"1\",ann,bob,300+2,1970-01-01T01:00:01+01:00\r\n2,cid,,,\r\n";
+    b"board,white,black,times,start\r\n\"1\",ann,bob,300+2,1970-01-01T01:00:01+01:00\r\n2,cid,,,\r\n3,dee,,H,\r\n";
 
 const TWICE: &[u8] = b"board,white,black,times,start\n1,ann,bob,300,\n2,cid,ann,300,\n";
 
 fn check_round(rt: &impl Abort, pairings: &[Pairing]) {
-    assert!(rt; pairings.len() == 2 && pairings[1].game.is_none());
+    assert!(rt; pairings.len() == 3);
+    assert!(rt; matches!(pairings[1].against, Against::Bye(Bye::Pairing)));
+    assert!(rt; matches!(pairings[2].against, Against::Bye(Bye::Half)));
     let first = pairings[0];
     assert!(rt; first.board == 1 && first.white.as_str() == "ann");
-    let game = first.game.expect(rt, "a game");
+    let Against::Game(game) = first.against else {
+        assert!(rt; false);
+        return;
+    };
     assert!(rt; game.start == Some(1_000) && game.black.as_str() == "bob");
 }
 
@@ -143,17 +149,102 @@ fn games_are_looked_at(rt: HostRuntime) {
     assert!(rt; own.as_slice() == [16, 17, 20].as_slice());
 }
 
-#[test]
-fn a_results_file(rt: HostRuntime) {
-    let outcome = Outcome {
-        board: 1,
+// Lines, and whether they are those of decisions: two about board 1, one about board 2, one with quotes and a text that
+// is not ASCII; and with a blank, another order, a number that has two spellings and a result that is none.
+static DECISIONS: [(&str, bool); 8] = [
+    (
+        "{\"at\":1764160000123,\"board\":1,\"result\":\"0-0\",\
+         \"white\":\"ann\",\"black\":\"bob\",\"article\":\"12.9\",\"arbiter\":\"Eve\",\"reason\":\"both rang\"}",
+        true,
+    ),
+    (
+        "{\"at\":1764160000124,\"board\":1,\"result\":\"1/2-1/2\",\
+         \"white\":\"ann\",\"black\":\"bob\",\"article\":\"6.9\",\"arbiter\":\"Eve\",\"reason\":\"a knight\"}",
+        true,
+    ),
+    (
+        "{\"at\":1764160000125,\"board\":2,\"result\":\"+/-\",\
+         \"white\":\"cid\",\"black\":\"dee\",\"article\":\"\",\"arbiter\":\"Eve\",\"reason\":\"=late\"}",
+        true,
+    ),
+    (
+        "{\"at\":1,\"board\":3,\"result\":\"0-1/2\",\
+         \"white\":\"\",\"black\":\"\",\"article\":\"\",\"arbiter\":\"\",\"reason\":\"\\\"\u{e9}\\\\\"}",
+        true,
+    ),
+    (
+        "{\"at\":1,\"board\":3, \"result\":\"1-0\",\
+         \"white\":\"\",\"black\":\"\",\"article\":\"\",\"arbiter\":\"\",\"reason\":\"\"}",
+        false,
+    ),
+    (
+        "{\"board\":3,\"at\":1,\"result\":\"1-0\",\
+         \"white\":\"\",\"black\":\"\",\"article\":\"\",\"arbiter\":\"\",\"reason\":\"\"}",
+        false,
+    ),
+    (
+        "{\"at\":01,\"board\":3,\"result\":\"1-0\",\
+         \"white\":\"\",\"black\":\"\",\"article\":\"\",\"arbiter\":\"\",\"reason\":\"\"}",
+        false,
+    ),
+    (
+        "{\"at\":1,\"board\":3,\"result\":\"1-1\",\
+         \"white\":\"\",\"black\":\"\",\"article\":\"\",\"arbiter\":\"\",\"reason\":\"\"}",
+        false,
+    ),
+];
+
+// The decisions of those lines, each of which is spelled so.
+fn decisions(rt: &impl Abort, alloc: Global) -> Vec<Decision> {
+    let mut decisions = Vec::new(alloc);
+    for (line, is) in &DECISIONS {
+        let decision = decision_of(alloc, line).expect(rt, "memory");
+        assert!(rt; decision.is_some() == *is);
+        if let Some(decision) = decision {
+            let again = decision_text(alloc, &decision).expect(rt, "memory");
+            assert!(rt; again.as_slice() == line.as_bytes());
+            assert!(rt; decisions.push(decision).is_ok());
+        }
+    }
+    decisions
+}
+
+// A board at which White won.
+fn won(board: u32) -> Outcome<'static> {
+    Outcome {
+        board,
         white: "ann",
         black: "bob",
         result: "1-0",
-        article: "5.1.1",
+        article: "6.9",
         game: Some(17),
-    };
-    let text = results(rt.alloc(), &[outcome]).expect(&rt, "memory");
-    let wanted = b"board,white,black,result,article,game\r\n1,ann,bob,1-0,5.1.1,17\r\n";
+        note: "a note",
+    }
+}
+
+#[test]
+fn a_results_file(rt: HostRuntime) {
+    let decisions = decisions(&rt, rt.alloc());
+    let outcomes = [won(1), won(2), won(4)];
+    let text = results(rt.alloc(), &decisions, &outcomes).expect(&rt, "memory");
+    let wanted = b"board,white,black,result,article,game,server,arbiter,reason,note\r\n\
+        1,ann,bob,1/2-1/2,6.9,17,1-0,Eve,a knight,a note\r\n\
+        2,ann,bob,'+/-,,17,1-0,Eve,'=late,a note\r\n\
+        4,ann,bob,1-0,6.9,17,1-0,,,a note\r\n";
     assert!(rt; text.as_slice() == wanted.as_slice());
+}
+
+#[test]
+fn the_last_decision_counts_in_a_report(rt: HostRuntime) {
+    let decisions = decisions(&rt, rt.alloc());
+    let told = Scored {
+        score: Score::White,
+        play: Play::Short,
+    };
+    let first = counted(&decisions, 1, told);
+    assert!(rt; matches!((first.score, first.play), (Score::Draw, Play::Board)));
+    let second = counted(&decisions, 2, told);
+    assert!(rt; matches!((second.score, second.play), (Score::White, Play::Forfeit)));
+    let other = counted(&decisions, 4, told);
+    assert!(rt; matches!((other.score, other.play), (Score::White, Play::Short)));
 }

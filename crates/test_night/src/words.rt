@@ -6,6 +6,7 @@ use lobby_serving::Serving;
 use night_boards::Starting;
 use night_keeping::{Form, Keeping, Living, Source};
 use night_outcomes::Reporting;
+use night_rounds::verdict_text;
 use std::alloc::{AllocError, Global};
 use std::process::Abort;
 
@@ -91,7 +92,16 @@ fn said_by(alloc: Global, word: &Word<'_>) -> Result<String, AllocError> {
         Word::Start(starting) => start_said(alloc, starting),
         Word::Results(asking) => {
             let (games, archive) = (asking.round.games, asking.source.archive.unwrap_or("-"));
-            format!(in alloc; "results {games} {archive}")
+            let decisions = asking.round.decisions.unwrap_or("-");
+            format!(in alloc; "results {games} {archive} {decisions}")
+        }
+        Word::Decide(deciding) => {
+            let (file, board, result) = (
+                deciding.file,
+                deciding.board,
+                verdict_text(deciding.verdict),
+            );
+            format!(in alloc; "decide {file} {board} {result}")
         }
         Word::Report(reporting) => report_said(alloc, reporting),
     }
@@ -111,7 +121,7 @@ fn check_line(rt: &impl Abort, alloc: Global, line: &str, wanted: Result<&str, E
 }
 
 // Command lines, and what each asks for, or why it is refused.
-static LINES: [(&str, Result<&str, ErrorKind>); 32] = [
+static LINES: [(&str, Result<&str, ErrorKind>); 35] = [
     (
         "chess-club lobby --players p --server 127.0.0.1:1",
         Ok("lobby p 127.0.0.1:8080 page 0 4 8 32"),
@@ -149,10 +159,22 @@ static LINES: [(&str, Result<&str, ErrorKind>); 32] = [
     ),
     (
         "chess-club results --pairings p --round-file r --archive a",
-        Ok("results r a"),
+        Ok("results r a -"),
     ),
     (
-        "chess-club trf --players p --server s/ --rounds a,b --rounds c,d --name N --all-rounds 5",
+        "chess-club results --pairings p --round-file r --archive a --decisions d",
+        Ok("results r a d"),
+    ),
+    (
+        "chess-club decide --pairings p --decisions d --board 3 --result=-/- --arbiter E --reason R",
+        Ok("decide d 3 -/-"),
+    ),
+    (
+        "chess-club decide --pairings p --decisions d --board 3 --result 1 --arbiter E --reason R",
+        Err(ErrorKind::InvalidValue),
+    ),
+    (
+        "chess-club trf --players p --server s/ --rounds a,b --rounds c,d,e --name N --all-rounds 5",
         Ok("trf p N 2 5"),
     ),
     (

@@ -14,6 +14,8 @@ mod fen;
 #[cfg(test)]
 mod lines;
 #[cfg(test)]
+mod mates;
+#[cfg(test)]
 mod moves;
 #[cfg(test)]
 mod notation;

@@ -1,0 +1,90 @@
+//! The word that puts an arbiter's decision about a board to those of its round.
+use crate::asked::Deciding;
+use crate::decisions::put_decision;
+use anyhow::{Context, Result, bail};
+use command_lines::unix_time;
+use night_boards::pairings_of;
+use night_rounds::{
+    Against, Decision, Ground, Pairing, Players, decision_of, decision_text, verdict_text,
+};
+use std::alloc::Global;
+use std::fs::File;
+use std::rt::{Clock, Files};
+
+// The players of a board of pairings. It fails where there is no such board, or White has a bye there.
+fn players_at(alloc: Global, pairings: &[Pairing], board: u32) -> Result<Players> {
+    let Some(pairing) = pairings.iter().find(|pairing| pairing.board == board) else {
+        bail!("there is no board {board}");
+    };
+    match &pairing.against {
+        Against::Bye(_) => bail!("board {board} is a bye"),
+        Against::Game(game) => Ok(Players {
+            white: String::from_str(alloc, pairing.white.as_str())?,
+            black: String::from_str(alloc, game.black.as_str())?,
+        }),
+    }
+}
+
+// The decision about a board of these pairings, at this moment.
+fn decision(
+    alloc: Global,
+    deciding: &Deciding<'_>,
+    pairings: &[Pairing],
+    at: u64,
+) -> Result<Decision> {
+    Ok(Decision {
+        at,
+        board: deciding.board,
+        verdict: deciding.verdict,
+        players: players_at(alloc, pairings, deciding.board).context(deciding.pairings)?,
+        ground: Ground {
+            article: String::from_str(alloc, deciding.article)?,
+            arbiter: String::from_str(alloc, deciding.arbiter)?,
+            reason: String::from_str(alloc, deciding.reason)?,
+        },
+    })
+}
+
+// The line of a decision. It fails where it could not be read back, as where a text has a control character.
+fn line_of(alloc: Global, decision: &Decision) -> Result<Vec<u8>> {
+    let mut line = decision_text(alloc, decision)?;
+    let text = str::from_utf8(line.as_slice())
+        .ok()
+        .context("a text is not in UTF-8")?;
+    if decision_of(alloc, text)?.is_none() {
+        bail!("a text has a control character");
+    }
+    line.push(b'\n')?;
+    Ok(line)
+}
+
+// The moment, as Unix time in milliseconds.
+fn moment<R: Clock>(rt: &R) -> Result<u64> {
+    match unix_time(rt)? {
+        Some(now) => Ok(now),
+        None => bail!("the system's clock shows a time before 1970"),
+    }
+}
+
+// Puts a decision about a board of these pairings.
+fn decide_board<R>(rt: &R, deciding: &Deciding<'_>, pairings: &[Pairing]) -> Result<()>
+where
+    R: Files<File = File> + AllocGlobal + Clock + Eprint,
+{
+    let decision = decision(rt.alloc(), deciding, pairings, moment(rt)?)?;
+    let line = line_of(rt.alloc(), &decision)?;
+    put_decision(rt, deciding.file, pairings, line.as_slice())
+}
+
+/// Puts a decision to those of its round, and tells it. It fails where the pairings have no such board or a bye there,
+/// where a text has a control character, and as `put_decision` does.
+pub fn decide_result<R>(rt: &R, deciding: &Deciding<'_>) -> Result<()>
+where
+    R: Files<File = File> + AllocGlobal + Clock + Print + Eprint,
+{
+    let pairings = pairings_of(rt, deciding.pairings)?;
+    decide_board(rt, deciding, pairings.as_slice())?;
+    let (board, verdict) = (deciding.board, verdict_text(deciding.verdict));
+    println!(rt; "board {board}: {verdict} is decided")?;
+    Ok(())
+}

@@ -1,0 +1,104 @@
+//! Which decision of an arbiter counts for a board, and what it makes of it.
+ghost use Rattle.std.specs.Prelude.{◌≡◌};
+ghost use Rattle.std.specs.Option.{option_copied};
+ghost use Rattle.night_rounds.specs.Counting as spec;
+
+use crate::decisions::{Decision, Verdict, verdict_text};
+use night_report::{Play, Score};
+
+/// The last decision about a board.
+pub fn last_about(decisions: &[Decision], board: u32) -> Option<&Decision>
+    ensures { option_copied result ≡ spec.last_about board decisions.entry.now }
+{
+    let mut found = None;
+    for decision in decisions {
+        if decision.board == board {
+            found = Some(decision);
+        }
+    }
+    found
+}
+
+/// The result that counts: the arbiter's, and else what came of the game.
+pub fn result_by<'a>(decision: Option<&'a Decision>, told: &'a str) -> &'a str
+    ensures { result.now ≡ spec.result_by (option_copied decision.entry) told.entry.now }
+{
+    match decision {
+        None => told,
+        Some(decision) => verdict_text(decision.verdict),
+    }
+}
+
+/// The article that counts: the one that the arbiter named, and else the one by which the game ended.
+pub fn article_by<'a>(decision: Option<&'a Decision>, told: &'a str) -> &'a str
+    ensures { result.now ≡ spec.article_by (option_copied decision.entry) told.entry.now }
+{
+    match decision {
+        None => told,
+        Some(decision) => decision.ground.article.as_str(),
+    }
+}
+
+/// Who decided; empty where nobody did.
+pub fn arbiter_of(decision: Option<&Decision>) -> &str
+    ensures { result.now ≡ spec.arbiter_of (option_copied decision.entry) }
+{
+    match decision {
+        None => "",
+        Some(decision) => decision.ground.arbiter.as_str(),
+    }
+}
+
+/// Why it was decided so; empty where it was not.
+pub fn reason_of(decision: Option<&Decision>) -> &str
+    ensures { result.now ≡ spec.reason_of (option_copied decision.entry) }
+{
+    match decision {
+        None => "",
+        Some(decision) => decision.ground.reason.as_str(),
+    }
+}
+
+/// What came of a board in a report, and how.
+#[derive(Clone, Copy)]
+pub struct Scored {
+    pub score: Score,
+    pub play: Play,
+}
+
+// The score of a verdict.
+fn score_of(verdict: Verdict) -> Score
+    ensures { result ≡ spec.score_of verdict }
+{
+    match verdict {
+        Verdict::White | Verdict::WhiteCame => Score::White,
+        Verdict::Black | Verdict::BlackCame => Score::Black,
+        Verdict::Draw => Score::Draw,
+        Verdict::HalfWhite => Score::HalfWhite,
+        Verdict::HalfBlack => Score::HalfBlack,
+        Verdict::Neither | Verdict::NobodyCame => Score::Neither,
+    }
+}
+
+// Whether who lost by a verdict did not come.
+fn play_of(verdict: Verdict) -> Play
+    ensures { result ≡ spec.play_of verdict }
+{
+    match verdict {
+        Verdict::WhiteCame | Verdict::BlackCame | Verdict::NobodyCame => Play::Forfeit,
+        _ => Play::Board,
+    }
+}
+
+/// What a report has of a board: by the last decision about it, and else what came of its game.
+pub fn counted(decisions: &[Decision], board: u32, told: Scored) -> Scored
+    ensures { result ≡ spec.scored_by (spec.last_about board decisions.now) told }
+{
+    match last_about(decisions, board) {
+        None => told,
+        Some(decision) => Scored {
+            score: score_of(decision.verdict),
+            play: play_of(decision.verdict),
+        },
+    }
+}
