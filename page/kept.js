@@ -95,6 +95,6 @@ export function dateWords(date, language) {
   const found = /^(\d{4})\.(\d\d)\.(\d\d)$/.exec(date || '');
   if (!found) return !date || date.startsWith('????') ? '' : date;
   const [year, month, day] = found.slice(1).map(Number);
-  const form = { day: 'numeric', month: 'short', year: 'numeric' };
-  return new Date(year, month - 1, day).toLocaleDateString(language, form);
+  return new Date(year, month - 1, day).toLocaleDateString(language,
+    { day: 'numeric', month: 'short', year: 'numeric' });
 }

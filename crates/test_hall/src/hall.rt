@@ -774,8 +774,8 @@ fn a_move_goes_out_beside_requests_without_end(rt: &impl Abort, lab: &mut Lab) {
     assert!(rt; turns_to_open(rt, lab, PINGS, 20) == alone);
 }
 
-// Who sent a byte, and was read, keeps nobody out, though it was told nothing; nor does who has a socket, and is silent,
-// once it was looked at.
+// Who sent a byte, and was read, keeps nobody out, though it was told nothing; nor does who has a socket, and is
+// silent, once it was looked at.
 fn who_was_read_keeps_nobody_out(rt: &impl Abort, lab: &mut Lab) {
     for browser in [b"G~E~T".as_slice(), b"UP"] {
         lab.begin(rt, &(browser, b"", How::Plainly));
