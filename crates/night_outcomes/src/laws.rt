@@ -1,5 +1,6 @@
-//! What the Laws of Chess say of a result on which no legal move may bear: a flag that fell against who cannot be mated
-//! (FIDE article 6.9), and a position in which nobody can mate (5.2.2). It decides nothing: an arbiter does.
+//! What the Laws of Chess say of a result on which no legal move may bear: a flag that fell, or a resignation, where the
+//! opponent cannot mate (FIDE articles 6.9 and 5.1.2), and a position in which nobody can mate (5.2.2). It decides
+//! nothing: an arbiter does.
 use crate::outcomes::Ended;
 use chess_bits::Colour;
 use chess_board::Board;
@@ -44,19 +45,24 @@ fn side_text(side: Colour) -> &'static str {
     }
 }
 
-// What is said of a win on time of a side.
-fn on_time(alloc: Global, board: &Board, side: Colour) -> Result<Option<String>, AllocError> {
+// What is said of a win of a side by this article, on time or since the other resigned.
+fn of_win(
+    alloc: Global,
+    board: &Board,
+    side: Colour,
+    article: &str,
+) -> Result<Option<String>, AllocError> {
     let name = side_text(side);
     match decide(alloc, board, side)? {
         Answer::Mates(_) => Ok(None),
         Answer::Cannot(reason) => {
             let why = reason_text(reason);
             Ok(Some(format!(in alloc;
-                "by the Laws a draw (6.9): {name} cannot mate by any legal moves, since {why}"
+                "by the Laws a draw ({article}): {name} cannot mate by any legal moves, since {why}"
             )?))
         }
         Answer::Unknown => Ok(Some(format!(in alloc;
-            "whether {name} could still mate by any legal moves (6.9) was not found out"
+            "whether {name} could still mate by any legal moves ({article}) was not found out"
         )?)),
     }
 }
@@ -83,10 +89,11 @@ pub fn said_by_laws(alloc: Global, pgn: &str, ended: &Ended) -> Result<Option<St
     let Some(board) = last_board(alloc, pgn)? else {
         return Ok(None);
     };
-    match (ended.article.as_str(), ended.result.as_str()) {
-        ("6.9", "1-0") => on_time(alloc, &board, Colour::White),
-        ("6.9", "0-1") => on_time(alloc, &board, Colour::Black),
-        ("5.1.2", _) | ("", "*") => dead(alloc, &board),
+    let article = ended.article.as_str();
+    match (article, ended.result.as_str()) {
+        ("6.9" | "5.1.2", "1-0") => of_win(alloc, &board, Colour::White, article),
+        ("6.9" | "5.1.2", "0-1") => of_win(alloc, &board, Colour::Black, article),
+        ("", "*") => dead(alloc, &board),
         _ => Ok(None),
     }
 }
