@@ -50,6 +50,9 @@ pub record Files {S : Type 0} (path : List ℕ) (file : Option File) (old new : 
   pub talk : new.talk ≡ old.talk
   pub server : new.server ≡ old.server
   pub site : Changes path file old.site new.site
+  pub come : new.has_come ≡ old.has_come
+  pub away : new.away_at ≡ old.away_at
+  pub rests : new.rounds.rests_until ≡ old.rounds.rests_until
 
 -- The players are these from now on, and nothing else happens.
 pub record Renews {S : Type 0} (players : List Player) (old new : Hall S) : Type 0 where
@@ -57,6 +60,9 @@ pub record Renews {S : Type 0} (players : List Player) (old new : Hall S) : Type
   pub talk : Moves old.talk (Renewed players) new.talk
   pub server : new.server ≡ old.server
   pub site : new.site ≡ old.site
+  pub come : new.has_come ≡ old.has_come
+  pub away : new.away_at ≡ old.away_at
+  pub rests : new.rounds.rests_until ≡ old.rounds.rests_until
 
 -- The same files are served, and nothing happens.
 pub record KeepsFiles {S : Type 0} (old new : Hall S) : Type 0 where
@@ -64,6 +70,9 @@ pub record KeepsFiles {S : Type 0} (old new : Hall S) : Type 0 where
   pub talk : new.talk ≡ old.talk
   pub server : new.server ≡ old.server
   pub site : IsSameSite old.site new.site
+  pub come : new.has_come ≡ old.has_come
+  pub away : new.away_at ≡ old.away_at
+  pub rests : new.rounds.rests_until ≡ old.rounds.rests_until
 
 -- a turn in which these bytes come of the server, the connection to it is lost or not, the log has these texts, and
 -- these bytes are written to the server
