@@ -74,7 +74,8 @@ struct Once {
 
 // The file of ann and eve.
 const FILE: &[u8] =
-    b"ann player 3ba3f5f43b92602683c19aee62a20342b084dd5971ddd33808d81a328879a547 ann\neve arbiter dfb417454d7432715ecfaa33d89abdaba4457c3b2cbd85a4a20620d0cd806da6 eve\n";
+    b"ann player 3ba3f5f43b92602683c19aee62a20342b084dd5971ddd33808d81a328879a547 ann\n\
+    eve arbiter dfb417454d7432715ecfaa33d89abdaba4457c3b2cbd85a4a20620d0cd806da6 eve\n";
 
 impl KeepsLinks for Once {
     fn change(&mut self, order: &Order, players: &[Player]) -> Option<Linked> {
@@ -250,7 +251,8 @@ static CASES: [Case; 16] = [
         (NONE, b"", How::Plainly),
         (90, 1),
         b"",
-        b"\x81\x0cserver here\n\x81\x0dno 1 BadLine\n\x81\x0dno 1 BadLine\n\x81\x0dno 1 BadLine\n\x81\x0dno 1 BadLine\n",
+        b"\x81\x0cserver here\n\x81\x0dno 1 BadLine\n\x81\x0dno 1 BadLine\n\x81\x0dno 1 BadLine\n\
+        \x81\x0dno 1 BadLine\n",
     ),
     (
         (FLOOD, b"", How::Plainly),
@@ -348,13 +350,15 @@ static ACTS: [Case; 7] = [
     // an arbiter asks for a link of nobody's and twice for one of ann's: it is told once it is made
     (
         (
-            b"UP~\x81\xa6\0\0\0\0login eeeeeeeeeeeeeeeeeeeeeeeeeeeeeeee\x81\x88\0\0\0\0link bob\x81\x88\0\0\0\0link ann~\x81\x88\0\0\0\0link ann\x81\x83\0\0\0\0who",
+            b"UP~\x81\xa6\0\0\0\0login eeeeeeeeeeeeeeeeeeeeeeeeeeeeeeee\x81\x88\0\0\0\0link bob\x81\x88\0\0\0\0link \
+            ann~\x81\x88\0\0\0\0link ann\x81\x83\0\0\0\0who",
             b"",
             How::Plainly,
         ),
         (40, 1),
         b"",
-        b"ok login eve arbiter eve\n\x81\x0fno 38 NoPlayer\n\x81\x2dok link ann 07070707070707070707070707070707\n\x81\x11no 40 NotWritten\n\x81\x12ok who open 1\neve\n",
+        b"ok login eve arbiter eve\n\x81\x0fno 38 NoPlayer\n\x81\x2dok link ann 07070707070707070707070707070707\n\
+        \x81\x11no 40 NotWritten\n\x81\x12ok who open 1\neve\n",
     ),
     // an arbiter pauses entries
     (
@@ -371,7 +375,8 @@ static ACTS: [Case; 7] = [
     (
         (
             b"UP~\x81\xa6\0\0\0\0login eeeeeeeeeeeeeeeeeeeeeeeeeeeeeeee\x81\x92\0\0\0\0pair ann eve 300 2",
-            b"~~~~~~~~ok name ann\nok open 1\n~~ok name eve\nok join 1 black\n~~ok show 1 ann eve 0 w 1 1 - * -\nok fen 1 FEN\n",
+            b"~~~~~~~~ok name ann\nok open 1\n~~ok name eve\nok join 1 black\n~~ok show 1 ann eve 0 w 1 1 - * -\n\
+            ok fen 1 FEN\n",
             How::Plainly,
         ),
         (60, 1),
@@ -450,7 +455,8 @@ fn an_act_counts_only_under_its_name(rt: &impl Abort, lab: &mut Lab) {
 
 // (it is not read in the turn behind one in which something was written to it)
 const ASKS: &[u8] =
-    b"GET /live.pgn HTTP/1.1\r\nHost: a:1\r\n\r\n~GET /live.pgn HTTP/1.1\r\nHost: a:1\r\n\r\n~~GET /live.pgn HTTP/1.1\r\nHost: a:1\r\n\r\n";
+    b"GET /live.pgn HTTP/1.1\r\nHost: a:1\r\n\r\n~GET /live.pgn HTTP/1.1\r\nHost: a:1\r\n\r\n\
+    ~~GET /live.pgn HTTP/1.1\r\nHost: a:1\r\n\r\n";
 
 fn a_file_changes_between_turns(rt: &impl Abort, lab: &mut Lab) {
     lab.begin(rt, &(ASKS, b"", How::Plainly));
@@ -579,7 +585,8 @@ fn who_has_another_link_acts_no_more(rt: &impl Abort, lab: &mut Lab) {
 
 // An arbiter who acts, and pauses entries some turns later.
 const PAUSE_LATER: &[u8] =
-    b"UP~\x81\xa6\0\0\0\0login eeeeeeeeeeeeeeeeeeeeeeeeeeeeeeee\x81\x90\0\0\0\0open white 300 2~~~~~~~~~\x81\x8d\0\0\0\0pause entries";
+    b"UP~\x81\xa6\0\0\0\0login eeeeeeeeeeeeeeeeeeeeeeeeeeeeeeee\x81\x90\0\0\0\0open white 300 \
+    2~~~~~~~~~\x81\x8d\0\0\0\0pause entries";
 
 // A server that accepts the act, the sooner the more of this is cut off.
 const ACCEPTS: &[u8] = b"~~~~~~~~~~~~~~~~ok name eve\nok open 1\n";
@@ -635,9 +642,10 @@ fn players_come_before_strangers(rt: &impl Abort, lab: &mut Lab) {
 // One who shows no token and asks for a game of 40 plies, and its server.
 const LINE_ASKER: &[u8] = b"UP~~~~\x81\x86\0\0\0\0line 1\x81\x83\0\0\0\0who";
 
-const GAME: &[u8] =
-    b"~~~~~~~~ok pgn 1 2\n1. Nf3 Nf6 2. Ng1 Ng8 3. Nf3 Nf6 4. Ng1 Ng8 5. Nf3 Nf6 6. Ng1 Ng8 7. Nf3 Nf6 8. Ng1 Ng8 9. Nf3 Nf6 10. Ng1 Ng8\n\
-11. Nf3 Nf6 12. Ng1 Ng8 13. Nf3 Nf6 14. Ng1 Ng8 15. Nf3 Nf6 16. Ng1 Ng8 17. Nf3 Nf6 18. Ng1 Ng8 19. Nf3 Nf6 20. Ng1 Ng8\n";
+const GAME: &[u8] = b"~~~~~~~~ok pgn 1 2\n\
+1. Nf3 Nf6 2. Ng1 Ng8 3. Nf3 Nf6 4. Ng1 Ng8 5. Nf3 Nf6 6. Ng1 Ng8 7. Nf3 Nf6 8. Ng1 Ng8 9. Nf3 Nf6 10. Ng1 Ng8\n\
+11. Nf3 Nf6 12. Ng1 Ng8 13. Nf3 Nf6 14. Ng1 Ng8 15. Nf3 Nf6 16. Ng1 Ng8 17. Nf3 Nf6 18. Ng1 Ng8 19. Nf3 Nf6 \
+20. Ng1 Ng8\n";
 
 const LAST_ROWS: &[u8] =
     b"\n39 Ng1 f3g1 rnbqkb1r/pppppppp/5n2/8/8/8/PPPPPPPP/RNBQKBNR b KQkq - 39 20\n\
@@ -683,8 +691,8 @@ fn a_line_is_played_in_parts(rt: &impl Abort, lab: &mut Lab) {
     assert!(rt; is_between && lab.is_told(LAST_ROWS));
 }
 
-// Of so many turns, the last before ann's act is on its way beside a stranger who asks for a game, and the last in which
-// the stranger was told nothing but that the server is there.
+// Of so many turns, the last before ann's act is on its way beside a stranger who asks for a game, and the last in
+// which the stranger was told nothing but that the server is there.
 fn turns_beside_line(
     rt: &impl Abort,
     lab: &mut Lab,
@@ -766,7 +774,8 @@ fn a_move_goes_out_beside_requests_without_end(rt: &impl Abort, lab: &mut Lab) {
     assert!(rt; turns_to_open(rt, lab, PINGS, 20) == alone);
 }
 
-// Who sent a byte, and was read, keeps nobody out, though it was told nothing; nor does who has a socket, and is silent.
+// Who sent a byte, and was read, keeps nobody out, though it was told nothing; nor does who has a socket, and is
+// silent.
 fn who_was_read_keeps_nobody_out(rt: &impl Abort, lab: &mut Lab) {
     for browser in [b"G~E~T".as_slice(), b"UP"] {
         lab.begin(rt, &(browser, b"", How::Plainly));

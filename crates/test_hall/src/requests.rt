@@ -124,25 +124,29 @@ const REQUESTS: [Request; 31] = [
         false,
     ),
     (
-        b"GET /ws HTTP/1.1\r\nHost: a:1\r\nOrigin: http://b:1\r\nConnection: Upgrade\r\nUpgrade: websocket\r\nSec-WebSocket-Version: 13\r\nSec-WebSocket-Key: AAAAAAAAAAAAAAAAAAAAAA==\r\n\r\n",
+        b"GET /ws HTTP/1.1\r\nHost: a:1\r\nOrigin: http://b:1\r\nConnection: Upgrade\r\nUpgrade: websocket\r\n\
+        Sec-WebSocket-Version: 13\r\nSec-WebSocket-Key: AAAAAAAAAAAAAAAAAAAAAA==\r\n\r\n",
         b"HTTP/1.1 403 ",
         b"",
         false,
     ),
     (
-        b"GET /ws HTTP/1.1\r\nHost: a:1\r\nOrigin: null\r\nConnection: Upgrade\r\nUpgrade: websocket\r\nSec-WebSocket-Version: 13\r\nSec-WebSocket-Key: AAAAAAAAAAAAAAAAAAAAAA==\r\n\r\n",
+        b"GET /ws HTTP/1.1\r\nHost: a:1\r\nOrigin: null\r\nConnection: Upgrade\r\nUpgrade: websocket\r\n\
+        Sec-WebSocket-Version: 13\r\nSec-WebSocket-Key: AAAAAAAAAAAAAAAAAAAAAA==\r\n\r\n",
         b"HTTP/1.1 403 ",
         b"",
         false,
     ),
     (
-        b"GET /ws HTTP/1.1\r\nHost: a:1\r\nOrigin: http://a:1\r\nConnection: Upgrade\r\nUpgrade: websocket\r\nSec-WebSocket-Version: 8\r\nSec-WebSocket-Key: AAAAAAAAAAAAAAAAAAAAAA==\r\n\r\n",
+        b"GET /ws HTTP/1.1\r\nHost: a:1\r\nOrigin: http://a:1\r\nConnection: Upgrade\r\nUpgrade: websocket\r\n\
+        Sec-WebSocket-Version: 8\r\nSec-WebSocket-Key: AAAAAAAAAAAAAAAAAAAAAA==\r\n\r\n",
         b"HTTP/1.1 400 ",
         b"",
         false,
     ),
     (
-        b"GET /ws HTTP/1.1\r\nHost: a:1\r\nOrigin: http://a:1\r\nConnection: Upgrade\r\nUpgrade: websocket\r\nSec-WebSocket-Version: 13\r\nSec-WebSocket-Key: AAAA\r\n\r\n",
+        b"GET /ws HTTP/1.1\r\nHost: a:1\r\nOrigin: http://a:1\r\nConnection: Upgrade\r\nUpgrade: websocket\r\n\
+        Sec-WebSocket-Version: 13\r\nSec-WebSocket-Key: AAAA\r\n\r\n",
         b"HTTP/1.1 400 ",
         b"",
         false,
@@ -168,7 +172,8 @@ const REQUESTS: [Request; 31] = [
     ),
     // an origin that stands twice
     (
-        b"GET /ws HTTP/1.1\r\nHost: a:1\r\nOrigin: http://a:1\r\nOrigin: http://a:1\r\nConnection: Upgrade\r\nUpgrade: websocket\r\nSec-WebSocket-Version: 13\r\nSec-WebSocket-Key: AAAAAAAAAAAAAAAAAAAAAA==\r\n\r\n",
+        b"GET /ws HTTP/1.1\r\nHost: a:1\r\nOrigin: http://a:1\r\nOrigin: http://a:1\r\nConnection: Upgrade\r\n\
+        Upgrade: websocket\r\nSec-WebSocket-Version: 13\r\nSec-WebSocket-Key: AAAAAAAAAAAAAAAAAAAAAA==\r\n\r\n",
         b"HTTP/1.1 403 ",
         b"",
         false,
@@ -177,10 +182,14 @@ const REQUESTS: [Request; 31] = [
 
 // An origin without a port has its scheme's: each opens the socket.
 const ORIGINS: [&[u8]; 4] = [
-    b"GET /ws HTTP/1.1\r\nHost: c:80\r\nOrigin: http://c\r\nConnection: Upgrade\r\nUpgrade: websocket\r\nSec-WebSocket-Version: 13\r\nSec-WebSocket-Key: AAAAAAAAAAAAAAAAAAAAAA==\r\n\r\n",
-    b"GET /ws HTTP/1.1\r\nHost: c\r\nOrigin: http://c:80\r\nConnection: Upgrade\r\nUpgrade: websocket\r\nSec-WebSocket-Version: 13\r\nSec-WebSocket-Key: AAAAAAAAAAAAAAAAAAAAAA==\r\n\r\n",
-    b"GET /ws HTTP/1.1\r\nHost: c\r\nOrigin: https://c:443\r\nConnection: Upgrade\r\nUpgrade: websocket\r\nSec-WebSocket-Version: 13\r\nSec-WebSocket-Key: AAAAAAAAAAAAAAAAAAAAAA==\r\n\r\n",
-    b"GET /ws HTTP/1.1\r\nHost: a:1\r\nOrigin: https://a:1\r\nConnection: Upgrade\r\nUpgrade: websocket\r\nSec-WebSocket-Version: 13\r\nSec-WebSocket-Key: AAAAAAAAAAAAAAAAAAAAAA==\r\n\r\n",
+    b"GET /ws HTTP/1.1\r\nHost: c:80\r\nOrigin: http://c\r\nConnection: Upgrade\r\nUpgrade: websocket\r\n\
+    Sec-WebSocket-Version: 13\r\nSec-WebSocket-Key: AAAAAAAAAAAAAAAAAAAAAA==\r\n\r\n",
+    b"GET /ws HTTP/1.1\r\nHost: c\r\nOrigin: http://c:80\r\nConnection: Upgrade\r\nUpgrade: websocket\r\n\
+    Sec-WebSocket-Version: 13\r\nSec-WebSocket-Key: AAAAAAAAAAAAAAAAAAAAAA==\r\n\r\n",
+    b"GET /ws HTTP/1.1\r\nHost: c\r\nOrigin: https://c:443\r\nConnection: Upgrade\r\nUpgrade: websocket\r\n\
+    Sec-WebSocket-Version: 13\r\nSec-WebSocket-Key: AAAAAAAAAAAAAAAAAAAAAA==\r\n\r\n",
+    b"GET /ws HTTP/1.1\r\nHost: a:1\r\nOrigin: https://a:1\r\nConnection: Upgrade\r\nUpgrade: websocket\r\n\
+    Sec-WebSocket-Version: 13\r\nSec-WebSocket-Key: AAAAAAAAAAAAAAAAAAAAAA==\r\n\r\n",
 ];
 
 fn check_origins(rt: &impl Abort, lab: &mut Lab) {
@@ -218,13 +227,15 @@ const FILES: [Request; 12] = [
     (
         GAMES,
         WHOLE,
-        b"\r\ncontent-type: application/x-chess-pgn; charset=utf-8\r\naccess-control-allow-origin: *\r\netag: \"e3b0c44298fc1c149afbf4c8996fb92427ae41e4649b934ca495991b7852b855\"\r\ncontent-length: 0\r\n\r\n",
+        b"\r\ncontent-type: application/x-chess-pgn; charset=utf-8\r\naccess-control-allow-origin: *\r\n\
+        etag: \"e3b0c44298fc1c149afbf4c8996fb92427ae41e4649b934ca495991b7852b855\"\r\ncontent-length: 0\r\n\r\n",
         false,
     ),
     (
         FIGURES,
         WHOLE,
-        b"\r\ncache-control: no-cache\r\ncontent-type: text/plain; version=0.0.4; charset=utf-8\r\netag: \"e3b0c44298fc1c149afbf4c8996fb92427ae41e4649b934ca495991b7852b855\"\r\ncontent-length: 0\r\n\r\n",
+        b"\r\ncache-control: no-cache\r\ncontent-type: text/plain; version=0.0.4; charset=utf-8\r\n\
+        etag: \"e3b0c44298fc1c149afbf4c8996fb92427ae41e4649b934ca495991b7852b855\"\r\ncontent-length: 0\r\n\r\n",
         false,
     ),
     (
@@ -337,7 +348,8 @@ const UNKNOWN: [&[u8]; 15] = [
 
 // How the answer ends to who has the page (no media type stands between).
 const NO_PAGE: &[u8] =
-    b"\r\ncache-control: no-cache\r\netag: \"aafdd3f20726bac0993d94996c006d7053e72b1b8f96371ace7ba7b5e8c06fd1\"\r\n\r\n";
+    b"\r\ncache-control: no-cache\r\netag: \"aafdd3f20726bac0993d94996c006d7053e72b1b8f96371ace7ba7b5e8c06fd1\"\r\n\
+    \r\n";
 
 // Who asks with one of these is answered so.
 fn check_known(rt: &impl Abort, lab: &mut Lab, known: &[&[u8]], front: &[u8], end: &[u8]) {

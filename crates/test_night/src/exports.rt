@@ -11,7 +11,7 @@ const FILE: &str = "exports_test.jsonl";
 // The archive of the texts below, and the beginning of a line behind it.
 const LINES: &str = r#"{"game":7,"pgn":"[Event \"A \\\"B\\\"\"]\n[Result \"1-0\"]\n\n1. e4 1-0\n\n"}
 {"game":12,"pgn":"[Event \"?\"]\n[Result \"*\"]\n\n*\n\n"}
-{"game":20,"pgn":"[Event \"?\"]\n[Result \"1/2-1/2\"]\n[Article \"9.1.2\"]\n[Continues \"12\"]\n[TimeControl \"300\"]\n\n1. e4 1/2-1/2\n\n"}
+{"game":20,"pgn":"[Event \"?\"]\n[Result \"1/2-1/2\"]\n[Article \"9.1.2\"]\n[Continues \"12\"]\n\n1. e4 1/2-1/2\n\n"}
 {"game":13,"pgn":"[Ev"#;
 
 const PGNS: &str = r#"[Event "A \"B\""]
@@ -29,7 +29,6 @@ const PGNS: &str = r#"[Event "A \"B\""]
 [Result "1/2-1/2"]
 [Article "9.1.2"]
 [Continues "12"]
-[TimeControl "300"]
 
 1. e4 1/2-1/2
 

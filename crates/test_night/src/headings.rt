@@ -13,7 +13,8 @@ const CLUB: Heading<'static> = Heading {
 // A game without a result, one with a space too many, and one without a move.
 static TEXTS: [(&str, Option<TextFault>); 3] = [
     (
-        "[Event \"?\"]\n[Site \"?\"]\n[Date \"????.??.??\"]\n[Round \"?\"]\n[White \"ann\"]\n[Black \"bob\"]\n[Result \"0-1\"]\n[Article \"5.1.1\"]\n[Termination \"normal\"]\n[TimeControl \"300+2\"]\n\n",
+        "[Event \"?\"]\n[Site \"?\"]\n[Date \"????.??.??\"]\n[Round \"?\"]\n[White \"ann\"]\n[Black \"bob\"]\n\
+        [Result \"0-1\"]\n[Article \"5.1.1\"]\n[Termination \"normal\"]\n[TimeControl \"300+2\"]\n\n",
         Some(TextFault::NoPgn),
     ),
     ("1.  e4 *\n", Some(TextFault::NoPgn)),
