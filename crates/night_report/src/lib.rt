@@ -1,8 +1,8 @@
 //! What leaves a tournament: its report for FIDE and for pairing programs, TRF-16, and rows of CSV (RFC 4180) for
 //! spreadsheets and databases, of which no cell is a formula.
 //!
-//! Modules: `columns` has the report and `cells` what stands in its rounds; `csv_rows` puts rows of CSV behind others, and
-//! `csv_cells` has the texts of their cells.
+//! Modules: `columns` has the report and `cells` what stands in its rounds; `csv_rows` puts rows of CSV behind others,
+//! and `csv_cells` has the texts of their cells.
 #![tactic(auto)]
 
 mod cells;
