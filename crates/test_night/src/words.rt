@@ -151,7 +151,7 @@ static LINES: [(&str, Result<&str, ErrorKind>); 35] = [
     ),
     (
         "chess-club live --server s/ --file f --kept k",
-        Err(ErrorKind::ValueValidation),
+        Err(ErrorKind::InvalidValue),
     ),
     (
         "chess-club start --pairings p --round-file r --lobby 127.0.0.1:2 --token-file t --take 3=17 --short",
