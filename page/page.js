@@ -128,7 +128,7 @@ class Page {
   shows() {
     this.offers.named();
     this.challenges.fillPlayers();
-    this.challenges.look();
+    if (!this.me() || !this.wire.state.open) this.challenges.show([]);
     if (this.view && this.view.render) this.view.render();
   }
 
@@ -311,6 +311,7 @@ class Page {
   async opened(server) {
     this.isAtTable = undefined;
     await this.who.login();
+    this.challenges.look();              // (only now the lobby knows whose connection it is)
     if (server !== 'here') return;
     await this.askPlayers();
     await this.atTable();
