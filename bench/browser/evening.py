@@ -29,8 +29,11 @@ def no_dead_buttons(hall):
     hall.lobby.control('slow 0')
     ann.loses('#lost', 'the lobby is back', 40)
     ann.until(lambda: ann.sees('#again') and ann.find('#again').is_enabled(), 'the game is shown again')
-    ann.click('#again').until(lambda: not ann.driver.current_url.endswith('/' + number), 'another game is open')
-    ann.reads('#outcome', 'Waiting for an opponent')
+    ann.click('#again').reads('#challenges', 'You offer Bob')
+    bob.reads('#challenges', 'Ann Lee offers you a game, 20+3: you are White')
+    bob.click('#challenges .banner button.strong').until(lambda: not bob.driver.current_url.endswith('/' + number),
+                                                         'another game is there')
+    ann.reads('#outcome', 'Waiting for your opponent')
     ann.is_so(ann.complaints() == [], 'and no script has failed')
 
 
@@ -598,7 +601,7 @@ def looked_at_again(hall):
     number, ann, _, sue = hall.begin(minutes='20')
     ann.lacks('#look-again', 'not while one plays')
     ann.goes('again/' + number).reads('#again-note', 'You play in this game')
-    ann.goes('game/' + number)
+    ann.goes('game/' + number).reads('#outcome', 'Your turn')
     hall.play(FOOLS)
     ann.click('#look-again').shows('#again-moves', '1.f3e52.g4Qh4#', 'its moves')
     ann.board = '#again-board'
