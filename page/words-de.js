@@ -762,4 +762,37 @@ export const WORDS = {
   'Result': 'Ergebnis',
   'All finished games': 'Alle beendeten Partien',
   'Your own': 'Deine eigenen',
+  'Game {0} has not ended as a draw by agreement.': 'Partie {0} hat nicht mit einem vereinbarten Remis geendet.',
+  'Looked up {0}. Game {1} stands in the record as a draw.':
+    'Nachgesehen am {0}. Partie {1} steht in der Aufzeichnung als Remis.',
+  'It is copied.': 'Es ist kopiert.',
+  'Open the games of this round: {0}?': 'Die Partien dieser Runde eröffnen: {0}?',
+  'Open these games': 'Diese Partien eröffnen',
+  'Each is opened for White and joined for Black. From then on the clocks run.':
+    'Jede wird für Weiß eröffnet, und Schwarz tritt bei. Von da an laufen die Uhren.',
+  'A game of the two is on the table already.': 'Eine Partie der beiden ist schon auf dem Tisch.',
+  'The connection broke before the answer came. Open the others once it is there again: no board gets a second game.':
+    'Die Verbindung ist abgerissen, bevor die Antwort kam. Eröffne die anderen, sobald sie wieder da ist: '
+    + 'kein Brett bekommt eine zweite Partie.',
+  'Board {0}': 'Brett {0}',
+  '{0} has no opponent': '{0} hat keinen Gegner',
+  'from {0} on': 'ab {0}',
+  'The first line has to be {0}': 'Die erste Zeile muss {0} sein',
+  'it has not five fields': 'sie hat nicht fünf Felder',
+  'the board is no number': 'das Brett ist keine Zahl',
+  'no player has the name {0}': 'kein Spieler hat den Namen {0}',
+  '{0} stands twice': '{0} steht zweimal da',
+  'the times are not as 300+2 is': 'die Zeiten sind nicht wie 300+2',
+  'the start is not as 2026-11-26T19:30Z is': 'der Beginn ist nicht wie 2026-11-26T19:30Z',
+  'Row {0}: {1}.': 'Zeile {0}: {1}.',
+  'There is no board in it.': 'Es steht kein Brett darin.',
+  'Boards': 'Bretter',
+  'Read the pairings': 'Ansetzungen lesen',
+  'A game that was adjourned in another browser: its number':
+    'Eine Partie, die in einem anderen Browser vertagt wurde: ihre Nummer',
+  'Or from a file': 'Oder aus einer Datei',
+  'Pairings as CSV, a line a board': 'Ansetzungen als CSV, eine Zeile je Brett',
+  'Open a round': 'Eine Runde eröffnen',
+  'Copy the games for chess-club start': 'Partien für chess-club start kopieren',
+  'Look it up': 'Nachsehen',
 };

@@ -766,4 +766,38 @@ export const WORDS = {
   'Result': 'Résultat',
   'All finished games': 'Toutes les parties terminées',
   'Your own': 'Les vôtres',
+  'Game {0} has not ended as a draw by agreement.':
+    'La partie {0} ne s’est pas terminée par une nulle d’un commun accord.',
+  'Looked up {0}. Game {1} stands in the record as a draw.':
+    'Consultée le {0}. La partie {1} est enregistrée comme nulle.',
+  'It is copied.': 'C’est copié.',
+  'Open the games of this round: {0}?': 'Ouvrir les parties de cette ronde : {0} ?',
+  'Open these games': 'Ouvrir ces parties',
+  'Each is opened for White and joined for Black. From then on the clocks run.':
+    'Chacune est ouverte pour les Blancs et rejointe pour les Noirs. Dès lors, les pendules tournent.',
+  'A game of the two is on the table already.': 'Une partie des deux joueurs est déjà dans la liste.',
+  'The connection broke before the answer came. Open the others once it is there again: no board gets a second game.':
+    'La connexion s’est rompue avant la réponse. Ouvrez les autres dès qu’elle sera rétablie : aucun '
+    + 'échiquier ne reçoit une seconde partie.',
+  'Board {0}': 'Échiquier {0}',
+  '{0} has no opponent': '{0} n’a pas d’adversaire',
+  'from {0} on': 'à partir du {0}',
+  'The first line has to be {0}': 'La première ligne doit être {0}',
+  'it has not five fields': 'elle n’a pas cinq champs',
+  'the board is no number': 'l’échiquier n’est pas un nombre',
+  'no player has the name {0}': 'aucun joueur ne porte le nom {0}',
+  '{0} stands twice': '{0} y figure deux fois',
+  'the times are not as 300+2 is': 'la cadence ne s’écrit pas comme 300+2',
+  'the start is not as 2026-11-26T19:30Z is': 'le début ne s’écrit pas comme 2026-11-26T19:30Z',
+  'Row {0}: {1}.': 'Ligne {0} : {1}.',
+  'There is no board in it.': 'Il n’y a aucun échiquier dedans.',
+  'Boards': 'Échiquiers',
+  'Read the pairings': 'Lire les appariements',
+  'A game that was adjourned in another browser: its number':
+    'Une partie ajournée dans un autre navigateur : son numéro',
+  'Or from a file': 'Ou depuis un fichier',
+  'Pairings as CSV, a line a board': 'Appariements en CSV, une ligne par échiquier',
+  'Open a round': 'Ouvrir une ronde',
+  'Copy the games for chess-club start': 'Copier les parties pour chess-club start',
+  'Look it up': 'La chercher',
 };
