@@ -2,8 +2,9 @@
 // arbiter's word. The table is looked at first, so that no board gets a second game.
 
 import { t } from './language.js';
-import { readRefusal, readRows, readTimes, timesOfOpen } from './lines.js';
+import { readPgn, readRefusal, readRows, readTimes, timesOfOpen } from './lines.js';
 import { byId, copy, make, setText } from './make.js';
+import { isOf } from './pairing.js';
 import { arbiterWords, timesWords } from './words.js';
 
 const HEADER = 'board,white,black,times,start';
@@ -76,13 +77,24 @@ export class Openings {
       Object.assign(board, { game: known.number, said: t`A game of the two is on the table already.` });
       return true;
     }
-    const [answer] = await this.app.wire.say(`pair ${white} ${black} ${line}`), paired = /^ok pair (\d+)$/.exec(answer);
-    const refusal = readRefusal(answer);
-    if (paired) Object.assign(board, { game: Number(paired[1]), said: '' });
+    const waits = await this.waiting(rows, board), join = waits && `as ${black} join ${waits}`;
+    const [answer] = await this.app.wire.say(join || `pair ${white} ${black} ${line}`);
+    const done = /^ok (?:pair|join) (\d+)/.exec(answer), refusal = readRefusal(answer);
+    if (done) Object.assign(board, { game: Number(done[1]), said: '' });
     else if (refusal) board.said = arbiterWords(refusal);
     else return this.isLost(answer);
     this.render();
     return true;
+  }
+
+  /** The game of White's with the board's times that waits for a second player, as a pairing that was cut off leaves
+   * it; 0 where there is none. */
+  async waiting(rows, { white, line }) {
+    for (const row of rows.filter((one) => one.white === white && !one.black && one.result === '*')) {
+      const pgn = await this.app.wire.say(`pgn ${row.number}`);
+      if (pgn[0].startsWith('ok ') && isOf(readPgn(pgn.slice(1)).tags, `open white ${line}`)) return row.number;
+    }
+    return 0;
   }
 
   /** What an earlier connection sent may be taken behind the first answer of a new one: then the table is asked twice. */
@@ -120,7 +132,7 @@ export class Openings {
   render() {
     const name = (one) => this.app.nameWords(one), count = this.due().length;
     byId('boards-list').replaceChildren(...this.boards.map(({ board, white, black, line, start, game, said }) => make('li',
-      { class: game || !said ? 'done' : 'open' }, t`Board ${board}`, ': ', black ? `${name(white)} – ${name(black)}, ${
+      { class: game ? 'done' : said ? 'open' : 'still' }, t`Board ${board}`, ': ', black ? `${name(white)} – ${name(black)}, ${
         timesWords(readTimes(timesOfOpen(`open white ${line}`)))}` : t`${name(white)} has no opponent`,
       start > Date.now() && `, ${t`from ${momentWords(start)} on`}`, said && `. ${said}`,
       game > 0 && ' ', game > 0 && make('a', { href: `#/game/${game}` }, t`Look at game ${game}`))));

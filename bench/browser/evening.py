@@ -420,6 +420,7 @@ def read_by_all(hall):
         well(person, view or 'the table', css)
     bob.click('[data-key="join-%s"]' % number)
     hall.both.finds('#resign', 'the game has begun')
+    hall.watch(number)
     for board in ('wood', 'green', 'blue'):
         ann.run('document.documentElement.dataset.board = arguments[0]', board)
         reads_well(ann, 'coordinates on ' + board, (COORDINATES,))
