@@ -19,7 +19,7 @@ use sockets::LocalListener;
 use std::mem;
 use test_lines::clients::Clients;
 use test_lines::{Fault, SMALL};
-use test_memory::store_in_memory;
+use crate::memory::store_in_memory;
 
 /// The first turns' moment.
 const MOMENT: u64 = 1_000;
