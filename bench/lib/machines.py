@@ -196,7 +196,7 @@ class Joined(Machine):
 
     def run(self, commands):
         """What commands say there, none of which may fail."""
-        status, text = self.said(commands)
-        if status:
+        status, text = self.said(commands, 300)
+        if status != 0:
             raise Wrong('%s says to %r: %s' % (self.name, commands, text))
         return text
