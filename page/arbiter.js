@@ -7,6 +7,7 @@ import { t } from './language.js';
 import { isNoGame, placementOf, readLine, readRefusal, readShow, readStanding, readWho, squaresOf } from './lines.js';
 import { Links } from './links.js';
 import { arrange, byId, focused, make, save, setText } from './make.js';
+import { Openings } from './openings.js';
 import { Pairing } from './pairing.js';
 import { Question } from './question.js';
 import { Waits } from './waits.js';
@@ -46,6 +47,7 @@ export class ArbiterView {
     this.pairing = new Pairing(this, (key, number) => this.adjourned.goesOn(key, number));
     this.adjourned = new Adjournments(this, (note) => this.pairing.fill({ ...note, times: timesToGoOn(note) },
       wordsToGoOn(note)));
+    this.openings = new Openings(this);
     this.links = new Links(this);
     byId('arbiter-find').addEventListener('input', () => this.turnTo(0));
     for (const kind of ['pointermove', 'pointerdown', 'keydown']) {
@@ -55,7 +57,7 @@ export class ArbiterView {
     byId('arbiter-on').addEventListener('click', () => this.page(1));
     byId('unencrypted').hidden = location.protocol === 'https:' || OWN_HOSTS.includes(location.hostname);
     byId('entries').addEventListener('click', () => (this.arePaused ? this.entries('resume') : this.askStop()));
-    for (const id of ['pair-by-hand', 'players-and-links']) {
+    for (const id of ['pair-by-hand', 'open-a-round', 'players-and-links']) {
       byId(id).addEventListener('toggle', (event) => event.target.open && this.app.askPlayers());
     }
   }
@@ -116,7 +118,7 @@ export class ArbiterView {
     byId('arbiter-desk').hidden = !may;
     this.renderEntries();
     for (const card of this.cards.values()) this.renderActs(card);
-    for (const part of [this.pairing, this.adjourned, this.links]) part.render();
+    for (const part of [this.pairing, this.openings, this.adjourned, this.links]) part.render();
     this.fill();
   }
 

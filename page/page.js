@@ -442,9 +442,9 @@ class Page {
 
   /** Who comes to another view by keys or listening begins at its heading. */
   toHeading() {
-    const at = document.activeElement, heading = this.view.root.querySelector('h1');
+    const at = document.activeElement, heads = [...this.view.root.querySelectorAll('h1')];
     if (at && at !== document.body && at !== byId('main') && at.getClientRects().length) return;
-    (heading.getClientRects().length ? heading : byId('main')).focus({ preventScroll: true });
+    (heads.find((one) => one.getClientRects().length) || byId('main')).focus({ preventScroll: true });
   }
 
   toContent() {
