@@ -60,10 +60,9 @@ export class RoundView {
     if (this.app.view === this.app.game) this.app.game.render();
   }
 
-  /** For a game's page: which round's board a game is, in words; '' where it is none's. Where there was no round it is
-   * not asked for again. */
+  /** For a game's page: which round's board a game is, in words; '' where it is none's. */
   boardWords(number) {
-    if (this.state !== 'none' && performance.now() - this.readAt > KNOWS_FOR) this.look();
+    if (performance.now() - this.readAt > KNOWS_FOR) this.look();
     for (const [place, boards] of (this.told ? this.told.rounds : []).entries()) {
       const found = boards.find(({ game }) => game === number);
       if (found) return t`Round ${place + 1}, board ${found.board}`;

@@ -75,7 +75,7 @@ def the_round(hall):
     sue.until(lambda: cells(sue, '#round-boards')[0] == ['1', lee, '1–0', bob], 'its boards')
     sue.click('#to-round').shows('#round-title', 'Round 2', 'the newest again')
     sue.click('#round-boards a').shows('#game-board', 'Round 2, board 1', 'the game says so')
-    ann.goes('').goes('game/' + number).shows('#game-board', 'Round 2, board 1', 'to its player too')
+    ann.reload().shows('#game-board', 'Round 2, board 1', 'to its player too')
     for person in (ann, sue):
         complaints = person.complaints()
         person.is_so(complaints == [], 'the console is quiet: %s' % complaints)

@@ -2,7 +2,7 @@
 //! report written.
 use crate::addresses::server_named;
 use crate::days::is_day;
-use crate::options::{ARCHIVE, PLAYERS, SERVER};
+use crate::options::{ARCHIVE, PARTICULARS, PLAYERS, SERVER};
 use clap::ArgMatches;
 use command_lines::{OptionText, OptionValue, WordText};
 use lobby_words::name_form;
@@ -82,11 +82,13 @@ prints
 
 const HELP_OF_TRF: &str = "\
 It writes the tournament's report, TRF-16: who played whom in each round, with the results
-and points. Players are numbered by their place in the players' file. Asked for results are
-the archive, where --archive names one, and then the server, where --server does; the last
-decision of an arbiter about a board counts in their place. Where a game is of others than
-its board's players it writes nothing, and ends with status 1; where a line of the archive
-is no game's or the server is away, that status is behind the report.
+and points. Players are numbered by their place in the players' file; by --particulars, which
+has their ratings, titles, federations, teams and more, by rating, title and full name. Asked
+for results are the archive, where --archive names one, and then the server, where --server
+does; the last decision of an arbiter about a board counts in their place. Where a game is of
+others than its board's players it writes nothing, and ends with status 1; where a board has no
+result yet, a line of the archive is no game's or the server is away, that status is behind the
+report.
 
 Exit status: 0; 1 with what is wrong on standard error; 2 for words that the program does
 not know.
@@ -293,6 +295,13 @@ const TIMES: OptionText = OptionText {
     ..NAME
 };
 
+const ROUND_DATE: OptionText = OptionText {
+    name: "round-date",
+    value: OptionValue::Texts("DAY"),
+    help: "The day of a round, YYYY/MM/DD; once for each round, in their order",
+    is_required: false,
+};
+
 const ALL_ROUNDS: OptionText = OptionText {
     name: "all-rounds",
     help: "How many rounds there are to be",
@@ -381,7 +390,9 @@ pub const TRF: WordText = WordText {
         ARBITER,
         DEPUTY,
         TIMES,
+        ROUND_DATE,
         ALL_ROUNDS,
+        PARTICULARS,
         ARCHIVE_IF_ANY,
         SERVER_IF_ANY,
     ],
@@ -398,6 +409,7 @@ pub const STANDINGS: WordText = WordText {
         BY,
         FORM,
         INITIALS,
+        PARTICULARS,
         ARCHIVE_IF_ANY,
         SERVER_IF_ANY,
     ],
@@ -406,16 +418,28 @@ pub const STANDINGS: WordText = WordText {
 // Which options are days.
 const DAYS: [&str; 2] = ["begins", "ends"];
 
-/// What is said where the tournament's first or last day is given and is none.
+// What is said where the day of an option is none.
+fn no_day_in(alloc: Global, name: &str, day: Option<&str>) -> Result<Option<String>, AllocError> {
+    match day {
+        Some(text) if !is_day(alloc, text)? => Ok(Some(format!(in alloc;
+            "--{name} {text:?} is no day: it is YYYY/MM/DD, as 2026/11/27"
+        )?)),
+        _ => Ok(None),
+    }
+}
+
+/// What is said where the tournament's first or last day, or the day of a round is given and is none.
 pub fn no_day_told(alloc: Global, values: &ArgMatches<'_>) -> Result<Option<String>, AllocError> {
     for name in &DAYS {
-        if let Some(text) = values.get_str(*name)
-            && !is_day(alloc, text)?
-        {
-            let told = format!(in alloc;
-                "--{name} {text:?} is no day: it is YYYY/MM/DD, as 2026/11/27"
-            )?;
-            return Ok(Some(told));
+        let told = no_day_in(alloc, name, values.get_str(*name))?;
+        if told.is_some() {
+            return Ok(told);
+        }
+    }
+    for day in values.get_strs("round-date").unwrap_or(&[]) {
+        let told = no_day_in(alloc, "round-date", Some(*day))?;
+        if told.is_some() {
+            return Ok(told);
         }
     }
     Ok(None)
@@ -579,6 +603,14 @@ fn tournament_of<'a>(values: &ArgMatches<'a>) -> Option<Tournament<'a>> {
     })
 }
 
+/// The files of the rounds; none where a round's are none.
+pub fn rounds_of<'a>(
+    alloc: Global,
+    values: &ArgMatches<'a>,
+) -> Result<Option<Vec<Round<'a>>>, AllocError> {
+    all_of(alloc, values, "rounds", files_of)
+}
+
 /// What `trf` asks for; none where an address, a number or a round's files are none.
 pub fn reporting_of<'a>(
     alloc: Global,
@@ -591,14 +623,19 @@ pub fn reporting_of<'a>(
     ) else {
         return Ok(None);
     };
-    let Some(rounds) = all_of(alloc, values, "rounds", files_of)? else {
+    let Some(rounds) = rounds_of(alloc, values)? else {
+        return Ok(None);
+    };
+    let Some(days) = all_of(alloc, values, "round-date", |day| Some(day))? else {
         return Ok(None);
     };
     Ok(Some(Reporting {
         players,
+        particulars: values.get_str("particulars"),
         rounds,
         source,
         tournament,
+        days,
     }))
 }
 

@@ -97,8 +97,8 @@ fn word_of<'a>(alloc: Global, matches: &ArgMatches<'a>) -> Result<Option<Word<'a
         "player" => adding_of(values).map(Word::Player),
         "evidence" => evidence_of(values).map(Word::Evidence),
         "keep" => keeping_of(values).map(Word::Keep),
-        "export" => exporting_of(values).map(Word::Export),
-        "live" => living_of(values).map(Word::Live),
+        "export" => exporting_of(alloc, values)?.map(Word::Export),
+        "live" => living_of(alloc, values)?.map(Word::Live),
         "start" => starting_of(alloc, values)?.map(Word::Start),
         "results" => asking_of(values).map(Word::Results),
         "decide" => deciding_of(values).map(Word::Decide),
@@ -120,9 +120,12 @@ fn fault_of(matches: &ArgMatches<'_>) -> &'static str {
         Some(("keep", _)) => {
             "an address is none, a tag's value has a control character, or --lobby stands without --drop"
         }
-        Some(("export", _)) => "--pgn and --csv cannot be used with one another",
+        Some(("export", _)) => {
+            "--pgn and --csv cannot be used with one another, or a round's files are none"
+        }
         Some(("live", _)) => {
-            "an address is none, a tag's value has a control character, or --kept stands without --archive"
+            "an address or a round's files are none, a tag's value has a control character, or --kept stands without \
+            --archive"
         }
         Some(("start", _)) => "an address, a board or a game is none",
         Some(("results", _)) => { "an address is none, or neither --archive nor --server is given" }

@@ -1,6 +1,9 @@
 //! The word that writes the games of an archive.
 use crate::asked::{Exporting, Form};
+use crate::besides::Read;
 use anyhow::Result;
+use lobby_players::players_of;
+use lobby_words::{NameForm, Player};
 use night_archive::lines_told;
 use night_games::{Kept, games_kept, write_games, write_rows};
 use std::io;
@@ -15,13 +18,27 @@ fn write<R: AllocGlobal + Print>(rt: &R, form: Form, games: &[Kept]) -> Result<(
     }
 }
 
-/// Writes the games of an archive: the PGN of each, or a row for each. It fails where the file is no
-/// archive, as `lines_told` does, where memory is refused, or the output takes no more.
+// The players of a file, where one is named.
+fn players_in<R: Files + AllocGlobal>(rt: &R, file: Option<&str>) -> Result<Vec<Player>> {
+    match file {
+        Some(file) => players_of(rt, file),
+        None => Ok(Vec::new(rt.alloc())),
+    }
+}
+
+/// Writes the games of an archive: the PGN of each, or a row for each, with what is told of players and boards. It fails
+/// where the file is no archive, as `lines_told` does, where another file cannot be read or is none, where memory is
+/// refused, or the output takes no more.
 pub fn export<R>(rt: &R, exporting: &Exporting<'_>) -> Result<()>
 where
     R: Files + AllocGlobal + Print + Eprint,
 {
     let text = lines_told(rt, exporting.archive)?;
     let games = games_kept(rt.alloc(), text.as_str())?;
-    write(rt, exporting.form, games.as_slice())
+    let players = players_in(rt, exporting.players)?;
+    let read = Read::now(rt, &exporting.besides)?;
+    let known = read.known(rt.alloc(), NameForm::Full)?;
+    let telling = read.telling(players.as_slice(), known.as_slice());
+    let told = telling.games(rt.alloc(), games)?;
+    write(rt, exporting.form, told.as_slice())
 }

@@ -7,8 +7,9 @@ use anyhow::{Result, ensure};
 use lobby_players::players_of;
 use lobby_words::{NameForm, Player, name_told};
 use night_boards::{Paired, Round, paired_of};
-use night_outcomes::{Met, check_fault, met_in, noted_game, playing};
-use night_report::Meeting;
+use night_games::roster_in;
+use night_outcomes::{Met, check_fault, entrants_of, met_in, noted_game};
+use night_report::{Meeting, Particulars};
 use std::alloc::{AllocError, Global};
 use std::io::{self, Write};
 use std::net::{Net, TcpStream};
@@ -17,12 +18,12 @@ use std::rt::Files;
 // The full names of players, as they are told.
 fn shown_names(
     alloc: Global,
-    players: &[&Player],
+    players: &[Particulars<'_>],
     form: NameForm,
 ) -> Result<Vec<String>, AllocError> {
     let mut names = Vec::new(alloc);
     for player in players {
-        names.push(name_told(alloc, form, player.full_name.as_str())?)?;
+        names.push(name_told(alloc, form, player.full_name)?)?;
     }
     Ok(names)
 }
@@ -38,13 +39,13 @@ fn texts_of<'a>(alloc: Global, names: &'a [String]) -> Result<Vec<&'a str>, Allo
 // Players by their names in the protocol, and as they are shown.
 fn named_of<'a>(
     alloc: Global,
-    players: &[&'a Player],
+    players: &[Particulars<'a>],
     shown: &[&'a str],
 ) -> Result<Vec<Named<'a>>, AllocError> {
     let mut named = Vec::new(alloc);
     for (player, shown) in players.iter().zip(shown) {
         named.push(Named {
-            name: player.name.as_str(),
+            name: player.name,
             shown,
         })?;
     }
@@ -86,7 +87,7 @@ fn all_boards<R: Files + AllocGlobal + Eprint>(
 fn text_of<R: Files + AllocGlobal + Eprint>(
     rt: &R,
     asked: &Standing<'_>,
-    players: &[&Player],
+    players: &[Particulars<'_>],
     rounds: &[Vec<Meeting>],
     standings: &Standings,
 ) -> Result<Vec<u8>> {
@@ -111,7 +112,7 @@ fn text_of<R: Files + AllocGlobal + Eprint>(
 }
 
 // Writes the standings of what was met. It fails behind that where something was wrong.
-fn write_met<R>(rt: &R, asked: &Standing<'_>, players: &[&Player], met: &Met) -> Result<()>
+fn write_met<R>(rt: &R, asked: &Standing<'_>, players: &[Particulars<'_>], met: &Met) -> Result<()>
 where
     R: Files + AllocGlobal + Print + Eprint,
 {
@@ -128,12 +129,17 @@ where
     check_fault(met.fault)
 }
 
-// The same of these players, of whom it is still to be looked what they met.
-fn write_of<R>(rt: &R, asked: &Standing<'_>, all: &[Player]) -> Result<()>
+// The same of these players, of whom this is known.
+fn write_of<R>(
+    rt: &R,
+    asked: &Standing<'_>,
+    all: &[Player],
+    known: &[Particulars<'_>],
+) -> Result<()>
 where
     R: Files + Net<Stream = TcpStream> + AllocGlobal + Print + Eprint,
 {
-    let players = playing(rt.alloc(), all)?;
+    let players = entrants_of(rt.alloc(), all, known)?;
     let met = met_in(rt, &asked.reporting, all, players.as_slice())?;
     write_met(rt, asked, players.as_slice(), &met)
 }
@@ -146,5 +152,7 @@ where
     R: Files + Net<Stream = TcpStream> + AllocGlobal + Print + Eprint,
 {
     let all = players_of(rt, asked.reporting.players)?;
-    write_of(rt, asked, all.as_slice())
+    let roster = roster_in(rt, asked.reporting.particulars)?;
+    let known = roster.particulars(rt.alloc())?;
+    write_of(rt, asked, all.as_slice(), known.as_slice())
 }

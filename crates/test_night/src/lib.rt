@@ -35,4 +35,6 @@ mod rounds;
 #[cfg(test)]
 mod standings;
 #[cfg(test)]
+mod told;
+#[cfg(test)]
 mod words;

@@ -1,6 +1,4 @@
-use Rattle.std.proofs.Common.{◌≡◌, true, map, arith, sym, ap, ◌∙◌}
-use Rattle.std.specs.Str.{bytes_eq}
-use Rattle.night_standings.specs.Places as spec
+use Rattle.std.proofs.Common.{map, arith, sym, ◌∙◌}
 use Rattle.night_standings.proofs.Settling.{ends}
 use Rattle.night_standings.proofs.direct.settled.Goals as goal
 

@@ -1,5 +1,4 @@
 use Rattle.std.proofs.Common.{◌≡◌, ◌++◌, map, drop}
-use Rattle.night_standings.specs.Places as spec
 use Rattle.night_standings.proofs.direct.won_of.Given as goal
 
 abbrev pub invariant-loop-tied : goal.invariant-loop-tied

@@ -4,7 +4,7 @@ use Rattle.csv.specs.Reading.{Reached, default_config, strip_bom}
 use Rattle.csv.specs.Records.{fields_of}
 use Rattle.csv.specs.declared.parser.State.TheVariants as st
 use Rattle.csv.proofs.ReadFacts.{rows-end, rows-more}
-use Rattle.night_rounds.proofs.records.records_of.Goals as goal
+use Rattle.night_report.proofs.records.records_of.Goals as goal
 
 pub loop-row-init : goal.loop-row-init
 unfolding Reached

@@ -1,6 +1,6 @@
 use Rattle.std.proofs.Common.{ℕ, zero, suc, ◌≡◌, List, [], ◌∷◌, Option, None, Some, get_or, refl, ap, ◌∙◌}
 use Rattle.csv.specs.Records.{fields_of, field_at}
-use Rattle.night_rounds.proofs.rows.cell.Goals as goal
+use Rattle.night_report.proofs.records.cell.Goals as goal
 
 abbrev or_empty : Option (List ℕ) → List ℕ
 or_empty None = []

@@ -3,6 +3,7 @@ ghost use Rattle.std.specs.Prelude.{◌≡◌, ◌++◌, ◌∷◌, [], Ok, map,
 ghost use Rattle.csv.specs.Reading.{AreRecords, default_config, strip_bom};
 ghost use Rattle.csv.specs.Records.{fields_of};
 ghost use Rattle.csv.specs.declared.parser.State.TheVariants as st;
+ghost use Rattle.night_report.specs.Particulars.{cell};
 
 use csv::{Error, ReaderBuilder, StringRecord};
 use std::alloc::Global;
@@ -31,4 +32,14 @@ pub fn records_of(alloc: Global, text: &[u8]) -> Result<Vec<StringRecord>, Error
         put(&mut rows, row)?;
     }
     Ok(rows)
+}
+
+/// A field of a row, empty where it has none.
+pub fn cell(row: &StringRecord, at: usize) -> &str
+    ensures { result.now ≡ cell (fields_of row.entry.now) at }
+{
+    match row.get(at) {
+        Some(text) => text,
+        None => "",
+    }
 }
