@@ -756,4 +756,12 @@ export const WORDS = {
   'Result': 'Risultato',
   'All finished games': 'Tutte le partite finite',
   'Your own': 'Le tue',
+  'Clocks stopped by the arbiter: {0}': 'Orologi fermati dall’arbitro: {0}',
+  'Stop the clocks': 'Ferma gli orologi',
+  'Start the clocks': 'Fai ripartire gli orologi',
+  'The arbiter has stopped all clocks. Nothing is played until they run again.':
+    'L’arbitro ha fermato tutti gli orologi. Non si gioca finché non ripartono.',
+  'This lobby can stop no clocks: whoever runs it has not named the server’s file.':
+    'Questa lobby non può fermare orologi: chi la gestisce non ha indicato il file del server.',
+  'Reason': 'Motivo',
 };
