@@ -33,11 +33,16 @@ impl<'a, R: Files<File = File> + AllocGlobal + Eprint> StopFile<'a, R> {
     pub fn new(rt: &'a R, file: &'a str) -> Result<Self> {
         let bytes = read_file(rt, file)?;
         let tried = format!(in rt.alloc(); "{file}.try")?;
-        put_own_file(rt, rt.alloc(), tried.as_str(), "")
-            .context(format_args!("writing beside {file}, by which clocks are stopped"))?;
+        put_own_file(rt, rt.alloc(), tried.as_str(), "").context(format_args!(
+            "writing beside {file}, by which clocks are stopped"
+        ))?;
         take_away(rt, tried.as_str())?;
         let is_there = std::fs::exists(rt, file)?;
-        let reason = if is_there { reason_in(bytes.as_slice()) } else { "" };
+        let reason = if is_there {
+            reason_in(bytes.as_slice())
+        } else {
+            ""
+        };
         if is_there {
             eprintln!(rt; "all clocks are stopped, as they were: {file} is there: {reason}")?;
         }
