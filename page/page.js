@@ -13,6 +13,7 @@ import { Offers } from './offers.js';
 import { RoundView } from './round.js';
 import { hasLetters, listenToSettings } from './settings.js';
 import { sound } from './sound.js';
+import { clocksTold } from './stopped.js';
 import { TableView } from './table.js';
 import { Turns } from './turns.js';
 import { Who } from './who.js';
@@ -41,7 +42,8 @@ class Page {
     address.search = '';
     this.view = null;
     this.wire = new Wire(address.href, {
-      opened: (server) => this.opened(server), notice: (lines) => this.notice(lines), offers: () => this.challenges.look(),
+      opened: (server) => this.opened(server), notice: (lines) => this.notice(lines), clocks: clocksTold,
+      offers: () => this.challenges.look(),
       changed: () => this.changed(), unnamed: () => this.who.unnamed(),
     });
     this.table = new TableView(this);

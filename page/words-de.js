@@ -817,4 +817,12 @@ export const WORDS = {
   'Wins': 'Siege',
   'w': 'w',
   'b': 's',
+  'Clocks stopped by the arbiter: {0}': 'Alle Uhren hat der Schiedsrichter angehalten: {0}',
+  'Stop the clocks': 'Uhren anhalten',
+  'Start the clocks': 'Uhren weiterlaufen lassen',
+  'The arbiter has stopped all clocks. Nothing is played until they run again.':
+    'Der Schiedsrichter hat alle Uhren angehalten. Gespielt wird erst wieder, wenn sie laufen.',
+  'This lobby can stop no clocks: whoever runs it has not named the server’s file.':
+    'Diese Lobby kann keine Uhren anhalten: Wer sie betreibt, hat die Datei des Servers nicht genannt.',
+  'Reason': 'Grund',
 };

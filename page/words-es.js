@@ -807,4 +807,12 @@ export const WORDS = {
   'Wins': 'Victorias',
   'w': 'b',
   'b': 'n',
+  'Clocks stopped by the arbiter: {0}': 'Relojes detenidos por el árbitro: {0}',
+  'Stop the clocks': 'Detener los relojes',
+  'Start the clocks': 'Poner en marcha los relojes',
+  'The arbiter has stopped all clocks. Nothing is played until they run again.':
+    'El árbitro ha detenido todos los relojes. No se juega hasta que vuelvan a correr.',
+  'This lobby can stop no clocks: whoever runs it has not named the server’s file.':
+    'Este lobby no puede detener relojes: quien lo dirige no ha indicado el archivo del servidor.',
+  'Reason': 'Motivo',
 };

@@ -822,4 +822,12 @@ export const WORDS = {
   'Wins': 'Victoires',
   'w': 'b',
   'b': 'n',
+  'Clocks stopped by the arbiter: {0}': 'Pendules arrêtées par l’arbitre : {0}',
+  'Stop the clocks': 'Arrêter les pendules',
+  'Start the clocks': 'Relancer les pendules',
+  'The arbiter has stopped all clocks. Nothing is played until they run again.':
+    'L’arbitre a arrêté toutes les pendules. Rien n’est joué tant qu’elles ne tournent pas.',
+  'This lobby can stop no clocks: whoever runs it has not named the server’s file.':
+    'Ce lobby ne peut arrêter aucune pendule : qui le gère n’a pas nommé le fichier du serveur.',
+  'Reason': 'Motif',
 };

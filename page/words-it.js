@@ -810,4 +810,12 @@ export const WORDS = {
   'Wins': 'Vittorie',
   'w': 'b',
   'b': 'n',
+  'Clocks stopped by the arbiter: {0}': 'Orologi fermati dall’arbitro: {0}',
+  'Stop the clocks': 'Ferma gli orologi',
+  'Start the clocks': 'Fai ripartire gli orologi',
+  'The arbiter has stopped all clocks. Nothing is played until they run again.':
+    'L’arbitro ha fermato tutti gli orologi. Non si gioca finché non ripartono.',
+  'This lobby can stop no clocks: whoever runs it has not named the server’s file.':
+    'Questa lobby non può fermare orologi: chi la gestisce non ha indicato il file del server.',
+  'Reason': 'Motivo',
 };

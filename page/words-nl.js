@@ -814,4 +814,12 @@ export const WORDS = {
   'Wins': 'Overwinningen',
   'w': 'w',
   'b': 'z',
+  'Clocks stopped by the arbiter: {0}': 'Klokken stilgezet door de arbiter: {0}',
+  'Stop the clocks': 'Klokken stilzetten',
+  'Start the clocks': 'Klokken weer laten lopen',
+  'The arbiter has stopped all clocks. Nothing is played until they run again.':
+    'De arbiter heeft alle klokken stilgezet. Er wordt niet gespeeld tot ze weer lopen.',
+  'This lobby can stop no clocks: whoever runs it has not named the server’s file.':
+    'Deze lobby kan geen klokken stilzetten: wie haar beheert heeft het bestand van de server niet genoemd.',
+  'Reason': 'Reden',
 };

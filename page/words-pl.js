@@ -808,4 +808,12 @@ export const WORDS = {
   'Wins': 'Zwycięstwa',
   'w': 'b',
   'b': 'c',
+  'Clocks stopped by the arbiter: {0}': 'Zegary zatrzymane przez sędziego: {0}',
+  'Stop the clocks': 'Zatrzymaj zegary',
+  'Start the clocks': 'Uruchom zegary',
+  'The arbiter has stopped all clocks. Nothing is played until they run again.':
+    'Sędzia zatrzymał wszystkie zegary. Nie gra się, dopóki znów nie ruszą.',
+  'This lobby can stop no clocks: whoever runs it has not named the server’s file.':
+    'To lobby nie może zatrzymać zegarów: kto je prowadzi, nie podał pliku serwera.',
+  'Reason': 'Powód',
 };

@@ -801,4 +801,12 @@ export const WORDS = {
   'Wins': 'Vitórias',
   'w': 'b',
   'b': 'p',
+  'Clocks stopped by the arbiter: {0}': 'Relógios parados pelo árbitro: {0}',
+  'Stop the clocks': 'Parar os relógios',
+  'Start the clocks': 'Pôr os relógios a andar',
+  'The arbiter has stopped all clocks. Nothing is played until they run again.':
+    'O árbitro parou todos os relógios. Nada se joga até voltarem a andar.',
+  'This lobby can stop no clocks: whoever runs it has not named the server’s file.':
+    'Este lobby não pode parar relógios: quem o gere não indicou o ficheiro do servidor.',
+  'Reason': 'Motivo',
 };

@@ -27,6 +27,9 @@ shows all, and /health with figures as Prometheus reads them. /live.pgn is the f
 /round.json that of --round, by which it shows pairings and standings: each is read anew when
 it has changed.
 
+With --stopped an arbiter stops all clocks, and has them run again: name the file beside the
+journal of a server with --clock serving, as club.journal.stopped. Nobody else acts meanwhile.
+
 It goes on until it is ended: kill it, by any signal. Nothing is lost by that.
 
 The line is not encrypted. On an address other than 127.0.0.1 whoever is on the way reads
@@ -176,6 +179,13 @@ const LOG: OptionText = OptionText {
     is_required: false,
 };
 
+const STOPPED: OptionText = OptionText {
+    name: "stopped",
+    value: OptionValue::Text("FILE"),
+    help: "The file beside the journal by which a server with --clock serving stops all clocks",
+    is_required: false,
+};
+
 const NAME: OptionText = OptionText {
     name: "name",
     value: OptionValue::Alone("NAME"),
@@ -234,6 +244,7 @@ pub const LOBBY: WordText = WordText {
         KEPT,
         ROUND,
         LOG,
+        STOPPED,
         WAITING_MOST,
         PLAYING_MOST,
         OVER_MOST,
@@ -337,6 +348,7 @@ pub fn serving_of<'a>(
         kept: values.get_str("kept"),
         round: values.get_str("round"),
         log: values.get_str("log"),
+        stopped: values.get_str("stopped"),
         hosts,
     }))
 }
