@@ -8,7 +8,6 @@ use Rattle.lobby_desk.specs.Roles.{acts, is_watcher}
 use Rattle.lobby_guests.specs.declared.guest.Guest.{Guest}
 use Rattle.lobby_guests.specs.declared.place.Place.{Place}
 use Rattle.lobby_guests.specs.declared.place.Role.{Role}
-use Rattle.lobby_guests.proofs.Catching.{same_guest}
 use Rattle.lobby_guests.specs.Guests.{IsAsBefore}
 use Rattle.lobby_guests.specs.Place.{is_gone}
 use Rattle.lobby_loop.specs.Places.{is_player, gone, each_own, judged, IsKeptOrClosed, IsKeptOrGone, IsOwned, IsFair}
@@ -175,7 +174,10 @@ fair_length at from old new fair = sym (length_all_zip IsKeptOrClosed old new fa
 module _ {S : Type 0} (desk : Desk) where
   all_as_before : (guests : List (Guest S)) → AllZip IsAsBefore guests guests
   all_as_before [] = tt
-  all_as_before (guest ∷ guests) = (same_guest guest, all_as_before guests)
+  all_as_before (guest ∷ guests) = (
+    record { number = refl; stream = refl; browser = refl; waits = refl; since = refl; origin = refl; paid = refl },
+    all_as_before guests,
+  )
 
   pub seated_not : (at from : ℕ) (guests : List (Guest S)) → AreSeatedIf false at from desk guests guests
   seated_not at from guests = record { before = all_as_before guests; seats = λ is. absurd (cc); same = λ is. refl }
