@@ -2,10 +2,10 @@
 use crate::asked::{Exporting, Form};
 use crate::besides::Read;
 use anyhow::Result;
-use lobby_players::players_of;
-use lobby_words::{NameForm, Player};
+use lobby_words::NameForm;
 use night_archive::lines_told;
 use night_games::{Kept, games_kept, write_games, write_rows};
+use night_outcomes::players_in;
 use std::io;
 use std::rt::Files;
 
@@ -15,14 +15,6 @@ fn write<R: AllocGlobal + Print>(rt: &R, form: Form, games: &[Kept]) -> Result<(
     match form {
         Form::Pgn => write_games(rt.alloc(), &mut output, games),
         Form::Csv => write_rows(rt.alloc(), &mut output, games),
-    }
-}
-
-// The players of a file, where one is named.
-fn players_in<R: Files + AllocGlobal>(rt: &R, file: Option<&str>) -> Result<Vec<Player>> {
-    match file {
-        Some(file) => players_of(rt, file),
-        None => Ok(Vec::new(rt.alloc())),
     }
 }
 

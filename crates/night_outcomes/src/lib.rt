@@ -23,4 +23,4 @@ pub use decide_word::decide_result;
 pub use decisions::decisions_of;
 pub use outcomes::noted_game;
 pub use report_word::write_report;
-pub use results_word::write_results;
+pub use results_word::{players_in, write_results};
