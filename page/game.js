@@ -1,5 +1,6 @@
 // One game: what the lobby told of it, how it is shown, and what is done in it.
 
+import { adjournedBy, keepAdjourned } from './adjourn.js';
 import { Board } from './board.js';
 import { Clock } from './clock.js';
 import { dateWords, findKept, toldOf } from './kept.js';
@@ -222,6 +223,7 @@ export class GameView {
     }
     if (!standing || standing.article) this.plan = null;
     this.standing = standing && { ...standing, at: performance.now() };
+    if (standing && standing.article) this.adjournedBy = adjournedBy(standing) || this.adjournedBy;
     if (standing) this.app.learnNames([standing.white, standing.black]);
     this.gone = !standing;
     if (ended) this.note('');
@@ -263,7 +265,10 @@ export class GameView {
   /** An arbiter who adjourns a game enters an offer for Black, and accepts it for White. */
   watchAdjourning(by, sent, arbiter) {
     const { white, black } = this.standing, [word] = sent.split(' ');
-    if (arbiter && word === 'accept' && by === white && this.offeredBy === arbiter) this.adjournedBy = arbiter;
+    if (arbiter && word === 'accept' && by === white && this.offeredBy === arbiter) {
+      this.adjournedBy = arbiter;
+      keepAdjourned(this.standing, arbiter);
+    }
     this.offeredBy = word === 'offer' && by === black ? arbiter : '';
   }
 

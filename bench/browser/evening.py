@@ -6,7 +6,7 @@ import time
 
 from lib.browser import Keys
 from page_lines import by_lines, truth
-from readable import COORDINATES, NAMELESS, PALE, STUMBLES, TWICE, UNSHOWN
+from readable import COORDINATES, keys_go_round, reads_well
 
 SCREENS = ((1280, 800, False), (1024, 768, False), (1080, 810, False), (900, 700, False), (1024, 600, False),
            (768, 1024, True), (360, 740, True))
@@ -399,43 +399,67 @@ def room_for_all(hall):
 
 
 def read_by_all(hall):
-    """Coordinates of 4.5 to 1 on every board, all texts too, light and dark; what has the keys shows it."""
-    number, ann, bob, _ = hall.begin(minutes='20')
-    ann.run('localStorage.setItem("ask-first", "on")')
+    """Coordinates of 4.5 to 1 on every board; each view, menu and question can be read, light and dark, has names, and
+    is gone through by Tab, on a wide screen and on a phone."""
+    ann, bob, sue = hall.sit()
+    number = hall.set_up(minutes='20')
+
+    def well(person, what, css=''):
+        if css:
+            person.finds(css, what)
+        for width, height, phone in ((1280, 800, False), (360, 740, True)):
+            person.screen(width, height, 1, phone)
+            time.sleep(0.2)
+            keys_go_round(reads_well(person, '%s at %d' % (what, width)), '%s at %d' % (what, width))
+        person.media().screen(1280, 800)
+
+    for person, view, css in ((ann, '', '#open-game'), (sue, '', '#only-watching'), (sue, 'hall', '#hall-none'),
+                              (sue, 'again', '#again-board'), (sue, 'games', '#finished-save'), (sue, 'arbiter', '#arbiter-only'),
+                              (sue, 'game/9999', '#no-game'), (ann, 'game/' + number, '#drop')):
+        person.goes(view)
+        well(person, view or 'the table', css)
+    bob.click('[data-key="join-%s"]' % number)
+    hall.both.finds('#resign', 'the game has begun')
+    hall.watch(number)
     for board in ('wood', 'green', 'blue'):
         ann.run('document.documentElement.dataset.board = arguments[0]', board)
-        for dark in (False, True):
-            ann.media(dark).is_so(ann.run(COORDINATES) == [], 'coordinates on %s: %s' % (board, ann.run(COORDINATES)))
-    ann.run('delete document.documentElement.dataset.board')
-
-    def is_read(what):
-        for dark in (True, False):
-            ann.media(dark)
-            for script in (PALE, NAMELESS, TWICE, STUMBLES):
-                ann.is_so(ann.run(script) == [], '%s: %s' % (what, ann.run(script)))
-    ann.click_move('e2e4').finds('#proposed', 'a move that is asked about')
-    is_read('a move that is asked about')
+        reads_well(ann, 'coordinates on ' + board, (COORDINATES,))
+    ann.run('delete document.documentElement.dataset.board; localStorage.setItem("ask-first", "on")')
+    ann.click_move('e2e4')
+    well(ann, 'a move that is asked about', '#proposed')
     ann.click('#play-it')
-    bob.on_move()
-    ann.click_move('d2d4').until(lambda: planned(ann), 'a move ahead')
-    is_read('a move ahead')
-    ann.keys(Keys.ESCAPE)
-    for button, dialog in (('#resign', '#resign-dialog'), ('#help', '#help-dialog')):
-        ann.click(button).finds(dialog, dialog)
-        is_read(dialog)
-        ann.keys(Keys.ESCAPE)
+    hall.play(['e7e5'], 1)
     ann.run('localStorage.removeItem("ask-first")')
-    for view in ('#/', '#/hall', '#/again', '#/game/' + number):
-        ann.run('location.hash = arguments[0]', view)
-        time.sleep(0.4)
-        ann.run('document.querySelector("#settings").open = true')
-        is_read(view)
-        ann.run('document.querySelector("#settings").open = false; document.activeElement.blur()')
-        for _ in range(25):
-            ann.keys(Keys.TAB)
-            unshown = ann.run(UNSHOWN)
-            ann.is_so(unshown == '', 'what has the keys shows it: %s' % unshown)
-    ann.media()
+    hall.play(['g1f3'], 2)
+    ann.click_move('d2d4').until(lambda: planned(ann), 'a move ahead')
+    well(ann, 'a move ahead')
+    ann.keys(Keys.ESCAPE)
+    bob.click('#offer')
+    well(ann, 'an offer', '#offered')
+    hall.play(['b8c6'], 3)
+    for button, part in (('#resign', '#resign-dialog'), ('#claim', '#claim-dialog'), ('#help', '#help-dialog'),
+                         ('#settings summary', '#settings .menu'), ('#who summary', '#who .menu')):
+        ann.click(button)
+        well(ann, part, part)
+        ann.keys(Keys.ESCAPE)
+        ann.run('for (const one of document.querySelectorAll(".who")) one.open = false')
+    for view, css in (('hall', '.card .board'), ('hall/' + number, '#big-screen'), ('again/' + number, '#again-moves button'),
+                      ('game/' + number, '#moves button')):
+        sue.goes(view)
+        well(sue, view, css)
+    for path in ('board/' + number, 'boards'):
+        sue.go(hall.lobby.address + path)
+        well(sue, path, '.board')
+    sue.go(hall.lobby.address)
+    hall.signs_in(sue, 'eve', 'an arbiter')
+    sue.goes('arbiter').finds('.desk-card', 'the desk')
+    sue.run('for (const one of document.querySelectorAll(".desk-panel")) one.open = true')
+    well(sue, 'the desk', '[data-key="new-link-bob"]')
+    sue.click('#entries')
+    well(sue, 'the desk’s question', '#arbiter-dialog')
+    sue.keys(Keys.ESCAPE)
+    by_lines(hall, 'ann', 'resign ' + number)
+    well(ann, 'a game that is over', '#again')
 
 
 # The English texts that the page's language says otherwise, and that are read on the page now.

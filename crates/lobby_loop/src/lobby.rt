@@ -15,7 +15,7 @@ ghost use Rattle.lobby_loop.specs.declared.lobby.Turned.TheVariants.{Worked};
 use crate::act_log::{ActLog, Fault};
 use crate::hall::Hall;
 use crate::listener::{LobbyAcceptor, LobbyListener, Welcomed, welcome};
-use lobby_desk::Limits;
+use lobby_desk::{Halts, Limits};
 use lobby_guests::earlier;
 use lobby_talk::{Counts, KeepsLinks};
 use lobby_web::{File, Site};
@@ -126,8 +126,8 @@ fn wake_each(events: &Events, hall: &mut Hall<Call>) -> bool
 }
 
 impl Lobby {
-    /// A lobby whose server is at this address, which begins with entries paused, or not, and has these limits, behind
-    /// a trusted proxy of this address, if there is one. The system's error where it cannot be watched.
+    /// A lobby whose server is at this address, which begins with this halted, and has these limits, behind a trusted
+    /// proxy of this address, if there is one. The system's error where it cannot be watched.
     pub fn new(
         net: &impl Net,
         alloc: Global,
@@ -136,11 +136,11 @@ impl Lobby {
         server: ServerAddress,
         site: Site,
         players: Vec<Player>,
-        is_paused: bool,
+        halts: Halts,
         limits: Limits,
         proxy: Option<IpAddr>,
     ) -> io::Result<Lobby>
-        ensures begins { IfOk result (λ lobby. BeginsHall site players.items is_paused lobby.hall) }
+        ensures begins { IfOk result (λ lobby. BeginsHall site players.items halts.is_paused lobby.hall) }
         ensures limits { IfOk result (λ lobby. lobby.hall.talk.desk.limits ≡ limits) }
     {
         let Watched { poll, events } = watch_listener(net, alloc, &mut listener)?;
@@ -153,7 +153,7 @@ impl Lobby {
             call: None,
             call_until: 0,
             call_at: 0,
-            hall: Hall::new(alloc, keys, site, players, is_paused, limits, proxy),
+            hall: Hall::new(alloc, keys, site, players, halts, limits, proxy),
             poll,
             events,
         })

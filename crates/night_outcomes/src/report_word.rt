@@ -175,11 +175,11 @@ fn waits_for(rounds: &[Vec<Meeting>]) -> Option<&'static str> {
     }
 }
 
-// The meetings of each round, and what was wrong, though all were told.
+/// The meetings of each round, and what was wrong, though all were told.
 #[derive(Drop)]
-struct Met {
-    rounds: Vec<Vec<Meeting>>,
-    fault: Option<&'static str>,
+pub struct Met {
+    pub rounds: Vec<Vec<Meeting>>,
+    pub fault: Option<&'static str>,
 }
 
 // What was met in the rounds, by what came of their games; it is told what is to be told of boards. It fails where a
@@ -196,12 +196,15 @@ where
     let rounds = rounds_of(rt, reporting.rounds.as_slice(), players, outcomes)?;
     outcomes.tell(rt)?;
     outcomes.check_names()?;
-    let fault = outcomes.fault().or(waits_for(rounds.as_slice()));
-    Ok(Met { rounds, fault })
+    Ok(Met {
+        rounds,
+        fault: outcomes.fault(),
+    })
 }
 
-// The same, where it is still to be looked what came of games.
-fn met_in<R>(
+/// What was met in the rounds of a tournament of these players, by archive and server; it tells what is to be told of
+/// boards. It fails where a board's game is of others than its players.
+pub fn met_in<R>(
     rt: &R,
     reporting: &Reporting<'_>,
     all: &[Player],
@@ -234,7 +237,7 @@ where
         met.rounds.as_slice(),
     )?;
     io::writer(rt).write_all(text.as_slice())?;
-    check_fault(met.fault)
+    check_fault(met.fault.or(waits_for(met.rounds.as_slice())))
 }
 
 // Writes the report of a tournament of these players, of whom this is known.

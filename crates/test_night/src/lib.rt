@@ -33,6 +33,8 @@ mod report;
 #[cfg(test)]
 mod rounds;
 #[cfg(test)]
+mod standings;
+#[cfg(test)]
 mod told;
 #[cfg(test)]
 mod words;

@@ -114,6 +114,12 @@ fn said_by(alloc: Global, word: &Word<'_>) -> Result<String, AllocError> {
             format!(in alloc; "decide {file} {board} {result}")
         }
         Word::Report(reporting) => report_said(alloc, reporting),
+        Word::Standings(standing) => {
+            let (players, rounds) = (standing.reporting.players, standing.reporting.rounds.len());
+            let breaks = standing.criteria.len();
+            let is_json = matches!(standing.form, night_standings::Form::Json);
+            format!(in alloc; "standings {players} {rounds} {breaks} {is_json}")
+        }
     }
 }
 
@@ -131,7 +137,7 @@ fn check_line(rt: &impl Abort, alloc: Global, line: &str, wanted: Result<&str, E
 }
 
 // Command lines, and what each asks for, or why it is refused.
-static LINES: [(&str, Result<&str, ErrorKind>); 41] = [
+static LINES: [(&str, Result<&str, ErrorKind>); 45] = [
     (
         "chess-club lobby --players p --server 127.0.0.1:1",
         Ok("lobby p 127.0.0.1:8080 page 0 4 8 32"),
@@ -209,6 +215,22 @@ static LINES: [(&str, Result<&str, ErrorKind>); 41] = [
     (
         "chess-club trf --players p --archive a --rounds a,b --particulars q --round-date 2026/11/27",
         Ok("trf p  1 0 q 1"),
+    ),
+    (
+        "chess-club standings --players p --archive a --rounds a,b",
+        Ok("standings p 1 5 false"),
+    ),
+    (
+        "chess-club standings --players p --archive a --rounds a,b --by SB,DE --form json",
+        Ok("standings p 1 2 true"),
+    ),
+    (
+        "chess-club standings --players p --archive a --rounds a,b --by SB,,DE",
+        Err(ErrorKind::InvalidValue),
+    ),
+    (
+        "chess-club standings --players p --archive a --rounds a,b --form pdf",
+        Err(ErrorKind::InvalidValue),
     ),
     (
         "chess-club lobby --players p --server 127.0.0.1",
