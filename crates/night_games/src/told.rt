@@ -186,8 +186,8 @@ impl Telling<'_> {
     }
 
     /// A game's PGN with what is known: the tags BlackElo, BlackFideId, BlackTeam, BlackTitle, Board and White's, where
-    /// they have a value; White and Black by their full names; the board's Round; and an arbiter's decision as a comment
-    /// before the result. It fails where the PGN has no players.
+    /// they have a value; White and Black by their full names; the board's Round; and an arbiter's decision as a
+    /// comment before the result. It fails where the PGN has no players.
     pub fn pgn(&self, alloc: Global, game: u32, pgn: &str) -> Result<String> {
         let white = value_of(alloc, pgn, "White")?.context("a game has no White")?;
         let black = value_of(alloc, pgn, "Black")?.context("a game has no Black")?;
@@ -205,8 +205,8 @@ impl Telling<'_> {
         Ok(with_comment(alloc, String::from_utf8(named)?, comment)?)
     }
 
-    // The places of games, each with which game it is, in order: by round and board, and those of which no board is known
-    // behind the others.
+    // The places of games, each with which game it is, in order: by round and board, and those of which no board is
+    // known behind the others.
     fn places(&self, alloc: Global, games: &[Kept]) -> Result<Vec<(u32, u32, usize)>, AllocError> {
         let mut places = Vec::new(alloc);
         for at in 0..games.len() {

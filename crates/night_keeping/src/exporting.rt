@@ -18,9 +18,9 @@ fn write<R: AllocGlobal + Print>(rt: &R, form: Form, games: &[Kept]) -> Result<(
     }
 }
 
-/// Writes the games of an archive: the PGN of each, or a row for each, with what is told of players and boards. It fails
-/// where the file is no archive, as `lines_told` does, where another file cannot be read or is none, where memory is
-/// refused, or the output takes no more.
+/// Writes the games of an archive: the PGN of each, or a row for each, with what is told of players and boards. It
+/// fails where the file is no archive, as `lines_told` does, where another file cannot be read or is none, where memory
+/// is refused, or the output takes no more.
 pub fn export<R>(rt: &R, exporting: &Exporting<'_>) -> Result<()>
 where
     R: Files + AllocGlobal + Print + Eprint,
