@@ -589,7 +589,7 @@ export class GameView {
     const rest = `${period} ${times.increment}${this.tags.FEN ? ` ${this.tags.FEN}` : ''}`;
     const note = (text) => this.note(text);
     if (app.isArbiter()) app.openGame(`open ${this.seat() === 'w' ? 'black' : 'white'} ${rest}`, note);
-    else app.challenges.say(`${black} ${white} ${rest}`, note);
+    else if (await app.challenges.say(`${black} ${white} ${rest}`, note)) this.news(t`It is offered.`);
   }
 
   /** Offers a way to another game: the opponent has opened one. */

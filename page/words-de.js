@@ -795,4 +795,6 @@ export const WORDS = {
   'Open a round': 'Eine Runde eröffnen',
   'Copy the games for chess-club start': 'Partien für chess-club start kopieren',
   'Look it up': 'Nachsehen',
+  '{0} has not accepted your game.': '{0} hat deine Partie nicht angenommen.',
+  'It is offered.': 'Angeboten.',
 };

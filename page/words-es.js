@@ -785,4 +785,6 @@ export const WORDS = {
   'Open a round': 'Abrir una ronda',
   'Copy the games for chess-club start': 'Copiar las partidas para chess-club start',
   'Look it up': 'Buscarla',
+  '{0} has not accepted your game.': '{0} no ha aceptado tu partida.',
+  'It is offered.': 'Está ofrecida.',
 };

@@ -800,4 +800,6 @@ export const WORDS = {
   'Open a round': 'Ouvrir une ronde',
   'Copy the games for chess-club start': 'Copier les parties pour chess-club start',
   'Look it up': 'La chercher',
+  '{0} has not accepted your game.': '{0} n’a pas accepté votre partie.',
+  'It is offered.': 'Elle est proposée.',
 };

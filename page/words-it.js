@@ -788,4 +788,6 @@ export const WORDS = {
   'Open a round': 'Apri un turno',
   'Copy the games for chess-club start': 'Copia le partite per chess-club start',
   'Look it up': 'Cercala',
+  '{0} has not accepted your game.': '{0} non ha accettato la tua partita.',
+  'It is offered.': 'È proposta.',
 };

@@ -792,4 +792,6 @@ export const WORDS = {
   'Open a round': 'Een ronde openen',
   'Copy the games for chess-club start': 'Partijen kopiëren voor chess-club start',
   'Look it up': 'Opzoeken',
+  '{0} has not accepted your game.': '{0} heeft je partij niet aangenomen.',
+  'It is offered.': 'Ze is aangeboden.',
 };

@@ -414,8 +414,9 @@ def read_by_all(hall):
         person.media().screen(1280, 800)
 
     for person, view, css in ((ann, '', '#open-game'), (sue, '', '#only-watching'), (sue, 'hall', '#hall-none'),
-                              (sue, 'again', '#again-board'), (sue, 'games', '#finished-save'), (sue, 'arbiter', '#arbiter-only'),
-                              (sue, 'game/9999', '#no-game'), (ann, 'game/' + number, '#drop')):
+                              (sue, 'again', '#again-board'), (sue, 'games', '#finished-save'),
+                              (sue, 'arbiter', '#arbiter-only'), (sue, 'game/9999', '#no-game'),
+                              (ann, 'game/' + number, '#drop')):
         person.goes(view)
         well(person, view or 'the table', css)
     bob.click('[data-key="join-%s"]' % number)
@@ -433,7 +434,7 @@ def read_by_all(hall):
     hall.play(['g1f3'], 2)
     ann.click_move('d2d4').until(lambda: planned(ann), 'a move ahead')
     well(ann, 'a move ahead')
-    ann.keys(Keys.ESCAPE)
+    ann.tap('a5').until(lambda: not planned(ann), 'taken back')
     bob.click('#offer')
     well(ann, 'an offer', '#offered')
     hall.play(['b8c6'], 3)
@@ -443,8 +444,8 @@ def read_by_all(hall):
         well(ann, part, part)
         ann.keys(Keys.ESCAPE)
         ann.run('for (const one of document.querySelectorAll(".who")) one.open = false')
-    for view, css in (('hall', '.card .board'), ('hall/' + number, '#big-screen'), ('again/' + number, '#again-moves button'),
-                      ('game/' + number, '#moves button')):
+    for view, css in (('hall', '.card .board'), ('hall/' + number, '#big-screen'),
+                      ('again/' + number, '#again-moves button'), ('game/' + number, '#moves button')):
         sue.goes(view)
         well(sue, view, css)
     for path in ('board/' + number, 'boards'):
