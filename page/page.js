@@ -10,6 +10,7 @@ import { t } from './language.js';
 import { isNoGame, readAct, readPlayers, readRefusal, readRows, readStanding } from './lines.js';
 import { byId, make, say, setText } from './make.js';
 import { Offers } from './offers.js';
+import { RoundView } from './round.js';
 import { hasLetters, listenToSettings } from './settings.js';
 import { sound } from './sound.js';
 import { TableView } from './table.js';
@@ -50,6 +51,7 @@ class Page {
     this.study = new AgainView(this);
     this.challenges = new Challenges(this);
     this.finished = new FinishedView(this);
+    this.round = new RoundView(this);
     this.listen();
     this.route();
     this.changed();
@@ -186,15 +188,16 @@ class Page {
       history.replaceState(null, '', location.pathname + location.search + '#/');
       if (this.who.open(fragment)) this.wire.renew();
     }
-    const [, word, digits] = /^\/(games?|hall|again|arbiter)(?:\/(\d{1,10}))?$/.exec(fragment) || [];
+    const [, word, digits] = /^\/(games?|hall|again|arbiter|round)(?:\/(\d{1,10}))?$/.exec(fragment) || [];
     const isGame = Number(digits) > 0 && (word === 'game' || word === 'hall'), player = playerIn(fragment);
     const number = player || Number(digits || 0);
     if (isGame) this.begun.add(number);
     const view = isGame ? this.game : player ? this.finished
-      : { hall: this.hall, arbiter: this.desk, again: this.study, games: this.finished }[word] || this.table;
+      : { hall: this.hall, arbiter: this.desk, again: this.study, games: this.finished, round: this.round }[word]
+        || this.table;
     document.body.classList.toggle('hall', word === 'hall');
     document.body.classList.toggle('one-game', isGame || view === this.study);
-    for (const other of [this.table, this.game, this.hall, this.desk, this.study, this.finished]) {
+    for (const other of [this.table, this.game, this.hall, this.desk, this.study, this.finished, this.round]) {
       if (other !== view && !other.root.hidden) other.close();
     }
     const isOther = this.view && (this.view !== view || number && number !== view.number);

@@ -421,6 +421,7 @@ def read_by_all(hall):
     for person, view, css in ((ann, '', '#open-game'), (sue, '', '#only-watching'), (sue, 'hall', '#hall-none'),
                               (sue, 'again', '#again-board'), (sue, 'games', '#finished-save'),
                               (sue, 'arbiter', '#arbiter-only'), (sue, 'game/9999', '#no-game'),
+                              (sue, 'round', '#round-none'),
                               (ann, 'game/' + number, '#drop')):
         person.goes(view)
         well(person, view or 'the table', css)

@@ -23,8 +23,9 @@ With --log it puts each act that the server took into a file, with its answer, a
 game stands behind it, before anybody is told; the file is made where there is none.
 Besides the page there are /board/G for a screen that shows game G, /boards for one that
 shows all, and /health with figures as Prometheus reads them. /live.pgn is the file of
---live, and /kept.pgn that of --kept, in which the page looks up games that are over: each is
-read anew when it has changed.
+--live, /kept.pgn that of --kept, in which the page looks up games that are over, and
+/round.json that of --round, by which it shows pairings and standings: each is read anew when
+it has changed.
 
 It goes on until it is ended: kill it, by any signal. Nothing is lost by that.
 
@@ -162,6 +163,12 @@ const KEPT: OptionText = OptionText {
     ..LIVE
 };
 
+const ROUND: OptionText = OptionText {
+    name: "round",
+    help: "A file of rounds that is served as /round.json, where the page has pairings and standings",
+    ..LIVE
+};
+
 const LOG: OptionText = OptionText {
     name: "log",
     value: OptionValue::Text("FILE"),
@@ -225,6 +232,7 @@ pub const LOBBY: WordText = WordText {
         PROXY,
         LIVE,
         KEPT,
+        ROUND,
         LOG,
         WAITING_MOST,
         PLAYING_MOST,
@@ -327,6 +335,7 @@ pub fn serving_of<'a>(
         limits: limits_of(values),
         live: values.get_str("live"),
         kept: values.get_str("kept"),
+        round: values.get_str("round"),
         log: values.get_str("log"),
         hosts,
     }))

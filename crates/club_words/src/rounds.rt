@@ -5,12 +5,15 @@ use crate::days::is_day;
 use crate::options::{ARCHIVE, PLAYERS, SERVER};
 use clap::ArgMatches;
 use command_lines::{OptionText, OptionValue, WordText};
+use lobby_words::name_form;
 use night_boards::{Round, Said, Starting};
 use night_outcomes::{Asking, Deciding, Reporting, Source};
 use night_report::Tournament;
 use night_rounds::verdict_of;
+use night_standings::{Criterion, Form, Standing, criterion_of};
 use std::alloc::{AllocError, Global};
 use std::net::SocketAddr;
+use text_parts::parts;
 
 const HELP_OF_START: &str = "\
 It has the lobby at --lobby pair each board of --pairings, at the board's start, as the arbiter
@@ -91,6 +94,25 @@ not know.
 Example:
   chess-club trf --players club.players --archive night.jsonl --name \"Club league\" \\
       --rounds round1.csv,round1.games,round1.decisions --rounds round2.csv,round2.games >league.trf";
+
+const HELP_OF_STANDINGS: &str = "\
+It writes who stands where, as CSV: players by points, and among those who are tied by one
+tie-break after another, in the order of --by, as FIDE's Handbook has them (C.07, of 2024):
+  DE    the direct encounter        BH   Buchholz
+  BHC1  Buchholz, Cut 1             SB   Sonneborn-Berger
+  WIN   wins
+Results are looked for, and counted, as for trf. With --form crosstable it writes who met whom
+in each round, and with --form json what the lobby serves by its --round, for the page.
+
+Exit status: 0; 1 with what is wrong on standard error; 2 for words that the program does
+not know.
+
+Example:
+  chess-club standings --players club.players --archive night.jsonl \\
+      --rounds round1.csv,round1.games --rounds round2.csv,round2.games
+prints
+  place,number,name,points,DE,BHC1,BH,SB,WIN
+  1,3,Cid Okonkwo,2.0,0.0,1.0,1.5,1.50,2";
 
 const PAIRINGS: OptionText = OptionText {
     name: "pairings",
@@ -277,6 +299,27 @@ const ALL_ROUNDS: OptionText = OptionText {
     ..NAME
 };
 
+const BY: OptionText = OptionText {
+    name: "by",
+    value: OptionValue::Text("DE,BHC1,..."),
+    help: "The tie-breaks, in their order: DE,BHC1,BH,SB,WIN without it",
+    is_required: false,
+};
+
+const FORM: OptionText = OptionText {
+    name: "form",
+    value: OptionValue::Text("FORM"),
+    help: "rows, crosstable or json: rows without it",
+    is_required: false,
+};
+
+const INITIALS: OptionText = OptionText {
+    name: "initials",
+    value: OptionValue::Nothing,
+    help: "Tells the initials of players in place of their full names",
+    is_required: false,
+};
+
 pub const START: WordText = WordText {
     name: "start",
     about: "Opens the games of a round",
@@ -339,6 +382,22 @@ pub const TRF: WordText = WordText {
         DEPUTY,
         TIMES,
         ALL_ROUNDS,
+        ARCHIVE_IF_ANY,
+        SERVER_IF_ANY,
+    ],
+};
+
+pub const STANDINGS: WordText = WordText {
+    name: "standings",
+    about: "Writes who stands where in a tournament",
+    help: HELP_OF_STANDINGS,
+    options: &[
+        PLAYERS,
+        ROUNDS,
+        NAME,
+        BY,
+        FORM,
+        INITIALS,
         ARCHIVE_IF_ANY,
         SERVER_IF_ANY,
     ],
@@ -540,5 +599,52 @@ pub fn reporting_of<'a>(
         rounds,
         source,
         tournament,
+    }))
+}
+
+// The tie-breaks that are asked for; none where a word is none.
+fn criteria_of(
+    alloc: Global,
+    values: &ArgMatches<'_>,
+) -> Result<Option<Vec<Criterion>>, AllocError> {
+    let words = parts(
+        alloc,
+        values.get_str("by").unwrap_or("DE,BHC1,BH,SB,WIN"),
+        ',',
+    )?;
+    words
+        .as_slice()
+        .iter()
+        .map(|word| criterion_of(word))
+        .collect(alloc)
+}
+
+// As what standings are asked for; none where the word is none.
+fn form_of(values: &ArgMatches<'_>) -> Option<Form> {
+    match values.get_str("form") {
+        None | Some("rows") => Some(Form::Rows),
+        Some("crosstable") => Some(Form::Crosstable),
+        Some("json") => Some(Form::Json),
+        Some(_) => None,
+    }
+}
+
+/// What `standings` asks for; none where an address, a round's files, a tie-break or the form are none.
+pub fn standing_of<'a>(
+    alloc: Global,
+    values: &ArgMatches<'a>,
+) -> Result<Option<Standing<'a>>, AllocError> {
+    let (Some(reporting), Some(criteria), Some(form)) = (
+        reporting_of(alloc, values)?,
+        criteria_of(alloc, values)?,
+        form_of(values),
+    ) else {
+        return Ok(None);
+    };
+    Ok(Some(Standing {
+        reporting,
+        criteria,
+        form,
+        names: name_form(values.get_flag("initials")),
     }))
 }

@@ -21,4 +21,6 @@ pub struct Serving<'a> {
     pub live: Option<&'a str>,
     /// The one that is served as `/kept.pgn`.
     pub kept: Option<&'a str>,
+    /// The one that is served as `/round.json`.
+    pub round: Option<&'a str>,
 }

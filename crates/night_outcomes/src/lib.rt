@@ -18,5 +18,6 @@ mod tags;
 
 pub use asked::{Asking, Deciding, Reporting, Source};
 pub use decide_word::decide_result;
-pub use report_word::write_report;
+pub use outcomes::{check_fault, noted_game};
+pub use report_word::{Met, met_in, playing, write_report};
 pub use results_word::write_results;

@@ -149,8 +149,8 @@ fn meetings_with_context<R: Files + AllocGlobal + Eprint>(
     meetings_of(rt, round, players, outcomes).context(round.pairings)
 }
 
-// The players who are no arbiters.
-fn playing<'a>(alloc: Global, all: &'a [Player]) -> Result<Vec<&'a Player>, AllocError> {
+/// The players who are no arbiters.
+pub fn playing<'a>(alloc: Global, all: &'a [Player]) -> Result<Vec<&'a Player>, AllocError> {
     all.iter()
         .filter(|player| !player.is_arbiter)
         .collect(alloc)
@@ -177,11 +177,11 @@ fn rounds_of<R: Files + AllocGlobal + Eprint>(
     Ok(met)
 }
 
-// The meetings of each round, and what was wrong, though all were told.
+/// The meetings of each round, and what was wrong, though all were told.
 #[derive(Drop)]
-struct Met {
-    rounds: Vec<Vec<Meeting>>,
-    fault: Option<&'static str>,
+pub struct Met {
+    pub rounds: Vec<Vec<Meeting>>,
+    pub fault: Option<&'static str>,
 }
 
 // What was met in the rounds, by what came of their games; it is told what is to be told of boards. It fails where a
@@ -204,8 +204,14 @@ where
     })
 }
 
-// The same, where it is still to be looked what came of games.
-fn met_in<R>(rt: &R, reporting: &Reporting<'_>, all: &[Player], players: &[&Player]) -> Result<Met>
+/// What was met in the rounds of a tournament of these players, by archive and server; it tells what is to be told of
+/// boards. It fails where a board's game is of others than its players.
+pub fn met_in<R>(
+    rt: &R,
+    reporting: &Reporting<'_>,
+    all: &[Player],
+    players: &[&Player],
+) -> Result<Met>
 where
     R: Files + Net<Stream = TcpStream> + AllocGlobal + Eprint,
 {

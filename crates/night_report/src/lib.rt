@@ -5,7 +5,7 @@
 //! and `csv_cells` has the texts of their cells.
 #![tactic(auto)]
 
-mod cells;
+pub mod cells;
 mod columns;
 mod csv_cells;
 mod csv_rows;

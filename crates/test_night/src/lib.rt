@@ -33,4 +33,6 @@ mod report;
 #[cfg(test)]
 mod rounds;
 #[cfg(test)]
+mod standings;
+#[cfg(test)]
 mod words;

@@ -104,6 +104,12 @@ fn said_by(alloc: Global, word: &Word<'_>) -> Result<String, AllocError> {
             format!(in alloc; "decide {file} {board} {result}")
         }
         Word::Report(reporting) => report_said(alloc, reporting),
+        Word::Standings(standing) => {
+            let (players, rounds) = (standing.reporting.players, standing.reporting.rounds.len());
+            let breaks = standing.criteria.len();
+            let is_json = matches!(standing.form, night_standings::Form::Json);
+            format!(in alloc; "standings {players} {rounds} {breaks} {is_json}")
+        }
     }
 }
 
@@ -121,7 +127,7 @@ fn check_line(rt: &impl Abort, alloc: Global, line: &str, wanted: Result<&str, E
 }
 
 // Command lines, and what each asks for, or why it is refused.
-static LINES: [(&str, Result<&str, ErrorKind>); 35] = [
+static LINES: [(&str, Result<&str, ErrorKind>); 39] = [
     (
         "chess-club lobby --players p --server 127.0.0.1:1",
         Ok("lobby p 127.0.0.1:8080 page 0 4 8 32"),
@@ -176,6 +182,22 @@ static LINES: [(&str, Result<&str, ErrorKind>); 35] = [
     (
         "chess-club trf --players p --server s/ --rounds a,b --rounds c,d,e --name N --all-rounds 5",
         Ok("trf p N 2 5"),
+    ),
+    (
+        "chess-club standings --players p --archive a --rounds a,b",
+        Ok("standings p 1 5 false"),
+    ),
+    (
+        "chess-club standings --players p --archive a --rounds a,b --by SB,DE --form json",
+        Ok("standings p 1 2 true"),
+    ),
+    (
+        "chess-club standings --players p --archive a --rounds a,b --by SB,,DE",
+        Err(ErrorKind::InvalidValue),
+    ),
+    (
+        "chess-club standings --players p --archive a --rounds a,b --form pdf",
+        Err(ErrorKind::InvalidValue),
     ),
     (
         "chess-club lobby --players p --server 127.0.0.1",
