@@ -22,7 +22,6 @@ module _ {S : Type 0} (remaining : S → Option (List ℕ)) (site : Site) (at : 
       number = refl;
       waits = refl;
       since = refl;
-      acted = refl;
       origin = λ not_proxy. refl;
       taken = [];
       consumed = none_consumed (remaining old.stream);

@@ -68,12 +68,11 @@ module _ {S : Type 0} where
     browser = refl;
     waits = refl;
     since = refl;
-    acted = refl;
     origin = refl;
     paid = refl;
   }
 
-  all_same : (guests : List (Guest S)) → AllZip IsAsBefore guests guests
+  pub all_same : (guests : List (Guest S)) → AllZip IsAsBefore guests guests
   all_same [] = tt
   all_same (guest ∷ guests) = (same_guest guest, all_same guests)
 
@@ -101,7 +100,6 @@ module _ {S : Type 0} where
         number = put.number ∙ same.number;
         stream = put.stream ∙ same.stream;
         since = put.since ∙ same.since;
-        acted = put.acted ∙ same.acted;
         origin = put.origin ∙ same.origin;
         passed = subst (λ (b : Bool). IsPassedOn b (must_wait old.waits.items made.kind) made old new) (sym for_it)
             (subst (λ (b : Bool). IsPassedOn true b made old new) (sym here) (record {
@@ -109,7 +107,6 @@ module _ {S : Type 0} where
               stream = put.stream ∙ same.stream;
               browser = put.browser ∙ same.browser;
               since = put.since ∙ same.since;
-              acted = put.acted ∙ same.acted;
               origin = put.origin ∙ same.origin;
               one = put.one;
               copy = put.copy;

@@ -42,7 +42,7 @@ pub record IsNewGuest {S : Type 0} (stream : S) (guest : Guest S) : Type 0 where
 pub record ComesFrom {S : Type 0} (key : ℕ) (origin : Origin) (at : ℕ) (guest : Guest S) : Type 0 where
   pub key_is : guest.key ≡ key
   pub origin_is : guest.origin ≡ origin
-  pub came : (guest.since ≡ at) × (guest.acted ≡ false) × (guest.heard_at ≡ at)
+  pub came : (guest.since ≡ at) × (guest.heard_at ≡ at)
   pub ready : (guest.can_read ≡ true) × (guest.can_write ≡ true)
   pub stays : guest.is_lost ≡ false
   pub unpaid : (guest.paid_until ≡ 0) × (guest.logins_until ≡ 0)
@@ -50,7 +50,6 @@ pub record ComesFrom {S : Type 0} (key : ℕ) (origin : Origin) (at : ℕ) (gues
 -- The time of a nameless one counts from when it did, and it counts for the address for which it did.
 pub record IsSameVisit {S : Type 0} (old new : Guest S) : Type 0 where
   pub since : new.since ≡ old.since
-  pub acted : new.acted ≡ old.acted
   pub origin : new.origin ≡ old.origin
 
 -- Nothing came, nothing went, and nothing of its time was taken.
@@ -60,7 +59,6 @@ pub record IsAsBefore {S : Type 0} (old new : Guest S) : Type 0 where
   pub browser : new.browser ≡ old.browser
   pub waits : new.waits ≡ old.waits
   pub since : new.since ≡ old.since
-  pub acted : new.acted ≡ old.acted
   pub origin : new.origin ≡ old.origin
   pub paid : new.paid_until ≡ old.paid_until
 
@@ -71,7 +69,6 @@ pub record IsStill {S : Type 0} (old new : Guest S) : Type 0 where
   pub browser : new.browser ≡ old.browser
   pub waits : new.waits ≡ old.waits
   pub since : new.since ≡ old.since
-  pub acted : new.acted ≡ old.acted
   pub origin : new.origin ≡ old.origin
 
 -- ---- what comes
@@ -82,7 +79,6 @@ pub record IsRead {S : Type 0} (remaining : S → Option (List ℕ)) (site : Sit
   pub number : new.number ≡ old.number
   pub waits : new.waits ≡ old.waits
   pub since : new.since ≡ old.since
-  pub acted : new.acted ≡ old.acted
   pub origin : old.origin.is_proxy ≡ false → new.origin ≡ old.origin
   pub taken : List ℕ
   pub consumed : Consumes (remaining old.stream) (remaining new.stream) taken
@@ -107,7 +103,6 @@ pub record IsAsked {S : Type 0} (at : ℕ) (old new : Guest S) (talk after : Tal
   pub stream : new.stream ≡ old.stream
   pub waits : new.waits ≡ old.waits
   pub since : new.since ≡ old.since
-  pub acted : new.acted ≡ old.acted
   pub origin : new.origin ≡ old.origin
   pub more : is_some heard ≡ true → new.has_more ≡ old.has_more
 
@@ -330,7 +325,6 @@ pub record IsPutBehind {S : Type 0} (made : Message) (old new : Guest S) : Type 
   pub stream : new.stream ≡ old.stream
   pub browser : new.browser ≡ old.browser
   pub since : new.since ≡ old.since
-  pub acted : new.acted ≡ old.acted
   pub origin : new.origin ≡ old.origin
   pub one : Waiting
   pub copy : IsCopyOf made one
@@ -349,7 +343,6 @@ pub record IsTold {S : Type 0} (made : Message) (old new : Guest S) : Type 0 whe
   pub number : new.number ≡ old.number
   pub stream : new.stream ≡ old.stream
   pub since : new.since ≡ old.since
-  pub acted : new.acted ≡ old.acted
   pub origin : new.origin ≡ old.origin
   pub passed : IsPassedOn (is_for old.number made.to.items) (must_wait old.waits.items made.kind) made old new
 
@@ -363,7 +356,6 @@ pub record IsNextTold {S : Type 0} (one : Waiting) (old new : Guest S) : Type 0 
   pub number : new.number ≡ old.number
   pub stream : new.stream ≡ old.stream
   pub since : new.since ≡ old.since
-  pub acted : new.acted ≡ old.acted
   pub origin : new.origin ≡ old.origin
   pub first : old.waits.items ≡ one ∷ new.waits.items
   pub text : List ℕ
@@ -414,7 +406,6 @@ pub record IsWritten {S : Type 0} (contents : S → Option (List ℕ)) (site : S
   pub number : new.number ≡ old.number
   pub waits : new.waits ≡ old.waits
   pub since : new.since ≡ old.since
-  pub acted : new.acted ≡ old.acted
   pub origin : new.origin ≡ old.origin
   pub paid : new.paid_until ≡ old.paid_until
   pub count : ℕ
@@ -423,10 +414,9 @@ pub record IsWritten {S : Type 0} (contents : S → Option (List ℕ)) (site : S
   pub written : Appends (contents old.stream) (contents new.stream) (take count (pending old.browser.stage))
   pub goes : (new.browser ≡ old.browser) × (count ≡ 0) ⊎ Writes site count old.browser.stage new.browser.stage
 
--- The moment from which on the time of a nameless one counts: as before, but where it acts for a player now or did when
--- that was looked at last, this moment.
-abbrev pub since_after : Bool → Bool → ℕ → ℕ → ℕ
-since_after acted acts at since = if acted || acts then at else since
+-- The moment from which on the time of a nameless one counts: as before, but where it acts for a player now, this one.
+abbrev pub since_after : Bool → ℕ → ℕ → ℕ
+since_after acts at since = if acts then at else since
 
 -- A browser is asked whether it is there, or nothing is said.
 pub record IsPinged {S : Type 0} (old new : Guest S) : Type 0 where
@@ -434,7 +424,6 @@ pub record IsPinged {S : Type 0} (old new : Guest S) : Type 0 where
   pub stream : new.stream ≡ old.stream
   pub waits : new.waits ≡ old.waits
   pub since : new.since ≡ old.since
-  pub acted : new.acted ≡ old.acted
   pub origin : new.origin ≡ old.origin
   pub paid : new.paid_until ≡ old.paid_until
   pub said : (new.browser ≡ old.browser) ⊎ ((answer : Result (Unit {0}) Unsaid)
@@ -445,8 +434,7 @@ pub record IsLookedAfter {S : Type 0} (desk : Desk) (at : ℕ) (old new : Guest 
   pub number : new.number ≡ old.number
   pub stream : new.stream ≡ old.stream
   pub waits : new.waits ≡ old.waits
-  pub since : new.since ≡ since_after old.acted (acts_at desk old.number) at old.since
-  pub acted : new.acted ≡ acts_at desk old.number
+  pub since : new.since ≡ since_after (acts_at desk old.number) at old.since
   pub origin : new.origin ≡ old.origin
   pub paid : new.paid_until ≡ old.paid_until
   pub said : (new.browser ≡ old.browser) ⊎ ((answer : Result (Unit {0}) Unsaid)

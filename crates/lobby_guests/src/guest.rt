@@ -80,10 +80,8 @@ pub struct Guest<S> {
     has_more: bool,
     /// Whether it is to be closed at once.
     is_lost: bool,
-    /// From when on its time counts where it is nameless: when it came, or when it ceased to act for a player.
+    /// From when on its time counts where it is nameless: when it came, or the last turn in which it acted for a player.
     since: u64,
-    /// Whether it acted for a player when that was looked at last.
-    acted: bool,
     /// When it last sent something.
     heard_at: u64,
     /// Whether it was asked since whether it is there.
@@ -144,7 +142,6 @@ impl<S> Guest<S> {
             has_more: false,
             is_lost: false,
             since: at,
-            acted: false,
             heard_at: at,
             is_asked: false,
             asked: Asked::new(),
@@ -669,19 +666,18 @@ impl<S> Guest<S> {
 
     // From when on its time counts, where it acts for a player or not.
     fn since_after(&self, acts: bool, at: u64) -> u64
-        ensures { result ≡ since_after self.now.acted acts at self.now.since }
+        ensures { result ≡ since_after acts at self.now.since }
     {
-        if self.acted || acts { at } else { self.since }
+        if acts { at } else { self.since }
     }
 
-    /// It is seen whether it acts for a player: where it ceases to, its time counts from now on. Where it is time, asks
-    /// a browser that has been silent whether it is there, and lets one go that has been for too long.
+    /// Where it acts for a player its time as a nameless one counts from now on. Where it is time, asks a browser that
+    /// has been silent whether it is there, and lets one go that has been for too long.
     pub fn look_after(&mut self, talk: &Talk, is_time: bool, at: u64)
         ensures { IsLookedAfter talk.now.desk at self.old self.new }
     {
         let acts = talk.acts(self.number);
         self.since = self.since_after(acts, at);
-        self.acted = acts;
         self.ask_silent(is_time, at);
     }
 }

@@ -22,7 +22,6 @@ module _ {S : Type 0} where
     stream = same.stream ∙ looked.stream;
     waits = same.waits ∙ looked.waits;
     since = same.since ∙ looked.since;
-    acted = same.acted ∙ looked.acted;
     origin = same.origin ∙ looked.origin;
     paid = same.paid ∙ looked.paid;
     said = elim looked.said [

@@ -27,7 +27,6 @@ module _ {S : Type 0} where
       browser = next.browser ∙ one.browser;
       waits = next.waits ∙ one.waits;
       since = next.since ∙ one.since;
-      acted = next.acted ∙ one.acted;
       origin = next.origin ∙ one.origin;
       paid = next.paid ∙ one.paid;
     },

@@ -14,7 +14,6 @@ returns-clause-told g c =
         number = c.tell.ensures.number;
         stream = c.tell.ensures.stream;
         since = c.tell.ensures.visit.since;
-        acted = c.tell.ensures.visit.acted;
         origin = c.tell.ensures.visit.origin;
         first = first ∙ ap (λ v. one ∷ v.items) (sym c.tell.ensures.waits);
         text = c.answer.result.now;
