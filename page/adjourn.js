@@ -70,12 +70,12 @@ export class Adjournments {
     const { wire } = this.app, told = byId('adjourned-found');
     setText(told, t`Looking among the games that were kept …`);
     const [shown, fen, pgn] = await Promise.all(['show', 'fen', 'pgn'].map((word) => wire.say(`${word} ${number}`)));
-    const note = this.read(shown, fen, pgn) || await this.kept(number), has = this.notes().some((one) => one.game === number);
+    const note = this.read(shown, fen, pgn) || await this.kept(number);
     setText(told, !note ? t`There is no game of this number.`
       : !note.closed ? t`Game ${number} has not ended as a draw by agreement.` : '');
     if (!note || !note.closed) return;
     byId('adjourned-form').reset();
-    if (!has) this.keep({ ...note, isFound: true });
+    if (!this.notes().some((one) => one.game === number)) this.keep({ ...note, isFound: true });
   }
 
   /** The note of a game that has left the table; null where there is none. */

@@ -3,6 +3,7 @@
 import { Adjournments, timesToGoOn, wordsToGoOn } from './adjourn.js';
 import { Picture } from './board.js';
 import { Clock } from './clock.js';
+import { pgnOf } from './kept.js';
 import { t } from './language.js';
 import { isNoGame, placementOf, readLine, readRefusal, readShow, readStanding, readWho, squaresOf } from './lines.js';
 import { Links } from './links.js';
@@ -487,9 +488,9 @@ export class ArbiterView {
   }
 
   async savePgn(number) {
-    const answer = await this.app.wire.say(`pgn ${number}`), isTold = answer[0].startsWith('ok pgn ');
-    if (isTold) save(`game-${number}.pgn`, 'application/x-chess-pgn', answer.slice(1).join('\n') + '\n');
-    this.tellCard(number, isTold ? '' : t`The lobby did not tell the PGN. Try again.`);
+    const text = await pgnOf(this.app, number, true);
+    if (text) save(`game-${number}.pgn`, 'application/x-chess-pgn', text);
+    this.tellCard(number, text ? '' : t`The lobby did not tell the PGN. Try again.`);
   }
 
   /** Sends what was agreed to, line by line as long as each is taken; what is refused is told in words. */

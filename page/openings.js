@@ -7,8 +7,9 @@ import { byId, copy, make, setText } from './make.js';
 import { isOf } from './pairing.js';
 import { arbiterWords, timesWords } from './words.js';
 
-const HEADER = 'board,white,black,times,start';
+const HEADER = 'board,white,black,times,start', FIELDS = 5;
 const SETTLES = 700;                 // milliseconds between two looks at the table
+const ZONE = /(Z|[+-]\d\d:\d\d)$/;
 const FIELD = /(?:"((?:[^"]|"")*)"|([^,"\r\n]*))(,|\r?\n|$)/y;
 
 export class Openings {
@@ -97,7 +98,8 @@ export class Openings {
     return 0;
   }
 
-  /** What an earlier connection sent may be taken behind the first answer of a new one: then the table is asked twice. */
+  /** The rows of the table. What an earlier connection sent may be taken behind the first answer of a new one: then it
+   * is asked twice. */
   async table() {
     if (this.isUnsure) {
       await this.app.wire.say('list');
@@ -130,15 +132,19 @@ export class Openings {
   }
 
   render() {
-    const name = (one) => this.app.nameWords(one), count = this.due().length;
-    byId('boards-list').replaceChildren(...this.boards.map(({ board, white, black, line, start, game, said }) => make('li',
-      { class: game ? 'done' : said ? 'open' : 'still' }, t`Board ${board}`, ': ', black ? `${name(white)} – ${name(black)}, ${
-        timesWords(readTimes(timesOfOpen(`open white ${line}`)))}` : t`${name(white)} has no opponent`,
-      start > Date.now() && `, ${t`from ${momentWords(start)} on`}`, said && `. ${said}`,
-      game > 0 && ' ', game > 0 && make('a', { href: `#/game/${game}` }, t`Look at game ${game}`))));
+    const count = this.due().length;
+    byId('boards-list').replaceChildren(...this.boards.map((board) => this.item(board)));
     byId('boards-open').hidden = !count;
     byId('boards-open').disabled = this.isBusy || !this.app.reachable();
     byId('boards-copy').hidden = !this.taken();
+  }
+
+  item({ board, white, black, line, start, game, said }) {
+    const name = (one) => this.app.nameWords(one), times = timesWords(readTimes(timesOfOpen(`open white ${line}`)));
+    return make('li', { class: game ? 'done' : said ? 'open' : 'still' }, t`Board ${board}`, ': ',
+      black ? `${name(white)} – ${name(black)}, ${times}` : t`${name(white)} has no opponent`,
+      start > Date.now() && `, ${t`from ${momentWords(start)} on`}`, said && `. ${said}`,
+      game > 0 && ' ', game > 0 && make('a', { href: `#/game/${game}` }, t`Look at game ${game}`));
   }
 }
 
@@ -163,22 +169,34 @@ function readCsv(text) {
 /** The boards of a round: {board, white, black, line, start}, `line` having the times as `open` has them, `black` being
  * empty where White has no opponent, `start` in milliseconds; or what is wrong with the first row that is. */
 function readPairings(text, isPlayer) {
-  const rows = readCsv(text.replace(/^\ufeff/, '')), boards = [], seen = new Set();
-  if (!rows || !rows.length || rows[0].join() !== HEADER) return { boards, wrong: t`The first line has to be ${HEADER}` };
+  const rows = readCsv(text.replace(/^\ufeff/, '')) || [[]], boards = [], seen = new Set();
+  if (!rows.length || rows[0].join() !== HEADER) return { boards, wrong: t`The first line has to be ${HEADER}` };
   for (const [place, row] of rows.slice(1).entries()) {
-    const [board, white, black, given, begins] = row, times = readTimes(given || ''), isBye = !black && !begins;
-    const line = times && (times.moves ? `${times.moves}/${times.initial}:${times.second} ` : `${times.initial} `)
-      + times.increment;
-    const start = begins ? Date.parse(begins) : 0, names = isBye ? [white] : [white, black];
-    const stranger = names.find((name) => !isPlayer(name)), twice = [board, ...names].find((one) => seen.has(one));
-    const wrong = row.length !== 5 ? t`it has not five fields` : !/^[1-9]\d{0,5}$/.test(board) ? t`the board is no number`
-      : stranger !== undefined ? t`no player has the name ${stranger}` : twice ? t`${twice} stands twice`
-        : !isBye && (!line || timesOfOpen(`open white ${line}`) !== given) ? t`the times are not as 300+2 is`
-          : Number.isNaN(start) || begins && !/(Z|[+-]\d\d:\d\d)$/.test(begins) ? t`the start is not as 2026-11-26T19:30Z
-            is` : new Set(names).size < names.length ? t`${white} stands twice` : '';
+    const board = boardOf(row), names = board.black ? [board.white, board.black] : [board.white];
+    const wrong = wrongWith(row, board, names.find((name) => !isPlayer(name)),
+      [row[0], ...names].find((one, at, all) => seen.has(one) || all.indexOf(one) < at));
     if (wrong) return { boards, wrong: t`Row ${place + 2}: ${wrong}.` };
-    [board, ...names].forEach((one) => seen.add(one));
-    boards.push({ board, white, black: isBye ? '' : black, line: isBye ? '' : line, start, game: 0, said: '' });
+    [row[0], ...names].forEach((one) => seen.add(one));
+    boards.push(board);
   }
   return { boards, wrong: boards.length ? '' : t`There is no board in it.` };
+}
+
+function boardOf(row) {
+  const [board, white, black, times, begins] = row;
+  const { initial, increment, moves, second } = readTimes(times || '') || { initial: NaN };
+  const line = moves ? `${moves}/${initial}:${second} ${increment}` : `${initial} ${increment}`;
+  return { board, white, black, line, start: begins ? Date.parse(begins) : 0, game: 0, said: '' };
+}
+
+/** What is wrong with a row, which has a name of no player, or a field twice, where these are given; else ''. */
+function wrongWith(row, { line, start }, stranger, twice) {
+  const [board, , black, times, begins] = row;
+  if (row.length !== FIELDS) return t`it has not five fields`;
+  if (!/^[1-9]\d{0,5}$/.test(board)) return t`the board is no number`;
+  if (stranger !== undefined) return t`no player has the name ${stranger}`;
+  if (twice !== undefined) return t`${twice} stands twice`;
+  if (Number.isNaN(start) || begins && !ZONE.test(begins)) return t`the start is not as 2026-11-26T19:30Z is`;
+  const isBye = !black && !begins, areTimes = timesOfOpen(`open white ${line}`) === times;
+  return isBye || areTimes ? '' : t`the times are not as 300+2 is`;
 }

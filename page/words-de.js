@@ -795,6 +795,8 @@ export const WORDS = {
   'Open a round': 'Eine Runde eröffnen',
   'Copy the games for chess-club start': 'Partien für chess-club start kopieren',
   'Look it up': 'Nachsehen',
+  '{0} has not accepted your game.': '{0} hat deine Partie nicht angenommen.',
+  'It is offered.': 'Angeboten.',
   'The round': 'Die Runde',
   'There is no round here.': 'Hier gibt es keine Runde.',
   'The round cannot be read now.': 'Die Runde kann gerade nicht gelesen werden.',

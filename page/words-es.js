@@ -785,6 +785,8 @@ export const WORDS = {
   'Open a round': 'Abrir una ronda',
   'Copy the games for chess-club start': 'Copiar las partidas para chess-club start',
   'Look it up': 'Buscarla',
+  '{0} has not accepted your game.': '{0} no ha aceptado tu partida.',
+  'It is offered.': 'Está ofrecida.',
   'The round': 'La ronda',
   'There is no round here.': 'Aquí no hay ninguna ronda.',
   'The round cannot be read now.': 'Ahora no se puede leer la ronda.',

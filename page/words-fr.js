@@ -800,6 +800,8 @@ export const WORDS = {
   'Open a round': 'Ouvrir une ronde',
   'Copy the games for chess-club start': 'Copier les parties pour chess-club start',
   'Look it up': 'La chercher',
+  '{0} has not accepted your game.': '{0} n’a pas accepté votre partie.',
+  'It is offered.': 'Elle est proposée.',
   'The round': 'La ronde',
   'There is no round here.': 'Il n’y a pas de ronde ici.',
   'The round cannot be read now.': 'La ronde ne peut pas être lue pour l’instant.',

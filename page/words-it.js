@@ -788,6 +788,8 @@ export const WORDS = {
   'Open a round': 'Apri un turno',
   'Copy the games for chess-club start': 'Copia le partite per chess-club start',
   'Look it up': 'Cercala',
+  '{0} has not accepted your game.': '{0} non ha accettato la tua partita.',
+  'It is offered.': 'È proposta.',
   'The round': 'Il turno',
   'There is no round here.': 'Qui non c’è alcun turno.',
   'The round cannot be read now.': 'Il turno non si può leggere ora.',

@@ -792,6 +792,8 @@ export const WORDS = {
   'Open a round': 'Een ronde openen',
   'Copy the games for chess-club start': 'Partijen kopiëren voor chess-club start',
   'Look it up': 'Opzoeken',
+  '{0} has not accepted your game.': '{0} heeft je partij niet aangenomen.',
+  'It is offered.': 'Ze is aangeboden.',
   'The round': 'De ronde',
   'There is no round here.': 'Er is hier geen ronde.',
   'The round cannot be read now.': 'De ronde kan nu niet worden gelezen.',

@@ -786,6 +786,8 @@ export const WORDS = {
   'Open a round': 'Otwórz rundę',
   'Copy the games for chess-club start': 'Kopiuj partie dla chess-club start',
   'Look it up': 'Wyszukaj',
+  '{0} has not accepted your game.': '{0}: twoja partia nie została przyjęta.',
+  'It is offered.': 'Zaproponowano.',
   'The round': 'Runda',
   'There is no round here.': 'Nie ma tu żadnej rundy.',
   'The round cannot be read now.': 'Nie można teraz odczytać rundy.',

@@ -779,6 +779,8 @@ export const WORDS = {
   'Open a round': 'Abrir uma rodada',
   'Copy the games for chess-club start': 'Copiar as partidas para chess-club start',
   'Look it up': 'Procurar',
+  '{0} has not accepted your game.': '{0} não aceitou a sua partida.',
+  'It is offered.': 'Está oferecida.',
   'The round': 'A ronda',
   'There is no round here.': 'Não há nenhuma ronda aqui.',
   'The round cannot be read now.': 'A ronda não pode ser lida agora.',

@@ -1,10 +1,15 @@
 """Scenes of bench/browser/page: what players want of an evening beside the moves themselves."""
 
+import os
+import re
 import shutil
 import subprocess
+import tempfile
 import time
 
 from lib.browser import Keys
+from lib.net import Door
+from lib.program import content, laid_out, path_of, put
 from page_lines import by_lines, truth
 from readable import COORDINATES, keys_go_round, reads_well
 
@@ -414,8 +419,10 @@ def read_by_all(hall):
         person.media().screen(1280, 800)
 
     for person, view, css in ((ann, '', '#open-game'), (sue, '', '#only-watching'), (sue, 'hall', '#hall-none'),
-                              (sue, 'again', '#again-board'), (sue, 'games', '#finished-save'), (sue, 'arbiter', '#arbiter-only'),
-                              (sue, 'game/9999', '#no-game'), (ann, 'game/' + number, '#drop')):
+                              (sue, 'again', '#again-board'), (sue, 'games', '#finished-save'),
+                              (sue, 'arbiter', '#arbiter-only'), (sue, 'game/9999', '#no-game'),
+                              (sue, 'round', '#round-none'),
+                              (ann, 'game/' + number, '#drop')):
         person.goes(view)
         well(person, view or 'the table', css)
     bob.click('[data-key="join-%s"]' % number)
@@ -433,7 +440,7 @@ def read_by_all(hall):
     hall.play(['g1f3'], 2)
     ann.click_move('d2d4').until(lambda: planned(ann), 'a move ahead')
     well(ann, 'a move ahead')
-    ann.keys(Keys.ESCAPE)
+    ann.tap('a5').until(lambda: not planned(ann), 'taken back')
     bob.click('#offer')
     well(ann, 'an offer', '#offered')
     hall.play(['b8c6'], 3)
@@ -443,8 +450,8 @@ def read_by_all(hall):
         well(ann, part, part)
         ann.keys(Keys.ESCAPE)
         ann.run('for (const one of document.querySelectorAll(".who")) one.open = false')
-    for view, css in (('hall', '.card .board'), ('hall/' + number, '#big-screen'), ('again/' + number, '#again-moves button'),
-                      ('game/' + number, '#moves button')):
+    for view, css in (('hall', '.card .board'), ('hall/' + number, '#big-screen'),
+                      ('again/' + number, '#again-moves button'), ('game/' + number, '#moves button')):
         sue.goes(view)
         well(sue, view, css)
     for path in ('board/' + number, 'boards'):
@@ -676,7 +683,81 @@ def paste(person, text):
     person.click('#again-form button')
 
 
+class Evening:
+    """`./chess-club` with these words, in a folder laid out for it, until it is left; what it tells."""
+
+    def __init__(self, top, *words):
+        self.top, self.words = top, words
+
+    def __enter__(self):
+        self.errors = tempfile.TemporaryFile('w+', dir=self.top)
+        self.process = subprocess.Popen(['./chess-club', *self.words], cwd=self.top, stdout=subprocess.PIPE,
+                                        stderr=self.errors, text=True)
+        return self
+
+    def told(self):
+        self.errors.seek(0)
+        return self.errors.read()
+
+    def __exit__(self, *_):
+        self.process.terminate()
+        self.process.wait()
+        self.errors.close()
+
+
+def tried(top):
+    """From now on the folder is as a clone where the programs are compiled and nothing is proved."""
+    os.remove(os.path.join(top, 'tools', 'chess_club'))
+    for name in ('chess_server', 'chess_club'):
+        place = os.path.join(top, 'crates', name, 'out', 'unproved')
+        os.makedirs(place)
+        os.symlink(path_of(name), os.path.join(place, name))
+    builds = os.path.join(top, 'tools', 'run-program')
+    put(builds, '#!/bin/sh\n[ "$2" = --build ] && exit\necho NOT PROVED >&2\nprogram=$2; shift 2\n'
+        'exec "%s/crates/$program/out/unproved/$program" "$@"\n' % top)
+    os.chmod(builds, 0o755)
+
+
+def the_first_minutes(hall):
+    """`./chess-club evening --lan`: the page and its links are for the devices of the network, and the desk says that
+    nothing is encrypted; a port that is taken ends it. With `try` it says that nothing is proved, and what to do."""
+    top, sue, free = laid_out(tempfile.mkdtemp(dir=hall.folder)), hall.sue, Door(None)
+    port = str(free.port)
+    free.close()
+    club = lambda *words: subprocess.run(['./chess-club', *words], cwd=top, capture_output=True, text=True)
+    player = lambda: club('player', 'ann', '--full-name', 'Ann Lee', '--players', 'friday/club.players')
+    with Evening(top, 'evening', 'friday', '--port', port, '--lan') as evening:
+        address = evening.process.stdout.readline().strip()
+        sue.is_so(re.fullmatch(r'http://(?!127\.|0\.)[\d.]+:%s/' % port, address), 'one that others reach: ' + address)
+        link = player().stdout.strip()
+        sue.is_so(link.startswith(address + '#'), 'so are links')
+        sue.go('about:blank').go(link).shows('#who-name', 'Ann Lee', 'a player’s')
+        sue.go('about:blank').go(content(os.path.join(top, 'friday', 'arbiter.link')).strip()).click('#other-yes')
+        sue.click('#to-arbiter').reads('#unencrypted', 'This page is not encrypted')
+        taken = club('evening', 'saturday', '--port', port, '--lan')
+        says = taken.stderr.strip().splitlines()[-1]
+        sue.is_so(taken.returncode == 1 and '--port names another' in says, 'a port that is taken: ' + says)
+    alone = player()
+    sue.is_so('http://127.0.0.1:8080/#' in alone.stdout and 'no page is at' in alone.stderr,
+              'where no evening runs, a link is told to lead nowhere: ' + alone.stderr)
+    tried(top)
+    with Evening(top, 'try', 'evening', 'friday', '--port', port) as evening:
+        sue.until(lambda: 'Control-C ends' in evening.told(), 'what to do next')
+        sue.is_so(evening.told().count('NOT PROVED') == 1 and 'tab of its own' not in evening.told(),
+                  'it says once that nothing is proved, and makes no players where there are some')
+    with Evening(top, 'try', 'evening', 'sunday', '--port', port) as evening:
+        sue.until(lambda: 'Control-C ends' in evening.told(), 'what to do next')
+        links = re.findall(r'(\w+ \w+): +(http\S+)', evening.told())
+        sue.is_so([name for name, _ in links] == ['Ann Lee', 'Bob Stone', 'Cid Okonkwo'], 'three players: %s' % links)
+        for name, link in links:
+            sue.go(link).run('sessionStorage.clear()')
+            sue.go('about:blank').go(link).shows('#who-name', name, 'who opens a link is its player')
+        said = club('player', 'dee', '--full-name', 'Dee Moss', '--players', 'sunday/club.players')
+        sue.is_so('NOT PROVED' in said.stderr and said.stdout.startswith('http://127.0.0.1:%s/#' % port),
+                  'a word beside it is tried too: ' + said.stderr)
+
+
 NEEDS_CONTROL_TOO = (no_dead_buttons, slow_answers)
 EVENING = (no_dead_buttons, handy_moves, full_names, planned_moves, asked_first, heard_tones, own_marks, taken_men,
            boards_and_men, told_elsewhere, slow_answers, foreign_links, room_for_all, read_by_all, in_german,
-           in_every_language, offers_end, looked_at_again)
+           in_every_language, offers_end, looked_at_again, the_first_minutes)

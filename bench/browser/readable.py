@@ -64,14 +64,16 @@ STUMBLES = '''const wrong = [], press = 'button, a[href], summary, [role=button]
 # without the whole, a name on what has no role, a thing to press within what is hidden from it, a heading two levels
 # below the one before. And what is less than 24 pixels wide or high, but a link within a sentence.
 MISPLACED = '''const wrong = [], root = document.querySelector('dialog[open]') || document.body;
-  const tell = (e, why) => wrong.push(`${why}: ${e.outerHTML.slice(0, 80)}`), press = 'a[href], button, input, select, summary';
+  const tell = (e, why) => wrong.push(`${why}: ${e.outerHTML.slice(0, 80)}`);
+  const press = 'a[href], button, input, select, summary';
   const parents = { LI: 'ul, ol', DT: 'dl', DD: 'dl', TD: 'tr', TH: 'tr', row: '[role=grid]', gridcell: '[role=row]' };
   const landmarks = 'header, main, nav, aside, dialog, [role=status], [aria-live], .skip';
   let level = 0;
   for (const e of root.querySelectorAll('*')) {
     if (!e.checkVisibility({ contentVisibilityAuto: true, visibilityProperty: true })) continue;
-    const role = e.getAttribute('role'), parent = parents[role || e.tagName], box = e.getBoundingClientRect();
-    if (!e.closest(landmarks) && [...e.childNodes].some((n) => n.nodeType === 3 && n.data.trim())) tell(e, 'no landmark');
+    const role = e.getAttribute('role'), parent = parents[role || e.tagName];
+    const own = [...e.childNodes].some((n) => n.nodeType === 3 && n.data.trim());
+    if (own && !e.closest(landmarks)) tell(e, 'no landmark');
     if (parent && !e.parentElement.closest(parent)) tell(e, 'alone');
     if (/^(DIV|SPAN|P)$/.test(e.tagName) && !role && e.matches('[aria-label], [aria-labelledby]')) tell(e, 'no role');
     if (e.matches('[aria-hidden=true]') && e.querySelector(press)) tell(e, 'hidden, with what is pressed');
@@ -79,16 +81,19 @@ MISPLACED = '''const wrong = [], root = document.querySelector('dialog[open]') |
       if (e.tagName[1] > level + 1 && root === document.body) tell(e, 'levels are left out');
       level = Number(e.tagName[1]);
     }
-    if (!e.matches(press) || e.matches('.unseen') || e.tagName === 'A' && getComputedStyle(e).display === 'inline') continue;
-    const { width, height } = e.matches('[type=checkbox], [type=radio]') ? e.closest('label').getBoundingClientRect() : box;
+    const isInline = e.tagName === 'A' && getComputedStyle(e).display === 'inline';
+    if (!e.matches(press) || e.matches('.unseen') || isInline) continue;
+    const pressed = e.matches('[type=checkbox], [type=radio]') ? e.closest('label') : e;
+    const { width, height } = pressed.getBoundingClientRect();
     if (width < 24 || height < 24) tell(e, `${Math.round(width)} x ${Math.round(height)} pixels`);
   }
   return wrong;'''
 # What Tab is to come to, in this order, and what it has come to.
 STOPS = '''const root = document.querySelector('dialog[open]') || document.body, groups = new Set();
+  const isSeen = (e) => e.checkVisibility({ contentVisibilityAuto: true, visibilityProperty: true });
   window.stopOf = (e) => (e.type === 'radio' ? `${e.form ? e.form.id : ''} ${e.name}` : e.outerHTML.slice(0, 200));
   return [...root.querySelectorAll('a[href], button, input, select, textarea, summary, [tabindex]')].filter((e) => {
-    if (e.tabIndex < 0 || e.disabled || !e.checkVisibility({ contentVisibilityAuto: true, visibilityProperty: true })) return false;
+    if (e.tabIndex < 0 || e.disabled || !isSeen(e)) return false;
     const isNew = e.type !== 'radio' || !groups.has(stopOf(e));
     groups.add(stopOf(e));
     return isNew; }).map(stopOf);'''
@@ -123,7 +128,7 @@ def keys_go_round(person, what):
         unshown = stop and person.run(UNSHOWN)
         person.is_so(not unshown, '%s: what has the keys shows it: %s' % (what, unshown))
         stop = stop.removeprefix('date ')
-        person.is_so(not stop or found[-1:] != [stop], '%s: Tab is held at %s' % (what, stop))
+        person.is_so(not stop or found[-1:] != [stop] or len(wanted) == 1, '%s: Tab is held at %s' % (what, stop))
         if found and stop == found[0]:
             break
         if stop in wanted:

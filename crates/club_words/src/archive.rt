@@ -37,7 +37,8 @@ It writes the PGN of each game of an archive, in the order in which they were ke
 --csv a row for each, as CSV: its number, how many moves were made, the values of its tags,
 and its PGN. With --rounds games stand by their rounds and boards, which the tags Round and
 Board tell, and what an arbiter decided is a comment; with --particulars ratings, titles, FIDE's
-numbers and teams are tags of a game too, and players have their full names of that file. The archive is only read, also while another keeps games in it.
+numbers and teams are tags of a game too, and players have their full names of that file. The
+archive is only read, also while another keeps games in it.
 
 Exit status: 0; 1 with what is wrong on standard error; 2 for words that the program does
 not know.
@@ -362,8 +363,8 @@ fn kept_of<'a>(values: &ArgMatches<'a>) -> Option<Option<&'a str>> {
     }
 }
 
-/// What `live` asks for; none where the address or a round's files are none, a value cannot stand in a tag, or the games
-/// of no archive are to be written.
+/// What `live` asks for; none where the address or a round's files are none, a value cannot stand in a tag, or the
+/// games of no archive are to be written.
 pub fn living_of<'a>(
     alloc: Global,
     values: &ArgMatches<'a>,

@@ -642,12 +642,12 @@ said_alike f g same table [] c tells h =
       | inr more ↦ elim more [
         | inl two ↦ inr (inl two)
         | inr some ↦ inr (inr (record {
-            by = some.by;
-            said = some.said;
-            stops = some.stops;
-            text = some.text;
-            told = record { to = some.told.to; all = λ d. some.told.all d ∙ same d; told = some.told.told };
-          }))
+          by = some.by;
+          said = some.said;
+          stops = some.stops;
+          text = some.text;
+          told = record { to = some.told.to; all = λ d. some.told.all d ∙ same d; told = some.told.told };
+        }))
       ]
     ]
 said_alike f g same table (line ∷ lines) c tells h = h

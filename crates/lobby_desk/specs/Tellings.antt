@@ -237,8 +237,11 @@ abbrev pub AreToldOffers : List ℕ → ℕ → List MessageValue → Type 0
 AreToldOffers table c tells = (text : List ℕ) × (tells ≡ to_one c text ∷ offers_notice table ∷ [])
 
 -- What the log is told where all clocks are stopped, or run again: who said so, and the message. It is none of an act.
+abbrev pub clocks_said : List ℕ → List ℕ → List ℕ
+clocks_said by text = codes "clocks by " ++ by ++ codes " " ++ text ++ codes "\n"
+
 abbrev pub clocks_logged : List ℕ → List ℕ → MessageValue
-clocks_logged by text = to_log (codes "clocks by " ++ by ++ codes " " ++ text ++ codes "\n")
+clocks_logged by text = to_log (clocks_said by text)
 
 -- what these are told then: that all clocks are stopped, and the reason that the message names, or that they run
 abbrev pub clocks_line : Bool → List ℕ → List ℕ

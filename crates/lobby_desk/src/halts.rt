@@ -81,16 +81,27 @@ impl Halts {
         }
     }
 
-    /// A text, and behind it the line that tells that all clocks are stopped, where they are.
+    // The line that tells that all clocks are stopped, and why; none where they run.
+    fn stopped_line(&self, alloc: Global) -> Result<String, AllocError>
+        ensures { IfOk result (λ line. string_bytes line ≡ spec.stopped_line (spec.halted self.now)) }
+    {
+        if self.is_stopped() {
+            let mut line = String::from_str(alloc, "clocks stopped ")?;
+            line.push_str(self.reason.as_str())?;
+            line.push('\n')?;
+            Ok(line)
+        } else {
+            Ok(String::new(alloc))
+        }
+    }
+
+    /// A text, and behind it that line.
     pub fn told_behind(&self, alloc: Global, text: &str) -> Result<String, AllocError>
         ensures { IfOk result (λ told. string_bytes told ≡ text.now ++ spec.stopped_line (spec.halted self.now)) }
     {
+        let line = self.stopped_line(alloc)?;
         let mut told = String::from_str(alloc, text)?;
-        if self.is_stopped() {
-            told.push_str("clocks stopped ")?;
-            told.push_str(self.reason.as_str())?;
-            told.push('\n')?;
-        }
+        told.push_str(line.as_str())?;
         Ok(told)
     }
 }

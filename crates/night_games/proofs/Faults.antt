@@ -1,5 +1,5 @@
 -- What is wrong with the rows of a text is wrong with the text.
-use Rattle.std.proofs.Common.{ℕ, ◌≡◌, List, map, Option, None, Some, Result, Ok, Err, IfOk, IfErr, Vec, Global, sym}
+use Rattle.std.proofs.Common.{ℕ, ◌≡◌, List, map, None, Some, Result, Ok, Err, IfOk, IfErr, Vec, Global, sym}
 use Rattle.csv.specs.Reading.{AreRecords, default_config, strip_bom}
 use Rattle.csv.specs.Records.{Row, fields_of}
 use Rattle.csv.specs.declared.parser.State.TheVariants as st

@@ -1,6 +1,6 @@
 -- What a row of a file of particulars tells of a player.
-use Rattle.std.specs.Prelude.{ℕ, zero, suc, ◌==◌, Bool, true, false, not, ◌&&◌, ◌||◌, nat_leq, nat_lt, List, [], ◌∷◌}
-use Rattle.std.specs.Prelude.{length, get_or, codes, Option, None, Some, if◌then◌else◌}
+use Rattle.std.specs.Prelude.{ℕ, suc, ◌==◌, Bool, true, not, ◌&&◌, ◌||◌, nat_le, nat_lt, List, [], ◌∷◌}
+use Rattle.std.specs.Prelude.{length, codes, Option, None, Some, if◌then◌else◌}
 use Rattle.std.specs.Str.{bytes_eq}
 use Rattle.night_report.specs.declared.particulars.Particulars.{Particulars}
 use Rattle.night_report.specs.Particulars.{cell, is_empty}
@@ -39,8 +39,8 @@ is_sex text = is_empty text || (bytes_eq text (codes "m") || bytes_eq text (code
 -- a sign of a form: `0` stands for a digit, `A` for a capital letter, each other byte for itself
 abbrev pub is_as : ℕ → ℕ → Bool
 is_as b sign =
-    if sign == 48 then nat_leq 48 b && nat_leq b 57
-    else (if sign == 65 then nat_leq 65 b && nat_leq b 90 else b == sign)
+    if sign == 48 then nat_le 48 b && nat_le b 57
+    else (if sign == 65 then nat_le 65 b && nat_le b 90 else b == sign)
 
 -- each byte of a text as a form's sign in its place has it, as far as both go
 abbrev pub are_as : List ℕ → List ℕ → Bool
@@ -61,7 +61,7 @@ are_digits (b ∷ bs) = is_as b 48 && are_digits bs
 -- a number of at most so many digits, without a zero before them, or nothing
 abbrev pub is_number : ℕ → List ℕ → Bool
 is_number most [] = true
-is_number most (b ∷ bs) = not (b == 48) && (nat_leq (length (b ∷ bs)) most && are_digits (b ∷ bs))
+is_number most (b ∷ bs) = not (b == 48) && (nat_le (length (b ∷ bs)) most && are_digits (b ∷ bs))
 
 -- the first thing that is wrong with what a row tells
 unfoldable pub fault_in : List (List ℕ) → List (List ℕ) → Option RowFault

@@ -55,7 +55,7 @@ fn is_title(text: &str) -> bool
 fn is_sex(text: &str) -> bool
     ensures { result ≡ spec.is_sex text.now }
 {
-    matches!(text, "" | "m" | "w")
+    text.is_empty() || text == "m" || text == "w"
 }
 
 // Whether a byte is as a sign of a form has it: `0` stands for a digit, `A` for a capital letter.

@@ -47,7 +47,8 @@ fn stands_among(texts: &[&str], word: &str) -> bool
     false
 }
 
-// The first column that has none of the names that there are, or one that stands behind it too, by its number from 1 on.
+// The first column that has none of the names that there are, or one that stands behind it too, by its number from 1
+// on.
 fn bad_column(columns: &[&str]) -> Option<usize>
     ensures { result ≡ spec.bad_column 1 (map (λ column. column.now) columns.now) }
 {

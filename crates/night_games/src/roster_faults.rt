@@ -49,7 +49,7 @@ impl std::error::Error for RowFault {}
 pub enum RosterFault {
     #[error("the first row has no column name")]
     NoNames,
-    #[error("column {0} of the first row is none of name, full_name, sex, title, rating, federation, fide_number, born, \
+    #[error("column {0} of row 1 is none of name, full_name, sex, title, rating, federation, fide_number, born, \
         team, board, or stands behind it once more")]
     Column(usize),
     /// The row of this number, the header being row 1, has this fault.

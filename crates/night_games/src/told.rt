@@ -87,11 +87,10 @@ fn push_before(
     line: &str,
 ) -> Result<usize, AllocError> {
     for at in put..tags.len() {
-        let (front, tag) = &tags[at];
-        if !is_behind(line, front) {
+        if !is_behind(line, tags[at].0) {
             return Ok(at);
         }
-        text.push_str(tag.as_str())?;
+        text.push_str(tags[at].1.as_str())?;
     }
     Ok(tags.len())
 }
@@ -187,8 +186,8 @@ impl Telling<'_> {
     }
 
     /// A game's PGN with what is known: the tags BlackElo, BlackFideId, BlackTeam, BlackTitle, Board and White's, where
-    /// they have a value; White and Black by their full names; the board's Round; and an arbiter's decision as a comment
-    /// before the result. It fails where the PGN has no players.
+    /// they have a value; White and Black by their full names; the board's Round; and an arbiter's decision as a
+    /// comment before the result. It fails where the PGN has no players.
     pub fn pgn(&self, alloc: Global, game: u32, pgn: &str) -> Result<String> {
         let white = value_of(alloc, pgn, "White")?.context("a game has no White")?;
         let black = value_of(alloc, pgn, "Black")?.context("a game has no Black")?;
@@ -206,19 +205,15 @@ impl Telling<'_> {
         Ok(with_comment(alloc, String::from_utf8(named)?, comment)?)
     }
 
-    // Where a game stands among others: by its round and board, and behind those of which no board is known.
-    fn place_of(&self, game: u32) -> (u32, u32) {
-        match self.board_of(game) {
-            Some(board) => (board.round, board.board),
-            None => (u32::MAX, 0),
-        }
-    }
-
-    // The places of games, each with which game it is, in order.
+    // The places of games, each with which game it is, in order: by round and board, and those of which no board is
+    // known behind the others.
     fn places(&self, alloc: Global, games: &[Kept]) -> Result<Vec<(u32, u32, usize)>, AllocError> {
         let mut places = Vec::new(alloc);
         for at in 0..games.len() {
-            let (round, board) = self.place_of(games[at].game);
+            let (round, board) = match self.board_of(games[at].game) {
+                Some(board) => (board.round, board.board),
+                None => (u32::MAX, 0),
+            };
             places.push((round, board, at))?;
         }
         places.sort()?;
@@ -233,7 +228,7 @@ impl Telling<'_> {
         }
         let mut told = Vec::new(alloc);
         for place in self.places(alloc, games.as_slice())?.as_slice() {
-            if let Some(kept) = games.get(place.2) {
+            if let Some(kept) = games.as_slice().get(place.2) {
                 let pgn = self.pgn(alloc, kept.game, kept.pgn.as_str())?;
                 told.push(Kept {
                     game: kept.game,

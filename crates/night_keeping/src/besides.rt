@@ -24,8 +24,8 @@ impl Read {
         })
     }
 
-    /// What is known of players, where their full names are told; nothing where they are not, since by a title, a rating
-    /// or a number everybody would know who it is.
+    /// What is known of players, where their full names are told; nothing where they are not, since by a title, a
+    /// rating or a number everybody would know who it is.
     pub fn known(&self, alloc: Global, form: NameForm) -> Result<Vec<Particulars<'_>>, AllocError> {
         if form == NameForm::Full {
             self.roster.particulars(alloc)

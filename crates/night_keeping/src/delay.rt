@@ -15,17 +15,17 @@ struct Made {
 #[derive(Drop)]
 pub struct Delay {
     wait: Duration,
+    // How long after another a text is made at the least, a sixtieth of the wait: so few wait.
+    gap: Duration,
     made: Vec<Made>,
 }
-
-// How many of the texts that wait are kept at most, about: a text is shown this part of the wait later at most.
-const PARTS: u32 = 60;
 
 impl Delay {
     /// None waits; each will wait for so many minutes.
     pub fn new(alloc: Global, minutes: u32) -> Delay {
         Delay {
             wait: Duration::from_secs(60 * u64::from(minutes)),
+            gap: Duration::from_secs(u64::from(minutes)),
             made: Vec::new(alloc),
         }
     }
@@ -34,7 +34,7 @@ impl Delay {
     fn is_put(&self, now: Instant, text: &[u8]) -> bool {
         match self.made.last() {
             Some(last) => {
-                last.text.as_slice() != text && now.duration_since(last.at) >= self.wait / PARTS
+                last.text.as_slice() != text && now.duration_since(last.at) >= self.gap
             }
             None => true,
         }

@@ -2,10 +2,10 @@
 use crate::asked::{Exporting, Form};
 use crate::besides::Read;
 use anyhow::Result;
-use lobby_players::players_of;
-use lobby_words::{NameForm, Player};
+use lobby_words::NameForm;
 use night_archive::lines_told;
 use night_games::{Kept, games_kept, write_games, write_rows};
+use night_outcomes::players_in;
 use std::io;
 use std::rt::Files;
 
@@ -18,17 +18,9 @@ fn write<R: AllocGlobal + Print>(rt: &R, form: Form, games: &[Kept]) -> Result<(
     }
 }
 
-// The players of a file, where one is named.
-fn players_in<R: Files + AllocGlobal>(rt: &R, file: Option<&str>) -> Result<Vec<Player>> {
-    match file {
-        Some(file) => players_of(rt, file),
-        None => Ok(Vec::new(rt.alloc())),
-    }
-}
-
-/// Writes the games of an archive: the PGN of each, or a row for each, with what is told of players and boards. It fails
-/// where the file is no archive, as `lines_told` does, where another file cannot be read or is none, where memory is
-/// refused, or the output takes no more.
+/// Writes the games of an archive: the PGN of each, or a row for each, with what is told of players and boards. It
+/// fails where the file is no archive, as `lines_told` does, where another file cannot be read or is none, where memory
+/// is refused, or the output takes no more.
 pub fn export<R>(rt: &R, exporting: &Exporting<'_>) -> Result<()>
 where
     R: Files + AllocGlobal + Print + Eprint,

@@ -39,8 +39,8 @@ fn check_known(players: &[Particulars<'_>], known: &[Particulars<'_>]) -> Result
     Ok(())
 }
 
-/// The players who are no arbiters, with what is known of them: in the order of the players' file, and where anything is
-/// known of them, as FIDE orders them. It fails where something is known of others.
+/// The players who are no arbiters, with what is known of them: in the order of the players' file, and where anything
+/// is known of them, as FIDE orders them. It fails where something is known of others.
 pub fn entrants_of<'a>(
     alloc: Global,
     all: &'a [Player],

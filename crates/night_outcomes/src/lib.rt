@@ -3,8 +3,8 @@
 //!
 //! Modules: `asked` has what is asked, `archived` reads the archive's games, `tags` the tags of a PGN, `outcomes` finds
 //! what came of a game by these or by the table, `laws` what the Laws say of that, `decisions` reads and writes the
-//! decisions of arbiters, `entrants` has the players of a report, `results_word`, `report_word` and `decide_word` do the
-//! words.
+//! decisions of arbiters, `entrants` has the players of a report, `results_word`, `report_word` and `decide_word` do
+//! the words.
 #![tactic(auto)]
 
 mod archived;
@@ -24,4 +24,4 @@ pub use decisions::decisions_of;
 pub use entrants::entrants_of;
 pub use outcomes::{check_fault, noted_game};
 pub use report_word::{Met, met_in, write_report};
-pub use results_word::write_results;
+pub use results_word::{players_in, write_results};

@@ -483,8 +483,8 @@ fn push_tournament(
 }
 
 /// The report of a tournament (FIDE's TRF-16): of players in the order of their starting numbers, their teams, the
-/// meetings of each round, and the days of the rounds, as `YYYY/MM/DD`, where they are known. It fails where the columns
-/// have no room for players or rounds.
+/// meetings of each round, and the days of the rounds, as `YYYY/MM/DD`, where they are known. It fails where the
+/// columns have no room for players or rounds.
 #[tactic(auto, unfolding(crate::specs::Report::report_text))]
 pub fn report(
     alloc: Global,

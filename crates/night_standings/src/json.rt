@@ -194,7 +194,7 @@ fn put_players(
     put(out, "]")
 }
 
-/// Rounds and standings as an object of JSON (docs/client/LOBBY.md, "Files"), in a line.
+/// Rounds and standings as an object of JSON (docs/client/LOBBY.md, "A tournament's file"), in a line.
 pub fn round_json(
     alloc: Global,
     event: &str,

@@ -112,7 +112,8 @@ fn met_text(
     at: usize,
     round: &[Meeting],
 ) -> Result<String, AllocError> {
-    let cell = cell_of((at as u32).saturating_add(1), round);
+    let number = u32::try_from(at).map_or(0, |at| at.saturating_add(1));
+    let cell = cell_of(number, round);
     let sign = char::from(cell.sign);
     if cell.opponent == 0 {
         return format!(in alloc; "{sign}");
