@@ -9,7 +9,7 @@ ghost use Rattle.lobby_table.specs.Owed.{owed_of, owed_lines};
 ghost use Rattle.lobby_desk.specs.Tellings.{token_told};
 ghost use Rattle.lobby_table.specs.Visitors.{who_in, open_in_map, until_in};
 ghost use Rattle.lobby_desk.specs.Who.{who_noted, plan_watches, plan_table};
-ghost use Rattle.lobby_desk.specs.Who.{clocks_answer, is_own, IsOwnText};
+ghost use Rattle.lobby_desk.specs.Who.{is_own, IsOwnText};
 ghost use Rattle.lobby_offers.specs.Offers.{offered};
 
 use lobby_offers::{Offer, offers_text};
@@ -32,17 +32,6 @@ pub fn forget(watches: &mut Vec<Watch>, table: &mut Vec<u64>, from: u64, plan: &
         Plan::LeaveLobby => rise(table, from),
         Plan::Leave(game) => unwatch(watches, from, *game),
         _ => {}
-    }
-}
-
-// The answer to a message by which all clocks stand still, or run again.
-fn clocks_answer(stops: bool) -> &'static str
-    ensures { result.now ≡ clocks_answer stops }
-{
-    if stops {
-        "ok stop clocks\n"
-    } else {
-        "ok start clocks\n"
     }
 }
 
@@ -78,7 +67,8 @@ pub fn own_answer(
         Plan::Who => Ok(Some(present_rows(alloc, is_paused, players, visitors)?)),
         Plan::Pause => Ok(Some(String::from_str(alloc, "ok pause entries\n")?)),
         Plan::Resume => Ok(Some(String::from_str(alloc, "ok resume entries\n")?)),
-        Plan::Clocks(stops) => Ok(Some(String::from_str(alloc, clocks_answer(*stops))?)),
+        Plan::Clocks(true) => Ok(Some(String::from_str(alloc, "ok stop clocks\n")?)),
+        Plan::Clocks(false) => Ok(Some(String::from_str(alloc, "ok start clocks\n")?)),
         Plan::Order(_) => Ok(Some(String::from_str(alloc, Refusal::NotWritten.line())?)),
         Plan::LeaveLobby => Ok(Some(String::from_str(alloc, "ok leave lobby\n")?)),
         Plan::Leave(game) => Ok(Some(headed(alloc, "ok leave ", u64::from(*game))?)),

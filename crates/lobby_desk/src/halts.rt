@@ -29,13 +29,6 @@ fn paused_after(before: bool, plan: &Plan) -> bool
 }
 
 impl Halts {
-    /// Whether all clocks are stopped.
-    pub fn is_stopped(&self) -> bool
-        ensures { result ≡ spec.is_stopped (spec.halted self.now) }
-    {
-        !self.reason.is_empty()
-    }
-
     // The reason for which all clocks are stopped, if a plan for a message changes it.
     fn note_reason(&mut self, alloc: Global, plan: &Plan, text: &str) -> Result<(), AllocError>
         ensures reason { OnOk result (string_bytes self.new.reason
@@ -63,7 +56,7 @@ impl Halts {
     pub fn stop_bar(&self, is_arbiter: bool) -> Option<Refusal>
         ensures { result ≡ spec.stop_bar (spec.halted self.now) is_arbiter }
     {
-        if self.is_stopped() && !is_arbiter {
+        if !self.reason.is_empty() && !is_arbiter {
             Some(Refusal::ClocksStopped)
         } else {
             None
@@ -85,7 +78,7 @@ impl Halts {
     fn stopped_line(&self, alloc: Global) -> Result<String, AllocError>
         ensures { IfOk result (λ line. string_bytes line ≡ spec.stopped_line (spec.halted self.now)) }
     {
-        if self.is_stopped() {
+        if !self.reason.is_empty() {
             let mut line = String::from_str(alloc, "clocks stopped ")?;
             line.push_str(self.reason.as_str())?;
             line.push('\n')?;

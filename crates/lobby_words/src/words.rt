@@ -73,12 +73,19 @@ fn is_show_word(word: &str) -> bool
     word == "show" || word == "fen" || word == "pgn"
 }
 
+// Whether each byte is a digit.
+fn are_digit_bytes(bytes: &[u8]) -> bool
+    ensures { result ≡ list_all words.is_digit bytes.now }
+{
+    bytes.iter().all(|byte| 48 <= *byte && *byte <= 57)
+}
+
 // Whether a text has digits alone, one or more.
 fn are_digits(text: &str) -> bool
     ensures { result ≡ words.are_digits text.now }
 {
     let bytes = text.as_bytes();
-    !bytes.is_empty() && bytes.iter().all(|byte| 48 <= *byte && *byte <= 57)
+    !bytes.is_empty() && are_digit_bytes(bytes)
 }
 
 // Whether a message is a line of the server that changes nothing: about a game, with its number and nothing more, or
