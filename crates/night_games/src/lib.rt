@@ -4,7 +4,7 @@
 //! Modules: `kept` has the games of an archive's lines, `compared` tells whether a game is the one that was kept,
 //! `halves` finds where kept games of the same two ended, `continued` which games say that they go on in others,
 //! `spreadsheet` makes rows of them; `writing` writes them; `evidence` tells of the log, by `gaps` of what is missing
-//! there.
+//! there, and whether it stands as it was put.
 #![tactic(auto)]
 
 mod compared;
@@ -17,7 +17,7 @@ mod spreadsheet;
 mod writing;
 
 pub use compared::has_game;
-pub use evidence::{Evidence, print_evidence};
+pub use evidence::{Evidence, print_evidence, verify_log};
 pub use halves::push_ended;
 pub use kept::{Kept, games_kept};
 pub use writing::{write_games, write_rows};

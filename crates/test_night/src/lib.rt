@@ -33,4 +33,6 @@ mod report;
 #[cfg(test)]
 mod rounds;
 #[cfg(test)]
+mod sums;
+#[cfg(test)]
 mod words;
