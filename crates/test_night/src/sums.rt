@@ -1,6 +1,6 @@
 //! The sums that a log's lines tell: what is changed, taken out or put in is found.
 use crate::acts::{SEALED, WHOLE};
-use night_log::verified;
+use night_log::verify_lines;
 use std::alloc::Global;
 use std::process::Abort;
 
@@ -21,7 +21,7 @@ fn check(
     wanted: (usize, Option<usize>, Option<usize>),
     sum: &str,
 ) {
-    let found = verified(alloc, log).expect(rt, "a log");
+    let found = verify_lines(alloc, log).expect(rt, "a log");
     assert!(rt;
         (found.lines, found.broken, found.begun) == wanted && found.sum.as_str().starts_with(sum)
     );
