@@ -30,23 +30,23 @@ fn check(
 // A log with another byte at a place.
 fn with_byte(rt: &impl Abort, alloc: Global, log: &[u8], at: usize, byte: u8) -> Vec<u8> {
     let mut other = Vec::new(alloc);
-    other.extend_from_slice(log).expect(rt, "memory");
-    if let Some(place) = other.get_mut(at) {
-        *place = byte;
+    for (place, one) in log.iter().enumerate() {
+        let put = if place == at { byte } else { *one };
+        other.push(put).expect(rt, "memory");
     }
     other
 }
 
-// A log without what stands between two of its line feeds, the first of which is that behind so many lines.
+// A log without the line before which so many stand.
 fn without_line(rt: &impl Abort, alloc: Global, log: &[u8], before: usize) -> Vec<u8> {
     let mut other = Vec::new(alloc);
-    let mut line = 0;
+    let mut line: usize = 0;
     for byte in log {
         if line != before {
             other.push(*byte).expect(rt, "memory");
         }
         if *byte == b'\n' {
-            line += 1;
+            line = line.saturating_add(1);
         }
     }
     other
