@@ -9,7 +9,7 @@ use command_lines::{CLUB, NotDone, end_of, words_given};
 use lobby_players::add_player;
 use lobby_serving::serve;
 use night_boards::start;
-use night_games::print_evidence;
+use night_games::{print_evidence, verify_log};
 use night_keeping::{export, keep, live};
 use night_outcomes::{decide_result, write_report, write_results};
 use night_standings::write_standings;
@@ -26,6 +26,7 @@ fn do_words(rt: &HostRuntime) -> Result<(), NotDone> {
         Word::Lobby(serving) => serve(rt, &serving),
         Word::Player(adding) => add_player(rt, &adding),
         Word::Evidence(asked) => print_evidence(rt, &asked),
+        Word::VerifyLog(log) => verify_log(rt, log),
         Word::Keep(keeping) => keep(rt, &keeping),
         Word::Export(exporting) => export(rt, &exporting),
         Word::Live(living) => live(rt, &living),

@@ -81,6 +81,19 @@ for words that the program does not know.
 Example:
   chess-club evidence --game 7 --log club.log";
 
+const HELP_OF_VERIFY_LOG: &str = "\
+It looks whether each line of the log tells the sum of the line before it, as the lobby puts
+it: where a line was changed, taken out or put in, the first that does not fit is told. Else
+it prints how many lines there are, and the sum of the last, which an arbiter may write down:
+it stands as prev in the line behind, once there is one. The log is only read, also while a
+lobby writes it.
+
+Exit status: 0; 1 with what is wrong on standard error; 2 for words that the program does
+not know.
+
+Example:
+  chess-club verify-log --log club.log";
+
 const PORT: u16 = 8_080;
 
 const ADDRESS: OptionText = OptionText {
@@ -265,6 +278,13 @@ pub const EVIDENCE: WordText = WordText {
     about: "Tells what the log has of a game",
     help: HELP_OF_EVIDENCE,
     options: &[GAME, ITS_LOG],
+};
+
+pub const VERIFY_LOG: WordText = WordText {
+    name: "verify-log",
+    about: "Looks whether the log stands as it was put",
+    help: HELP_OF_VERIFY_LOG,
+    options: &[ITS_LOG],
 };
 
 // The address of the proxy, if one is named; none where it is no address.

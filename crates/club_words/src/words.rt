@@ -2,7 +2,7 @@
 use crate::archive::{
     EXPORT, KEEP, LIVE, exporting_of, keeping_of, living_of, no_date_told, no_dates_told,
 };
-use crate::lobby::{EVIDENCE, LOBBY, PLAYER, adding_of, evidence_of, serving_of};
+use crate::lobby::{EVIDENCE, LOBBY, PLAYER, VERIFY_LOG, adding_of, evidence_of, serving_of};
 use crate::rounds::{
     DECIDE, RESULTS, STANDINGS, START, TRF, asking_of, deciding_of, no_day_told, reporting_of,
     standing_of, starting_of,
@@ -27,6 +27,8 @@ pub enum Word<'a> {
     Player(Adding<'a>),
     /// To tell what the log has of a game.
     Evidence(Evidence<'a>),
+    /// To look whether a log, of this name, stands as it was put.
+    VerifyLog(&'a str),
     /// To keep games that are over.
     Keep(Keeping<'a>),
     /// To write the games of an archive.
@@ -47,9 +49,9 @@ pub enum Word<'a> {
 
 // The words, in the order in which help lists them. (They have a function of their own, since each step of a function
 // that has texts tells of all their bytes.)
-fn words() -> [WordText; 11] {
+fn words() -> [WordText; 12] {
     [
-        LOBBY, PLAYER, EVIDENCE, KEEP, EXPORT, LIVE, START, RESULTS, DECIDE, TRF, STANDINGS,
+        LOBBY, PLAYER, EVIDENCE, VERIFY_LOG, KEEP, EXPORT, LIVE, START, RESULTS, DECIDE, TRF, STANDINGS,
     ]
 }
 
@@ -96,6 +98,7 @@ fn word_of<'a>(alloc: Global, matches: &ArgMatches<'a>) -> Result<Option<Word<'a
         "lobby" => serving_of(alloc, values)?.map(Word::Lobby),
         "player" => adding_of(values).map(Word::Player),
         "evidence" => evidence_of(values).map(Word::Evidence),
+        "verify-log" => values.get_str("log").map(Word::VerifyLog),
         "keep" => keeping_of(values).map(Word::Keep),
         "export" => exporting_of(alloc, values)?.map(Word::Export),
         "live" => living_of(alloc, values)?.map(Word::Live),

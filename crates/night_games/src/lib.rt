@@ -4,8 +4,9 @@
 //! Modules: `kept` has the games of an archive's lines, `compared` tells whether a game is the one that was kept,
 //! `halves` finds where kept games of the same two ended, `continued` which games say that they go on in others; `told`
 //! puts what is known of players and boards into a PGN; `spreadsheet` makes rows of games, `writing` writes them;
-//! `evidence` tells of the log, by `gaps` of what is missing there. `particulars` has what a row tells of a player,
-//! `roster` the rows of the file, `roster_faults` what may be wrong with them; `roster_file` reads it.
+//! `evidence` tells of the log, by `gaps` of what is missing there, and whether it stands as it was put. `particulars`
+//! has what a row tells of a player, `roster` the rows of the file, `roster_faults` what may be wrong with them;
+//! `roster_file` reads it.
 #![tactic(auto)]
 
 mod compared;
@@ -23,7 +24,7 @@ mod told;
 mod writing;
 
 pub use compared::has_game;
-pub use evidence::{Evidence, print_evidence};
+pub use evidence::{Evidence, print_evidence, verify_log};
 pub use halves::push_ended;
 pub use kept::{Kept, games_kept};
 pub use roster::{Roster, roster_of};

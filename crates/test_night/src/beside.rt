@@ -31,7 +31,7 @@ fn is_made<R: Files<File = File> + AllocGlobal + Abort>(rt: &R) -> bool {
 
 // Cuts off a text, and tells whether that is refused for a link.
 fn cut_off<R: Files<File = File> + AllocGlobal + Eprint>(rt: &R, text: &[u8]) -> Option<ErrorKind> {
-    let kept = TornFile::beside(rt, FILE).keep(b"line\n", text);
+    let kept = TornFile::beside(rt, FILE).keep(5, text);
     kept.err().map(|error| error.kind())
 }
 

@@ -35,6 +35,8 @@ mod rounds;
 #[cfg(test)]
 mod standings;
 #[cfg(test)]
+mod sums;
+#[cfg(test)]
 mod told;
 #[cfg(test)]
 mod words;

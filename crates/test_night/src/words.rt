@@ -90,6 +90,7 @@ fn said_by(alloc: Global, word: &Word<'_>) -> Result<String, AllocError> {
             let (game, log) = (asked.game, asked.log);
             format!(in alloc; "evidence {game} {log}")
         }
+        Word::VerifyLog(log) => format!(in alloc; "verify-log {log}"),
         Word::Keep(keeping) => keep_said(alloc, keeping),
         Word::Export(exporting) => {
             let archive = exporting.archive;
@@ -151,6 +152,7 @@ static LINES: [(&str, Result<&str, ErrorKind>); 45] = [
         Ok("player ann Ann http://127.0.0.1:8080/ true"),
     ),
     ("chess-club evidence --game 7 --log l", Ok("evidence 7 l")),
+    ("chess-club verify-log --log l", Ok("verify-log l")),
     (
         "chess-club keep --server s/ --archive a --drop --lobby 127.0.0.1:2 --event E --every 5",
         Ok("keep s/ E ????.??.?? 5 a true true"),
