@@ -1,6 +1,6 @@
 -- Places of players by points, and among those who are tied by one tie-break after another: FIDE's Handbook, C.07.
 use Rattle.std.specs.Prelude.{ℕ, zero, suc, ◌+◌, ◌-◌, ◌*◌, ◌==◌, ◌&&◌, ◌||◌, not, Bool, true, false, nat_lt, List, [], ◌∷◌}
-use Rattle.std.specs.Prelude.{◌++◌, map, sum_by, count_by, get_or, length, Option, None, Some, if◌then◌else◌}
+use Rattle.std.specs.Prelude.{◌++◌, map, sum_by, count_by, get_or, Option, None, Some, if◌then◌else◌}
 use Rattle.std.specs.Prelude.{slice_get}
 use Rattle.std.specs.List.{list_all, list_any}
 use Rattle.night_report.specs.declared.cells.Cell.{Cell}
