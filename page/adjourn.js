@@ -2,6 +2,7 @@
 // A note stands before the first line is sent, and each step is taken from how the game stands, so that what was broken off
 // can be done again.
 
+import { findKept, toldOf } from './kept.js';
 import { language, t } from './language.js';
 import { readPgn, readRefusal, readShow, readTimes, sideOf } from './lines.js';
 import { arrange, byId, copy, focused, make, read, setText, write } from './make.js';
@@ -14,6 +15,7 @@ const DAY = 86400;                   // seconds: the longest first period that t
 const AGREEMENT = '5.2.3';
 const FOLLOWS = 250;                 // milliseconds: the clocks of a question
 const COPIED = t`The note is copied.`;
+const TOLD = 'told-adjourned', MOST_TOLD = 20;
 const local = () => localStorage;
 
 export class Adjournments {
@@ -32,6 +34,10 @@ export class Adjournments {
     });
     byId('adjourn-copy').addEventListener('click', () => this.copyNote({ ...this.now(), at: Date.now() },
       byId('adjourn-copied')));
+    byId('adjourned-form').addEventListener('submit', (event) => {
+      event.preventDefault();
+      this.lookUp(Number(event.target.elements.number.value));
+    });
     addEventListener('storage', (event) => (event.key || PREFIX).startsWith(PREFIX) && this.render());
   }
 
@@ -57,6 +63,25 @@ export class Adjournments {
     const kept = write(local, note.key, JSON.stringify(note));
     this.render();
     return kept;
+  }
+
+  /** Notes a game that another browser has adjourned, from the table or from the games that were kept. */
+  async lookUp(number) {
+    const { wire } = this.app, told = byId('adjourned-found');
+    setText(told, t`Looking among the games that were kept …`);
+    const [shown, fen, pgn] = await Promise.all(['show', 'fen', 'pgn'].map((word) => wire.say(`${word} ${number}`)));
+    const note = this.read(shown, fen, pgn) || await this.kept(number);
+    setText(told, !note ? t`There is no game of this number.`
+      : !note.closed ? t`Game ${number} has not ended as a draw by agreement.` : '');
+    if (!note || !note.closed) return;
+    byId('adjourned-form').reset();
+    if (!this.notes().some((one) => one.game === number)) this.keep({ ...note, isFound: true });
+  }
+
+  /** The note of a game that has left the table; null where there is none. */
+  async kept(number) {
+    const kept = await findKept(number), told = kept && toldOf(kept, (full) => this.app.nameOf(full));
+    return told ? this.noteOf(told.standing, told.standing.fen, kept.tags.TimeControl || '') : null;
   }
 
   /** How a game stands, as a note has it. */
@@ -262,7 +287,6 @@ export class Adjournments {
 
   render() {
     const notes = this.notes();
-    byId('adjourned-games').hidden = notes.length === 0;
     setText(byId('adjourned-count'), notes.length ? String(notes.length) : '');
     const had = focused(), at = had && had.dataset.key;
     const items = notes.map((note) => this.itemOf(note));
@@ -296,7 +320,7 @@ export class Adjournments {
     acts.push(button('copy', t`Copy the note`, () => this.copyNote(note, copied)),
       button('forget', t`Forget it`, () => this.forget(note)));
     return make('li', { class: 'adjourned' },
-      make('h3', {}, t`Game ${note.game}: ${SIDES.map((side) => this.nameOf(note, side)).join(' – ')}`),
+      make('h2', {}, t`Game ${note.game}: ${SIDES.map((side) => this.nameOf(note, side)).join(' – ')}`),
       make('p', { class: 'adjourned-state' }, this.stateOf(note)), make('dl', { class: 'noted' }, ...this.rows(note)),
       make('div', { class: 'desk-acts' }, ...acts), copied);
   }
@@ -304,7 +328,8 @@ export class Adjournments {
   stateOf(note) {
     const said = this.said.get(note.key) || '';
     if (!note.closed && !note.gone) return said || t`It is not closed yet.`;
-    const record = note.closed ? t`Adjourned ${momentOf(note)}. Game ${note.game} stands in the record as a draw.`
+    const record = note.isFound ? t`Looked up ${momentOf(note)}. Game ${note.game} stands in the record as a draw.`
+      : note.closed ? t`Adjourned ${momentOf(note)}. Game ${note.game} stands in the record as a draw.`
       : t`Game ${note.game} has left the table before it was seen how it ended: its PGN tells. It stood so
         ${momentOf(note)}.`;
     if (!note.later) return t`${record} The game that goes on with it is the board’s.`;
@@ -329,6 +354,28 @@ export function wordsToGoOn(note) {
   const same = Math.ceil(note.left.w / 1000) === Math.ceil(note.left.b / 1000);
   return t`This goes on with game ${note.game}, which ${record}; the game that is opened here is the board’s. The server
     has one time for both sides: ${clocks}${same ? '' : t`, so both get the greater of the two`}.`;
+}
+
+/** Keeps in a player's browser that a game of the two was adjourned, and by whom: the lobby tells it once. */
+export function keepAdjourned({ number, white, black }, by) {
+  const told = toldAdjourned().filter(([one]) => one !== number);
+  write(local, TOLD, JSON.stringify([...told, [number, white, black, by]].slice(-MOST_TOLD)));
+}
+
+/** Who has adjourned a game that ended as a draw by agreement, as far as this browser was told; '' where nobody has. */
+export function adjournedBy({ number, white, black, article }) {
+  const found = article === AGREEMENT && toldAdjourned().find((one) => one[0] === number && one[1] === white
+    && one[2] === black);
+  return found ? String(found[3]) : '';
+}
+
+function toldAdjourned() {
+  try {
+    const told = JSON.parse(read(local, TOLD) || '[]');
+    return Array.isArray(told) ? told.filter(Array.isArray) : [];
+  } catch (refused) {
+    return [];
+  }
 }
 
 function readNote(key) {

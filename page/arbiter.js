@@ -3,12 +3,15 @@
 import { Adjournments, timesToGoOn, wordsToGoOn } from './adjourn.js';
 import { Picture } from './board.js';
 import { Clock } from './clock.js';
+import { pgnOf } from './kept.js';
 import { t } from './language.js';
 import { isNoGame, placementOf, readLine, readRefusal, readShow, readStanding, readWho, squaresOf } from './lines.js';
 import { Links } from './links.js';
 import { arrange, byId, focused, make, save, setText } from './make.js';
+import { Openings } from './openings.js';
 import { Pairing } from './pairing.js';
 import { Question } from './question.js';
+import { stopped } from './stopped.js';
 import { Waits } from './waits.js';
 import {
   AGREED, NO_GAME, OTHER, SIDES, actWords, arbiterWords, colourWord, refusalWords, resultWords, sanShown, withReason,
@@ -46,6 +49,7 @@ export class ArbiterView {
     this.pairing = new Pairing(this, (key, number) => this.adjourned.goesOn(key, number));
     this.adjourned = new Adjournments(this, (note) => this.pairing.fill({ ...note, times: timesToGoOn(note) },
       wordsToGoOn(note)));
+    this.openings = new Openings(this);
     this.links = new Links(this);
     byId('arbiter-find').addEventListener('input', () => this.turnTo(0));
     for (const kind of ['pointermove', 'pointerdown', 'keydown']) {
@@ -55,7 +59,12 @@ export class ArbiterView {
     byId('arbiter-on').addEventListener('click', () => this.page(1));
     byId('unencrypted').hidden = location.protocol === 'https:' || OWN_HOSTS.includes(location.hostname);
     byId('entries').addEventListener('click', () => (this.arePaused ? this.entries('resume') : this.askStop()));
-    for (const id of ['pair-by-hand', 'players-and-links']) {
+    byId('clocks').addEventListener('submit', (event) => {
+      event.preventDefault();
+      this.clocks();
+    });
+    addEventListener('clocks', () => this.renderClocks());
+    for (const id of ['pair-by-hand', 'open-a-round', 'players-and-links']) {
       byId(id).addEventListener('toggle', (event) => event.target.open && this.app.askPlayers());
     }
   }
@@ -116,7 +125,7 @@ export class ArbiterView {
     byId('arbiter-desk').hidden = !may;
     this.renderEntries();
     for (const card of this.cards.values()) this.renderActs(card);
-    for (const part of [this.pairing, this.adjourned, this.links]) part.render();
+    for (const part of [this.pairing, this.openings, this.adjourned, this.links]) part.render();
     this.fill();
   }
 
@@ -479,9 +488,9 @@ export class ArbiterView {
   }
 
   async savePgn(number) {
-    const answer = await this.app.wire.say(`pgn ${number}`), isTold = answer[0].startsWith('ok pgn ');
-    if (isTold) save(`game-${number}.pgn`, 'application/x-chess-pgn', answer.slice(1).join('\n') + '\n');
-    this.tellCard(number, isTold ? '' : t`The lobby did not tell the PGN. Try again.`);
+    const text = await pgnOf(this.app, number, true);
+    if (text) save(`game-${number}.pgn`, 'application/x-chess-pgn', text);
+    this.tellCard(number, text ? '' : t`The lobby did not tell the PGN. Try again.`);
   }
 
   /** Sends what was agreed to, line by line as long as each is taken; what is refused is told in words. */
@@ -567,11 +576,32 @@ export class ArbiterView {
     setText(byId('entries'), this.arePaused ? t`New games: stopped` : t`New games: allowed`);
   }
 
+  /** Stops all clocks, for the reason that is written, or has them run again. */
+  async clocks() {
+    const reason = plain(byId('stop-reason').value.trim());
+    const [answer] = await this.app.wire.say(stopped ? 'start clocks' : `stop clocks ${reason}`);
+    const refusal = readRefusal(answer);
+    if (answer.startsWith('ok ')) byId('stop-reason').value = '';
+    const lost = t`The connection broke before the answer came. Do it again.`;
+    this.note(answer.startsWith('ok ') ? '' : refusal ? refusalWords(refusal) : lost, 'refused');
+  }
+
+  renderClocks() {
+    byId('stop-reason').hidden = byId('stop-label').hidden = Boolean(stopped);
+    byId('stop-reason').required = !stopped;
+    setText(byId('stop-clocks'), stopped ? t`Start the clocks` : t`Stop the clocks`);
+  }
+
   note(text, kind = 'news') {
     const note = byId('arbiter-note');
     note.className = text ? `note ${kind}` : 'note';
     setText(note, text);
   }
+}
+
+/** A text as a message to the lobby may have it: without what is beyond ASCII. */
+function plain(text) {
+  return text.normalize('NFD').replace(/[\u0300-\u036f]/g, '').replace(/[^ -~]/g, '?');
 }
 
 /** Of a row of the table, or of how a game stands. */

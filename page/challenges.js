@@ -8,6 +8,7 @@ import { sound } from './sound.js';
 import { colourWord, refusalWords, timesWords } from './words.js';
 
 const LOOKS = 20000;                 // milliseconds: nobody tells of one that has run out
+const BEGINS_WITHIN = 1500;          // so long after an offer that was accepted its game may be told
 
 export class Challenges {
   /** app: {wire, me(), isArbiter(), nameWords(name), players, reachable(), go(route), turns}. */
@@ -22,7 +23,22 @@ export class Challenges {
     const { app } = this, me = app.me();
     if (!me || !app.wire.state.open) return this.show([]);
     const [head, ...rows] = await app.wire.say('offers', true);
-    if (head.startsWith('ok offers ') && app.me() === me) this.show(rows);
+    if (!head.startsWith('ok offers ') || app.me() !== me) return null;
+    const gone = [...this.items.keys()].filter((row) => this.isOwn(row) && !rows.includes(row));
+    if (gone.length) setTimeout(() => gone.forEach((row) => this.ended(row)), BEGINS_WITHIN);
+    return this.show(rows);
+  }
+
+  /** One's own offer stands no more, and one has not taken it back: it was not accepted, unless the game is there. */
+  ended(row) {
+    const { other, name } = this.read(row), pair = [this.app.me(), other];
+    const isThere = [...this.app.table.rows.values()].some((one) => one.result === '*' && pair.includes(one.white)
+      && pair.includes(one.black));
+    if (isThere || this.parted === other) return;
+    const words = t`${name} has not accepted your game.`;
+    byId('taken-back').hidden = false;
+    byId('taken-back').textContent = words;
+    say(words);
   }
 
   show(rows) {
@@ -74,17 +90,20 @@ export class Challenges {
   }
 
   async part(other) {
+    this.parted = other;
     await this.app.wire.say(`unpair ${other}`);
     this.look();
   }
 
-  /** Offers a game, or takes one that is offered in the same words: `WHITE BLACK TIMES`. */
+  /** Offers a game, or takes one that is offered in the same words, `WHITE BLACK TIMES`; whether it is offered now. */
   async say(line, note) {
+    this.parted = '';
     const [answer] = await this.app.wire.say(`pair ${line}`), refusal = readRefusal(answer);
     if (answer.startsWith('ok pair ')) this.app.go(`/game/${answer.split(' ')[2]}`);
     if (refusal) note(refusalWords(refusal));
     else if (answer === 'unsent') note(t`There is no connection. Nothing was sent.`);
     else this.look();
+    return answer === 'ok offered';
   }
 
   /** The opponents who may be chosen: anybody, or one player, by the full name. */

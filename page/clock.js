@@ -5,6 +5,18 @@ import { clockText, clockWords } from './words.js';
 
 const LOW = 20000;
 
+// Since when all clocks are stopped, by performance.now(), or 0; and how long they were before.
+let since = 0, stood = 0;
+
+const moment = () => (since || performance.now()) - stood;
+
+/** All clocks stand still from now on, or run again. */
+export function halt(isHalted) {
+  if (isHalted === Boolean(since)) return;
+  if (!isHalted) stood += performance.now() - since;
+  since = isHalted ? performance.now() : 0;
+}
+
 export class Clock {
   /** Of each time that is set: `fallen()` is called once, when it is over, and `lowered()` when it comes to be low. */
   constructor(root, fallen = () => {}, lowered = () => {}) {
@@ -19,13 +31,13 @@ export class Clock {
   /** The time left at the moment `at` of performance.now(), and whether it runs. */
   set(told) {
     clearTimeout(this.timer);
-    Object.assign(this, told, { called: false });
+    Object.assign(this, told, { at: moment() - (performance.now() - told.at), called: false });
     this.isAbove = this.now() >= LOW;
     this.tick();
   }
 
   now() {
-    return this.running ? Math.max(0, this.left - (performance.now() - this.at)) : this.left;
+    return this.running ? Math.max(0, this.left - (moment() - this.at)) : this.left;
   }
 
   tick() {

@@ -1,8 +1,9 @@
 // One game: what the lobby told of it, how it is shown, and what is done in it.
 
+import { adjournedBy, keepAdjourned } from './adjourn.js';
 import { Board } from './board.js';
 import { Clock } from './clock.js';
-import { dateWords, findKept, toldOf } from './kept.js';
+import { dateWords, findKept, pgnOf, toldOf } from './kept.js';
 import { language, t } from './language.js';
 import { placementOf, readLine, readPgn, readRefusal, readStanding, readTimes, sideOf, squaresOf } from './lines.js';
 import { byId, copy, focused, make, save, say, setText } from './make.js';
@@ -222,6 +223,7 @@ export class GameView {
     }
     if (!standing || standing.article) this.plan = null;
     this.standing = standing && { ...standing, at: performance.now() };
+    if (standing && standing.article) this.adjournedBy = adjournedBy(standing) || this.adjournedBy;
     if (standing) this.app.learnNames([standing.white, standing.black]);
     this.gone = !standing;
     if (ended) this.note('');
@@ -263,7 +265,10 @@ export class GameView {
   /** An arbiter who adjourns a game enters an offer for Black, and accepts it for White. */
   watchAdjourning(by, sent, arbiter) {
     const { white, black } = this.standing, [word] = sent.split(' ');
-    if (arbiter && word === 'accept' && by === white && this.offeredBy === arbiter) this.adjournedBy = arbiter;
+    if (arbiter && word === 'accept' && by === white && this.offeredBy === arbiter) {
+      this.adjournedBy = arbiter;
+      keepAdjourned(this.standing, arbiter);
+    }
     this.offeredBy = word === 'offer' && by === black ? arbiter : '';
   }
 
@@ -584,7 +589,7 @@ export class GameView {
     const rest = `${period} ${times.increment}${this.tags.FEN ? ` ${this.tags.FEN}` : ''}`;
     const note = (text) => this.note(text);
     if (app.isArbiter()) app.openGame(`open ${this.seat() === 'w' ? 'black' : 'white'} ${rest}`, note);
-    else app.challenges.say(`${black} ${white} ${rest}`, note);
+    else if (await app.challenges.say(`${black} ${white} ${rest}`, note)) this.news(t`It is offered.`);
   }
 
   /** Offers a way to another game: the opponent has opened one. */
@@ -657,9 +662,7 @@ export class GameView {
   }
 
   async pgnText() {
-    if (this.kept) return this.kept.text;
-    const answer = await this.app.wire.say(`pgn ${this.number}`);
-    return answer[0].startsWith('ok pgn') ? readPgn(answer.slice(1)).text : '';
+    return this.kept ? this.kept.text : pgnOf(this.app, this.number, Boolean(this.standing.article));
   }
 
   /** Where and when a game that was kept was played. */

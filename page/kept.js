@@ -2,11 +2,12 @@
 
 import { endOf, readGame } from './study.js';
 import { fenOf, isInCheck } from './rules.js';
-import { squaresOf } from './lines.js';
+import { readPgn, squaresOf } from './lines.js';
 
 const FILE = 'kept.pgn';
 const BETWEEN = /\n\n(?=\[)/;        // a game ends with an empty line, and the next begins with a tag
 const TAG = /^\[(\w+) "((?:[^"\\]|\\.)*)"\]$/gm;
+const PLAYER = /^(White|Black)$/, NO_DAY = /^Date [?]/;
 const CLOCK = /\[%clk (\d+):(\d\d):(\d\d)\]/;
 
 /** What was read whole, by the tag of the file that it was. */
@@ -62,6 +63,23 @@ export async function findKept(number) {
     return Boolean(found);
   });
   return found;
+}
+
+/** A game's PGN to take along: of one that is over as it was kept; else as the server has it, with the full names and
+ * the day, which the server does not know. '' where it is not told. */
+export async function pgnOf(app, number, isOver) {
+  const kept = isOver && await findKept(number);
+  if (kept) return kept.text;
+  const answer = await app.wire.say(`pgn ${number}`);
+  if (!answer[0].startsWith('ok pgn ')) return '';
+  const valueOf = (tag, value) => (NO_DAY.test(`${tag} ${value}`) ? dayOf(new Date())
+    : PLAYER.test(tag) ? app.nameWords(value).replace(/[\\"]/g, '\\$&') : value);
+  return readPgn(answer.slice(1)).text.replace(TAG, (_, tag, value) => `[${tag} "${valueOf(tag, value)}"]`);
+}
+
+function dayOf(date) {
+  const two = (number) => String(number).padStart(2, '0');
+  return `${date.getFullYear()}.${two(date.getMonth() + 1)}.${two(date.getDate())}`;
 }
 
 /** What a side's clock showed behind a position, in milliseconds, by its last move that has a clock. */

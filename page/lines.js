@@ -80,6 +80,11 @@ export function readAct(line) {
   return as ? { by: as[1], sent: as[2], arbiter: found[1] } : { by: found[1], sent: found[2], arbiter: '' };
 }
 
+/** Why all clocks are stopped, by `clocks stopped REASON`; empty by any other line, as by `clocks run`. */
+export function stoppedIn(line = '') {
+  return line.startsWith('clocks stopped ') ? line.slice('clocks stopped '.length) : '';
+}
+
 /** `ok who paused K` or `ok who open K`, and the names behind it. */
 export function readWho(lines) {
   return { arePaused: lines[0].startsWith('ok who paused '), names: new Set(lines.slice(1)) };

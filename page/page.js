@@ -10,8 +10,10 @@ import { t } from './language.js';
 import { isNoGame, readAct, readPlayers, readRefusal, readRows, readStanding } from './lines.js';
 import { byId, make, say, setText } from './make.js';
 import { Offers } from './offers.js';
+import { RoundView } from './round.js';
 import { hasLetters, listenToSettings } from './settings.js';
 import { sound } from './sound.js';
+import { clocksTold } from './stopped.js';
 import { TableView } from './table.js';
 import { Turns } from './turns.js';
 import { Who } from './who.js';
@@ -40,7 +42,8 @@ class Page {
     address.search = '';
     this.view = null;
     this.wire = new Wire(address.href, {
-      opened: (server) => this.opened(server), notice: (lines) => this.notice(lines), offers: () => this.challenges.look(),
+      opened: (server) => this.opened(server), notice: (lines) => this.notice(lines), clocks: clocksTold,
+      offers: () => this.challenges.look(),
       changed: () => this.changed(), unnamed: () => this.who.unnamed(),
     });
     this.table = new TableView(this);
@@ -50,6 +53,7 @@ class Page {
     this.study = new AgainView(this);
     this.challenges = new Challenges(this);
     this.finished = new FinishedView(this);
+    this.round = new RoundView(this);
     this.listen();
     this.route();
     this.changed();
@@ -186,15 +190,16 @@ class Page {
       history.replaceState(null, '', location.pathname + location.search + '#/');
       if (this.who.open(fragment)) this.wire.renew();
     }
-    const [, word, digits] = /^\/(games?|hall|again|arbiter)(?:\/(\d{1,10}))?$/.exec(fragment) || [];
+    const [, word, digits] = /^\/(games?|hall|again|arbiter|round)(?:\/(\d{1,10}))?$/.exec(fragment) || [];
     const isGame = Number(digits) > 0 && (word === 'game' || word === 'hall'), player = playerIn(fragment);
     const number = player || Number(digits || 0);
     if (isGame) this.begun.add(number);
     const view = isGame ? this.game : player ? this.finished
-      : { hall: this.hall, arbiter: this.desk, again: this.study, games: this.finished }[word] || this.table;
+      : { hall: this.hall, arbiter: this.desk, again: this.study, games: this.finished, round: this.round }[word]
+        || this.table;
     document.body.classList.toggle('hall', word === 'hall');
     document.body.classList.toggle('one-game', isGame || view === this.study);
-    for (const other of [this.table, this.game, this.hall, this.desk, this.study, this.finished]) {
+    for (const other of [this.table, this.game, this.hall, this.desk, this.study, this.finished, this.round]) {
       if (other !== view && !other.root.hidden) other.close();
     }
     const isOther = this.view && (this.view !== view || number && number !== view.number);
@@ -439,9 +444,9 @@ class Page {
 
   /** Who comes to another view by keys or listening begins at its heading. */
   toHeading() {
-    const at = document.activeElement, heading = this.view.root.querySelector('h1');
+    const at = document.activeElement, heads = [...this.view.root.querySelectorAll('h1')];
     if (at && at !== document.body && at !== byId('main') && at.getClientRects().length) return;
-    (heading.getClientRects().length ? heading : byId('main')).focus({ preventScroll: true });
+    (heads.find((one) => one.getClientRects().length) || byId('main')).focus({ preventScroll: true });
   }
 
   toContent() {

@@ -335,7 +335,7 @@ function pairLine({ white, black, line }) {
 }
 
 /** Whether a game has the times and the men of an `open` line (the server may spell the rest of a FEN in another way). */
-function isOf(tags, line) {
+export function isOf(tags, line) {
   const start = (fen) => fen.trim().split(/\s+/).slice(0, 2).join(' ');
   return tags.TimeControl === timesOfOpen(line) && start(tags.FEN || '') === start(line.split(' ').slice(4).join(' '));
 }

@@ -4,6 +4,7 @@ import { HallView } from './hall.js';
 import { t } from './language.js';
 import { isNoGame, readLine, readPlayers, readRows, readStanding, sideOf } from './lines.js';
 import { byId, make, setText } from './make.js';
+import { clocksTold } from './stopped.js';
 import { Wire } from './wire.js';
 import { resultWords, sanShown, withReason } from './words.js';
 
@@ -109,7 +110,8 @@ class Screen {
     address.protocol = address.protocol === 'https:' ? 'wss:' : 'ws:';
     address.hash = '';
     this.wire = new Wire(address.href, {
-      opened: (server) => this.opened(server), notice: (lines) => this.notice(lines), changed: () => this.changed(),
+      opened: (server) => this.opened(server), notice: (lines) => this.notice(lines), clocks: clocksTold,
+      changed: () => this.changed(),
     });
     this.view.open();
   }

@@ -162,6 +162,7 @@ export function drawFacts(game) {
   setText(byId('game-black'), black ? game.app.nameWords(black) : t`free seat`);
   setText(byId('game-start'), game.tags.FEN ? t`From a position` : '');
   setText(byId('game-kept'), game.keptWords());
+  setText(byId('game-board'), game.app.round.boardWords(game.number));
   byId('fen-text').value = game.fenShown();
   byId('watching').hidden = Boolean(game.seat()) || !game.started();
 }

@@ -49,6 +49,8 @@ const REFUSALS = {
   44: t`The table is nearly full, and its last places are for arbiters. Wait until a game is taken off, or ask one.`,
   45: t`Too many of your games that are over are still on the table. They go once they are kept; try again then, or ask
     an arbiter.`,
+  46: t`The arbiter has stopped all clocks. Nothing is played until they run again.`,
+  47: t`This lobby can stop no clocks: whoever runs it has not named the server’s file.`,
 };
 
 const OF_ANOTHER = {

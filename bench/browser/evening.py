@@ -1,12 +1,17 @@
 """Scenes of bench/browser/page: what players want of an evening beside the moves themselves."""
 
+import os
+import re
 import shutil
 import subprocess
+import tempfile
 import time
 
 from lib.browser import Keys
+from lib.net import Door
+from lib.program import content, laid_out, path_of, put
 from page_lines import by_lines, truth
-from readable import COORDINATES, NAMELESS, PALE, STUMBLES, TWICE, UNSHOWN
+from readable import COORDINATES, keys_go_round, reads_well
 
 SCREENS = ((1280, 800, False), (1024, 768, False), (1080, 810, False), (900, 700, False), (1024, 600, False),
            (768, 1024, True), (360, 740, True))
@@ -399,43 +404,69 @@ def room_for_all(hall):
 
 
 def read_by_all(hall):
-    """Coordinates of 4.5 to 1 on every board, all texts too, light and dark; what has the keys shows it."""
-    number, ann, bob, _ = hall.begin(minutes='20')
-    ann.run('localStorage.setItem("ask-first", "on")')
+    """Coordinates of 4.5 to 1 on every board; each view, menu and question can be read, light and dark, has names, and
+    is gone through by Tab, on a wide screen and on a phone."""
+    ann, bob, sue = hall.sit()
+    number = hall.set_up(minutes='20')
+
+    def well(person, what, css=''):
+        if css:
+            person.finds(css, what)
+        for width, height, phone in ((1280, 800, False), (360, 740, True)):
+            person.screen(width, height, 1, phone)
+            time.sleep(0.2)
+            keys_go_round(reads_well(person, '%s at %d' % (what, width)), '%s at %d' % (what, width))
+        person.media().screen(1280, 800)
+
+    for person, view, css in ((ann, '', '#open-game'), (sue, '', '#only-watching'), (sue, 'hall', '#hall-none'),
+                              (sue, 'again', '#again-board'), (sue, 'games', '#finished-save'),
+                              (sue, 'arbiter', '#arbiter-only'), (sue, 'game/9999', '#no-game'),
+                              (sue, 'round', '#round-none'),
+                              (ann, 'game/' + number, '#drop')):
+        person.goes(view)
+        well(person, view or 'the table', css)
+    bob.click('[data-key="join-%s"]' % number)
+    hall.both.finds('#resign', 'the game has begun')
+    hall.watch(number)
     for board in ('wood', 'green', 'blue'):
         ann.run('document.documentElement.dataset.board = arguments[0]', board)
-        for dark in (False, True):
-            ann.media(dark).is_so(ann.run(COORDINATES) == [], 'coordinates on %s: %s' % (board, ann.run(COORDINATES)))
-    ann.run('delete document.documentElement.dataset.board')
-
-    def is_read(what):
-        for dark in (True, False):
-            ann.media(dark)
-            for script in (PALE, NAMELESS, TWICE, STUMBLES):
-                ann.is_so(ann.run(script) == [], '%s: %s' % (what, ann.run(script)))
-    ann.click_move('e2e4').finds('#proposed', 'a move that is asked about')
-    is_read('a move that is asked about')
+        reads_well(ann, 'coordinates on ' + board, (COORDINATES,))
+    ann.run('delete document.documentElement.dataset.board; localStorage.setItem("ask-first", "on")')
+    ann.click_move('e2e4')
+    well(ann, 'a move that is asked about', '#proposed')
     ann.click('#play-it')
-    bob.on_move()
-    ann.click_move('d2d4').until(lambda: planned(ann), 'a move ahead')
-    is_read('a move ahead')
-    ann.keys(Keys.ESCAPE)
-    for button, dialog in (('#resign', '#resign-dialog'), ('#help', '#help-dialog')):
-        ann.click(button).finds(dialog, dialog)
-        is_read(dialog)
-        ann.keys(Keys.ESCAPE)
+    hall.play(['e7e5'], 1)
     ann.run('localStorage.removeItem("ask-first")')
-    for view in ('#/', '#/hall', '#/again', '#/game/' + number):
-        ann.run('location.hash = arguments[0]', view)
-        time.sleep(0.4)
-        ann.run('document.querySelector("#settings").open = true')
-        is_read(view)
-        ann.run('document.querySelector("#settings").open = false; document.activeElement.blur()')
-        for _ in range(25):
-            ann.keys(Keys.TAB)
-            unshown = ann.run(UNSHOWN)
-            ann.is_so(unshown == '', 'what has the keys shows it: %s' % unshown)
-    ann.media()
+    hall.play(['g1f3'], 2)
+    ann.click_move('d2d4').until(lambda: planned(ann), 'a move ahead')
+    well(ann, 'a move ahead')
+    ann.tap('a5').until(lambda: not planned(ann), 'taken back')
+    bob.click('#offer')
+    well(ann, 'an offer', '#offered')
+    hall.play(['b8c6'], 3)
+    for button, part in (('#resign', '#resign-dialog'), ('#claim', '#claim-dialog'), ('#help', '#help-dialog'),
+                         ('#settings summary', '#settings .menu'), ('#who summary', '#who .menu')):
+        ann.click(button)
+        well(ann, part, part)
+        ann.keys(Keys.ESCAPE)
+        ann.run('for (const one of document.querySelectorAll(".who")) one.open = false')
+    for view, css in (('hall', '.card .board'), ('hall/' + number, '#big-screen'),
+                      ('again/' + number, '#again-moves button'), ('game/' + number, '#moves button')):
+        sue.goes(view)
+        well(sue, view, css)
+    for path in ('board/' + number, 'boards'):
+        sue.go(hall.lobby.address + path)
+        well(sue, path, '.board')
+    sue.go(hall.lobby.address)
+    hall.signs_in(sue, 'eve', 'an arbiter')
+    sue.goes('arbiter').finds('.desk-card', 'the desk')
+    sue.run('for (const one of document.querySelectorAll(".desk-panel")) one.open = true')
+    well(sue, 'the desk', '[data-key="new-link-bob"]')
+    sue.click('#entries')
+    well(sue, 'the desk’s question', '#arbiter-dialog')
+    sue.keys(Keys.ESCAPE)
+    by_lines(hall, 'ann', 'resign ' + number)
+    well(ann, 'a game that is over', '#again')
 
 
 # The English texts that the page's language says otherwise, and that are read on the page now.
@@ -652,7 +683,81 @@ def paste(person, text):
     person.click('#again-form button')
 
 
+class Evening:
+    """`./chess-club` with these words, in a folder laid out for it, until it is left; what it tells."""
+
+    def __init__(self, top, *words):
+        self.top, self.words = top, words
+
+    def __enter__(self):
+        self.errors = tempfile.TemporaryFile('w+', dir=self.top)
+        self.process = subprocess.Popen(['./chess-club', *self.words], cwd=self.top, stdout=subprocess.PIPE,
+                                        stderr=self.errors, text=True)
+        return self
+
+    def told(self):
+        self.errors.seek(0)
+        return self.errors.read()
+
+    def __exit__(self, *_):
+        self.process.terminate()
+        self.process.wait()
+        self.errors.close()
+
+
+def tried(top):
+    """From now on the folder is as a clone where the programs are compiled and nothing is proved."""
+    os.remove(os.path.join(top, 'tools', 'chess_club'))
+    for name in ('chess_server', 'chess_club'):
+        place = os.path.join(top, 'crates', name, 'out', 'unproved')
+        os.makedirs(place)
+        os.symlink(path_of(name), os.path.join(place, name))
+    builds = os.path.join(top, 'tools', 'run-program')
+    put(builds, '#!/bin/sh\n[ "$2" = --build ] && exit\necho NOT PROVED >&2\nprogram=$2; shift 2\n'
+        'exec "%s/crates/$program/out/unproved/$program" "$@"\n' % top)
+    os.chmod(builds, 0o755)
+
+
+def the_first_minutes(hall):
+    """`./chess-club evening --lan`: the page and its links are for the devices of the network, and the desk says that
+    nothing is encrypted; a port that is taken ends it. With `try` it says that nothing is proved, and what to do."""
+    top, sue, free = laid_out(tempfile.mkdtemp(dir=hall.folder)), hall.sue, Door(None)
+    port = str(free.port)
+    free.close()
+    club = lambda *words: subprocess.run(['./chess-club', *words], cwd=top, capture_output=True, text=True)
+    player = lambda: club('player', 'ann', '--full-name', 'Ann Lee', '--players', 'friday/club.players')
+    with Evening(top, 'evening', 'friday', '--port', port, '--lan') as evening:
+        address = evening.process.stdout.readline().strip()
+        sue.is_so(re.fullmatch(r'http://(?!127\.|0\.)[\d.]+:%s/' % port, address), 'one that others reach: ' + address)
+        link = player().stdout.strip()
+        sue.is_so(link.startswith(address + '#'), 'so are links')
+        sue.go('about:blank').go(link).shows('#who-name', 'Ann Lee', 'a player’s')
+        sue.go('about:blank').go(content(os.path.join(top, 'friday', 'arbiter.link')).strip()).click('#other-yes')
+        sue.click('#to-arbiter').reads('#unencrypted', 'This page is not encrypted')
+        taken = club('evening', 'saturday', '--port', port, '--lan')
+        says = taken.stderr.strip().splitlines()[-1]
+        sue.is_so(taken.returncode == 1 and '--port names another' in says, 'a port that is taken: ' + says)
+    alone = player()
+    sue.is_so('http://127.0.0.1:8080/#' in alone.stdout and 'no page is at' in alone.stderr,
+              'where no evening runs, a link is told to lead nowhere: ' + alone.stderr)
+    tried(top)
+    with Evening(top, 'try', 'evening', 'friday', '--port', port) as evening:
+        sue.until(lambda: 'Control-C ends' in evening.told(), 'what to do next')
+        sue.is_so(evening.told().count('NOT PROVED') == 1 and 'tab of its own' not in evening.told(),
+                  'it says once that nothing is proved, and makes no players where there are some')
+    with Evening(top, 'try', 'evening', 'sunday', '--port', port) as evening:
+        sue.until(lambda: 'Control-C ends' in evening.told(), 'what to do next')
+        links = re.findall(r'(\w+ \w+): +(http\S+)', evening.told())
+        sue.is_so([name for name, _ in links] == ['Ann Lee', 'Bob Stone', 'Cid Okonkwo'], 'three players: %s' % links)
+        for name, link in links:
+            sue.go(link).run('sessionStorage.clear()')
+            sue.go('about:blank').go(link).shows('#who-name', name, 'who opens a link is its player')
+        said = club('player', 'dee', '--full-name', 'Dee Moss', '--players', 'sunday/club.players')
+        sue.is_so('NOT PROVED' in said.stderr and said.stdout.startswith('http://127.0.0.1:%s/#' % port),
+                  'a word beside it is tried too: ' + said.stderr)
+
+
 NEEDS_CONTROL_TOO = (no_dead_buttons, slow_answers)
 EVENING = (no_dead_buttons, handy_moves, full_names, planned_moves, asked_first, heard_tones, own_marks, taken_men,
            boards_and_men, told_elsewhere, slow_answers, foreign_links, room_for_all, read_by_all, in_german,
-           in_every_language, offers_end, looked_at_again)
+           in_every_language, offers_end, looked_at_again, the_first_minutes)

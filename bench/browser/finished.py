@@ -5,7 +5,7 @@ import time
 
 from evening import FOOLS, SCREENS, fits, left
 from lib.program import put
-from readable import NAMELESS, PALE, STUMBLES, TWICE
+from readable import reads_well
 
 ANN, BOB, ZOE = 'Ann Lee', 'Bob <b>Stone</b> & Sons', 'Zoë "Zed" O\\Brien'
 MATE = '1. f3 {[%clk 0:04:59]} 1... e5 {[%clk 0:04:58]} 2. g4 {[%clk 0:04:51]} 2... Qh4# {[%clk 0:04:47]} 0-1'
@@ -84,13 +84,10 @@ def finished_games(hall):
         looks_for(person, player='stone')
         for width, height, phone in SCREENS:
             person.screen(width, height, 1, phone)
-            for dark in (False, True):
-                person.media(dark)
-                time.sleep(0.2)
-                what = '%d x %d' % (width, height)
-                person.is_so(person.width() <= width, '%s: nothing is beyond the side: %d' % (what, person.width()))
-                for script in (PALE, NAMELESS, TWICE, STUMBLES):
-                    person.is_so(person.run(script) == [], '%s: %s' % (what, person.run(script)))
+            time.sleep(0.2)
+            what = '%d x %d' % (width, height)
+            person.is_so(person.width() <= width, '%s: nothing is beyond the side: %d' % (what, person.width()))
+            reads_well(person, what)
         person.media().screen(1280, 800)
         complaints = person.complaints()
         person.is_so(complaints == [], 'the console is quiet: %s' % complaints)
@@ -143,15 +140,16 @@ def a_kept_game(hall):
         sue.goes('game/%d' % row[0]).shows('#game-white', row[1], 'any other')
         sue.reads('#outcome', 'Article ' + row[5])
     sue.goes('game/%d' % (NOBODY + 9)).reads('#no-game', 'There is no game of this number')
+    hall.signs_in(sue, 'eve', 'an arbiter')
+    sue.goes('arbiter').click('#adjourned-games > summary').type('#adjourned-form [name=number]', NUMBERS[2])
+    sue.click('#adjourned-form button').reads('#adjourned-list', 'Looked up', ' w KQkq - 2 3', '5:00')
+    sue.run('localStorage.clear()')
     for width, height, phone in SCREENS:
         sue.goes('game/' + number).screen(width, height, 1, phone).finds('#game-kept', 'a kept game')
         time.sleep(0.2)
         sue.is_so(sue.width() <= width, 'nothing is beyond the side of %d' % width)
         sue.is_so(sue.box('#board .board')['bottom'] <= height, 'the board is in sight')
-        for dark in (False, True):
-            sue.media(dark)
-            for script in (PALE, NAMELESS, TWICE, STUMBLES):
-                sue.is_so(sue.run(script) == [], '%d: %s' % (width, sue.run(script)))
+        reads_well(sue, '%d' % width)
     sue.media().screen(1280, 800)
     complaints = sue.complaints()
     sue.is_so(complaints == [], 'the console is quiet: %s' % complaints)

@@ -1,4 +1,8 @@
-"""What a page shows that cannot be read, heard or found by keys, as scripts that name what is wrong."""
+"""What a page shows that cannot be read, heard, pressed or found by keys, as scripts that name what is wrong."""
+
+import time
+
+from lib.browser import Keys
 
 LIGHT = '''const light = (text) => { const [r, g, b] = text.match(/[\\d.]+/g).map((n) => { const c = n / 255;
     return c <= 0.03928 ? c / 12.92 : ((c + 0.055) / 1.055) ** 2.4; }); return 0.2126 * r + 0.7152 * g + 0.0722 * b; };
@@ -56,6 +60,82 @@ STUMBLES = '''const wrong = [], press = 'button, a[href], summary, [role=button]
   const heads = [...document.querySelectorAll('h1')].filter((e) => e.getClientRects().length).length;
   if (heads !== 1 && !document.querySelector('dialog[open]')) wrong.push(`${heads} first headings`);
   return wrong;'''
+# What stands where assistive software does not look for it: a text outside all landmarks, a part of a list or of a grid
+# without the whole, a name on what has no role, a thing to press within what is hidden from it, a heading two levels
+# below the one before. And what is less than 24 pixels wide or high, but a link within a sentence.
+MISPLACED = '''const wrong = [], root = document.querySelector('dialog[open]') || document.body;
+  const tell = (e, why) => wrong.push(`${why}: ${e.outerHTML.slice(0, 80)}`);
+  const press = 'a[href], button, input, select, summary';
+  const parents = { LI: 'ul, ol', DT: 'dl', DD: 'dl', TD: 'tr', TH: 'tr', row: '[role=grid]', gridcell: '[role=row]' };
+  const landmarks = 'header, main, nav, aside, dialog, [role=status], [aria-live], .skip';
+  let level = 0;
+  for (const e of root.querySelectorAll('*')) {
+    if (!e.checkVisibility({ contentVisibilityAuto: true, visibilityProperty: true })) continue;
+    const role = e.getAttribute('role'), parent = parents[role || e.tagName];
+    const own = [...e.childNodes].some((n) => n.nodeType === 3 && n.data.trim());
+    if (own && !e.closest(landmarks)) tell(e, 'no landmark');
+    if (parent && !e.parentElement.closest(parent)) tell(e, 'alone');
+    if (/^(DIV|SPAN|P)$/.test(e.tagName) && !role && e.matches('[aria-label], [aria-labelledby]')) tell(e, 'no role');
+    if (e.matches('[aria-hidden=true]') && e.querySelector(press)) tell(e, 'hidden, with what is pressed');
+    if (/^H\\d$/.test(e.tagName)) {
+      if (e.tagName[1] > level + 1 && root === document.body) tell(e, 'levels are left out');
+      level = Number(e.tagName[1]);
+    }
+    const isInline = e.tagName === 'A' && getComputedStyle(e).display === 'inline';
+    if (!e.matches(press) || e.matches('.unseen') || isInline) continue;
+    const pressed = e.matches('[type=checkbox], [type=radio]') ? e.closest('label') : e;
+    const { width, height } = pressed.getBoundingClientRect();
+    if (width < 24 || height < 24) tell(e, `${Math.round(width)} x ${Math.round(height)} pixels`);
+  }
+  return wrong;'''
+# What Tab is to come to, in this order, and what it has come to.
+STOPS = '''const root = document.querySelector('dialog[open]') || document.body, groups = new Set();
+  const isSeen = (e) => e.checkVisibility({ contentVisibilityAuto: true, visibilityProperty: true });
+  window.stopOf = (e) => (e.type === 'radio' ? `${e.form ? e.form.id : ''} ${e.name}` : e.outerHTML.slice(0, 200));
+  return [...root.querySelectorAll('a[href], button, input, select, textarea, summary, [tabindex]')].filter((e) => {
+    if (e.tabIndex < 0 || e.disabled || !isSeen(e)) return false;
+    const isNew = e.type !== 'radio' || !groups.has(stopOf(e));
+    groups.add(stopOf(e));
+    return isNew; }).map(stopOf);'''
+STOP = '''const e = document.activeElement;
+  return !e || e === document.body ? '' : e.type === 'date' ? `date ${stopOf(e)}` : stopOf(e);'''
 # Ids that stand twice.
 TWICE = '''const ids = [...document.querySelectorAll('[id]')].map((e) => e.id);
   return ids.filter((id, at) => ids.indexOf(id) !== at);'''
+
+
+def reads_well(person, what, scripts=(PALE, NAMELESS, TWICE, STUMBLES, MISPLACED)):
+    """All of it, dark and light."""
+    for dark in (True, False):
+        person.media(dark)
+        time.sleep(0.1)
+        for script in scripts:
+            found = person.run(script)
+            person.is_so(found == [], '%s: %s' % (what, found))
+    return person
+
+
+def keys_go_round(person, what):
+    """Tab comes to all that is pressed, in its order, is held nowhere, and what has the keys shows it."""
+    wanted, found = person.run(STOPS), []
+    person.run('document.activeElement.blur(); getSelection().removeAllRanges(); scrollTo(0, 0)')
+    for _ in range(len(wanted) + 12):
+        person.keys(Keys.TAB)
+        stop = person.run(STOP)
+        # (a date has stops of its own)
+        if stop.startswith('date ') and found[-1:] == [stop[5:]]:
+            continue
+        unshown = stop and person.run(UNSHOWN)
+        person.is_so(not unshown, '%s: what has the keys shows it: %s' % (what, unshown))
+        stop = stop.removeprefix('date ')
+        person.is_so(not stop or found[-1:] != [stop] or len(wanted) == 1, '%s: Tab is held at %s' % (what, stop))
+        if found and stop == found[0]:
+            break
+        if stop in wanted:
+            found.append(stop)
+    # (what came or went meanwhile, as a banner does, is left out)
+    stays = set(person.run(STOPS)) & set(wanted)
+    person.is_so(stays <= set(found), '%s: Tab comes to all: %s' % (what, stays - set(found)))
+    wanted, found = ([one for one in dict.fromkeys(stops) if one in stays] for stops in (wanted, found))
+    turned = found.index(wanted[0]) if wanted else 0
+    return person.is_so(found[turned:] + found[:turned] == wanted, '%s: in their order' % what)

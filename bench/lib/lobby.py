@@ -169,7 +169,8 @@ class Programs(Lobby):
         self.log = words[words.index('--log') + 1] if '--log' in words else os.path.join(folder, 'lobby.log')
         if has_log and '--log' not in words:
             words += ('--log', self.log)
-        self.server = Server(os.path.join(folder, 'club.journal'), games=games, plies=plies)
+        stops = ('--clock', 'serving') if '--stopped' in words else ()
+        self.server = Server(os.path.join(folder, 'club.journal'), *stops, games=games, plies=plies)
         self.relay = Relay(self.server) if has_relay else None
         super().__init__(club, (self.relay or self.server).port, *words, **how)
 

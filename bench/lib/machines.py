@@ -2,6 +2,7 @@
 
 import contextlib
 import os
+import shutil
 import signal
 import subprocess
 import sys
@@ -50,12 +51,15 @@ class Machine:
     """A booted Debian: the folder of its files, and further words of systemd-nspawn. `named` is its name."""
 
     def __init__(self, root, named, *words, group=None):
-        self.root, self.words, self.group = root, words, group
-        # (sudo looks its own machine up)
-        for name, text in (('hostname', named + '\n'), ('hosts', '127.0.0.1 localhost %s\n' % named)):
-            with open('%s/etc/%s' % (root, name), 'w') as file:
-                file.write(text)
+        self.root, self.named, self.words, self.group = root, named, words, group
         self.log = open(root + '.log', 'w+b')
+        self.name_and_boot()
+
+    def name_and_boot(self):
+        # (sudo looks its own machine up)
+        for name, text in (('hostname', self.named + '\n'), ('hosts', '127.0.0.1 localhost %s\n' % self.named)):
+            with open('%s/etc/%s' % (self.root, name), 'w') as file:
+                file.write(text)
         self.boot()
 
     def boot(self):
@@ -142,18 +146,31 @@ class Joined(Machine):
     of the disk."""
 
     def __init__(self, folder, debian, name, address, *words):
-        self.name, self.address = name, address
-        upper, work, root, srv = layers = [os.path.join(folder, name, it) for it in ('upper', 'work', 'root', 'srv')]
-        for layer in layers:
-            os.makedirs(layer)
-        sh('mount', '-t', 'overlay', 'overlay', '-o', f'lowerdir={debian},upperdir={upper},workdir={work}', root)
+        self.name, self.address, self.debian = name, address, debian
+        self.folders = [os.path.join(folder, name, it) for it in ('root', 'srv', 'upper', 'work')]
+        self.put_files()
         sh('ip', 'netns', 'add', name)
         sh('ip', 'link', 'add', name, 'type', 'veth', 'peer', 'name', 'eth0', 'netns', name)
-        # (so what it tells outlives its end)
-        os.makedirs(root + '/var/log/journal', exist_ok=True)
+        root, srv, *_ = self.folders
         super().__init__(root, name, '--network-namespace-path=/run/netns/' + name,
                          '--capability=CAP_NET_ADMIN,CAP_NET_RAW', f'--bind={srv}:/srv', *words,
                          group=Group(os.environ[ALONE], name))
+
+    def put_files(self):
+        """Its files are those of the Debian alone."""
+        for folder in self.folders:
+            shutil.rmtree(folder, ignore_errors=True)
+            os.makedirs(folder)
+        root, _, upper, work = self.folders
+        sh('mount', '-t', 'overlay', 'overlay', '-o', f'lowerdir={self.debian},upperdir={upper},workdir={work}', root)
+        # (so what it tells outlives its end)
+        os.makedirs(root + '/var/log/journal', exist_ok=True)
+
+    def anew(self):
+        """Another machine in its place, which is off."""
+        sh('umount', self.root)
+        self.put_files()
+        self.name_and_boot()
 
     def boot(self):
         within = ('ip', '-n', self.name)
@@ -179,7 +196,7 @@ class Joined(Machine):
 
     def run(self, commands):
         """What commands say there, none of which may fail."""
-        status, text = self.said(commands)
-        if status:
+        status, text = self.said(commands, 300)
+        if status != 0:
             raise Wrong('%s says to %r: %s' % (self.name, commands, text))
         return text

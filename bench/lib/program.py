@@ -45,6 +45,17 @@ def path_of(name):
     return os.path.join(TOP, 'crates', name, 'out', name)
 
 
+def laid_out(folder):
+    """The folder, with chess-club, the page and the programs under test, as in an archive of tools/release."""
+    os.makedirs(os.path.join(folder, 'tools'))
+    shutil.copy(os.path.join(TOP, 'chess-club'), folder)
+    shutil.copy(os.path.join(TOP, 'tools', 'evening'), os.path.join(folder, 'tools'))
+    for name, path in (('page', PAGE), ('chess-server', path_of('chess_server')),
+                       ('tools/chess_club', path_of('chess_club'))):
+        os.symlink(path, os.path.join(folder, name))
+    return folder
+
+
 def take_programs(folder):
     """The programs under test are this folder's, by the names of tools/build or of an archive of tools/release."""
     for name in ('chess_server', 'chess_club'):

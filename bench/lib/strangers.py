@@ -1,6 +1,8 @@
-"""Connections that cost a lobby more than they say, in a process of their own, and players who move beside them. For
-bench/speed/lobby. `-m lib.strangers PORT ask COUNT LINE BURST` and `-m lib.strangers PORT KIND COUNT [TOKEN]` print
-`ready N`, and once standard input ends how many answers they had, or rounds they made, in how many seconds."""
+"""Connections that cost a lobby more than they say, in a process of their own, and players who move beside them; and a
+plain listener for the same connections. For bench/speed/lobby. `-m lib.strangers PORT ask COUNT LINE BURST` and
+`-m lib.strangers PORT KIND COUNT [TOKEN]` print `ready N`, and once standard input ends how many answers they had, or
+rounds they made, in how many seconds. `-m lib.strangers 0 plain UNIT RATE` reads a line of an answer's bytes in hex,
+prints `ready PORT`, and ends with standard input."""
 
 import asyncio
 import contextlib
@@ -8,8 +10,9 @@ import selectors
 import socket
 import sys
 import time
+from collections import deque
 
-from lib.net import connect
+from lib.net import connect, to_end
 from lib.program import module
 from lib.server import Session
 from lib.web import PING, TEXT, Guest, frame, handshake, token_of
@@ -196,6 +199,115 @@ async def do(port, kind, count, token=''):
         task.cancel()
 
 
+class Plain:
+    """A listener that does nothing but answer: what opens a WebSocket as that, and then each `unit` bytes of a
+    connection by the same bytes, so many times a second at most of all connections together."""
+
+    def __init__(self, unit, rate, answer):
+        self.unit, self.rate, self.answer = unit, rate, answer
+        self.listener = socket.create_server(('127.0.0.1', 0), backlog=1024)
+        self.told = selectors.DefaultSelector()
+        self.told.register(self.listener, selectors.EVENT_READ)
+        self.told.register(sys.stdin, selectors.EVENT_READ)
+        # (of each connection how many bytes came that are not answered, and what is to go)
+        self.come, self.out, self.owed = {}, {}, deque()
+
+    def accept(self):
+        line, _ = self.listener.accept()
+        line.setblocking(False)
+        line.setsockopt(socket.IPPROTO_TCP, socket.TCP_NODELAY, 1)
+        self.come[line], self.out[line] = 0, bytearray()
+        self.told.register(line, selectors.EVENT_READ)
+
+    def close(self, line):
+        self.told.unregister(line)
+        line.close()
+        del self.come[line], self.out[line]
+
+    def read(self, line):
+        try:
+            data = line.recv(1 << 16)
+        except OSError:
+            data = b''
+        if not data:
+            return self.close(line)
+        if b'Upgrade: websocket' in data:
+            self.out[line] += b'HTTP/1.1 101 Switching Protocols\r\n\r\n'
+            return self.write(line)
+        count, self.come[line] = divmod(self.come[line] + len(data), self.unit)
+        self.owed.extend([line] * count)
+        return None
+
+    def write(self, line):
+        out = self.out[line]
+        try:
+            del out[:line.send(out)]
+        except BlockingIOError:
+            pass
+        except OSError:
+            return self.close(line)
+        self.told.modify(line, selectors.EVENT_READ | (selectors.EVENT_WRITE if out else 0))
+        return None
+
+    def run(self):
+        print('ready %d' % self.listener.getsockname()[1], flush=True)
+        due = time.monotonic()
+        while True:
+            for key, kinds in self.told.select(0.002):
+                if key.fileobj is sys.stdin:
+                    return
+                if key.fileobj is self.listener:
+                    self.accept()
+                    continue
+                if kinds & selectors.EVENT_READ:
+                    self.read(key.fileobj)
+                if kinds & selectors.EVENT_WRITE and key.fileobj in self.out:
+                    self.write(key.fileobj)
+            # (what was not asked for in time is not made up for)
+            due = max(due, time.monotonic() - 0.05)
+            while self.owed and due <= time.monotonic():
+                line = self.owed.popleft()
+                due += 1 / self.rate
+                if line in self.out:
+                    self.out[line] += self.answer
+                    self.write(line)
+
+
+class Anchor:
+    """That listener, in a process of its own: for who does this, by the answer that a lobby gives at `port`."""
+
+    def __init__(self, port, rate, kind, line='', token=''):
+        request, answer = sample(port, kind, line, token)
+        self.process = module('lib.strangers', 0, 'plain', len(request), max(rate, 1))
+        self.process.stdin.write(answer.hex() + '\n')
+        self.process.stdin.flush()
+        self.port = int(self.process.stdout.readline().split()[1])
+
+    def end(self):
+        self.process.stdin.close()
+        self.process.wait()
+
+
+def sample(port, kind, line, token):
+    """What one of a kind says again and again, and what a lobby answers, as bytes."""
+    host = '127.0.0.1:%d' % port
+    if kind == 'files':
+        request = b'GET /game.js HTTP/1.1\r\nHost: %s\r\nConnection: close\r\n\r\n' % host.encode()
+        with connect(port, 20) as one:
+            one.sendall(request)
+            answer, _ = to_end(one)
+        return request.replace(b'Connection: close\r\n', b''), answer
+    if kind == 'pings':
+        return frame(PING, b''), b'\x8a\0'
+    if kind in ('ask', 'players'):
+        with contextlib.closing(Guest(port, token)) as one:
+            said = (one.ask(line or 'players') + '\n').encode()
+        size = bytes((127,)) + len(said).to_bytes(8, 'big')
+        return frame(TEXT, (line or 'players').encode()), b'\x81' + size + said
+    # (who opens sockets, or sends a head that has no end, has no answer)
+    return b'x' * (1 << 20), b''
+
+
 class Crowd:
     """So many who do this, in a process of their own: `count` of them came."""
 
@@ -254,7 +366,9 @@ def moves(boards, seconds, pace=PACE):
 
 if __name__ == '__main__':
     to, kind, count, *words = sys.argv[1:]
-    if kind == 'ask':
+    if kind == 'plain':
+        Plain(int(count), float(words[0]), bytes.fromhex(sys.stdin.readline())).run()
+    elif kind == 'ask':
         ask(int(to), int(count), words[0], int(words[1]))
     else:
         asyncio.run(do(int(to), kind, int(count), *words))

@@ -100,6 +100,10 @@ class Line:
         self.socket.sendall(frame(TEXT, line.encode()))
 
 
+# How a message begins that is no answer, of one who is not told of the table.
+NOTICES = ('told ', 'server ', 'clocks ')
+
+
 class Guest(Line):
     """A browser that hears answers alone, with a token or none; it rests before each line so long, in seconds."""
 
@@ -116,7 +120,7 @@ class Guest(Line):
         self.send(line)
         while True:
             text = self.hear()
-            if not text.startswith(('told ', 'server ')):
+            if not text.startswith(NOTICES):
                 return text.rstrip('\n')
 
     def open(self, line='open white 300 2'):
@@ -165,8 +169,8 @@ class Seat:
     def hear(self):
         """The next message of text."""
         text = self.line.hear()
-        if text in ('server here\n', 'server gone\n'):
-            self.has_server = text == 'server here\n'
+        if text.startswith('server '):
+            self.has_server = text.startswith('server here\n')
         return text
 
     def say(self, line):
@@ -177,7 +181,7 @@ class Seat:
             text = self.hear()
             if text == 'server gone\n' and not self.stays:
                 raise Gone
-            if not text.startswith(('told ', 'server ')):
+            if not text.startswith(NOTICES):
                 return text
 
 

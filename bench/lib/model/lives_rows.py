@@ -78,8 +78,8 @@ def cases():
 
 for case in cases():
     play(case)
-# The whole game, and then openings that the device does not serve.
-play((None, "", [OPENING, MOVES]), *[(calls, "", []) for calls in range(5)])
+# The whole game, then openings that the device does not serve, and one of which it serves each call and no more.
+play((None, "", [OPENING, MOVES]), *[(calls, "", []) for calls in range(7)])
 # No life, and one that keeps nothing.
 play()
 play((3, "", [OPENING, MOVES[:1]]))

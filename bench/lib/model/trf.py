@@ -1,9 +1,10 @@
 """What `chess-club trf` writes, by docs/use/NIGHT.md, "A round": `told` has the report of a tournament by the words
-`trf --players FILE --archive FILE --rounds CSV,GAMES ..`. Of its other words there is no model."""
+`trf --players FILE --archive FILE --rounds CSV,GAMES ..`, also with `--particulars FILE` and `--round-date DAY ..`. Of
+its other words there is no model."""
 
 import argparse
 import csv
-from lib.night import OPTIONS, game_in, games_in, lines_behind, read_notes, report, unescaped
+from lib.night import OPTIONS, game_in, games_in, lines_behind, read_notes, read_particulars, report, unescaped
 from lib.program import Wrong, wrong_if
 
 FRONT = b'{"game":'
@@ -74,6 +75,8 @@ def words_of(given):
     words.add_argument('--archive', required=True)
     words.add_argument('--rounds', action='append', required=True)
     words.add_argument('--all-rounds')
+    words.add_argument('--particulars')
+    words.add_argument('--round-date', action='append', default=[])
     for option in OPTIONS.values():
         words.add_argument('--' + option, default='')
     return words.parse_args(given)
@@ -83,4 +86,5 @@ def told(words):
     """The lines of the report."""
     given = words_of(words)
     full, games = players_in(given.players), dict(games_of(given.archive))
-    return report(vars(given), full, [round_of(files, games, full) for files in given.rounds])
+    known = read_particulars(given.particulars) if given.particulars else {}
+    return report(vars(given), full, [round_of(files, games, full) for files in given.rounds], known, given.round_date)

@@ -1,7 +1,7 @@
 //! A chess club's lobby, archive and rounds, over a game server: its words.
 //!
 //! What was read of its words goes to the crates that do the work: `lobby_serving`, `lobby_players`, `night_games`,
-//! `night_keeping`, `night_boards` and `night_outcomes`.
+//! `night_keeping`, `night_boards`, `night_outcomes` and `night_standings`.
 #![tactic(auto)]
 
 use club_words::{Word, command, read_words};
@@ -12,6 +12,7 @@ use night_boards::start;
 use night_games::{print_evidence, verify_log};
 use night_keeping::{export, keep, live};
 use night_outcomes::{decide_result, write_report, write_results};
+use night_standings::write_standings;
 use std::process::ExitCode;
 
 fn main(rt: HostRuntime) -> ExitCode {
@@ -33,6 +34,7 @@ fn do_words(rt: &HostRuntime) -> Result<(), NotDone> {
         Word::Results(asking) => write_results(rt, &asking),
         Word::Decide(deciding) => decide_result(rt, &deciding),
         Word::Report(reporting) => write_report(rt, &reporting),
+        Word::Standings(standing) => write_standings(rt, &standing),
     }
     .map_err(NotDone::Work)
 }

@@ -1,10 +1,11 @@
 //! The words of the archive, with the texts of their help: games are kept, exported and written live.
 use crate::addresses::server_named;
-use crate::options::{ARCHIVE, PLAYERS, SERVER};
+use crate::options::{ARCHIVE, PARTICULARS, PLAYERS, SERVER};
+use crate::rounds::rounds_of;
 use clap::ArgMatches;
 use command_lines::{OptionText, OptionValue, WordText};
 use lobby_words::name_form;
-use night_keeping::{Exporting, Form, Keeping, Living, Source};
+use night_keeping::{Besides, Exporting, Form, Keeping, Living, Source};
 use std::alloc::{AllocError, Global};
 use std::net::SocketAddr;
 use text_pgn::{Heading, is_date};
@@ -34,7 +35,10 @@ prints
 const HELP_OF_EXPORT: &str = "\
 It writes the PGN of each game of an archive, in the order in which they were kept; with
 --csv a row for each, as CSV: its number, how many moves were made, the values of its tags,
-and its PGN. The archive is only read, also while another keeps games in it.
+and its PGN. With --rounds games stand by their rounds and boards, which the tags Round and
+Board tell, and what an arbiter decided is a comment; with --particulars ratings, titles, FIDE's
+numbers and teams are tags of a game too, and players have their full names of that file. The
+archive is only read, also while another keeps games in it.
 
 Exit status: 0; 1 with what is wrong on standard error; 2 for words that the program does
 not know.
@@ -52,7 +56,8 @@ each move has its player's clock behind it where the lobby's log knows it. With 
 the players are told by their initials, as where a club has minors.
 
 With --kept it writes all games of the archive to another file, the one that was kept last
-first, each with its number as the tag GameId: the lobby's page looks games up there.
+first, each with its number as the tag GameId: the lobby's page looks games up there. With
+--particulars and --rounds tags are as of export.
 
 With --every it goes on until it is killed, and comes back to a server that was away.
 
@@ -112,6 +117,20 @@ const LOBBY: OptionText = OptionText {
     name: "lobby",
     value: OptionValue::Text("A:P"),
     help: "Where the lobby listens: with --drop, no game is dropped that is watched there",
+    is_required: false,
+};
+
+const ROUNDS: OptionText = OptionText {
+    name: "rounds",
+    value: OptionValue::Texts("CSV,GAMES"),
+    help: "A round's files as of trf, for boards, rounds and decisions; once for each round, in their order",
+    is_required: false,
+};
+
+const DELAY: OptionText = OptionText {
+    name: "delay",
+    value: OptionValue::Number("MINUTES", 1, 60),
+    help: "How many minutes later --file has what is played, 1 to 60; at once without it",
     is_required: false,
 };
 
@@ -196,7 +215,7 @@ pub const EXPORT: WordText = WordText {
     name: "export",
     about: "Writes the games of an archive as PGN or CSV",
     help: HELP_OF_EXPORT,
-    options: &[ARCHIVE, PGN, CSV],
+    options: &[ARCHIVE, PGN, CSV, PLAYERS_NAMED, PARTICULARS, ROUNDS],
 };
 
 pub const LIVE: WordText = WordText {
@@ -215,7 +234,10 @@ pub const LIVE: WordText = WordText {
         SITE,
         DATE,
         ROUND,
+        PARTICULARS,
+        ROUNDS,
         INITIALS,
+        DELAY,
         LIVE_EVERY,
     ],
 };
@@ -299,12 +321,38 @@ fn form_of(values: &ArgMatches<'_>) -> Option<Form> {
     }
 }
 
-/// What `export` asks for; none where it asks for both forms.
-pub fn exporting_of<'a>(values: &ArgMatches<'a>) -> Option<Exporting<'a>> {
-    Some(Exporting {
-        archive: values.get_str("archive")?,
-        form: form_of(values)?,
-    })
+// What is told of games besides; none where a round's files are none.
+fn besides_of<'a>(
+    alloc: Global,
+    values: &ArgMatches<'a>,
+) -> Result<Option<Besides<'a>>, AllocError> {
+    let Some(rounds) = rounds_of(alloc, values)? else {
+        return Ok(None);
+    };
+    Ok(Some(Besides {
+        particulars: values.get_str("particulars"),
+        rounds,
+    }))
+}
+
+/// What `export` asks for; none where it asks for both forms, or a round's files are none.
+pub fn exporting_of<'a>(
+    alloc: Global,
+    values: &ArgMatches<'a>,
+) -> Result<Option<Exporting<'a>>, AllocError> {
+    let (Some(archive), Some(form), Some(besides)) = (
+        values.get_str("archive"),
+        form_of(values),
+        besides_of(alloc, values)?,
+    ) else {
+        return Ok(None);
+    };
+    Ok(Some(Exporting {
+        archive,
+        form,
+        players: values.get_str("players"),
+        besides,
+    }))
 }
 
 // The file of all games of the archive, if one is named; none where there is no archive.
@@ -315,17 +363,30 @@ fn kept_of<'a>(values: &ArgMatches<'a>) -> Option<Option<&'a str>> {
     }
 }
 
-/// What `live` asks for; none where the address is none, a value cannot stand in a tag, or the games of no archive are
-/// to be written.
-pub fn living_of<'a>(values: &ArgMatches<'a>) -> Option<Living<'a>> {
-    Some(Living {
-        source: source_of(values)?,
-        file: values.get_str("file")?,
+/// What `live` asks for; none where the address or a round's files are none, a value cannot stand in a tag, or the
+/// games of no archive are to be written.
+pub fn living_of<'a>(
+    alloc: Global,
+    values: &ArgMatches<'a>,
+) -> Result<Option<Living<'a>>, AllocError> {
+    let (Some(source), Some(file), Some(kept), Some(besides)) = (
+        source_of(values),
+        values.get_str("file"),
+        kept_of(values),
+        besides_of(alloc, values)?,
+    ) else {
+        return Ok(None);
+    };
+    Ok(Some(Living {
+        source,
+        file,
         archive: values.get_str("archive"),
         since: values.get_str("since").or(values.get_str("date")),
-        kept: kept_of(values)?,
+        kept,
         names: name_form(values.get_flag("initials")),
-    })
+        besides,
+        delay: values.get_one("delay").unwrap_or(0),
+    }))
 }
 
 // The value of a tag; none where it has a control character.

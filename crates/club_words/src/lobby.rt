@@ -23,8 +23,12 @@ With --log it puts each act that the server took into a file, with its answer, a
 game stands behind it, before anybody is told; the file is made where there is none.
 Besides the page there are /board/G for a screen that shows game G, /boards for one that
 shows all, and /health with figures as Prometheus reads them. /live.pgn is the file of
---live, and /kept.pgn that of --kept, in which the page looks up games that are over: each is
-read anew when it has changed.
+--live, /kept.pgn that of --kept, in which the page looks up games that are over, and
+/round.json that of --round, by which it shows pairings and standings: each is read anew when
+it has changed.
+
+With --stopped an arbiter stops all clocks, and has them run again: name the file beside the
+journal of a server with --clock serving, as club.journal.stopped. Nobody else acts meanwhile.
 
 It goes on until it is ended: kill it, by any signal. Nothing is lost by that.
 
@@ -175,10 +179,23 @@ const KEPT: OptionText = OptionText {
     ..LIVE
 };
 
+const ROUND: OptionText = OptionText {
+    name: "round",
+    help: "A file of rounds that is served as /round.json, where the page has pairings and standings",
+    ..LIVE
+};
+
 const LOG: OptionText = OptionText {
     name: "log",
     value: OptionValue::Text("FILE"),
     help: "The file of a log of all acts, none without it",
+    is_required: false,
+};
+
+const STOPPED: OptionText = OptionText {
+    name: "stopped",
+    value: OptionValue::Text("FILE"),
+    help: "The file beside the journal by which a server with --clock serving stops all clocks",
     is_required: false,
 };
 
@@ -238,7 +255,9 @@ pub const LOBBY: WordText = WordText {
         PROXY,
         LIVE,
         KEPT,
+        ROUND,
         LOG,
+        STOPPED,
         WAITING_MOST,
         PLAYING_MOST,
         OVER_MOST,
@@ -347,7 +366,9 @@ pub fn serving_of<'a>(
         limits: limits_of(values),
         live: values.get_str("live"),
         kept: values.get_str("kept"),
+        round: values.get_str("round"),
         log: values.get_str("log"),
+        stopped: values.get_str("stopped"),
         hosts,
     }))
 }

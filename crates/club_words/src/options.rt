@@ -24,3 +24,11 @@ pub const ARCHIVE: OptionText = OptionText {
     help: "The archive's file",
     is_required: true,
 };
+
+/// `--particulars FILE`, of a word that tells of players.
+pub const PARTICULARS: OptionText = OptionText {
+    name: "particulars",
+    value: OptionValue::Text("FILE"),
+    help: "The players' particulars, a CSV file: full name, title, rating, team and more",
+    is_required: false,
+};

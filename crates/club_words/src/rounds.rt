@@ -2,15 +2,18 @@
 //! report written.
 use crate::addresses::server_named;
 use crate::days::is_day;
-use crate::options::{ARCHIVE, PLAYERS, SERVER};
+use crate::options::{ARCHIVE, PARTICULARS, PLAYERS, SERVER};
 use clap::ArgMatches;
 use command_lines::{OptionText, OptionValue, WordText};
+use lobby_words::name_form;
 use night_boards::{Round, Said, Starting};
 use night_outcomes::{Asking, Deciding, Reporting, Source};
 use night_report::Tournament;
 use night_rounds::verdict_of;
+use night_standings::{Criterion, Form, Standing, criterion_of};
 use std::alloc::{AllocError, Global};
 use std::net::SocketAddr;
+use text_parts::parts;
 
 const HELP_OF_START: &str = "\
 It has the lobby at --lobby pair each board of --pairings, at the board's start, as the arbiter
@@ -79,11 +82,13 @@ prints
 
 const HELP_OF_TRF: &str = "\
 It writes the tournament's report, TRF-16: who played whom in each round, with the results
-and points. Players are numbered by their place in the players' file. Asked for results are
-the archive, where --archive names one, and then the server, where --server does; the last
-decision of an arbiter about a board counts in their place. Where a game is of others than
-its board's players it writes nothing, and ends with status 1; where a line of the archive
-is no game's or the server is away, that status is behind the report.
+and points. Players are numbered by their place in the players' file; by --particulars, which
+has their ratings, titles, federations, teams and more, by rating, title and full name. Asked
+for results are the archive, where --archive names one, and then the server, where --server
+does; the last decision of an arbiter about a board counts in their place. Where a game is of
+others than its board's players it writes nothing, and ends with status 1; where a board has no
+result yet, a line of the archive is no game's or the server is away, that status is behind the
+report.
 
 Exit status: 0; 1 with what is wrong on standard error; 2 for words that the program does
 not know.
@@ -91,6 +96,25 @@ not know.
 Example:
   chess-club trf --players club.players --archive night.jsonl --name \"Club league\" \\
       --rounds round1.csv,round1.games,round1.decisions --rounds round2.csv,round2.games >league.trf";
+
+const HELP_OF_STANDINGS: &str = "\
+It writes who stands where, as CSV: players by points, and among those who are tied by one
+tie-break after another, in the order of --by, as FIDE's Handbook has them (C.07, of 2024):
+  DE    the direct encounter        BH   Buchholz
+  BHC1  Buchholz, Cut 1             SB   Sonneborn-Berger
+  WIN   wins
+Results are looked for, and counted, as for trf. With --form crosstable it writes who met whom
+in each round, and with --form json what the lobby serves by its --round, for the page.
+
+Exit status: 0; 1 with what is wrong on standard error; 2 for words that the program does
+not know.
+
+Example:
+  chess-club standings --players club.players --archive night.jsonl \\
+      --rounds round1.csv,round1.games --rounds round2.csv,round2.games
+prints
+  place,number,name,points,DE,BHC1,BH,SB,WIN
+  1,3,Cid Okonkwo,2.0,0.0,1.0,1.5,1.50,2";
 
 const PAIRINGS: OptionText = OptionText {
     name: "pairings",
@@ -271,10 +295,38 @@ const TIMES: OptionText = OptionText {
     ..NAME
 };
 
+const ROUND_DATE: OptionText = OptionText {
+    name: "round-date",
+    value: OptionValue::Texts("DAY"),
+    help: "The day of a round, YYYY/MM/DD; once for each round, in their order",
+    is_required: false,
+};
+
 const ALL_ROUNDS: OptionText = OptionText {
     name: "all-rounds",
     help: "How many rounds there are to be",
     ..NAME
+};
+
+const BY: OptionText = OptionText {
+    name: "by",
+    value: OptionValue::Text("DE,BHC1,..."),
+    help: "The tie-breaks, in their order: DE,BHC1,BH,SB,WIN without it",
+    is_required: false,
+};
+
+const FORM: OptionText = OptionText {
+    name: "form",
+    value: OptionValue::Text("FORM"),
+    help: "rows, crosstable or json: rows without it",
+    is_required: false,
+};
+
+const INITIALS: OptionText = OptionText {
+    name: "initials",
+    value: OptionValue::Nothing,
+    help: "Tells the initials of players in place of their full names",
+    is_required: false,
 };
 
 pub const START: WordText = WordText {
@@ -338,7 +390,26 @@ pub const TRF: WordText = WordText {
         ARBITER,
         DEPUTY,
         TIMES,
+        ROUND_DATE,
         ALL_ROUNDS,
+        PARTICULARS,
+        ARCHIVE_IF_ANY,
+        SERVER_IF_ANY,
+    ],
+};
+
+pub const STANDINGS: WordText = WordText {
+    name: "standings",
+    about: "Writes who stands where in a tournament",
+    help: HELP_OF_STANDINGS,
+    options: &[
+        PLAYERS,
+        ROUNDS,
+        NAME,
+        BY,
+        FORM,
+        INITIALS,
+        PARTICULARS,
         ARCHIVE_IF_ANY,
         SERVER_IF_ANY,
     ],
@@ -347,16 +418,28 @@ pub const TRF: WordText = WordText {
 // Which options are days.
 const DAYS: [&str; 2] = ["begins", "ends"];
 
-/// What is said where the tournament's first or last day is given and is none.
+// What is said where the day of an option is none.
+fn no_day_in(alloc: Global, name: &str, day: Option<&str>) -> Result<Option<String>, AllocError> {
+    match day {
+        Some(text) if !is_day(alloc, text)? => Ok(Some(format!(in alloc;
+            "--{name} {text:?} is no day: it is YYYY/MM/DD, as 2026/11/27"
+        )?)),
+        _ => Ok(None),
+    }
+}
+
+/// What is said where the tournament's first or last day, or the day of a round is given and is none.
 pub fn no_day_told(alloc: Global, values: &ArgMatches<'_>) -> Result<Option<String>, AllocError> {
     for name in &DAYS {
-        if let Some(text) = values.get_str(*name)
-            && !is_day(alloc, text)?
-        {
-            let told = format!(in alloc;
-                "--{name} {text:?} is no day: it is YYYY/MM/DD, as 2026/11/27"
-            )?;
-            return Ok(Some(told));
+        let told = no_day_in(alloc, name, values.get_str(*name))?;
+        if told.is_some() {
+            return Ok(told);
+        }
+    }
+    for day in values.get_strs("round-date").unwrap_or(&[]) {
+        let told = no_day_in(alloc, "round-date", Some(*day))?;
+        if told.is_some() {
+            return Ok(told);
         }
     }
     Ok(None)
@@ -520,6 +603,14 @@ fn tournament_of<'a>(values: &ArgMatches<'a>) -> Option<Tournament<'a>> {
     })
 }
 
+/// The files of the rounds; none where a round's are none.
+pub fn rounds_of<'a>(
+    alloc: Global,
+    values: &ArgMatches<'a>,
+) -> Result<Option<Vec<Round<'a>>>, AllocError> {
+    all_of(alloc, values, "rounds", files_of)
+}
+
 /// What `trf` asks for; none where an address, a number or a round's files are none.
 pub fn reporting_of<'a>(
     alloc: Global,
@@ -532,13 +623,65 @@ pub fn reporting_of<'a>(
     ) else {
         return Ok(None);
     };
-    let Some(rounds) = all_of(alloc, values, "rounds", files_of)? else {
+    let Some(rounds) = rounds_of(alloc, values)? else {
+        return Ok(None);
+    };
+    let Some(days) = all_of(alloc, values, "round-date", |day| Some(day))? else {
         return Ok(None);
     };
     Ok(Some(Reporting {
         players,
+        particulars: values.get_str("particulars"),
         rounds,
         source,
         tournament,
+        days,
+    }))
+}
+
+// The tie-breaks that are asked for; none where a word is none.
+fn criteria_of(
+    alloc: Global,
+    values: &ArgMatches<'_>,
+) -> Result<Option<Vec<Criterion>>, AllocError> {
+    let words = parts(
+        alloc,
+        values.get_str("by").unwrap_or("DE,BHC1,BH,SB,WIN"),
+        ',',
+    )?;
+    words
+        .as_slice()
+        .iter()
+        .map(|word| criterion_of(word))
+        .collect(alloc)
+}
+
+// As what standings are asked for; none where the word is none.
+fn form_of(values: &ArgMatches<'_>) -> Option<Form> {
+    match values.get_str("form") {
+        None | Some("rows") => Some(Form::Rows),
+        Some("crosstable") => Some(Form::Crosstable),
+        Some("json") => Some(Form::Json),
+        Some(_) => None,
+    }
+}
+
+/// What `standings` asks for; none where an address, a round's files, a tie-break or the form are none.
+pub fn standing_of<'a>(
+    alloc: Global,
+    values: &ArgMatches<'a>,
+) -> Result<Option<Standing<'a>>, AllocError> {
+    let (Some(reporting), Some(criteria), Some(form)) = (
+        reporting_of(alloc, values)?,
+        criteria_of(alloc, values)?,
+        form_of(values),
+    ) else {
+        return Ok(None);
+    };
+    Ok(Some(Standing {
+        reporting,
+        criteria,
+        form,
+        names: name_form(values.get_flag("initials")),
     }))
 }

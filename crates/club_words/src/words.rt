@@ -4,7 +4,8 @@ use crate::archive::{
 };
 use crate::lobby::{EVIDENCE, LOBBY, PLAYER, VERIFY_LOG, adding_of, evidence_of, serving_of};
 use crate::rounds::{
-    DECIDE, RESULTS, START, TRF, asking_of, deciding_of, no_day_told, reporting_of, starting_of,
+    DECIDE, RESULTS, STANDINGS, START, TRF, asking_of, deciding_of, no_day_told, reporting_of,
+    standing_of, starting_of,
 };
 use clap::{ArgMatches, Command, Error};
 use command_lines::{CLUB, WordText, command_line, read_by, read_or_told};
@@ -14,6 +15,7 @@ use night_boards::Starting;
 use night_games::Evidence;
 use night_keeping::{Exporting, Keeping, Living};
 use night_outcomes::{Asking, Deciding, Reporting};
+use night_standings::Standing;
 use std::alloc::{AllocError, Global};
 
 /// What the program is to do.
@@ -41,13 +43,16 @@ pub enum Word<'a> {
     Decide(Deciding<'a>),
     /// To write the report of a tournament.
     Report(Reporting<'a>),
+    /// To write the standings of a tournament.
+    Standings(Standing<'a>),
 }
 
 // The words, in the order in which help lists them. (They have a function of their own, since each step of a function
 // that has texts tells of all their bytes.)
-fn words() -> [WordText; 11] {
+fn words() -> [WordText; 12] {
     [
         LOBBY, PLAYER, EVIDENCE, VERIFY_LOG, KEEP, EXPORT, LIVE, START, RESULTS, DECIDE, TRF,
+        STANDINGS,
     ]
 }
 
@@ -96,12 +101,13 @@ fn word_of<'a>(alloc: Global, matches: &ArgMatches<'a>) -> Result<Option<Word<'a
         "evidence" => evidence_of(values).map(Word::Evidence),
         "verify-log" => values.get_str("log").map(Word::VerifyLog),
         "keep" => keeping_of(values).map(Word::Keep),
-        "export" => exporting_of(values).map(Word::Export),
-        "live" => living_of(values).map(Word::Live),
+        "export" => exporting_of(alloc, values)?.map(Word::Export),
+        "live" => living_of(alloc, values)?.map(Word::Live),
         "start" => starting_of(alloc, values)?.map(Word::Start),
         "results" => asking_of(values).map(Word::Results),
         "decide" => deciding_of(values).map(Word::Decide),
         "trf" => reporting_of(alloc, values)?.map(Word::Report),
+        "standings" => standing_of(alloc, values)?.map(Word::Standings),
         _ => None,
     })
 }
@@ -118,9 +124,12 @@ fn fault_of(matches: &ArgMatches<'_>) -> &'static str {
         Some(("keep", _)) => {
             "an address is none, a tag's value has a control character, or --lobby stands without --drop"
         }
-        Some(("export", _)) => "--pgn and --csv cannot be used with one another",
+        Some(("export", _)) => {
+            "--pgn and --csv cannot be used with one another, or a round's files are none"
+        }
         Some(("live", _)) => {
-            "an address is none, a tag's value has a control character, or --kept stands without --archive"
+            "an address or a round's files are none, a tag's value has a control character, or --kept stands without \
+            --archive"
         }
         Some(("start", _)) => "an address, a board or a game is none",
         Some(("results", _)) => { "an address is none, or neither --archive nor --server is given" }
@@ -128,6 +137,9 @@ fn fault_of(matches: &ArgMatches<'_>) -> &'static str {
             "a board is a number from 1 on, and a result as 1-0, 1/2-1/2, 0-0 or +/-",
         Some(("trf", _)) => {
             "an address, a number or a round's files are none, or neither --archive nor --server is given"
+        }
+        Some(("standings", _)) => {
+            "an address, a round's files, a tie-break or the form are none, or neither --archive nor --server is given"
         }
         _ => "a word is missing",
     }

@@ -180,6 +180,9 @@ planned_last players true sorts.Players s game said text c same = players_last s
 planned_last players true sorts.Who s game said text c same = arbiter_last s.who plans.Who said text c refl
 planned_last players true sorts.Pause s game said text c same = arbiter_last s.who plans.Pause said text c refl
 planned_last players true sorts.Resume s game said text c same = arbiter_last s.who plans.Resume said text c refl
+planned_last players true (sorts.Clocks stops) s game said text c same =
+    arbiter_last s.who (barred s.bar (plans.Clocks stops)) said text c
+    (barred_last s.bar (plans.Clocks stops) said text c (Asker c ForItself) refl)
 planned_last players true sorts.Link s game said text c same =
     arbiter_last s.who (order_plan false s.linked) said text c (order_last false s.linked said text c)
 planned_last players true sorts.Close s game said text c same =
@@ -196,7 +199,7 @@ planned_last players true sorts.Nothing s game said text c same = refl
 pub asked_does : (P : Plan → Type 0) (s : Standing) (plan : Plan) → P (plans.Refuse refusals.NoServer) → P plan → P (asked s plan)
 asked_does P s plan none h = elim s.is_here as (λ b. P (if b then plan else plans.Refuse refusals.NoServer)) [ true ↦ h | false ↦ none ]
 
-barred_does : (P : Plan → Type 0) (bar : Option Refusal) (plan : Plan) → ((r : Refusal) → P (plans.Refuse r)) → P plan → P (barred bar plan)
+pub barred_does : (P : Plan → Type 0) (bar : Option Refusal) (plan : Plan) → ((r : Refusal) → P (plans.Refuse r)) → P plan → P (barred bar plan)
 barred_does P None plan none h = h
 barred_does P (Some refusal) plan none h = none refusal
 
@@ -344,6 +347,9 @@ planned true sorts.Players s game c watches table = players_does (Stays c watche
 planned true sorts.Who s game c watches table = arbiter_does (Stays c watches table) s.who plans.Who (λ _. (refl, refl)) (refl, refl)
 planned true sorts.Pause s game c watches table = arbiter_does (Stays c watches table) s.who plans.Pause (λ _. (refl, refl)) (refl, refl)
 planned true sorts.Resume s game c watches table = arbiter_does (Stays c watches table) s.who plans.Resume (λ _. (refl, refl)) (refl, refl)
+planned true (sorts.Clocks stops) s game c watches table =
+    arbiter_does (Stays c watches table) s.who (barred s.bar (plans.Clocks stops)) (λ _. (refl, refl))
+    (barred_does (Stays c watches table) s.bar (plans.Clocks stops) (λ _. (refl, refl)) (refl, refl))
 planned true sorts.Link s game c watches table =
     link_does (Stays c watches table) s.who false s.linked (λ _. (refl, refl)) (λ _. (refl, refl))
 planned true sorts.Close s game c watches table =
@@ -367,21 +373,23 @@ pub planned_table : (m : Bool) (sort : Sort) (s : Standing) (game : Option ℕ) 
 planned_table m sort s game c table = (planned m sort s game c [] table).1
 
 -- a message is answered at once where nothing goes out by its plan
-act_sent : (table : List ℕ) (b : Bool) (name text : List ℕ) (rest : List (List ℕ)) (c : ℕ) (tells : List MessageValue) → tells ≡ [] →
-    IsToldOrSent table (if b then text ∷ rest else name_line name ∷ text ∷ rest) c tells
-act_sent table true name text rest c tells h = h
-act_sent table false name text rest c tells h = h
+act_sent : (is_open : ℕ → Bool) (table : List ℕ) (b : Bool) (name text : List ℕ) (rest : List (List ℕ)) (c : ℕ) (tells : List MessageValue) → tells ≡ [] →
+    IsToldOrSent is_open table (if b then text ∷ rest else name_line name ∷ text ∷ rest) c tells
+act_sent is_open table true name text rest c tells h = h
+act_sent is_open table false name text rest c tells h = h
 
-pub answered_or_sent : (players : List Player) (v : View) (plan : Plan) (said : Option (List ℕ)) (text : List ℕ) (c : ℕ) (tells : List MessageValue) → IsAnswered players v plan c tells →
-    IsToldOrSent v.known.table (lines_of plan said text) c tells
+pub answered_or_sent : (players : List Player) (v : View) (plan : Plan) (said : Option (List ℕ)) (text : List ℕ) (c : ℕ) (tells : List MessageValue) → IsAnswered players v text plan c tells →
+    IsToldOrSent v.is_open v.known.table (lines_of plan said text) c tells
 answered_or_sent players v (plans.Refuse refusal) said text c tells h = inl (h.0, h.2)
-answered_or_sent players v (plans.Offer who) said text c tells h = inr (h.0, h.2)
-answered_or_sent players v (plans.Unpair who) said text c tells h = inr (h.0, h.2)
+answered_or_sent players v (plans.Offer who) said text c tells h = inr (inl (h.0, h.2))
+answered_or_sent players v (plans.Unpair who) said text c tells h = inr (inl (h.0, h.2))
+answered_or_sent players v (plans.Clocks stops) said text c tells h =
+    inr (inr (record { by = name_of (v.who c); said = text; stops = stops; text = h.0; told = h.2 }))
 answered_or_sent players v (plans.Offers who at) said text c tells h = inl (h.0, h.2)
 answered_or_sent players v plans.Read said text c tells h = h
-answered_or_sent players v (plans.Act who) said text c tells h = act_sent v.known.table (is_said said who.name) who.name text (notice_lines (game_named text)) c tells h
-answered_or_sent players v (plans.ActAs who name) said text c tells h = act_sent v.known.table (is_said said name) name (as_line text) (notice_lines (game_named text)) c tells h
-answered_or_sent players v (plans.Pair who white black) said text c tells h = act_sent v.known.table (is_said said white) white (pair_line text) [] c tells h
+answered_or_sent players v (plans.Act who) said text c tells h = act_sent v.is_open v.known.table (is_said said who.name) who.name text (notice_lines (game_named text)) c tells h
+answered_or_sent players v (plans.ActAs who name) said text c tells h = act_sent v.is_open v.known.table (is_said said name) name (as_line text) (notice_lines (game_named text)) c tells h
+answered_or_sent players v (plans.Pair who white black) said text c tells h = act_sent v.is_open v.known.table (is_said said white) white (pair_line text) [] c tells h
 answered_or_sent players v (plans.Drop who game) said text c tells h = h
 answered_or_sent players v (plans.Login who) said text c tells h = inl (h.0, h.2)
 answered_or_sent players v plans.Players said text c tells h = inl (h.0, h.2)
@@ -446,6 +454,9 @@ planned_orders true sorts.Players s game = players_does (OfOrder (Orders true so
 planned_orders true sorts.Who s game = arbiter_does (OfOrder (Orders true sorts.Who s)) s.who plans.Who (λ _. tt) tt
 planned_orders true sorts.Pause s game = arbiter_does (OfOrder (Orders true sorts.Pause s)) s.who plans.Pause (λ _. tt) tt
 planned_orders true sorts.Resume s game = arbiter_does (OfOrder (Orders true sorts.Resume s)) s.who plans.Resume (λ _. tt) tt
+planned_orders true (sorts.Clocks stops) s game =
+    arbiter_does (OfOrder (Orders true (sorts.Clocks stops) s)) s.who (barred s.bar (plans.Clocks stops)) (λ _. tt)
+    (barred_does (OfOrder (Orders true (sorts.Clocks stops) s)) s.bar (plans.Clocks stops) (λ _. tt) tt)
 planned_orders true sorts.Link s game = arbiter_at false sorts.Link s s.who refl refl refl
 planned_orders true sorts.Close s game = arbiter_at true sorts.Close s s.who refl refl refl
 planned_orders true sorts.Lobby s game = asked_does (OfOrder (Orders true sorts.Lobby s)) s plans.Lobby tt tt
@@ -510,6 +521,7 @@ is_order (plans.Seated form) order is = absurd (false≢true (ap is_some is))
 is_order plans.Who order is = absurd (false≢true (ap is_some is))
 is_order plans.Pause order is = absurd (false≢true (ap is_some is))
 is_order plans.Resume order is = absurd (false≢true (ap is_some is))
+is_order (plans.Clocks stops) order is = absurd (false≢true (ap is_some is))
 is_order plans.Lobby order is = absurd (false≢true (ap is_some is))
 is_order plans.LeaveLobby order is = absurd (false≢true (ap is_some is))
 is_order (plans.Watch game) order is = absurd (false≢true (ap is_some is))

@@ -33,7 +33,7 @@ use Rattle.lobby_desk.specs.Events.{MessageValue, sort_asker, asker, followers_o
 use Rattle.lobby_desk.specs.Events.{is_asked_behind, game_if, asked_after}
 use Rattle.lobby_table.specs.Owed.{ForItself, ForPositions, ForTable, ForGame, ForAct, Owed, Nobody, Naming, Asker}
 use Rattle.lobby_table.specs.Owed.{Dropper, Pairer, Followers, Behind, owed_last, owed_acted, owed_some, owed_lines}
-use Rattle.lobby_desk.specs.Tellings.{Known, is_counted, open_now, watch_heard, watch_next, watches_now, table_heard, table_next, table_now, owed_answered, owed_now, known_now, presence, lost, AreToldAll, IsTold}
+use Rattle.lobby_desk.specs.Tellings.{IsToldOrSent, Known, is_counted, open_now, watch_heard, watch_next, watches_now, table_heard, table_next, table_now, owed_answered, owed_now, known_now, presence, lost, AreToldAll, IsTold}
 use Rattle.lobby_desk.specs.Who.{View, BeginsView, IsSaid, IsHeard, IsDropped, IsPaired, IsSentFor, IsSentNext, IsSentHeard, IsDone, IsRenewed, IsLinked, IsKnown, who_noted, name_of, speaker, offers_now}
 use Rattle.lobby_words.specs.Players.{known_name, is_named, renewed, holder_of}
 use Rattle.lobby_offers.specs.Offers.{Offered, is_answered, is_agreed, other_party, may_offer, accord_by, accord_of, offers_said}
@@ -43,7 +43,7 @@ use Rattle.lobby_words.proofs.ByName.{named_is}
 use Rattle.lobby_table.proofs.Sent.{is_said_same}
 use Rattle.server_answers.specs.Entered.{Entered, entered_in}
 use Rattle.server_answers.proofs.DoneActs.{entered_only}
-use Rattle.lobby_desk.proofs.Carry.{act_does, as_does, pair_does, offers_does, arbiter_does, players_does, link_does, OfOrder, Orders, planned_orders}
+use Rattle.lobby_desk.proofs.Carry.{act_does, as_does, pair_does, offers_does, arbiter_does, barred_does, players_does, link_does, OfOrder, Orders, planned_orders}
 use Rattle.lobby_desk.proofs.As.{as_whole, as_acts, pair_whole, pair_acts}
 use Rattle.lobby_desk.proofs.Lines.{show_whole, fen_whole, pgn_whole, join_whole, join_line_acts, list_whole, name_whole, show_reads, fen_reads, pgn_reads, list_reads, name_names}
 
@@ -104,6 +104,9 @@ planned_who true sorts.Players s game before = players_does (λ plan. who_noted 
 planned_who true sorts.Who s game before = arbiter_does (λ plan. who_noted plan before ≡ before) s.who plans.Who (λ _. refl) refl
 planned_who true sorts.Pause s game before = arbiter_does (λ plan. who_noted plan before ≡ before) s.who plans.Pause (λ _. refl) refl
 planned_who true sorts.Resume s game before = arbiter_does (λ plan. who_noted plan before ≡ before) s.who plans.Resume (λ _. refl) refl
+planned_who true (sorts.Clocks stops) s game before =
+    arbiter_does (λ plan. who_noted plan before ≡ before) s.who (barred s.bar (plans.Clocks stops)) (λ _. refl)
+    (barred_does (λ plan. who_noted plan before ≡ before) s.bar (plans.Clocks stops) (λ _. refl) refl)
 planned_who true sorts.Link s game before = link_does (λ plan. who_noted plan before ≡ before) s.who false s.linked (λ _. refl) (λ _. refl)
 planned_who true sorts.Close s game before = link_does (λ plan. who_noted plan before ≡ before) s.who true s.linked (λ _. refl) (λ _. refl)
 planned_who true sorts.Lobby s game before = asked_who s plans.Lobby before refl
@@ -482,6 +485,11 @@ plan_good players text s said game true sorts.Pause other message is small named
     silent_good text s.who (name_for players (is_agreement s.accord) s.who text) said plans.Pause (none_good [] (name_for players (is_agreement s.accord) s.who text) said)
 plan_good players text s said game true sorts.Resume other message is small named =
     silent_good text s.who (name_for players (is_agreement s.accord) s.who text) said plans.Resume (none_good [] (name_for players (is_agreement s.accord) s.who text) said)
+plan_good players text s said game true (sorts.Clocks stops) other message is small named =
+    let under = name_for players (is_agreement s.accord) s.who text in
+    silent_good text s.who under said (barred s.bar (plans.Clocks stops))
+    (barred_does (λ p. Good [] under said (lines_of p said text) (said_after p said)) s.bar (plans.Clocks stops)
+    (λ _. none_good [] under said) (none_good [] under said))
 plan_good players text s said game true sorts.Link other message is small named = order_good text s (name_for players (is_agreement s.accord) s.who text) said false
 plan_good players text s said game true sorts.Close other message is small named = order_good text s (name_for players (is_agreement s.accord) s.who text) said true
 plan_good players text s said game true sorts.Lobby other message is small named =
@@ -626,11 +634,29 @@ all_alike : (f g : ℕ → Bool) → ((c : ℕ) → f c ≡ g c) → (first : Li
     AreToldAll f first text tells → AreToldAll g first text tells
 all_alike f g same first text tells h = (h.0, λ c. h.1 c ∙ same c, h.2)
 
+said_alike : (f g : ℕ → Bool) → ((c : ℕ) → f c ≡ g c) → (table : List ℕ) (lines : List (List ℕ)) (c : ℕ) (tells : List MessageValue) →
+    IsToldOrSent f table lines c tells → IsToldOrSent g table lines c tells
+said_alike f g same table [] c tells h =
+    elim h [
+      | inl one ↦ inl one
+      | inr more ↦ elim more [
+        | inl two ↦ inr (inl two)
+        | inr some ↦ inr (inr (record {
+          by = some.by;
+          said = some.said;
+          stops = some.stops;
+          text = some.text;
+          told = record { to = some.told.to; all = λ d. some.told.all d ∙ same d; told = some.told.told };
+        }))
+      ]
+    ]
+said_alike f g same table (line ∷ lines) c tells h = h
+
 told_alike : (event : DeskInput) (lines : List (List ℕ)) (tells : List MessageValue) (f g : ℕ → Bool) → ((c : ℕ) → f c ≡ g c) → (k : Known) →
     IsTold event lines tells f k → IsTold event lines tells g k
 told_alike (Opened c) lines tells f g same k h = h
 told_alike (Closed c) lines tells f g same k h = h
-told_alike (Said c text at) lines tells f g same k h = (sym (same c) ∙ h.0, h.1, h.2)
+told_alike (Said c text at) lines tells f g same k h = (sym (same c) ∙ h.0, h.1, said_alike f g same k.table lines c tells h.2)
 told_alike (Hurried c) lines tells f g same k h = (sym (same c) ∙ h.0, h.1, h.2)
 told_alike (Heard line) lines tells f g same k h = h
 told_alike (Renewed later) lines tells f g same k h = h
@@ -763,6 +789,7 @@ asks_at true sorts.Players s game said text = tt
 asks_at true sorts.Who s game said text = tt
 asks_at true sorts.Pause s game said text = tt
 asks_at true sorts.Resume s game said text = tt
+asks_at true (sorts.Clocks stops) s game said text = tt
 asks_at true sorts.Link s game said text = tt
 asks_at true sorts.Close s game said text = tt
 asks_at true sorts.Lobby s game said text = tt
@@ -859,6 +886,7 @@ pairs_at players true sorts.Players s game said text same = tt
 pairs_at players true sorts.Who s game said text same = tt
 pairs_at players true sorts.Pause s game said text same = tt
 pairs_at players true sorts.Resume s game said text same = tt
+pairs_at players true (sorts.Clocks stops) s game said text same = tt
 pairs_at players true sorts.Link s game said text same = tt
 pairs_at players true sorts.Close s game said text same = tt
 pairs_at players true sorts.Lobby s game said text same = tt
@@ -896,6 +924,7 @@ asked_if_drop players past c by text sorts.Players game h k = tt
 asked_if_drop players past c by text sorts.Who game h k = tt
 asked_if_drop players past c by text sorts.Pause game h k = tt
 asked_if_drop players past c by text sorts.Resume game h k = tt
+asked_if_drop players past c by text (sorts.Clocks stops) game h k = tt
 asked_if_drop players past c by text sorts.Link game h k = tt
 asked_if_drop players past c by text sorts.Close game h k = tt
 asked_if_drop players past c by text sorts.Lobby game h k = tt
@@ -1028,6 +1057,7 @@ drop_names_none sorts.Players h = absurd (false≢true h)
 drop_names_none sorts.Who h = absurd (false≢true h)
 drop_names_none sorts.Pause h = absurd (false≢true h)
 drop_names_none sorts.Resume h = absurd (false≢true h)
+drop_names_none (sorts.Clocks stops) h = absurd (false≢true h)
 drop_names_none sorts.Link h = absurd (false≢true h)
 drop_names_none sorts.Close h = absurd (false≢true h)
 drop_names_none sorts.Lobby h = absurd (false≢true h)

@@ -439,10 +439,17 @@ entries_now acts (Heard line) k =
     if is_counted k line then entries_next acts k.last k.follows k.owed (answer k.begun line) else []
 entries_now acts _ k = []
 
+-- What the log is told for a message that asks for nothing of the server, which is none of an act: that all clocks were
+-- stopped, or run again, where the plan for the message is that.
+abbrev pub said_entries : DeskInput → List MessageValue → List (List ℕ)
+said_entries (Said c text at) tells = log_texts tells
+said_entries _ tells = []
+
 abbrev pub entries_in : List Player → List Step → List (List ℕ)
 entries_in players [] = []
 entries_in players (s ∷ past) =
-    entries_in players past ++ entries_now (acted_in players past) s.event (known_in players past)
+    entries_in players past
+    ++ (said_entries s.event s.tells ++ entries_now (acted_in players past) s.event (known_in players past))
 
 -- the texts that the log was told, in their order
 abbrev pub logged_in : List Step → List (List ℕ)

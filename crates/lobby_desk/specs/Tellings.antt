@@ -9,7 +9,7 @@ use Rattle.lobby_table.specs.declared.pairings.Pairing.{Pairing}
 use Rattle.lobby_desk.specs.declared.telling.Kind.{Kind}
 use Rattle.lobby_desk.specs.declared.telling.Kind.TheVariants as kinds
 use Rattle.lobby_words.specs.Words.{rest_of, is_pair, is_message, sort_of, is_close_sort, is_leave_sort}
-use Rattle.lobby_words.specs.Words.{is_leave_lobby_sort, u32_in}
+use Rattle.lobby_words.specs.Words.{is_leave_lobby_sort, u32_in, as_line}
 use Rattle.lobby_words.specs.declared.refusals.Refusal.TheVariants as refusals
 use Rattle.lobby_words.specs.Plans.{refusal_text}
 use Rattle.lobby_words.specs.Naming.{takes_name}
@@ -17,7 +17,7 @@ use Rattle.lobby_words.specs.Answers.{left_after, is_whole, answer, is_shown, is
 use Rattle.lobby_words.specs.Answers.{tells_end, lone_player}
 use Rattle.lobby_table.specs.Watching.{at_table, watch_if, sit_if, unwatched, none_watched, risen, followers}
 use Rattle.lobby_desk.specs.Events.{DeskInput, Opened, Closed, Said, Hurried, Heard, ServerTurned, Renewed, Linked}
-use Rattle.lobby_desk.specs.Events.{MessageValue, to_one, to_one_as}
+use Rattle.lobby_desk.specs.Events.{MessageValue, to_one, to_one_as, to_log}
 use Rattle.lobby_table.specs.Owed.{Ask, ForPositions, ForGame, ForTable, ForAct, Owed}
 use Rattle.lobby_table.specs.Owed.{Nobody, Naming, Asker, Dropper, Pairer, Followers, Behind, owed_lines}
 use Rattle.lobby_desk.specs.Events.{asker}
@@ -236,10 +236,39 @@ offers_notice table = record { to = table; kind = kinds.Whole; text = codes "off
 abbrev pub AreToldOffers : List ℕ → ℕ → List MessageValue → Type 0
 AreToldOffers table c tells = (text : List ℕ) × (tells ≡ to_one c text ∷ offers_notice table ∷ [])
 
+-- What the log is told where all clocks are stopped, or run again: who said so, and the message. It is none of an act.
+abbrev pub clocks_said : List ℕ → List ℕ → List ℕ
+clocks_said by text = codes "clocks by " ++ by ++ codes " " ++ text ++ codes "\n"
+
+abbrev pub clocks_logged : List ℕ → List ℕ → MessageValue
+clocks_logged by text = to_log (clocks_said by text)
+
+-- what these are told then: that all clocks are stopped, and the reason that the message names, or that they run
+abbrev pub clocks_line : Bool → List ℕ → List ℕ
+clocks_line true text = codes "clocks stopped " ++ as_line text ++ codes "\n"
+clocks_line false text = codes "clocks run\n"
+
+abbrev pub clocks_notice : List ℕ → Bool → List ℕ → MessageValue
+clocks_notice to stops text = record { to = to; kind = kinds.Whole; text = clocks_line stops text }
+
+-- The log is told first who said so, then he is answered, and then every connection that is open is told.
+pub record AreToldClocks (is_open : ℕ → Bool) (by said : List ℕ) (stops : Bool) (own : MessageValue)
+    (tells : List MessageValue) : Type 0 where
+  pub to : List ℕ
+  pub all : (c : ℕ) → at_table to c ≡ is_open c
+  pub told : tells ≡ clocks_logged by said ∷ own ∷ clocks_notice to stops said ∷ []
+
+pub record AreToldSome (is_open : ℕ → Bool) (c : ℕ) (tells : List MessageValue) : Type 0 where
+  pub by : List ℕ
+  pub said : List ℕ
+  pub stops : Bool
+  pub text : List ℕ
+  pub told : AreToldClocks is_open by said stops (to_one c text) tells
+
 -- A message is answered at once where nothing goes to the server for it.
-abbrev pub IsToldOrSent : List ℕ → List (List ℕ) → ℕ → List MessageValue → Type 0
-IsToldOrSent table [] c tells = IsToldOne c tells ⊎ AreToldOffers table c tells
-IsToldOrSent table (line ∷ lines) c tells = tells ≡ []
+abbrev pub IsToldOrSent : (ℕ → Bool) → List ℕ → List (List ℕ) → ℕ → List MessageValue → Type 0
+IsToldOrSent is_open table [] c tells = IsToldOne c tells ⊎ AreToldOffers table c tells ⊎ AreToldSome is_open c tells
+IsToldOrSent is_open table (line ∷ lines) c tells = tells ≡ []
 
 -- The answer to an act is the server's; but that to a pairing, once its game is joined, tells the game.
 abbrev pub pair_told : Option ℕ → List ℕ → List ℕ
@@ -347,7 +376,7 @@ AreToldAll is_open first text tells =
 abbrev pub IsTold : DeskInput → List (List ℕ) → List MessageValue → (ℕ → Bool) → Known → Type 0
 IsTold (Opened c) lines tells is_open k = IsToldOne c tells
 IsTold (Closed c) lines tells is_open k = tells ≡ []
-IsTold (Said c text at) lines tells is_open k = (is_open c ≡ true) × (owes k.owed c ≡ false) × IsToldOrSent k.table lines c tells
+IsTold (Said c text at) lines tells is_open k = (is_open c ≡ true) × (owes k.owed c ≡ false) × IsToldOrSent is_open k.table lines c tells
 IsTold (Hurried c) lines tells is_open k =
     (is_open c ≡ true) × (owes k.owed c ≡ false) × (tells ≡ to_one c (codes "no 34 TooFast\n") ∷ [])
 IsTold (Heard line) lines tells is_open k = IsToldHeard (is_counted k line) k (answer k.begun line) lines tells

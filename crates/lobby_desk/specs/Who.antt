@@ -19,6 +19,7 @@ use Rattle.lobby_words.specs.declared.players.Player.{Player}
 use Rattle.lobby_table.specs.declared.visitors.Visitor.{Visitor}
 use Rattle.lobby_table.specs.declared.watching.Watch.{Watch}
 use Rattle.lobby_desk.specs.declared.desk.Desk.{Desk}
+use Rattle.lobby_desk.specs.Halts.{Halted, halted, halted_after, halts_bar, stop_bar, stopped_line}
 use Rattle.lobby_words.specs.Words.{rest_of, as_name, black_name, is_pair, actor, is_message, sort_of, u32_in}
 use Rattle.lobby_words.specs.Words.{is_login_sort}
 use Rattle.lobby_words.specs.Waiting.{opens_game, joins_game}
@@ -45,7 +46,7 @@ use Rattle.lobby_desk.specs.Tellings.{pairings_next, pairings_now, refused_heard
 use Rattle.lobby_desk.specs.Tellings.{follows_next, follows_now, misnamed_heard, misnamed_next, misnamed_now, owed_now}
 use Rattle.lobby_desk.specs.Tellings.{left_now, begun_now, last_now, owed_answered, presence, IsTold, IsToldFor}
 use Rattle.lobby_table.specs.Owed.{owes}
-use Rattle.lobby_desk.specs.Tellings.{IsToldNext, offers_notice}
+use Rattle.lobby_desk.specs.Tellings.{IsToldNext, offers_notice, AreToldClocks}
 use Rattle.lobby_offers.specs.Offers.{Offered, offered, accord_of, offers_said, offers_text}
 use Rattle.lobby_table.specs.Visitors.{who_in, until_in, open_in_map, IsPresence}
 
@@ -100,12 +101,6 @@ abbrev pub plan_table : Plan → ℕ → List ℕ → List ℕ
 plan_table plans.LeaveLobby c table = risen c table
 plan_table _ c table = table
 
--- whether entries are paused after it
-abbrev pub paused_after : Plan → Bool → Bool
-paused_after plans.Pause before = true
-paused_after plans.Resume before = false
-paused_after _ before = before
-
 -- whether nothing goes out by a plan, so that a message is answered at once
 abbrev pub is_own : Plan → Bool
 is_own (plans.Refuse refusal) = true
@@ -118,10 +113,16 @@ is_own (plans.Seated form) = true
 is_own plans.Who = true
 is_own plans.Pause = true
 is_own plans.Resume = true
+is_own (plans.Clocks stops) = true
 is_own (plans.Order order) = true
 is_own plans.LeaveLobby = true
 is_own (plans.Leave game) = true
 is_own _ = false
+
+-- the answer to a message by which all clocks stand still, or run again
+abbrev pub clocks_answer : Bool → List ℕ
+clocks_answer true = codes "ok stop clocks\n"
+clocks_answer false = codes "ok start clocks\n"
 
 -- what such an answer rests on: whether entries are paused, who has a seat in which game, what is offered, which
 -- connections are open, and for whom each acts
@@ -145,6 +146,7 @@ IsOwnText seen players (plans.Seated form) text = text ≡ seated_text form seen
 IsOwnText seen players plans.Who text = IsPresence seen.paused players seen.is_open seen.acts_for text
 IsOwnText seen players plans.Pause text = text ≡ codes "ok pause entries\n"
 IsOwnText seen players plans.Resume text = text ≡ codes "ok resume entries\n"
+IsOwnText seen players (plans.Clocks stops) text = text ≡ clocks_answer stops
 IsOwnText seen players (plans.Order order) text = text ≡ refusal_text refusals.NotWritten
 IsOwnText seen players plans.LeaveLobby text = text ≡ codes "ok leave lobby\n"
 IsOwnText seen players (plans.Leave game) text = text ≡ codes "ok leave " ++ decimal game ++ codes "\n"
@@ -170,7 +172,7 @@ abbrev pub IsReady : Desk → ℕ → Type 0
 IsReady desk c = (open_of desk c ≡ true) × (owes (known desk).owed c ≡ false)
 
 -- what is seen of a desk: the number of the connection that comes next, which are open, for whom each acts, the name
--- that was said last to the server, whether that is there, whether entries are paused, how many games may be, what is
+-- that was said last to the server, whether that is there, what an arbiter has halted, how many games may be, what is
 -- offered, and what is known
 pub record View : Type 0 where
   pub next : ℕ
@@ -178,7 +180,7 @@ pub record View : Type 0 where
   pub who : ℕ → Option Identity
   pub said : Option (List ℕ)
   pub here : Bool
-  pub paused : Bool
+  pub halts : Halted
   pub limits : Limits
   pub offers : List Offered
   pub known : Known
@@ -191,7 +193,7 @@ view desk =
       who = who_of desk;
       said = desk.line.said;
       here = desk.line.is_here;
-      paused = desk.is_paused;
+      halts = halted desk.halts;
       limits = desk.limits;
       offers = map offered desk.offers.items;
       known = known desk;
@@ -199,35 +201,38 @@ view desk =
 
 abbrev pub seen : View → Seen
 seen v = record {
-  paused = v.paused;
+  paused = v.halts.paused;
   seats = v.known.seats;
   offers = v.offers;
   is_open = v.is_open;
   acts_for = v.who;
 }
 
--- Behind the answer those who are told of the table are told where the message changed what is offered.
-abbrev pub offers_told : Plan → List ℕ → List MessageValue
-offers_told (plans.Offer who) table = offers_notice table ∷ []
-offers_told (plans.Unpair who) table = offers_notice table ∷ []
-offers_told _ table = []
+-- Behind the answer those who are told of the table are told where the message changed what is offered; and where it
+-- stopped all clocks, or had them run, first the log is told who said it, and then, behind the answer, everybody.
+abbrev pub IsToldBehind : View → List ℕ → ℕ → Plan → MessageValue → List MessageValue → Type 0
+IsToldBehind v said c (plans.Offer who) own tells = tells ≡ own ∷ offers_notice v.known.table ∷ []
+IsToldBehind v said c (plans.Unpair who) own tells = tells ≡ own ∷ offers_notice v.known.table ∷ []
+IsToldBehind v said c (plans.Clocks stops) own tells = AreToldClocks v.is_open (name_of (v.who c)) said stops own tells
+IsToldBehind v said c _ own tells = tells ≡ own ∷ []
 
 -- What a connection is told by the plan for its message: such an answer, where nothing goes out; else nothing yet.
-abbrev pub IsAnsweredIf : Bool → List Player → View → Plan → ℕ → List MessageValue → Type 0
-IsAnsweredIf true players v plan c tells =
-    (text : List ℕ) × IsOwnText (seen v) players plan text × (tells ≡ to_one c text ∷ offers_told plan v.known.table)
-IsAnsweredIf false players v plan c tells = tells ≡ []
+abbrev pub IsAnsweredIf : Bool → List Player → View → List ℕ → Plan → ℕ → List MessageValue → Type 0
+IsAnsweredIf true players v said plan c tells =
+    (text : List ℕ) × IsOwnText (seen v) players plan text × IsToldBehind v said c plan (to_one c text) tells
+IsAnsweredIf false players v said plan c tells = tells ≡ []
 
-abbrev pub IsAnswered : List Player → View → Plan → ℕ → List MessageValue → Type 0
-IsAnswered players v plan c tells = IsAnsweredIf (is_own plan) players v plan c tells
+abbrev pub IsAnswered : List Player → View → List ℕ → Plan → ℕ → List MessageValue → Type 0
+IsAnswered players v said plan c tells = IsAnsweredIf (is_own plan) players v said plan c tells
 
--- A desk that begins: no connection has come, and nothing was said. Entries are paused just where it is told so.
+-- A desk that begins: no connection has come, and nothing was said. Entries are paused just where it is told so, and
+-- clocks may be stopped.
 pub record BeginsView (is_paused : Bool) (now : View) : Type 0 where
   pub next : now.next ≡ 0
   pub none_open : (c : ℕ) → now.is_open c ≡ false
   pub who : (c : ℕ) → now.who c ≡ None
   pub said : now.said ≡ None
-  pub paused : now.paused ≡ is_paused
+  pub paused : now.halts.paused ≡ is_paused
   pub offers : now.offers ≡ []
   pub owed : now.known.owed ≡ []
   pub left : now.known.left ≡ 0
@@ -265,24 +270,29 @@ name_bar limits k is_arbiter name text =
     else (if joins_game text then join_bar k.seats k.pairings (player_bar limits k is_arbiter name) name
     (game_named text) else None)
 
-abbrev pub bar_of : Limits → Known → Option Identity → List ℕ → Option Refusal
-bar_of limits k None text = None
-bar_of limits k (Some who) text = name_bar limits k who.is_arbiter (actor who.name text) text
-
--- Why the two players of a pairing may not play it, where no arbiter pairs them: White may open no game more, or one of
--- the two may play in no one more.
 abbrev pub or_bar : Option Refusal → Option Refusal → Option Refusal
 or_bar None bar = bar
 or_bar (Some first) bar = Some first
+
+-- Why a message of who acts so is not done: while all clocks are stopped none of who is no arbiter is; and where this
+-- lobby can stop no clocks none is that asks for it.
+abbrev pub bar_of : Limits → Known → Halted → Option Identity → List ℕ → Option Refusal
+bar_of limits k halts None text = None
+bar_of limits k halts (Some who) text =
+    or_bar (halts_bar halts who.is_arbiter text) (name_bar limits k who.is_arbiter (actor who.name text) text)
+
+-- Why the two players of a pairing may not play it, where no arbiter pairs them: all clocks are stopped, White may open
+-- no game more, or one of the two may play in no one more.
 
 abbrev pub opening_bar : Limits → Known → List ℕ → Option Refusal
 opening_bar limits k name =
     open_bar (is_crowded limits k.seats k.owed name) (is_nearly_full limits k.seats k.owed)
     (player_bar limits k false name)
 
-abbrev pub pair_bar_of : Limits → Known → List ℕ → Option Refusal
-pair_bar_of limits k text =
-    if is_pair text then or_bar (opening_bar limits k (as_name text)) (player_bar limits k false (black_name text))
+abbrev pub pair_bar_of : Limits → Known → Halted → List ℕ → Option Refusal
+pair_bar_of limits k halts text =
+    if is_pair text then or_bar (stop_bar halts false)
+    (or_bar (opening_bar limits k (as_name text)) (player_bar limits k false (black_name text)))
     else None
 
 -- who has the token that a message shows; nobody where it shows none
@@ -299,10 +309,10 @@ standing_of desk c text at = record {
   linked = known_name desk.players.items (rest_of text);
   is_here = desk.line.is_here;
   is_full = is_full desk.watches.items c (u32_in (rest_of text));
-  bar = bar_of desk.limits (known desk) (who_of desk c) text;
+  bar = bar_of desk.limits (known desk) (halted desk.halts) (who_of desk c) text;
   accord = accord_of desk.players.items (who_of desk) c text at (map offered desk.offers.items);
-  pair_bar = pair_bar_of desk.limits (known desk) text;
-  is_paused = (opens_game text || is_pair text) && desk.is_paused;
+  pair_bar = pair_bar_of desk.limits (known desk) (halted desk.halts) text;
+  is_paused = (opens_game text || is_pair text) && desk.halts.is_paused;
   at = at;
   names = desk.limits.names;
 }
@@ -326,20 +336,20 @@ pub record IsSaid (players : List Player) (old : View) (c : ℕ) (text : List �
   pub link : standing.linked ≡ known_name players (rest_of text)
   pub here : standing.is_here ≡ old.here
   pub full : standing.is_full ≡ is_full old.known.watches c (u32_in (rest_of text))
-  pub bar : standing.bar ≡ bar_of old.limits old.known (old.who c) text
+  pub bar : standing.bar ≡ bar_of old.limits old.known old.halts (old.who c) text
   pub accord : standing.accord ≡ accord_of players old.who c text standing.at old.offers
-  pub pair_bar : standing.pair_bar ≡ pair_bar_of old.limits old.known text
-  pub paused : standing.is_paused ≡ ((opens_game text || is_pair text) && old.paused)
+  pub pair_bar : standing.pair_bar ≡ pair_bar_of old.limits old.known old.halts text
+  pub paused : standing.is_paused ≡ ((opens_game text || is_pair text) && old.halts.paused)
   pub names : standing.names ≡ old.limits.names
   pub plan : Plan
   pub planned : plan ≡ plan_of (is_message text) (sort_of text) standing (u32_in (rest_of text))
   pub named : IsNamed plan
   pub lines_are : lines ≡ lines_of plan old.said text
-  pub answers : IsAnswered players old plan c tells
+  pub answers : IsAnswered players old text plan c tells
   pub next_is : new.next ≡ old.next
   pub said_is : new.said ≡ said_after plan old.said
   pub here_is : new.here ≡ old.here
-  pub paused_is : new.paused ≡ paused_after plan old.paused
+  pub halts_is : new.halts ≡ halted_after plan text old.halts
   pub who_is : (d : ℕ) → new.who d ≡ (if c == d then who_noted plan (old.who d) else old.who d)
 
 -- Whether who acts so may drop a game in which this player waits for a second one: an arbiter, or he himself.
@@ -406,7 +416,7 @@ pub record IsHeard (old : View) (line : List ℕ) (lines : List (List ℕ)) (new
       (answer old.known.begun line) lines new.said
   pub next_is : new.next ≡ old.next
   pub here_is : new.here ≡ old.here
-  pub paused_is : new.paused ≡ old.paused
+  pub halts_is : new.halts ≡ old.halts
   pub who_is : (d : ℕ) → new.who d ≡ old.who d
 
 -- A connection came or is gone: nothing goes out, and it acts for nobody.
@@ -414,12 +424,13 @@ pub record IsMoved (old : View) (c : ℕ) (lines : List (List ℕ)) (new : View)
   pub none : lines ≡ []
   pub said_is : new.said ≡ old.said
   pub here_is : new.here ≡ old.here
-  pub paused_is : new.paused ≡ old.paused
+  pub halts_is : new.halts ≡ old.halts
   pub who_is : (d : ℕ) → new.who d ≡ (if c == d then None else old.who d)
 
--- A connection came: it has the number that comes next, which none had before, and is told whether the server is there.
+-- A connection came: it has the number that comes next, which none had before, and is told whether the server is there,
+-- and in one message with it why all clocks are stopped, where they are.
 pub record IsOpened (old : View) (c : ℕ) (lines : List (List ℕ)) (tells : List MessageValue) (new : View) : Type 0 where
-  pub told : tells ≡ to_one c (presence old.here) ∷ []
+  pub told : tells ≡ to_one c (presence old.here ++ stopped_line old.halts) ∷ []
   pub moved : IsMoved old c lines new
   pub number : c ≡ old.next
   pub next_is : new.next ≡ c + 1
@@ -435,7 +446,7 @@ pub record IsHurried (old : View) (lines : List (List ℕ)) (new : View) : Type 
   pub next_is : new.next ≡ old.next
   pub said_is : new.said ≡ old.said
   pub here_is : new.here ≡ old.here
-  pub paused_is : new.paused ≡ old.paused
+  pub halts_is : new.halts ≡ old.halts
   pub who_is : (d : ℕ) → new.who d ≡ old.who d
 
 -- The server is gone, or is there again: nothing goes out, and no name was said on the connection that comes next.
@@ -444,7 +455,7 @@ pub record IsTurned (old : View) (here : Bool) (lines : List (List ℕ)) (new : 
   pub next_is : new.next ≡ old.next
   pub said_is : new.said ≡ None
   pub here_is : new.here ≡ here
-  pub paused_is : new.paused ≡ old.paused
+  pub halts_is : new.halts ≡ old.halts
   pub who_is : (d : ℕ) → new.who d ≡ old.who d
 
 -- The players are others from now on: a connection acts for a player on just where his sum is the same. Nothing else
@@ -455,7 +466,7 @@ pub record IsRenewed (players : List Player) (old : View) (later : List Player) 
   pub next_is : new.next ≡ old.next
   pub said_is : new.said ≡ old.said
   pub here_is : new.here ≡ old.here
-  pub paused_is : new.paused ≡ old.paused
+  pub halts_is : new.halts ≡ old.halts
   pub who_is : (d : ℕ) → new.who d ≡ renewed players later (old.who d)
 
 -- The plan for a message is an order of an arbiter's: the players from now on are those before, but that the one whom
@@ -538,11 +549,11 @@ pub record Carried (message : Planned) (old : Desk) (before after : Outgoing) (n
   pub tells : List MessageValue
   pub sent : after.wire ≡ before.wire ++ bytes_of (lines_of message.plan old.line.said message.text)
   pub told : after.told ≡ before.told ++ tells
-  pub answers : IsAnswered old.players.items (view old) message.plan message.from tells
+  pub answers : IsAnswered old.players.items (view old) message.text message.plan message.from tells
   pub named : IsNamed message.plan
   pub said_is : new.line.said ≡ said_after message.plan old.line.said
   pub here_is : new.line.is_here ≡ old.line.is_here
-  pub paused_is : new.is_paused ≡ paused_after message.plan old.is_paused
+  pub halts_is : halted new.halts ≡ halted_after message.plan message.text (halted old.halts)
   pub limits_is : new.limits ≡ old.limits
   pub who_is : (c : ℕ) → who_of new c ≡ (if message.from == c then who_noted message.plan (who_of old c) else who_of old c)
   pub owed : (known new).owed ≡ (known old).owed ++ owed_lines (plan_asker message.plan message.from message.text)
@@ -565,7 +576,7 @@ pub record Carried (message : Planned) (old : Desk) (before after : Outgoing) (n
 -- No answer of the server changes this.
 pub record IsElseSame (old new : Desk) : Type 0 where
   pub here_is : new.line.is_here ≡ old.line.is_here
-  pub paused_is : new.is_paused ≡ old.is_paused
+  pub halts_is : new.halts ≡ old.halts
   pub limits_is : new.limits ≡ old.limits
   pub visitors : new.visitors ≡ old.visitors
   pub coming : new.line.coming ≡ old.line.coming

@@ -9,7 +9,7 @@ ghost use Rattle.lobby_table.specs.Owed.{owed_of, owed_lines};
 ghost use Rattle.lobby_desk.specs.Tellings.{token_told};
 ghost use Rattle.lobby_table.specs.Visitors.{who_in, open_in_map, until_in};
 ghost use Rattle.lobby_desk.specs.Who.{who_noted, plan_watches, plan_table};
-ghost use Rattle.lobby_desk.specs.Who.{paused_after, is_own, IsOwnText};
+ghost use Rattle.lobby_desk.specs.Who.{clocks_answer, is_own, IsOwnText};
 ghost use Rattle.lobby_offers.specs.Offers.{offered};
 
 use lobby_offers::{Offer, offers_text};
@@ -32,6 +32,17 @@ pub fn forget(watches: &mut Vec<Watch>, table: &mut Vec<u64>, from: u64, plan: &
         Plan::LeaveLobby => rise(table, from),
         Plan::Leave(game) => unwatch(watches, from, *game),
         _ => {}
+    }
+}
+
+// The answer to a message by which all clocks stand still, or run again.
+fn clocks_answer(stops: bool) -> &'static str
+    ensures { result.now ≡ clocks_answer stops }
+{
+    if stops {
+        "ok stop clocks\n"
+    } else {
+        "ok start clocks\n"
     }
 }
 
@@ -67,6 +78,7 @@ pub fn own_answer(
         Plan::Who => Ok(Some(present_rows(alloc, is_paused, players, visitors)?)),
         Plan::Pause => Ok(Some(String::from_str(alloc, "ok pause entries\n")?)),
         Plan::Resume => Ok(Some(String::from_str(alloc, "ok resume entries\n")?)),
+        Plan::Clocks(stops) => Ok(Some(String::from_str(alloc, clocks_answer(*stops))?)),
         Plan::Order(_) => Ok(Some(String::from_str(alloc, Refusal::NotWritten.line())?)),
         Plan::LeaveLobby => Ok(Some(String::from_str(alloc, "ok leave lobby\n")?)),
         Plan::Leave(game) => Ok(Some(headed(alloc, "ok leave ", u64::from(*game))?)),
@@ -119,17 +131,6 @@ fn who_noted(before: Option<Identity>, plan: &Plan) -> Option<Identity>
 {
     match plan {
         Plan::Login(who) => Some(*who),
-        _ => before,
-    }
-}
-
-/// Whether entries are paused after a plan.
-pub fn paused_after(before: bool, plan: &Plan) -> bool
-    ensures { result ≡ paused_after plan.now before }
-{
-    match plan {
-        Plan::Pause => true,
-        Plan::Resume => false,
         _ => before,
     }
 }

@@ -1,11 +1,11 @@
 //! The players' file: a line a player, and the tokens that players show; who is put into it, and who has a new link. On
 //! a disk it is read whole and put whole in its own place, by one at a time; beside it stands whether entries are
-//! paused.
+//! paused, and in a file of its own why all clocks are stopped.
 //!
 //! Modules: `line` has the line of a player, `lines` what stands in front of a line and which names are alike,
 //! `reading` the file, `adding` a player more, `relinking` a player's new link, `token` tokens and links, `faults` what
-//! is wrong; `file` reads and puts the file on a disk, by one at a time (`Hold`), `entries` keeps beside it whether
-//! entries are paused, `players` has who stands in a file, `putting` is the word that puts a player into one.
+//! is wrong; `file` reads and puts the file on a disk, by one at a time (`Hold`), `pause_file` keeps beside it
+//! whether entries are paused, `stop_file` why clocks are stopped, `players` has who stands in a file, `putting` is the word that puts a player into one.
 //! `proofs/Told` has what a line tells, `proofs/EachLine` the players of lines, `proofs/Written` that a file that was
 //! written is read back, `proofs/NewLink` whose the new link is, `proofs/Same` which players are the same, and
 //! `proofs/TokenText` that a token's text is one.
@@ -21,6 +21,7 @@ mod players;
 mod putting;
 mod reading;
 mod relinking;
+mod stop_file;
 mod token;
 
 pub use adding::{Addition, WithPlayer, added};
@@ -31,4 +32,5 @@ pub use players::{full_name, later_players_of, players_of};
 pub use putting::{Adding, add_player};
 pub use reading::{read, reread};
 pub use relinking::{ChangedFile, relinked};
+pub use stop_file::StopFile;
 pub use token::{forget, link_text, new_token, token_text};

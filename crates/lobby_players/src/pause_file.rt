@@ -9,8 +9,8 @@ use std::io::ErrorKind;
 use std::rt::Files;
 
 // What stands in the file: that it is there is what counts.
-const TEXT: &str =
-    "Entries are paused, and nobody but an arbiter opens games. Without this file the next lobby begins with entries open.\n";
+const TEXT: &str = "Entries are paused, and nobody but an arbiter opens games. \
+    Without this file the next lobby begins with entries open.\n";
 
 // Whether the file is there. It fails where what stands there is none, as a symbolic link.
 fn is_there<R: Files>(rt: &R, file: &str) -> Result<bool> {

@@ -17,8 +17,12 @@ pub struct Serving<'a> {
     /// How many games there may be, and how much of a player's name is told.
     pub limits: Limits,
     pub log: Option<&'a str>,
+    /// The file beside the journal by which the server's clocks stand still.
+    pub stopped: Option<&'a str>,
     /// The file of games that is served as `/live.pgn`.
     pub live: Option<&'a str>,
     /// The one that is served as `/kept.pgn`.
     pub kept: Option<&'a str>,
+    /// The one that is served as `/round.json`.
+    pub round: Option<&'a str>,
 }

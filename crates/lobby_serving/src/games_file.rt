@@ -1,4 +1,4 @@
-//! Files of games that are served as they stand.
+//! Files of games and of rounds that are served as they stand.
 use crate::mark::{Mark, mark_in, mark_of};
 use bytes::Bytes;
 use lobby_loop::Lobby;
@@ -16,6 +16,8 @@ pub enum Contents {
     Live,
     /// The games that were kept.
     Kept,
+    /// A tournament's rounds and standings.
+    Round,
 }
 
 impl Contents {
@@ -24,6 +26,15 @@ impl Contents {
         match self {
             Contents::Live => b"/live.pgn",
             Contents::Kept => b"/kept.pgn",
+            Contents::Round => b"/round.json",
+        }
+    }
+
+    // What it is.
+    fn kind(self) -> Kind {
+        match self {
+            Contents::Live | Contents::Kept => Kind::Pgn,
+            Contents::Round => Kind::Json,
         }
     }
 }
@@ -117,7 +128,7 @@ fn served_of(alloc: Global, contents: Contents, reading: Reading) -> Result<File
     let mark = reading.mark.to_bytes(alloc)?;
     let path = contents.path().to_vec(alloc)?;
     let bytes = Bytes::from_vec(reading.bytes)?;
-    File::marked(alloc, path, Kind::Pgn, bytes, mark.as_slice())
+    File::marked(alloc, path, contents.kind(), bytes, mark.as_slice())
 }
 
 /// A file, and what was seen of it last.

@@ -11,6 +11,7 @@ use std::rt::Files;
 pub struct GamesFiles<'a> {
     live: Option<GamesFile<'a>>,
     kept: Option<GamesFile<'a>>,
+    round: Option<GamesFile<'a>>,
 }
 
 // A file that is asked for.
@@ -46,6 +47,7 @@ impl<'a> GamesFiles<'a> {
         GamesFiles {
             live: games_file(Contents::Live, serving.live),
             kept: games_file(Contents::Kept, serving.kept),
+            round: games_file(Contents::Round, serving.round),
         }
     }
 
@@ -57,6 +59,7 @@ impl<'a> GamesFiles<'a> {
     {
         let live = look_at(&mut self.live, rt, lobby, at)?;
         let kept = look_at(&mut self.kept, rt, lobby, at)?;
-        Ok(if live || kept { Some(0) } else { None })
+        let round = look_at(&mut self.round, rt, lobby, at)?;
+        Ok(if live || kept || round { Some(0) } else { None })
     }
 }

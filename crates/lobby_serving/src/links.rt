@@ -1,32 +1,56 @@
-//! Players' links, changed in the players' file, and whether entries are paused, kept beside it.
+//! Players' links, changed in the players' file, whether entries are paused, kept beside it, and why clocks are stopped.
 ghost use Rattle.std.specs.Prelude.{ℕ, List, ◌≡◌, IfOk, IfSome};
 ghost use Rattle.std.specs.String.{string_bytes};
 ghost use Rattle.hex.specs.Hex.{encode_lower};
 ghost use Rattle.lobby_words.specs.Players.{IsRelinked};
 
+use crate::asked::Serving;
 use anyhow::Result;
-use lobby_desk::Order;
+use lobby_desk::{Halts, Order};
 use lobby_loop::KeepsLinks;
-use lobby_players::{ChangedFile, Hold, PauseFile, new_token, relinked};
+use lobby_players::{ChangedFile, Hold, PauseFile, StopFile, new_token, relinked};
 use lobby_words::{Linked, Player};
 use rand::rngs::SysRng;
 use rand_core::TryRng;
 use std::fs::File;
+use std::io::{self, ErrorKind};
 use std::random::RandomSource;
 use std::rt::Files;
 
-/// The links of a players' file, and what is kept beside it.
+/// The links of a players' file, and what is kept of what an arbiter halts.
 #[derive(Drop)]
 pub struct FileLinks<'a, R> {
     rt: &'a R,
     file: &'a str,
     entries: PauseFile<'a, R>,
+    clocks: Option<StopFile<'a, R>>,
 }
 
-impl<'a, R: Files<File = File> + AllocGlobal + RandomSource> FileLinks<'a, R> {
-    /// Those of this file.
-    pub fn new(rt: &'a R, file: &'a str, entries: PauseFile<'a, R>) -> Self {
-        FileLinks { rt, file, entries }
+impl<'a, R: Files<File = File> + AllocGlobal + RandomSource + Eprint> FileLinks<'a, R> {
+    /// Those of the players' file that is served, with what was halted when it was served last.
+    pub fn open(rt: &'a R, serving: &Serving<'a>) -> Result<Self> {
+        Ok(FileLinks {
+            rt,
+            file: serving.players,
+            entries: PauseFile::new(rt, serving.players)?,
+            clocks: match serving.stopped {
+                Some(file) => Some(StopFile::new(rt, file)?),
+                None => None,
+            },
+        })
+    }
+
+    /// What is halted.
+    pub fn halts(&self) -> Result<Halts> {
+        let reason = match &self.clocks {
+            Some(clocks) => clocks.reason(),
+            None => "",
+        };
+        Ok(Halts {
+            is_paused: self.entries.is_paused(),
+            can_stop: self.clocks.is_some(),
+            reason: String::from_str(self.rt.alloc(), reason)?,
+        })
     }
 
     // One of these players, who are those of the file, which is held, has the sum of a new token in it: that of bytes
@@ -80,7 +104,17 @@ impl<R: Files<File = File> + AllocGlobal + RandomSource + Eprint> KeepsLinks for
         }
     }
 
-    fn entries(&mut self, is_paused: bool) {
-        self.entries.keep(is_paused);
+    fn keep(&mut self, halts: &Halts) -> io::Result<()> {
+        self.entries.keep(halts.is_paused);
+        let Some(clocks) = &mut self.clocks else {
+            return Ok(());
+        };
+        match clocks.keep(halts.reason.as_str()) {
+            Ok(()) => Ok(()),
+            Err(error) => {
+                let _ = eprintln!(self.rt; "whether all clocks are stopped is not kept: {error:#}");
+                Err(io::Error::from(ErrorKind::Other))
+            }
+        }
     }
 }

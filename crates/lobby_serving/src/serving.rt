@@ -8,8 +8,8 @@ use crate::page::{has_port, site_of};
 use crate::players::Players;
 use crate::table::Table;
 use anyhow::{Context, Result};
+use lobby_desk::Halts;
 use lobby_loop::{ActLog, Lobby, LobbyListener, NoActLog, Turned};
-use lobby_players::PauseFile;
 use lobby_words::Player;
 use sockets::{Moments, ServerAddress};
 use std::fs::File;
@@ -117,7 +117,7 @@ where
     R: Files<File = File> + AllocGlobal + Clone + Drop + Clock + Eprint + Net + RandomSource,
 {
     // Nothing was looked at or told.
-    fn new(rt: &'a R, serving: &'a Serving<'a>, entries: PauseFile<'a, R>) -> Self {
+    fn new(rt: &'a R, serving: &'a Serving<'a>, links: FileLinks<'a, R>) -> Self {
         Beside {
             rt,
             telling: Telling {
@@ -130,7 +130,7 @@ where
             table: Table::new(rt.alloc(), serving.server),
             health: Health::new(rt.alloc()),
             games: GamesFiles::new(serving),
-            links: FileLinks::new(rt, serving.players, entries),
+            links,
         }
     }
 
@@ -144,8 +144,13 @@ where
         let mut moments = Moments::new(self.rt)?;
         for _ in 0..u64::MAX {
             let at = moments.next();
-            players.look(lobby, at);
-            self.turn(lobby, log, at)?;
+            match lobby.left(at) {
+                Some(left) => lobby.rest(Turned::Idle(Some(left)))?,
+                None => {
+                    players.look(lobby, at);
+                    self.turn(lobby, log, at)?;
+                }
+            }
         }
         Ok(())
     }
@@ -229,7 +234,7 @@ where
         listener: LobbyListener,
         address: SocketAddr,
         known: Vec<Player>,
-        is_paused: bool,
+        halts: Halts,
     ) -> Result<Lobby> {
         let (rt, serving) = (self.rt, self.serving);
         let keys = RandomState::new(rt)?;
@@ -242,7 +247,7 @@ where
             serving.server,
             site,
             known,
-            is_paused,
+            halts,
             serving.limits,
             serving.proxy,
         )?)
@@ -266,14 +271,14 @@ where
     fn serve_lobby<L: ActLog>(
         &self,
         players: &mut Players<'_, R>,
-        entries: PauseFile<'_, R>,
+        links: FileLinks<'_, R>,
         address: SocketAddr,
         lobby: &mut Lobby,
         log: &mut L,
     ) -> Result<()> {
         tell_address(self.rt, address, self.serving.hosts.as_slice())?;
         tell_proxy(self.rt, self.serving)?;
-        let mut beside = Beside::new(self.rt, self.serving, entries);
+        let mut beside = Beside::new(self.rt, self.serving, links);
         let served = beside.take_turns(players, lobby, log);
         drop(beside);
         served
@@ -289,9 +294,9 @@ where
         let (rt, serving) = (self.rt, self.serving);
         let listener = listener_on(rt, serving.address)?;
         let address = listener.address()?;
-        let entries = PauseFile::new(rt, serving.players)?;
-        let mut lobby = self.lobby(listener, address, known, entries.is_paused())?;
-        let served = self.serve_lobby(players, entries, address, &mut lobby, log);
+        let links = FileLinks::open(rt, serving)?;
+        let mut lobby = self.lobby(listener, address, known, links.halts()?)?;
+        let served = self.serve_lobby(players, links, address, &mut lobby, log);
         drop(lobby);
         served
     }

@@ -2,7 +2,7 @@
 use Rattle.std.specs.Prelude.{ℕ, ◌≡◌, ◌≤◌, ◌+◌, ◌⊎◌, List, Option, None, Some}
 use Rattle.std.specs.String.{string_bytes}
 use Rattle.text_pgn.specs.Game.{TellsNone}
-use Rattle.text_pgn.specs.Replaying.{left}
+use Rattle.text_pgn.specs.Replaying.{left, IsUnplayed}
 use Rattle.lobby_talk.specs.declared.kept_answer.KeptAnswer.{KeptAnswer}
 use Rattle.lobby_talk.specs.declared.under_way.UnderWay.{UnderWay}
 use Rattle.lobby_talk.specs.declared.under_way.Going.{Going}
@@ -21,7 +21,7 @@ GoesOn old (Whole answer) =
 
 -- A replay of this text begins, of which nothing is played; or the text has no start, and that is the answer.
 abbrev pub BeginsOf : List ℕ → Going → Type 0
-BeginsOf text (More new) = string_bytes new.pgn ≡ text
+BeginsOf text (More new) = (string_bytes new.pgn ≡ text) × IsUnplayed new.replay
 BeginsOf text (Whole answer) = string_bytes answer.pgn ≡ text
 
 -- what is under way then, and the answer
@@ -34,8 +34,8 @@ IsSet (Whole one) replay answer = (replay ≡ None) × (answer ≡ Some one)
 abbrev pub Replays : Option (List ℕ) → Option UnderWay → Option UnderWay → Option KeptAnswer → Type 0
 Replays next (Some old) (Some new) None = GoesOn old (More new)
 Replays next (Some old) None (Some answer) = GoesOn old (Whole answer)
-Replays (Some text) None (Some new) None = string_bytes new.pgn ≡ text
-Replays (Some text) None None (Some answer) = string_bytes answer.pgn ≡ text
+Replays (Some text) None (Some new) None = BeginsOf text (More new)
+Replays (Some text) None None (Some answer) = BeginsOf text (Whole answer)
 Replays None None None None = Unit {0}
 Replays _ _ _ _ = ⊥
 

@@ -1,12 +1,13 @@
-//! Who changes players' links, and keeps whether entries are paused.
+//! Who changes players' links, and keeps what an arbiter halts.
 ghost use Rattle.std.specs.Prelude.{IfSome};
 ghost use Rattle.std.specs.String.{string_bytes};
 ghost use Rattle.lobby_words.specs.Players.{IsRelinked};
 
-use lobby_desk::Order;
+use lobby_desk::{Halts, Order};
 use lobby_words::{Linked, Player};
+use std::io;
 
-/// Keeps the players' file, by which links hold, and beside it whether entries are paused.
+/// Keeps the players' file, by which links hold, beside it whether entries are paused, and why all clocks are stopped.
 pub trait KeepsLinks {
     /// Gives one of these players a new link, or closes it, in the file: the old one holds no more. It answers once
     /// the file is on the disk, by the players from then on and the token of the new link: they are these, but that
@@ -16,8 +17,9 @@ pub trait KeepsLinks {
         ensures { IfSome result (λ linked. IsRelinked order.now.name
             (string_bytes linked.token) players.now linked.players.items) };
 
-    /// Entries are paused now, or not. It is told so in each turn, before browsers are told what came of it.
-    fn entries(&mut self, is_paused: bool);
+    /// This is halted now. It is told so in each turn, before browsers are told what came of it. Where it fails, since
+    /// clocks would run that browsers are told to stand still, or stand still, the lobby ends.
+    fn keep(&mut self, halts: &Halts) -> io::Result<()>;
 }
 
 /// No file: no link is changed, and nothing is kept.
@@ -29,5 +31,7 @@ impl KeepsLinks for NoLinks {
         None
     }
 
-    fn entries(&mut self, _is_paused: bool) {}
+    fn keep(&mut self, _halts: &Halts) -> io::Result<()> {
+        Ok(())
+    }
 }

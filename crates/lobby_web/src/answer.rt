@@ -163,6 +163,7 @@ fn media_type(kind: Kind) -> &'static str
         Kind::Script => "text/javascript; charset=utf-8",
         Kind::Svg => "image/svg+xml",
         Kind::Pgn => "application/x-chess-pgn; charset=utf-8",
+        Kind::Json => "application/json",
         Kind::Figures => "text/plain; version=0.0.4; charset=utf-8",
     }
 }

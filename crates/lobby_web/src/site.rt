@@ -17,6 +17,8 @@ pub enum Kind {
     Svg,
     /// Games, which pages of other hosts read too.
     Pgn,
+    /// What a page reads of a round.
+    Json,
     /// Figures, as Prometheus reads them.
     Figures,
 }

@@ -29,12 +29,14 @@ refusal_text refusals.NotOffered = codes "no 42 NotOffered\n"
 refusal_text refusals.TooManyGames = codes "no 43 TooManyGames\n"
 refusal_text refusals.NearlyFull = codes "no 44 NearlyFull\n"
 refusal_text refusals.TooManyOver = codes "no 45 TooManyOver\n"
+refusal_text refusals.ClocksStopped = codes "no 46 ClocksStopped\n"
+refusal_text refusals.NoClocks = codes "no 47 NoClocks\n"
 
 -- what asks for the server
 abbrev pub asked : Standing → Plan → Plan
 asked s plan = if s.is_here then plan else plans.Refuse refusals.NoServer
 
--- An act under a name: not where the games that are known bar it.
+-- An act under a name: not where the clocks or the games that are known bar it.
 abbrev pub barred : Option Refusal → Plan → Plan
 barred None plan = plan
 barred (Some refusal) plan = plans.Refuse refusal
@@ -144,6 +146,7 @@ sort_plan sorts.Players s game = players_plan s s.who
 sort_plan sorts.Who s game = arbiter_plan s.who plans.Who
 sort_plan sorts.Pause s game = arbiter_plan s.who plans.Pause
 sort_plan sorts.Resume s game = arbiter_plan s.who plans.Resume
+sort_plan (sorts.Clocks stops) s game = arbiter_plan s.who (barred s.bar (plans.Clocks stops))
 sort_plan sorts.Link s game = arbiter_plan s.who (order_plan false s.linked)
 sort_plan sorts.Close s game = arbiter_plan s.who (order_plan true s.linked)
 sort_plan sorts.Lobby s game = asked s plans.Lobby

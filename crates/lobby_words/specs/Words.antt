@@ -96,6 +96,21 @@ line_said text = if is_as_word (word_of text) then as_line text else text
 abbrev pub actor : List ℕ → List ℕ → List ℕ
 actor by text = if is_as_word (word_of text) then as_name text else by
 
+-- What an arbiter says of all clocks: `stop clocks REASON`, where REASON has one byte at least and stands where LINE does
+-- in `as NAME LINE`, and `start clocks`.
+abbrev pub is_stop : List ℕ → Bool
+is_stop text =
+    bytes_eq (word_of text) (codes "stop") && bytes_eq (as_name text) (codes "clocks") && nat_le 1 (length (as_line text))
+
+abbrev pub clocks_sort : List ℕ → Sort
+clocks_sort text =
+    if is_stop text then sorts.Clocks true
+    else (if bytes_eq text (codes "start clocks") then sorts.Clocks false else sorts.Nothing)
+
+-- whether a message is one of the two, by its word
+abbrev pub is_of_clocks : List ℕ → Bool
+is_of_clocks text = bytes_eq (word_of text) (codes "stop") || bytes_eq (word_of text) (codes "start")
+
 abbrev pub whole_sort : List ℕ → Sort
 whole_sort text =
     if bytes_eq text (codes "players") then sorts.Players
@@ -105,7 +120,7 @@ whole_sort text =
     else (if bytes_eq text (codes "resume entries") then sorts.Resume
     else (if bytes_eq text (codes "lobby") then sorts.Lobby
     else (if bytes_eq text (codes "leave lobby") then sorts.LeaveLobby
-    else sorts.Nothing))))))
+    else clocks_sort text))))))
 
 abbrev pub arbiter_sort : List ℕ → List ℕ → Sort
 arbiter_sort w text =

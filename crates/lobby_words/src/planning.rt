@@ -64,6 +64,8 @@ pub enum Plan {
     /// No games are opened from now on, and games are again.
     Pause,
     Resume,
+    /// All clocks stand still from now on, for the reason that the message says, or run again.
+    Clocks(bool),
     /// A player's link is changed in the players' file.
     Order(Order),
     Lobby,
@@ -90,11 +92,11 @@ pub struct Standing {
     pub is_here: bool,
     /// Whether the connection watches as many games as may be.
     pub is_full: bool,
-    /// Why the message does not open or join a game, by the games that are known.
+    /// Why the message does not act, by the clocks, or does not open or join a game, by the games that are known.
     pub bar: Option<Refusal>,
     /// What the message is between its player and another.
     pub accord: Accord,
-    /// Why the two players of a pairing may not play it, by the games that are known.
+    /// Why the two players of a pairing may not play it, by the clocks and the games that are known.
     pub pair_bar: Option<Refusal>,
     /// Whether the message opens a game, or is a pairing, while entries are paused.
     pub is_paused: bool,
@@ -362,6 +364,7 @@ fn sort_plan(sort: Sort, standing: &Standing, game: Option<u32>) -> Plan
         Sort::Who => arbiter_plan(standing, Plan::Who),
         Sort::Pause => arbiter_plan(standing, Plan::Pause),
         Sort::Resume => arbiter_plan(standing, Plan::Resume),
+        Sort::Clocks(stops) => arbiter_plan(standing, barred(standing.bar, Plan::Clocks(stops))),
         Sort::Link => arbiter_plan(standing, order_plan(false, standing.linked)),
         Sort::Close => arbiter_plan(standing, order_plan(true, standing.linked)),
         Sort::Lobby => asked(standing, Plan::Lobby),

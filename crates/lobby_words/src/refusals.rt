@@ -35,6 +35,10 @@ pub enum Refusal {
     NearlyFull,
     /// As many games of the player are over and still on the table as may be.
     TooManyOver,
+    /// All clocks are stopped, and nobody but an arbiter acts.
+    ClocksStopped,
+    /// This lobby can stop no clocks.
+    NoClocks,
 }
 
 impl Refusal {
@@ -58,6 +62,8 @@ impl Refusal {
             Refusal::TooManyGames => "no 43 TooManyGames\n",
             Refusal::NearlyFull => "no 44 NearlyFull\n",
             Refusal::TooManyOver => "no 45 TooManyOver\n",
+            Refusal::ClocksStopped => "no 46 ClocksStopped\n",
+            Refusal::NoClocks => "no 47 NoClocks\n",
         }
     }
 }

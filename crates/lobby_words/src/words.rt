@@ -26,6 +26,8 @@ pub enum Sort {
     /// No games are opened from now on, and games are again.
     Pause,
     Resume,
+    /// All clocks stand still from now on, or run again.
+    Clocks(bool),
     /// A player has a new link from now on, or none.
     Link,
     Close,
@@ -48,18 +50,11 @@ pub fn cut_word(text: &str) -> (&str, &str)
     text_parts::cut(text, ' ')
 }
 
-// Whether a byte may stand in a message.
-fn is_message_byte(byte: u8) -> bool
-    ensures { result ≡ words.is_message_byte byte }
-{
-    32 <= byte && byte <= 126
-}
-
 /// Whether each byte may stand in a message: it is one of 32 to 126.
 pub fn are_message_bytes(bytes: &[u8]) -> bool
     ensures { result ≡ list_all words.is_message_byte bytes.now }
 {
-    bytes.iter().all(|byte| is_message_byte(*byte))
+    bytes.iter().all(|byte| 32 <= *byte && *byte <= 126)
 }
 
 /// Whether a message may be passed on as a line: 1 to 255 bytes, each of them 32 to 126.
@@ -78,26 +73,12 @@ fn is_show_word(word: &str) -> bool
     word == "show" || word == "fen" || word == "pgn"
 }
 
-// Whether a byte is a digit.
-fn is_digit(byte: u8) -> bool
-    ensures { result ≡ words.is_digit byte }
-{
-    48 <= byte && byte <= 57
-}
-
-// Whether each byte is a digit.
-fn are_digit_bytes(bytes: &[u8]) -> bool
-    ensures { result ≡ list_all words.is_digit bytes.now }
-{
-    bytes.iter().all(|byte| is_digit(*byte))
-}
-
 // Whether a text has digits alone, one or more.
 fn are_digits(text: &str) -> bool
     ensures { result ≡ words.are_digits text.now }
 {
     let bytes = text.as_bytes();
-    !bytes.is_empty() && are_digit_bytes(bytes)
+    !bytes.is_empty() && bytes.iter().all(|byte| 48 <= *byte && *byte <= 57)
 }
 
 // Whether a message is a line of the server that changes nothing: about a game, with its number and nothing more, or
@@ -234,8 +215,30 @@ fn whole_sort(text: &str) -> Sort
     } else if text == "leave lobby" {
         Sort::LeaveLobby
     } else {
+        clocks_sort(text)
+    }
+}
+
+// What a message of an arbiter's asks for that is of the clocks.
+fn clocks_sort(text: &str) -> Sort
+    ensures { result ≡ words.clocks_sort text.now }
+{
+    let (word, _) = cut_word(text);
+    if word == "stop" && as_name(text) == "clocks" && !as_line(text).is_empty() {
+        Sort::Clocks(true)
+    } else if text == "start clocks" {
+        Sort::Clocks(false)
+    } else {
         Sort::Nothing
     }
+}
+
+/// Whether a message is of the clocks, by its word.
+pub fn is_of_clocks(text: &str) -> bool
+    ensures { result ≡ words.is_of_clocks text.now }
+{
+    let (word, _) = cut_word(text);
+    word == "stop" || word == "start"
 }
 
 // What a message of the lobby's own words asks for.

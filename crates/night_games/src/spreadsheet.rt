@@ -48,12 +48,6 @@ fn cell_of(alloc: Global, pgn: &str, tag: &str) -> Result<Cell, AllocError> {
     }
 }
 
-// Puts the cell of a tag's value behind others.
-fn push_tag(cells: &mut Vec<Cell>, alloc: Global, pgn: &str, tag: &str) -> Result<(), AllocError> {
-    cells.push(cell_of(alloc, pgn, tag)?)?;
-    Ok(())
-}
-
 // Puts the cell of a number behind others.
 fn push_count(cells: &mut Vec<Cell>, alloc: Global, number: u64) -> Result<(), AllocError> {
     cells.push(Cell::of_number(alloc, number)?)?;
@@ -69,11 +63,12 @@ fn push_cells(
 ) -> Result<(), AllocError> {
     push_count(cells, alloc, u64::from(game))?;
     for tag in &TAGS {
-        push_tag(cells, alloc, pgn, tag)?;
+        cells.push(cell_of(alloc, pgn, tag)?)?;
     }
     push_count(cells, alloc, plies_of(alloc, pgn)? as u64)?;
-    push_tag(cells, alloc, pgn, "FEN")?;
-    push_tag(cells, alloc, pgn, "Continues")
+    cells.push(cell_of(alloc, pgn, "FEN")?)?;
+    cells.push(cell_of(alloc, pgn, "Continues")?)?;
+    Ok(())
 }
 
 // The PGN of a game, as `export` writes it.

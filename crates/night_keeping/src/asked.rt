@@ -1,5 +1,6 @@
 //! What is asked of the archive.
 use lobby_words::NameForm;
+use night_boards::Round;
 use std::net::SocketAddr;
 use text_pgn::Heading;
 
@@ -26,11 +27,23 @@ pub struct Keeping<'a> {
     pub lobby: Option<SocketAddr>,
 }
 
+/// What is told of games besides their PGNs, by files.
+#[derive(Drop)]
+pub struct Besides<'a> {
+    /// The file of the players' particulars.
+    pub particulars: Option<&'a str>,
+    /// The rounds, the first being round 1.
+    pub rounds: Vec<Round<'a>>,
+}
+
 /// Which archive's games are written, and how.
-#[derive(Clone, Copy)]
+#[derive(Drop)]
 pub struct Exporting<'a> {
     pub archive: &'a str,
     pub form: Form,
+    /// The players' file, by which the archive's full names are known.
+    pub players: Option<&'a str>,
+    pub besides: Besides<'a>,
 }
 
 /// The form in which games are written.
@@ -43,7 +56,7 @@ pub enum Form {
 }
 
 /// What is written where others fetch it.
-#[derive(Clone, Copy)]
+#[derive(Drop)]
 pub struct Living<'a> {
     pub source: Source<'a>,
     pub file: &'a str,
@@ -54,4 +67,7 @@ pub struct Living<'a> {
     pub kept: Option<&'a str>,
     /// How full names are told.
     pub names: NameForm,
+    pub besides: Besides<'a>,
+    /// How many minutes later the file has what there is.
+    pub delay: u32,
 }

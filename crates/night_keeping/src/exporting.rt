@@ -1,8 +1,11 @@
 //! The word that writes the games of an archive.
 use crate::asked::{Exporting, Form};
+use crate::besides::Read;
 use anyhow::Result;
+use lobby_words::NameForm;
 use night_archive::lines_told;
 use night_games::{Kept, games_kept, write_games, write_rows};
+use night_outcomes::players_in;
 use std::io;
 use std::rt::Files;
 
@@ -15,13 +18,19 @@ fn write<R: AllocGlobal + Print>(rt: &R, form: Form, games: &[Kept]) -> Result<(
     }
 }
 
-/// Writes the games of an archive: the PGN of each, or a row for each. It fails where the file is no
-/// archive, as `lines_told` does, where memory is refused, or the output takes no more.
+/// Writes the games of an archive: the PGN of each, or a row for each, with what is told of players and boards. It
+/// fails where the file is no archive, as `lines_told` does, where another file cannot be read or is none, where memory
+/// is refused, or the output takes no more.
 pub fn export<R>(rt: &R, exporting: &Exporting<'_>) -> Result<()>
 where
     R: Files + AllocGlobal + Print + Eprint,
 {
     let text = lines_told(rt, exporting.archive)?;
     let games = games_kept(rt.alloc(), text.as_str())?;
-    write(rt, exporting.form, games.as_slice())
+    let players = players_in(rt, exporting.players)?;
+    let read = Read::now(rt, &exporting.besides)?;
+    let known = read.known(rt.alloc(), NameForm::Full)?;
+    let telling = read.telling(players.as_slice(), known.as_slice());
+    let told = telling.games(rt.alloc(), games)?;
+    write(rt, exporting.form, told.as_slice())
 }

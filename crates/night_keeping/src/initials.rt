@@ -5,6 +5,7 @@ ghost use Rattle.night_keeping.specs.Names.{player_told};
 
 use anyhow::{Context, Result};
 use lobby_words::{NameForm, Player, known_name, name_told};
+use night_games::Telling;
 use std::alloc::{AllocError, Global};
 use text_pgn::{value_of, with_players};
 
@@ -35,9 +36,9 @@ fn tag_told(
     Ok(player_told(alloc, form, players, value.as_str())?)
 }
 
-/// Appends a PGN as everybody is told it: with the full names of the players in a form. It fails where it is no text,
-/// or has no players.
-pub fn push_told(
+// Appends a PGN as everybody is told it: with the full names of the players in a form. It fails where it is no text, or
+// has no players.
+fn push_told(
     text: &mut Vec<u8>,
     alloc: Global,
     form: NameForm,
@@ -54,4 +55,21 @@ pub fn push_told(
     let told = with_players(alloc, pgn, white.as_str(), black.as_str())?;
     text.extend_from_slice(told.as_slice())?;
     Ok(())
+}
+
+/// Appends a game's PGN as everybody is told it, with what is told besides. It fails as `push_told` does.
+pub fn push_with(
+    text: &mut Vec<u8>,
+    alloc: Global,
+    form: NameForm,
+    telling: &Telling<'_>,
+    game: u32,
+    pgn: &[u8],
+) -> Result<()> {
+    if telling.is_nothing() {
+        return push_told(text, alloc, form, telling.players, pgn);
+    }
+    let pgn = str::from_utf8(pgn).ok().context("a game is no text")?;
+    let told = telling.pgn(alloc, game, pgn)?;
+    push_told(text, alloc, form, telling.players, told.as_bytes())
 }

@@ -1,10 +1,11 @@
 //! The games of an archive, for everybody to look up.
-use crate::initials::push_told;
+use crate::file_state::FileState;
+use crate::initials::push_with;
 use crate::written::WrittenFile;
 use anyhow::Result;
-use lobby_words::{NameForm, Player};
+use lobby_words::NameForm;
 use night_archive::lines_of;
-use night_games::{Kept, games_kept};
+use night_games::{Kept, Telling, games_kept};
 use std::alloc::Global;
 use std::fs::File;
 use std::rt::Files;
@@ -18,18 +19,23 @@ fn push_game(
     text: &mut Vec<u8>,
     alloc: Global,
     form: NameForm,
-    players: &[Player],
+    telling: &Telling<'_>,
     kept: &Kept,
 ) -> Result<()> {
     let pgn = with_tag(alloc, kept.pgn.as_str(), NUMBER, kept.game)?;
-    push_told(text, alloc, form, players, pgn.as_bytes())
+    push_with(text, alloc, form, telling, kept.game, pgn.as_bytes())
 }
 
 // The PGNs of games, so, in the order opposite to theirs.
-fn text_of(alloc: Global, form: NameForm, players: &[Player], games: &[Kept]) -> Result<Vec<u8>> {
+fn text_of(
+    alloc: Global,
+    form: NameForm,
+    telling: &Telling<'_>,
+    games: &[Kept],
+) -> Result<Vec<u8>> {
     let mut text = Vec::new(alloc);
     for kept in games.iter().rev() {
-        push_game(&mut text, alloc, form, players, kept)?;
+        push_game(&mut text, alloc, form, telling, kept)?;
     }
     Ok(text)
 }
@@ -39,8 +45,8 @@ fn text_of(alloc: Global, form: NameForm, players: &[Player], games: &[Kept]) ->
 pub struct KeptFile<'a> {
     file: WrittenFile<'a>,
     archive: &'a str,
-    // How long the archive was whose games the file has; none where that is not known.
-    length: Option<u64>,
+    // How the archive stood whose games the file has; none where that is not known.
+    state: Option<FileState>,
 }
 
 impl<'a> KeptFile<'a> {
@@ -53,7 +59,7 @@ impl<'a> KeptFile<'a> {
         Ok(KeptFile {
             file: WrittenFile::open(rt, file)?,
             archive,
-            length: None,
+            state: None,
         })
     }
 
@@ -62,31 +68,31 @@ impl<'a> KeptFile<'a> {
         &self,
         rt: &R,
         form: NameForm,
-        players: &[Player],
-        length: u64,
+        telling: &Telling<'_>,
+        state: FileState,
     ) -> Result<Vec<u8>> {
-        if length == 0 {
+        if state.length == 0 {
             return Ok(Vec::new(rt.alloc()));
         }
         let lines = lines_of(rt, self.archive)?;
         let games = games_kept(rt.alloc(), lines.as_str())?;
-        text_of(rt.alloc(), form, players, games.as_slice())
+        text_of(rt.alloc(), form, telling, games.as_slice())
     }
 
-    /// Writes the file anew where the archive, which is so long now, is another than when that was done last.
+    /// Writes the file anew where the archive, which stands so now, is another than when that was done last.
     pub fn renew<R: Files<File = File> + AllocGlobal>(
         &mut self,
         rt: &R,
         form: NameForm,
-        players: &[Player],
-        length: u64,
+        telling: &Telling<'_>,
+        state: FileState,
     ) -> Result<()> {
-        if self.length == Some(length) {
+        if self.state == Some(state) {
             return Ok(());
         }
-        let text = self.text(rt, form, players, length)?;
+        let text = self.text(rt, form, telling, state)?;
         self.file.put(rt, text)?;
-        self.length = Some(length);
+        self.state = Some(state);
         Ok(())
     }
 }

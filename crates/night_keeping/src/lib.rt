@@ -4,13 +4,19 @@
 //! what the clerk decides, `telling` does work again and again, and tells what goes wrong once. `rows` has the games of
 //! the server's list, `asking` asks for a game's PGN, `sources` has what PGNs are made with: `players` has the players
 //! of their file, `log_reader` the log, read on as it grows; `reading` reads files; `initials` tells of players by
-//! their initials; `kept` writes the file of all games of an archive, and `written` a file anew where it has changed.
+//! their initials; `besides` reads what is told of players and boards besides, `board_games` which game is which board;
+//! `kept` writes the file of all games of an archive, `written` a file anew where it has changed, of which `file_state`
+//! tells; `delay` has texts wait.
 //! `specs/Games` says which games of a list are over, `specs/Names` how a tag tells of a player.
 #![tactic(auto)]
 
 mod asked;
 mod asking;
+mod besides;
+mod board_games;
+mod delay;
 mod exporting;
+mod file_state;
 mod initials;
 mod keeper;
 mod keeping;
@@ -24,7 +30,7 @@ mod sources;
 mod telling;
 mod written;
 
-pub use asked::{Exporting, Form, Keeping, Living, Source};
+pub use asked::{Besides, Exporting, Form, Keeping, Living, Source};
 pub use exporting::export;
 pub use keeping::keep;
 pub use living::live;

@@ -1,19 +1,22 @@
 //! The word that writes the games of a night where others fetch them.
 use crate::asked::Living;
 use crate::asking::pgn_of;
-use crate::initials::push_told;
+use crate::besides::Read;
+use crate::delay::Delay;
+use crate::file_state::{FileState, NO_FILE, state_of};
+use crate::initials::push_with;
 use crate::kept::KeptFile;
-use crate::reading::found;
 use crate::rows::rows_of;
 use crate::sources::{Sources, link_to};
 use crate::telling::{Work, go_on};
 use crate::written::WrittenFile;
 use anyhow::Result;
 use night_archive::{game_of, lines_of, pgn_of as pgn_in};
+use night_games::Telling;
 use night_links::Link;
 use server_answers::Row;
 use std::alloc::{AllocError, Global};
-use std::fs::{self, File};
+use std::fs::File;
 use std::net::{Net, TcpStream};
 use std::rt::{Clock, Files};
 use text_parts::parts;
@@ -38,9 +41,10 @@ struct Writer<'a, R> {
     link: Option<Link>,
     // The games of the table as they were seen last.
     seen: Vec<Board>,
-    // The games of the archive that are written, and how long it was when they were read.
+    // The games of the archive that are written, and how it stood when they were read.
     archived: Vec<Board>,
-    archive_length: u64,
+    archive: FileState,
+    delay: Delay,
 }
 
 // Whether both seats of a game are taken.
@@ -81,14 +85,6 @@ fn in_order<'a>(
     Ok(boards)
 }
 
-// The length of a file; 0 where it is not there.
-fn length_of<R: Files>(rt: &R, path: &str) -> Result<u64> {
-    if !fs::exists(rt, path)? {
-        return Ok(0);
-    }
-    Ok(found(rt, path)?.len())
-}
-
 // Puts the game of a line of the archive behind others, where it is written: each one, or where a date is given those
 // from this date on.
 fn push_line(
@@ -123,16 +119,16 @@ fn boards_of(alloc: Global, text: &str, since: Option<&str>) -> Result<Vec<Board
 
 impl<R> Writer<'_, R> {
     // What the file is to have: the PGNs, one behind the other.
-    fn text(&self, alloc: Global) -> Result<Vec<u8>> {
-        let players = self.sources.known().players;
+    fn text(&self, alloc: Global, telling: &Telling<'_>) -> Result<Vec<u8>> {
         let boards = in_order(alloc, self.seen.as_slice(), self.archived.as_slice())?;
         let mut text = Vec::new(alloc);
         for board in boards.as_slice() {
-            push_told(
+            push_with(
                 &mut text,
                 alloc,
                 self.living.names,
-                players,
+                telling,
+                board.game,
                 board.pgn.as_slice(),
             )?;
         }
@@ -188,7 +184,8 @@ impl<'a, R: Files<File = File> + AllocGlobal + Eprint> Writer<'a, R> {
             link: None,
             seen: Vec::new(alloc),
             archived: Vec::new(alloc),
-            archive_length: 0,
+            archive: NO_FILE,
+            delay: Delay::new(alloc, living.delay),
         })
     }
 
@@ -208,22 +205,26 @@ impl<'a, R: Files<File = File> + AllocGlobal + Eprint> Writer<'a, R> {
         let Some(path) = self.living.archive else {
             return Ok(());
         };
-        let length = length_of(self.rt, path)?;
-        if length != self.archive_length {
+        let state = state_of(self.rt, path)?;
+        if state != self.archive {
             let text = lines_of(self.rt, path)?;
             self.archived = boards_of(self.rt.alloc(), text.as_str(), self.living.since)?;
-            self.archive_length = length;
+            self.archive = state;
         }
         Ok(())
     }
 
-    // Writes the file of all games of the archive anew, where it is another.
-    fn renew_kept(&mut self) -> Result<()> {
+    // What the file is to have, with what is told besides; and writes the file of all games of the archive anew, where
+    // it is another.
+    fn texts(&mut self, read: &Read) -> Result<Vec<u8>> {
+        let (alloc, form) = (self.rt.alloc(), self.living.names);
+        let known = read.known(alloc, form)?;
+        let telling = read.telling(self.sources.known().players, known.as_slice());
+        let text = self.text(alloc, &telling)?;
         if let Some(kept) = &mut self.kept {
-            let players = self.sources.known().players;
-            kept.renew(self.rt, self.living.names, players, self.archive_length)?;
+            kept.renew(self.rt, form, &telling, self.archive)?;
         }
-        Ok(())
+        Ok(text)
     }
 }
 
@@ -256,21 +257,24 @@ where
 
 impl<R> Work for Writer<'_, R>
 where
-    R: Files<File = File> + Net<Stream = TcpStream> + AllocGlobal + Eprint,
+    R: Files<File = File> + Net<Stream = TcpStream> + AllocGlobal + Eprint + Clock,
 {
     // (a file is written where it has changed)
     fn work(&mut self, _is_once: bool) -> Result<()> {
         self.look()?;
-        let text = self.text(self.rt.alloc())?;
-        self.file.put(self.rt, text)?;
-        self.renew_kept()
+        let read = Read::now(self.rt, &self.living.besides)?;
+        let text = self.texts(&read)?;
+        if let Some(text) = self.delay.due(self.rt, text)? {
+            self.file.put(self.rt, text)?;
+        }
+        Ok(())
     }
 }
 
 /// Writes all games that are played on the server's table, those that are over, and those of the archive to a file, and
 /// where it is asked for all games of the archive to another: once, or again and again until it is killed. It fails
-/// where another writes one of them, where the players' file is
-/// none, and, where it is done once, at whatever goes wrong.
+/// where another writes one of them, where the players' file is none, and, where it is done once, at whatever goes
+/// wrong.
 pub fn live<R>(rt: &R, living: &Living<'_>) -> Result<()>
 where
     R: Files<File = File> + Net<Stream = TcpStream> + AllocGlobal + Eprint + Clock,

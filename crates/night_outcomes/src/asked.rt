@@ -24,9 +24,13 @@ pub struct Asking<'a> {
 #[derive(Drop)]
 pub struct Reporting<'a> {
     pub players: &'a str,
+    /// The file of the players' particulars.
+    pub particulars: Option<&'a str>,
     pub rounds: Vec<Round<'a>>,
     pub source: Source<'a>,
     pub tournament: Tournament<'a>,
+    /// The days of the rounds, `YYYY/MM/DD`, where they are told.
+    pub days: Vec<&'a str>,
 }
 
 /// A decision of an arbiter that is put to a round's decisions.

@@ -3,13 +3,15 @@
 //!
 //! Modules: `asked` has what is asked, `archived` reads the archive's games, `tags` the tags of a PGN, `outcomes` finds
 //! what came of a game by these or by the table, `laws` what the Laws say of that, `decisions` reads and writes the
-//! decisions of arbiters, `results_word`, `report_word` and `decide_word` do the words.
+//! decisions of arbiters, `entrants` has the players of a report, `results_word`, `report_word` and `decide_word` do
+//! the words.
 #![tactic(auto)]
 
 mod archived;
 mod asked;
 mod decide_word;
 mod decisions;
+mod entrants;
 mod laws;
 mod outcomes;
 mod report_word;
@@ -18,5 +20,8 @@ mod tags;
 
 pub use asked::{Asking, Deciding, Reporting, Source};
 pub use decide_word::decide_result;
-pub use report_word::write_report;
-pub use results_word::write_results;
+pub use decisions::decisions_of;
+pub use entrants::entrants_of;
+pub use outcomes::{check_fault, noted_game};
+pub use report_word::{Met, met_in, write_report};
+pub use results_word::{players_in, write_results};

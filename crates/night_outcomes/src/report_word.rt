@@ -1,25 +1,27 @@
 //! The word that writes the report of a tournament.
 use crate::asked::Reporting;
 use crate::decisions::decisions_of;
+use crate::entrants::entrants_of;
 use crate::outcomes::{Boards, Ended, Outcomes, check_fault};
 use anyhow::{Context, Result};
 use lobby_players::players_of;
 use lobby_words::Player;
 use night_boards::{Round, paired_of};
-use night_report::{Meeting, Opponent, Play, Score, Tournament, report};
+use night_games::roster_in;
+use night_report::{Meeting, Opponent, Particulars, Play, Score, report, teams_of};
 use night_rounds::{Against, Pairing, Scored, counted};
 use player_name::Name;
-use std::alloc::{AllocError, Global};
+use std::alloc::Global;
 use std::io::{self, Write};
 use std::net::{Net, TcpStream};
 use std::rt::Files;
 
 // The starting number of a player: the place among those of the report.
-fn number_of(players: &[&Player], name: &Name) -> Result<u32> {
+fn number_of(players: &[Particulars<'_>], name: &Name) -> Result<u32> {
     let mut number: u32 = 0;
     for player in players {
         number = number.saturating_add(1);
-        if player.name.as_str() == name.as_str() {
+        if player.name == name.as_str() {
             return Ok(number);
         }
     }
@@ -57,16 +59,8 @@ fn play_of(ended: &Option<Ended>) -> Play {
     }
 }
 
-// What came of a board by its game.
-fn scored_of(ended: &Option<Ended>) -> Scored {
-    Scored {
-        score: score_of(ended),
-        play: play_of(ended),
-    }
-}
-
 // Whom White has at a board.
-fn opponent_of(players: &[&Player], pairing: &Pairing) -> Result<Opponent> {
+fn opponent_of(players: &[Particulars<'_>], pairing: &Pairing) -> Result<Opponent> {
     match &pairing.against {
         Against::Bye(bye) => Ok(Opponent::Bye(*bye)),
         Against::Game(game) => Ok(Opponent::Player(number_of(players, &game.black)?)),
@@ -74,7 +68,7 @@ fn opponent_of(players: &[&Player], pairing: &Pairing) -> Result<Opponent> {
 }
 
 // What a board is in the report.
-fn meeting_of(players: &[&Player], pairing: &Pairing, scored: Scored) -> Result<Meeting> {
+fn meeting_of(players: &[Particulars<'_>], pairing: &Pairing, scored: Scored) -> Result<Meeting> {
     Ok(Meeting {
         white: number_of(players, &pairing.white)?,
         black: opponent_of(players, pairing)?,
@@ -83,22 +77,23 @@ fn meeting_of(players: &[&Player], pairing: &Pairing, scored: Scored) -> Result<
     })
 }
 
-// The same, where a fault names the board.
-fn meeting(players: &[&Player], pairing: &Pairing, scored: Scored) -> Result<Meeting> {
-    let board = pairing.board;
-    meeting_of(players, pairing, scored).context(format_args!("board {board}"))
-}
-
 // What a board is in the report, by what came of its game and the decisions about it.
 fn met_at(
     boards: Boards<'_>,
     pairing: &Pairing,
-    players: &[&Player],
+    players: &[Particulars<'_>],
     outcomes: &mut Outcomes<'_>,
 ) -> Result<Meeting> {
     let told = outcomes.of(boards, pairing)?;
-    let scored = counted(boards.decisions, pairing.board, scored_of(&told.ended));
-    meeting(players, pairing, scored)
+    let by_game = Scored {
+        score: score_of(&told.ended),
+        play: play_of(&told.ended),
+    };
+    let (board, scored) = (
+        pairing.board,
+        counted(boards.decisions, pairing.board, by_game),
+    );
+    meeting_of(players, pairing, scored).context(format_args!("board {board}"))
 }
 
 // The meetings of a round's boards.
@@ -106,7 +101,7 @@ fn meetings_by(
     alloc: Global,
     boards: Boards<'_>,
     pairings: &[Pairing],
-    players: &[&Player],
+    players: &[Particulars<'_>],
     outcomes: &mut Outcomes<'_>,
 ) -> Result<Vec<Meeting>> {
     let mut meetings = Vec::new(alloc);
@@ -120,7 +115,7 @@ fn meetings_by(
 fn meetings_of<R: Files + AllocGlobal + Eprint>(
     rt: &R,
     round: Round<'_>,
-    players: &[&Player],
+    players: &[Particulars<'_>],
     outcomes: &mut Outcomes<'_>,
 ) -> Result<Vec<Meeting>> {
     let paired = paired_of(rt, round.pairings, round.games)?;
@@ -143,31 +138,17 @@ fn meetings_of<R: Files + AllocGlobal + Eprint>(
 fn meetings_with_context<R: Files + AllocGlobal + Eprint>(
     rt: &R,
     round: Round<'_>,
-    players: &[&Player],
+    players: &[Particulars<'_>],
     outcomes: &mut Outcomes<'_>,
 ) -> Result<Vec<Meeting>> {
     meetings_of(rt, round, players, outcomes).context(round.pairings)
-}
-
-// The players who are no arbiters.
-fn playing<'a>(alloc: Global, all: &'a [Player]) -> Result<Vec<&'a Player>, AllocError> {
-    all.iter()
-        .filter(|player| !player.is_arbiter)
-        .collect(alloc)
-}
-
-fn names_of<'a>(alloc: Global, players: &[&'a Player]) -> Result<Vec<&'a str>, AllocError> {
-    players
-        .iter()
-        .map(|player| player.full_name.as_str())
-        .collect(alloc)
 }
 
 // The meetings of each round.
 fn rounds_of<R: Files + AllocGlobal + Eprint>(
     rt: &R,
     rounds: &[Round<'_>],
-    players: &[&Player],
+    players: &[Particulars<'_>],
     outcomes: &mut Outcomes<'_>,
 ) -> Result<Vec<Vec<Meeting>>> {
     let mut met = Vec::new(rt.alloc());
@@ -177,11 +158,28 @@ fn rounds_of<R: Files + AllocGlobal + Eprint>(
     Ok(met)
 }
 
-// The meetings of each round, and what was wrong, though all were told.
+// Whether a round has a game without a result.
+fn goes_on(round: &[Meeting]) -> bool {
+    round.iter().any(|meeting| matches!(
+        (meeting.black, meeting.score),
+        (Opponent::Player(_), Score::Open)
+    ))
+}
+
+// What is wrong with a report of these rounds where nothing else is: that it has to wait.
+fn waits_for(rounds: &[Vec<Meeting>]) -> Option<&'static str> {
+    if rounds.iter().any(|round| goes_on(round.as_slice())) {
+        Some("the report has to wait: a board of it has no result")
+    } else {
+        None
+    }
+}
+
+/// The meetings of each round, and what was wrong, though all were told.
 #[derive(Drop)]
-struct Met {
-    rounds: Vec<Vec<Meeting>>,
-    fault: Option<&'static str>,
+pub struct Met {
+    pub rounds: Vec<Vec<Meeting>>,
+    pub fault: Option<&'static str>,
 }
 
 // What was met in the rounds, by what came of their games; it is told what is to be told of boards. It fails where a
@@ -189,7 +187,7 @@ struct Met {
 fn met_by<R>(
     rt: &R,
     reporting: &Reporting<'_>,
-    players: &[&Player],
+    players: &[Particulars<'_>],
     outcomes: &mut Outcomes<'_>,
 ) -> Result<Met>
 where
@@ -204,8 +202,14 @@ where
     })
 }
 
-// The same, where it is still to be looked what came of games.
-fn met_in<R>(rt: &R, reporting: &Reporting<'_>, all: &[Player], players: &[&Player]) -> Result<Met>
+/// What was met in the rounds of a tournament of these players, by archive and server; it tells what is to be told of
+/// boards. It fails where a board's game is of others than its players.
+pub fn met_in<R>(
+    rt: &R,
+    reporting: &Reporting<'_>,
+    all: &[Player],
+    players: &[Particulars<'_>],
+) -> Result<Met>
 where
     R: Files + Net<Stream = TcpStream> + AllocGlobal + Eprint,
 {
@@ -213,44 +217,53 @@ where
     met_by(rt, reporting, players, &mut outcomes)
 }
 
-// The text of a report of these rounds.
-fn text_of(
-    alloc: Global,
-    tournament: &Tournament<'_>,
-    players: &[&Player],
-    rounds: &[Vec<Meeting>],
-) -> Result<Vec<u8>> {
-    let names = names_of(alloc, players)?;
-    Ok(report(alloc, tournament, names.as_slice(), rounds)?)
-}
-
 // Writes the report of what was met. It fails behind that where something was wrong.
-fn write_met<R>(rt: &R, tournament: &Tournament<'_>, players: &[&Player], met: &Met) -> Result<()>
+fn write_met<R>(
+    rt: &R,
+    reporting: &Reporting<'_>,
+    players: &[Particulars<'_>],
+    met: &Met,
+) -> Result<()>
 where
     R: AllocGlobal + Print,
 {
-    let text = text_of(rt.alloc(), tournament, players, met.rounds.as_slice())?;
+    let teams = teams_of(rt.alloc(), players)?;
+    let text = report(
+        rt.alloc(),
+        &reporting.tournament,
+        reporting.days.as_slice(),
+        players,
+        teams.as_slice(),
+        met.rounds.as_slice(),
+    )?;
     io::writer(rt).write_all(text.as_slice())?;
-    check_fault(met.fault)
+    check_fault(met.fault.or(waits_for(met.rounds.as_slice())))
 }
 
-// Writes the report of a tournament of these players.
-fn write_report_of<R>(rt: &R, reporting: &Reporting<'_>, all: &[Player]) -> Result<()>
+// Writes the report of a tournament of these players, of whom this is known.
+fn write_report_of<R>(
+    rt: &R,
+    reporting: &Reporting<'_>,
+    all: &[Player],
+    known: &[Particulars<'_>],
+) -> Result<()>
 where
     R: Files + Net<Stream = TcpStream> + AllocGlobal + Print + Eprint,
 {
-    let players = playing(rt.alloc(), all)?;
+    let players = entrants_of(rt.alloc(), all, known)?;
     let met = met_in(rt, reporting, all, players.as_slice())?;
-    write_met(rt, &reporting.tournament, players.as_slice(), &met)
+    write_met(rt, reporting, players.as_slice(), &met)
 }
 
 /// Writes the report of a tournament; none where a board's game is of others than its players, since it would lack
-/// points. It fails behind that where a board has the result of a game that was played on as another, where a line of
-/// the archive was left out, or the server is away.
+/// points. It fails behind that where a board has no result, or that of a game that was played on as another, where a
+/// line of the archive was left out, or the server is away.
 pub fn write_report<R>(rt: &R, reporting: &Reporting<'_>) -> Result<()>
 where
     R: Files + Net<Stream = TcpStream> + AllocGlobal + Print + Eprint,
 {
     let all = players_of(rt, reporting.players)?;
-    write_report_of(rt, reporting, all.as_slice())
+    let roster = roster_in(rt, reporting.particulars)?;
+    let known = roster.particulars(rt.alloc())?;
+    write_report_of(rt, reporting, all.as_slice(), known.as_slice())
 }

@@ -87,8 +87,8 @@ fn text_of(
     results(alloc, boards.decisions, rows.as_slice())
 }
 
-// The players of a file, where one is named.
-fn players_in<R: Files + AllocGlobal>(rt: &R, file: Option<&str>) -> Result<Vec<Player>> {
+/// The players of a file, where one is named.
+pub fn players_in<R: Files + AllocGlobal>(rt: &R, file: Option<&str>) -> Result<Vec<Player>> {
     match file {
         Some(file) => players_of(rt, file),
         None => Ok(Vec::new(rt.alloc())),

@@ -1,4 +1,6 @@
 pub mod Cells
+pub mod Particulars
+pub mod Order
 pub mod Report
 pub mod Faults
 pub mod CsvCells

@@ -1,9 +1,11 @@
 -- A tournament report, FIDE's TRF-16: lines of fixed columns. Columns are counted in characters from 1 on.
 use Rattle.std.specs.Prelude.{ℕ, zero, suc, ◌+◌, ◌-◌, ◌/◌, ◌%◌, ◌==◌, Bool, not, nat_lt, List, [], ◌∷◌, ◌++◌, length}
-use Rattle.std.specs.Prelude.{replicate, codes, decimal, map, flat_map, Option, None, Some, if◌then◌else◌}
+use Rattle.std.specs.Prelude.{replicate, codes, decimal, map, drop, flat_map, Option, None, Some, if◌then◌else◌}
 use Rattle.night_report.specs.declared.cells.Cell.{Cell}
 use Rattle.night_report.specs.declared.cells.Meeting.{Meeting}
 use Rattle.night_report.specs.declared.columns.Tournament.{Tournament}
+use Rattle.night_report.specs.declared.particulars.Particulars.{Particulars}
+use Rattle.night_report.specs.declared.teams.Team.{Team}
 use Rattle.night_report.specs.Cells.{cell_in}
 
 abbrev pub space : ℕ
@@ -62,12 +64,26 @@ abbrev pub better_than : ℕ → List ℕ → ℕ
 better_than halves [] = 0
 better_than halves (other ∷ others) = (if nat_lt halves other then 1 else 0) + better_than halves others
 
--- Columns 1 to 80 of a player's line: 5 to 8 have the number, 15 to 47 the name; sex, title, rating, federation, FIDE's
--- number and the date of birth, 10 to 13 and 49 to 79, are not known.
-unfoldable pub front_text : ℕ → List ℕ → List ℕ
-front_text n name =
-    codes "001 " ++ (at_right 4 (decimal n) ++ (replicate 6 space
-    ++ (at_left 33 (map plain_byte name) ++ replicate 33 space)))
+-- Columns 1 to 13 of a player's line: the number in 5 to 8, the sex in 10, the title in 11 to 13.
+unfoldable pub number_text : ℕ → Particulars → List ℕ
+number_text n p =
+    codes "001 " ++ (at_right 4 (decimal n) ++ (codes " " ++ (at_left 1 (map plain_byte p.sex.now)
+    ++ at_right 3 p.title.now)))
+
+-- Columns 14 to 52: the name in 15 to 47, the rating in 49 to 52.
+unfoldable pub name_text : Particulars → List ℕ
+name_text p =
+    codes " " ++ (at_left 33 (map plain_byte p.full_name.now) ++ (codes " " ++ at_right 4 p.rating.now))
+
+-- Columns 53 to 79: the federation in 54 to 56, FIDE's number in 58 to 68, the date of birth in 70 to 79.
+unfoldable pub known_text : Particulars → List ℕ
+known_text p =
+    codes " " ++ (at_left 3 (map plain_byte p.federation.now) ++ (codes " " ++ (at_right 11 p.fide_number.now
+    ++ (codes " " ++ at_left 10 (map plain_byte p.born.now)))))
+
+-- Columns 1 to 80.
+unfoldable pub front_text : ℕ → Particulars → List ℕ
+front_text n p = number_text n p ++ (name_text p ++ (known_text p ++ codes " "))
 
 -- Columns 81 to 89: the points, and the place among players of all these half points.
 unfoldable pub standing_text : List (List Meeting) → List ℕ → ℕ → List ℕ
@@ -76,13 +92,38 @@ standing_text rounds all n =
     (codes " " ++ at_right 4 (decimal (better_than (halves_in n rounds) all + 1)))
 
 -- The line of a player among these: columns 92 to 99 have the first round, and so on.
-unfoldable pub player_line : List (List Meeting) → List ℕ → ℕ → List ℕ → List ℕ
-player_line rounds all n name = front_text n name ++ (standing_text rounds all n ++ (cells_text n rounds ++ codes "\n"))
+unfoldable pub player_line : List (List Meeting) → List ℕ → ℕ → Particulars → List ℕ
+player_line rounds all n p = front_text n p ++ (standing_text rounds all n ++ (cells_text n rounds ++ codes "\n"))
 
 -- the lines of players, numbered from this on
-abbrev pub players_text : List (List Meeting) → List ℕ → ℕ → List (List ℕ) → List ℕ
+abbrev pub players_text : List (List Meeting) → List ℕ → ℕ → List Particulars → List ℕ
 players_text rounds all n [] = []
-players_text rounds all n (name ∷ names) = player_line rounds all n name ++ players_text rounds all (suc n) names
+players_text rounds all n (p ∷ ps) = player_line rounds all n p ++ players_text rounds all (suc n) ps
+
+-- the starting numbers of a team's players, in columns 37 to 40, 42 to 45, and so on
+abbrev pub members_text : List ℕ → List ℕ
+members_text [] = []
+members_text (n ∷ ns) = codes " " ++ (at_right 4 (decimal n) ++ members_text ns)
+
+-- The line of a team, with its name in columns 5 to 35.
+unfoldable pub team_line : Team → List ℕ
+team_line t =
+    codes "013 " ++ (at_left 31 (map plain_byte t.name.now) ++ (members_text t.numbers.items ++ codes "\n"))
+
+abbrev pub teams_text : List Team → List ℕ
+teams_text teams = flat_map team_line teams
+
+-- a round's day, `YY/MM/DD`, in ten columns: two spaces, and the day without its century
+abbrev pub day_text : List ℕ → List ℕ
+day_text day = codes "  " ++ at_left 8 (map plain_byte (drop 2 day))
+
+abbrev pub days_text : List (List ℕ) → List ℕ
+days_text days = flat_map day_text days
+
+-- The days of the rounds, where any is told: the first in columns 92 to 99, above its round, and so on.
+unfoldable pub days_line : List (List ℕ) → List ℕ
+days_line [] = []
+days_line (day ∷ days) = codes "132" ++ (replicate 86 space ++ (days_text (day ∷ days) ++ codes "\n"))
 
 -- how many rounds there are to be, as pairing programs ask
 abbrev pub rounds_line : Option ℕ → List ℕ
@@ -95,10 +136,19 @@ place_text e =
     line_of (codes "012") e.name.now ++ (line_of (codes "022") e.city.now ++ (line_of (codes "032") e.federation.now
     ++ (line_of (codes "042") e.begins.now ++ line_of (codes "052") e.ends.now)))
 
--- how many players there are, how many of them are known to have a rating, and how many teams
-unfoldable pub counts_text : ℕ → List ℕ
-counts_text count =
-    line_of (codes "062") (decimal count) ++ (line_of (codes "072") (codes "0") ++ line_of (codes "082") (codes "0"))
+-- how many of these players have a rating
+abbrev pub has_rating : Particulars → Bool
+has_rating p = not (length p.rating.now == 0)
+
+abbrev pub rated_among : List Particulars → ℕ
+rated_among [] = 0
+rated_among (p ∷ ps) = (if has_rating p then 1 else 0) + rated_among ps
+
+-- how many players there are, how many of them have a rating, and how many teams there are
+unfoldable pub counts_text : List Particulars → ℕ → List ℕ
+counts_text players teams =
+    line_of (codes "062") (decimal (length players)) ++ (line_of (codes "072") (decimal (rated_among players))
+    ++ line_of (codes "082") (decimal teams))
 
 -- of which kind it is, who directs it, and the times
 unfoldable pub kind_text : Tournament → List ℕ
@@ -106,10 +156,12 @@ kind_text e =
     line_of (codes "092") e.kind.now ++ (line_of (codes "102") e.arbiter.now ++ (line_of (codes "112") e.deputy.now
     ++ line_of (codes "122") e.times.now))
 
-unfoldable pub tournament_text : Tournament → ℕ → List ℕ
-tournament_text e count = place_text e ++ (counts_text count ++ (kind_text e ++ rounds_line e.rounds))
+unfoldable pub tournament_text : Tournament → List (List ℕ) → List Particulars → ℕ → List ℕ
+tournament_text e days players teams =
+    place_text e ++ (counts_text players teams ++ (kind_text e ++ (days_line days ++ rounds_line e.rounds)))
 
--- the report of these players, who are numbered from 1 on in their order
-unfoldable pub report_text : Tournament → List (List ℕ) → List (List Meeting) → List ℕ
-report_text e names rounds =
-    tournament_text e (length names) ++ players_text rounds (all_halves rounds (length names)) 1 names
+-- the report of these players, who are numbered from 1 on in their order, and of their teams
+unfoldable pub report_text : Tournament → List (List ℕ) → List Particulars → List Team → List (List Meeting) → List ℕ
+report_text e days players teams rounds =
+    tournament_text e days players (length teams)
+    ++ (players_text rounds (all_halves rounds (length players)) 1 players ++ teams_text teams)

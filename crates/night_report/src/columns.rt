@@ -6,6 +6,8 @@ ghost use Rattle.night_report.specs.Faults.{HasRoom, IsFault};
 ghost use Rattle.night_report.specs.declared.columns.Fault.TheVariants as faults;
 
 use crate::cells::{Cell, Meeting, cell_of};
+use crate::particulars::Particulars;
+use crate::teams::Team;
 use itoa::Buffer;
 use std::alloc::{AllocError, Global};
 use thiserror::Error;
@@ -213,16 +215,51 @@ fn better_than(halves: u64, all: &[u64]) -> u64
     better
 }
 
-// What stands before a player's points.
-#[tactic(auto, unfolding(crate::specs::Report::front_text))]
-fn push_front(out: &mut Vec<u8>, number: u32, name: &str) -> Result<(), AllocError>
-    ensures { OnOk result (out.new.items ≡ out.old.items ++ spec.front_text number name.now) }
+// A player's number, sex and title.
+#[tactic(auto, unfolding(crate::specs::Report::number_text))]
+fn push_title(out: &mut Vec<u8>, number: u32, player: &Particulars<'_>) -> Result<(), AllocError>
+    ensures { OnOk result (out.new.items ≡ out.old.items ++ spec.number_text number player.now) }
 {
     out.extend_from_slice(b"001 ")?;
     push_number(out, 4, number as u64)?;
-    push_spaces(out, 6)?;
-    push_left(out, 33, name.as_bytes())?;
-    push_spaces(out, 33)?;
+    out.push(b' ')?;
+    push_left(out, 1, player.sex.as_bytes())?;
+    push_right(out, 3, player.title.as_bytes())
+}
+
+// A player's name and rating.
+#[tactic(auto, unfolding(crate::specs::Report::name_text))]
+fn push_name(out: &mut Vec<u8>, player: &Particulars<'_>) -> Result<(), AllocError>
+    ensures { OnOk result (out.new.items ≡ out.old.items ++ spec.name_text player.now) }
+{
+    out.push(b' ')?;
+    push_left(out, 33, player.full_name.as_bytes())?;
+    out.push(b' ')?;
+    push_right(out, 4, player.rating.as_bytes())
+}
+
+// A player's federation, FIDE's number and the date of birth.
+#[tactic(auto, unfolding(crate::specs::Report::known_text))]
+fn push_known(out: &mut Vec<u8>, player: &Particulars<'_>) -> Result<(), AllocError>
+    ensures { OnOk result (out.new.items ≡ out.old.items ++ spec.known_text player.now) }
+{
+    out.push(b' ')?;
+    push_left(out, 3, player.federation.as_bytes())?;
+    out.push(b' ')?;
+    push_right(out, 11, player.fide_number.as_bytes())?;
+    out.push(b' ')?;
+    push_left(out, 10, player.born.as_bytes())
+}
+
+// What stands before a player's points.
+#[tactic(auto, unfolding(crate::specs::Report::front_text))]
+fn push_front(out: &mut Vec<u8>, number: u32, player: &Particulars<'_>) -> Result<(), AllocError>
+    ensures { OnOk result (out.new.items ≡ out.old.items ++ spec.front_text number player.now) }
+{
+    push_title(out, number, player)?;
+    push_name(out, player)?;
+    push_known(out, player)?;
+    out.push(b' ')?;
     Ok(())
 }
 
@@ -254,13 +291,13 @@ fn push_player(
     rounds: &[Vec<Meeting>],
     all: &[u64],
     number: u32,
-    name: &str,
+    player: &Particulars<'_>,
 ) -> Result<(), AllocError>
     requires { length rounds.now ≤ 99 }
     ensures { OnOk result (out.new.items ≡ out.old.items
-        ++ spec.player_line (map (λ round. round.items) rounds.now) all.now number name.now) }
+        ++ spec.player_line (map (λ round. round.items) rounds.now) all.now number player.now) }
 {
-    push_front(out, number, name)?;
+    push_front(out, number, player)?;
     push_standing(out, alloc, rounds, all, number)?;
     push_cells(out, number, rounds)?;
     out.push(b'\n')?;
@@ -273,16 +310,82 @@ fn push_players(
     alloc: Global,
     rounds: &[Vec<Meeting>],
     all: &[u64],
-    names: &[&str],
+    players: &[Particulars<'_>],
 ) -> Result<(), AllocError>
     requires rounds { length rounds.now ≤ 99 }
-    requires players { length names.now ≤ 9999 }
+    requires players { length players.now ≤ 9999 }
     ensures { OnOk result (out.new.items ≡ out.old.items
-        ++ spec.players_text (map (λ round. round.items) rounds.now) all.now 1 (map (λ name. name.now) names.now)) }
+        ++ spec.players_text (map (λ round. round.items) rounds.now) all.now 1 players.now) }
 {
-    for at in 0..names.len() {
-        push_player(out, alloc, rounds, all, at as u32 + 1, names[at])?;
+    for at in 0..players.len() {
+        push_player(out, alloc, rounds, all, at as u32 + 1, &players[at])?;
     }
+    Ok(())
+}
+
+// The starting numbers of a team's players.
+fn push_members(out: &mut Vec<u8>, numbers: &[u32]) -> Result<(), AllocError>
+    ensures { OnOk result (out.new.items ≡ out.old.items ++ spec.members_text numbers.now) }
+{
+    for number in numbers {
+        out.push(b' ')?;
+        push_number(out, 4, *number as u64)?;
+    }
+    Ok(())
+}
+
+// The line of a team.
+#[tactic(auto, unfolding(crate::specs::Report::team_line))]
+fn push_team(out: &mut Vec<u8>, team: &Team<'_>) -> Result<(), AllocError>
+    ensures { OnOk result (out.new.items ≡ out.old.items ++ spec.team_line team.now) }
+{
+    out.extend_from_slice(b"013 ")?;
+    push_left(out, 31, team.name.as_bytes())?;
+    push_members(out, team.numbers.as_slice())?;
+    out.push(b'\n')?;
+    Ok(())
+}
+
+fn push_teams(out: &mut Vec<u8>, teams: &[Team<'_>]) -> Result<(), AllocError>
+    ensures { OnOk result (out.new.items ≡ out.old.items ++ spec.teams_text teams.now) }
+{
+    for at in 0..teams.len() {
+        push_team(out, &teams[at])?;
+    }
+    Ok(())
+}
+
+// The day of a round, without its century.
+fn push_day(out: &mut Vec<u8>, day: &str) -> Result<(), AllocError>
+    ensures { OnOk result (out.new.items ≡ out.old.items ++ spec.day_text day.now) }
+{
+    out.extend_from_slice(b"  ")?;
+    let day = day.as_bytes();
+    let behind = if day.len() < 2 { &day[..0] } else { &day[2..] };
+    push_left(out, 8, behind)
+}
+
+fn push_days(out: &mut Vec<u8>, days: &[&str]) -> Result<(), AllocError>
+    ensures { OnOk result (out.new.items ≡ out.old.items ++ spec.days_text (map (λ day. day.now) days.now)) }
+{
+    for day in days {
+        push_day(out, day)?;
+    }
+    Ok(())
+}
+
+// The days of the rounds, where any is given, each above its round.
+#[tactic(auto, unfolding(crate::specs::Report::days_line))]
+fn push_days_line(out: &mut Vec<u8>, days: &[&str]) -> Result<(), AllocError>
+    ensures { OnOk result (out.new.items ≡ out.old.items ++ spec.days_line (map (λ day. day.now) days.now)) }
+{
+    if days.is_empty() {
+        return Ok(());
+    }
+    out.extend_from_slice(b"132")?;
+    push_spaces(out, 86)?;
+    push_days(out, days)?;
+    out.push(b'\n')?;
     Ok(())
 }
 
@@ -308,15 +411,45 @@ fn push_place(out: &mut Vec<u8>, tournament: &Tournament<'_>) -> Result<(), Allo
     push_line(out, "052", tournament.ends)
 }
 
-// How many players there are.
-#[tactic(auto, unfolding(crate::specs::Report::counts_text))]
-fn push_counts(out: &mut Vec<u8>, count: usize) -> Result<(), AllocError>
-    ensures { OnOk result (out.new.items ≡ out.old.items ++ spec.counts_text count) }
+// Whether a player has a rating.
+fn has_rating(player: &Particulars<'_>) -> bool
+    ensures { result ≡ spec.has_rating player.now }
+{
+    !player.rating.is_empty()
+}
+
+// How many of these players have a rating.
+fn rated_among(players: &[Particulars<'_>]) -> u64
+    ensures rated { result ≡ spec.rated_among players.now }
+    ensures few { result ≤ length players.now }
+{
+    let mut rated: u64 = 0;
+    for player in players {
+        let is_rated = has_rating(player);
+        rated += one_where(is_rated);
+    }
+    rated
+}
+
+fn push_count(out: &mut Vec<u8>, id: &str, count: u64) -> Result<(), AllocError>
+    ensures { OnOk result (out.new.items ≡ out.old.items ++ spec.line_of id.now (decimal count)) }
 {
     let mut buffer = Buffer::new();
-    push_line(out, "062", buffer.format(count as u64))?;
-    push_line(out, "072", "0")?;
-    push_line(out, "082", "0")
+    push_line(out, id, buffer.format(count))
+}
+
+// How many players there are, how many of them have a rating, and how many teams there are.
+#[tactic(auto, unfolding(crate::specs::Report::counts_text))]
+fn push_counts(
+    out: &mut Vec<u8>,
+    players: &[Particulars<'_>],
+    teams: usize,
+) -> Result<(), AllocError>
+    ensures { OnOk result (out.new.items ≡ out.old.items ++ spec.counts_text players.now teams) }
+{
+    push_count(out, "062", players.len() as u64)?;
+    push_count(out, "072", rated_among(players))?;
+    push_count(out, "082", teams as u64)
 }
 
 // Of which kind the tournament is, and who directs it.
@@ -335,39 +468,47 @@ fn push_kind(out: &mut Vec<u8>, tournament: &Tournament<'_>) -> Result<(), Alloc
 fn push_tournament(
     out: &mut Vec<u8>,
     tournament: &Tournament<'_>,
-    count: usize,
+    days: &[&str],
+    players: &[Particulars<'_>],
+    teams: usize,
 ) -> Result<(), AllocError>
-    ensures { OnOk result (out.new.items ≡ out.old.items ++ spec.tournament_text tournament.now count) }
+    ensures { OnOk result (out.new.items ≡ out.old.items
+        ++ spec.tournament_text tournament.now (map (λ day. day.now) days.now) players.now teams) }
 {
     push_place(out, tournament)?;
-    push_counts(out, count)?;
+    push_counts(out, players, teams)?;
     push_kind(out, tournament)?;
+    push_days_line(out, days)?;
     push_rounds(out, tournament.rounds)
 }
 
-/// The report of a tournament (FIDE's TRF-16) of players in the order of their starting numbers, by their names, and of
-/// the meetings of each round. It fails where the columns have no room for players or rounds.
+/// The report of a tournament (FIDE's TRF-16): of players in the order of their starting numbers, their teams, the
+/// meetings of each round, and the days of the rounds, as `YYYY/MM/DD`, where they are known. It fails where the
+/// columns have no room for players or rounds.
 #[tactic(auto, unfolding(crate::specs::Report::report_text))]
 pub fn report(
     alloc: Global,
     tournament: &Tournament<'_>,
-    names: &[&str],
+    days: &[&str],
+    players: &[Particulars<'_>],
+    teams: &[Team<'_>],
     rounds: &[Vec<Meeting>],
 ) -> Result<Vec<u8>, Fault>
-    ensures text { IfOk result (λ text. text.items ≡ spec.report_text tournament.now
-        (map (λ name. name.now) names.now) (map (λ round. round.items) rounds.now)) }
-    ensures room { IfOk result (λ _. HasRoom (length names.now) (length rounds.now)) }
-    ensures fault { IfErr result (IsFault (length names.now) (length rounds.now)) }
+    ensures text { IfOk result (λ text. text.items ≡ spec.report_text tournament.now (map (λ day. day.now) days.now)
+        players.now teams.now (map (λ round. round.items) rounds.now)) }
+    ensures room { IfOk result (λ _. HasRoom (length players.now) (length rounds.now)) }
+    ensures fault { IfErr result (IsFault (length players.now) (length rounds.now)) }
 {
-    if names.len() > 9_999 {
+    if players.len() > 9_999 {
         return Err(Fault::TooManyPlayers);
     }
     if rounds.len() > 99 {
         return Err(Fault::TooManyRounds);
     }
-    let all = all_halves(alloc, rounds, names.len() as u32)?;
+    let all = all_halves(alloc, rounds, players.len() as u32)?;
     let mut text = Vec::new(alloc);
-    push_tournament(&mut text, tournament, names.len())?;
-    push_players(&mut text, alloc, rounds, all.as_slice(), names)?;
+    push_tournament(&mut text, tournament, days, players, teams.len())?;
+    push_players(&mut text, alloc, rounds, all.as_slice(), players)?;
+    push_teams(&mut text, teams)?;
     Ok(text)
 }

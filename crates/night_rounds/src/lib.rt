@@ -1,13 +1,13 @@
 //! The texts of a round: pairings and results as CSV, which game is which board's, and what is to be done about a
 //! board.
 //!
-//! Modules: `times` has times as a text, `rows` a row, `records` the rows of a CSV file by the kit's `csv`, `reading`
-//! the file, `notes` the notes of a round's file, `steps` what is to be done about a board, `decisions` the lines of
-//! arbiters' decisions, `counting` which of these counts for a board, `outcomes` the results, `law` the laws.
-//! `specs/Newer` says which of two games is newer, and `specs/Runs` what may become of a board over runs of `start`
-//! that are killed. `proofs/RowByRow` reads rows one after another, `proofs/TimesBack` and `NotesBack` show that times
-//! and notes come back, `proofs/DecisionTexts` is of the texts of decisions, `proofs/NewestKept` of the newest game,
-//! and `proofs/RunsKept` has what always holds of a board.
+//! Modules: `times` has times as a text, `rows` a row of the CSV file, `reading` the file, `notes` the notes of a
+//! round's file, `steps` what is to be done about a board, `decisions` the lines of arbiters' decisions, `counting`
+//! which of these counts for a board, `outcomes` the results, `law` the laws. `specs/Newer` says which of two games is
+//! newer, and `specs/Runs` what may become of a board over runs of `start` that are killed. `proofs/RowByRow` reads rows
+//! one after another, `proofs/TimesBack` and `NotesBack` show that times and notes come back, `proofs/DecisionTexts` is
+//! of the texts of decisions, `proofs/NewestKept` of the newest game, and `proofs/RunsKept` has what always holds of a
+//! board.
 #![tactic(auto)]
 
 mod counting;
@@ -17,7 +17,6 @@ mod law;
 mod notes;
 mod outcomes;
 mod reading;
-mod records;
 mod rows;
 mod steps;
 mod times;

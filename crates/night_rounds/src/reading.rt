@@ -4,9 +4,9 @@ ghost use Rattle.csv.specs.Records.{fields_of};
 ghost use Rattle.night_rounds.specs.Round as spec;
 
 use crate::faults::{Fault, RowFault};
-use crate::records::records_of;
 use crate::rows::{Against, Pairing, is_header, pairing_of};
 use csv::{Error, ErrorKind, StringRecord};
+use night_report::records_of;
 use player_name::Name;
 use std::alloc::{AllocError, Global};
 

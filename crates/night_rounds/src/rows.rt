@@ -11,7 +11,7 @@ use crate::times::{Times, times_of};
 use csv::StringRecord;
 use jiff::Timestamp;
 use lobby_words::number_named;
-use night_report::Bye;
+use night_report::{Bye, cell};
 use player_name::Name;
 use std::alloc::{AllocError, Global};
 
@@ -37,16 +37,6 @@ pub struct Pairing {
     pub board: u32,
     pub white: Name,
     pub against: Against,
-}
-
-// A field of a row, empty where it has none.
-fn cell(row: &StringRecord, at: usize) -> &str
-    ensures { result.now ≡ spec.cell (fields_of row.entry.now) at }
-{
-    match row.get(at) {
-        Some(text) => text,
-        None => "",
-    }
 }
 
 /// The name of a text.

@@ -53,8 +53,8 @@ pub fn pgn_head_of(first: &str) -> Option<PgnHead>
     Some(PgnHead { game, lines })
 }
 
-/// Which game's FEN an answer to `fen` tells, given without its line feed: G of `ok fen G FEN`, where FEN has six fields.
-/// `None` exactly where it has another form.
+/// Which game's FEN an answer to `fen` tells, given without its line feed: G of `ok fen G FEN`, where FEN has six
+/// fields. `None` exactly where it has another form.
 #[tactic(auto, unfolding(crate::specs::Heads::fen_in))]
 pub fn fen_game_of(line: &str) -> Option<u32>
     ensures { result ≡ spec.fen_in line.now }

@@ -3,7 +3,7 @@ use crate::club::{Member, file_of, give_token, members_of, players_of};
 use crate::tags::Tags;
 use anyhow::{Context, Result, bail};
 use hex::FromHex;
-use lobby_desk::{Desk, Kind, Limits, Message};
+use lobby_desk::{Desk, Halts, Kind, Limits, Message};
 use lobby_players::relinked;
 use lobby_words::NameForm;
 use std::alloc::Global;
@@ -76,6 +76,15 @@ fn with_feeds(alloc: Global, text: &str) -> Result<String> {
     Ok(whole)
 }
 
+// Nothing is halted, and clocks can be stopped.
+fn running(alloc: Global) -> Halts {
+    Halts {
+        is_paused: false,
+        can_stop: true,
+        reason: String::new(alloc),
+    }
+}
+
 impl Play {
     /// A desk to which nobody has come yet, and an archive of which nothing is told.
     pub fn new(alloc: Global) -> Result<Play> {
@@ -84,7 +93,7 @@ impl Play {
         Ok(Play {
             alloc,
             members,
-            desk: Desk::new(alloc, players, false, LIMITS),
+            desk: Desk::new(alloc, players, running(alloc), LIMITS),
             now: 0,
             tags: Tags::new(alloc),
         })
@@ -97,7 +106,7 @@ impl Play {
             names: NameForm::Initials,
             ..LIMITS
         };
-        let desk = Desk::new(self.alloc, players, false, limits);
+        let desk = Desk::new(self.alloc, players, running(self.alloc), limits);
         drop(mem::replace(&mut self.desk, desk));
         Ok(())
     }

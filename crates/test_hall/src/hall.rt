@@ -1,7 +1,7 @@
 //! Browsers and a server over streams that give and take little, or fail.
 use crate::browser::{file_of, site_of};
 use crate::peer::{MANY, PINGS, Peer};
-use lobby_desk::{Limits, Order};
+use lobby_desk::{Halts, Limits, Order};
 use lobby_loop::{Acceptor, ActLog, Fault, Hall, KeepsLinks, NoActLog, NoLinks, Welcomed, welcome};
 use lobby_players::relinked;
 use lobby_web::Kind;
@@ -87,8 +87,9 @@ impl KeepsLinks for Once {
         Some(new.linked)
     }
 
-    fn entries(&mut self, is_paused: bool) {
-        self.is_paused = is_paused;
+    fn keep(&mut self, halts: &Halts) -> io::Result<()> {
+        self.is_paused = halts.is_paused;
+        Ok(())
     }
 }
 
@@ -113,7 +114,12 @@ fn hall_of(rt: &impl Abort, alloc: Global, keys: RandomState, is_paused: bool) -
         names: NameForm::Full,
     };
     let players = players(rt, alloc, SUM);
-    Hall::new(alloc, keys, site, players, is_paused, limits, None)
+    let halts = Halts {
+        is_paused,
+        can_stop: false,
+        reason: String::new(alloc),
+    };
+    Hall::new(alloc, keys, site, players, halts, limits, None)
 }
 
 /// How a script is played.
@@ -156,7 +162,7 @@ impl Lab {
         for turn in 0..turns {
             let was_paused = self.links.is_paused;
             let at = turn.saturating_mul(apart);
-            if let Err(fault) = self.hall.turn(at, &mut self.log, &mut self.links) {
+            if let Err(fault) = self.hall.turn(at, false, &mut self.log, &mut self.links) {
                 assert!(rt; matches!(&fault, Fault::NoLog(_)));
                 return Some(was_paused);
             }
@@ -169,7 +175,7 @@ impl Lab {
 
     // A turn more, without a log and without a players' file.
     fn turn_alone(&mut self, rt: &impl Abort, at: u64) {
-        let turned = self.hall.turn(at, &mut NoActLog, &mut NoLinks);
+        let turned = self.hall.turn(at, false, &mut NoActLog, &mut NoLinks);
         assert!(rt; turned.is_ok());
     }
 

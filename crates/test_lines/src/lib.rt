@@ -1,4 +1,4 @@
-//! What `test_player` and `test_memory` stand on: the lines of standard input one after the other, words that are
+//! What `test_player` stands on: the lines of standard input one after the other, words that are
 //! read in several of their parts, and why playing ends; and what they play with: sectors of a device in memory,
 //! streams that work bit by bit or fail, clients over loopback, and commits in a journal.
 #![tactic(auto)]

@@ -1,5 +1,5 @@
 //! What no clause says: who may read the players' file, who may change it, and what is kept beside it.
-use lobby_players::{Hold, PauseFile, put_file};
+use lobby_players::{Hold, PauseFile, StopFile, put_file};
 use std::fs;
 use std::fs::File;
 use std::os::unix::fs::{PermissionsExt, symlink};
@@ -18,6 +18,8 @@ const PAUSED: &str = "players_file_test/club.players.paused";
 
 const PAUSED_NEW: &str = "players_file_test/club.players.paused.new";
 
+const STOPPED: &str = "players_file_test/club.journal.stopped";
+
 /// What is done with the players' file and beside it, and what is seen then.
 enum Step {
     /// A file was left behind by a stop, or a symbolic link to `OTHER` by somebody else.
@@ -34,13 +36,16 @@ enum Step {
     Pause(bool),
     /// What stands in the place of that file is none, so that no lobby begins.
     Unclear,
+    /// A lobby stops all clocks for this reason, or has them run, and the next one finds them so.
+    Stop(&'static str),
+    NoClocks,
     /// A file is taken away.
     Gone(&'static str),
     /// `OTHER` is as it was left.
     Untouched,
 }
 
-static STEPS: [Step; 35] = [
+static STEPS: [Step; 43] = [
     // A new file is its owner's, and another keeps its mode.
     Step::Leave(NEW),
     Step::Put("one\n"),
@@ -65,8 +70,16 @@ static STEPS: [Step; 35] = [
     Step::There(PAUSED, true),
     Step::Pause(false),
     Step::There(PAUSED, false),
+    Step::Stop("the fire alarm"),
+    Step::There(STOPPED, true),
+    Step::Stop("and still"),
+    Step::Stop(""),
+    Step::There(STOPPED, false),
     // No symbolic link is followed, and none is taken for the file.
     Step::Leave(OTHER),
+    Step::Link(STOPPED),
+    Step::NoClocks,
+    Step::Gone(STOPPED),
     Step::Link(NEW),
     Step::Put("three\n"),
     Step::Text("three\n"),
@@ -104,6 +117,14 @@ fn paused<R: Files<File = File> + AllocGlobal + Eprint + Abort>(
     [now.is_paused(), entries(rt, file).is_paused()]
 }
 
+// Whether all clocks are stopped for this reason for the lobby that keeps it, and for the next one.
+fn is_stopped<R: Files<File = File> + AllocGlobal + Eprint + Abort>(rt: &R, reason: &str) -> bool {
+    let mut now = StopFile::new(rt, STOPPED).ok().expect(rt, "clocks");
+    let is_kept = now.keep(reason).is_ok();
+    let next = StopFile::new(rt, STOPPED).ok().expect(rt, "clocks");
+    is_kept && now.reason() == reason && next.reason() == reason
+}
+
 // Whether what is done succeeds, and what is seen is so.
 fn is_so<R: Files<File = File> + AllocGlobal + Eprint + Abort>(rt: &R, step: &Step) -> bool {
     match step {
@@ -117,6 +138,8 @@ fn is_so<R: Files<File = File> + AllocGlobal + Eprint + Abort>(rt: &R, step: &St
         Step::There(file, is_there) => fs::exists(rt, file).expect(rt, "an answer") == *is_there,
         Step::Link(file) => symlink(rt, "other", file).is_ok(),
         Step::Unclear => PauseFile::new(rt, FILE).is_err(),
+        Step::Stop(reason) => is_stopped(rt, reason),
+        Step::NoClocks => StopFile::new(rt, STOPPED).is_err(),
         Step::Gone(file) => fs::remove_file(rt, file).is_ok(),
         Step::Untouched => fs::read_to_string(rt, OTHER).expect(rt, "a file").as_str() == "x",
         Step::Pause(is_paused) => paused(rt, FILE, *is_paused) == [*is_paused; 2],

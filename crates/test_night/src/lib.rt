@@ -33,6 +33,10 @@ mod report;
 #[cfg(test)]
 mod rounds;
 #[cfg(test)]
+mod standings;
+#[cfg(test)]
 mod sums;
+#[cfg(test)]
+mod told;
 #[cfg(test)]
 mod words;

@@ -1,5 +1,9 @@
 //! A tournament's report: what no clause says, how much room there is, and signs of what seldom comes.
-use night_report::{Bye, Fault, Meeting, Opponent, Play, Score, Tournament, report};
+use night_games::{RosterFault, RowFault, roster_of};
+use night_report::{
+    Bye, Fault, Meeting, Opponent, Particulars, Play, Score, Tournament, report, starting_order,
+    teams_of,
+};
 use std::alloc::Global;
 use std::process::Abort;
 
@@ -16,15 +20,33 @@ const EVENT: Tournament<'static> = Tournament {
     rounds: None,
 };
 
+// A player of whom the name alone is known.
+fn named(full_name: &'static str) -> Particulars<'static> {
+    Particulars {
+        name: "",
+        full_name,
+        sex: "",
+        title: "",
+        rating: "",
+        federation: "",
+        fide_number: "",
+        born: "",
+        team: "",
+        board: "",
+    }
+}
+
 // Why there is no report of so many players without a name, and so many rounds in which nobody is paired.
 fn fault_of(rt: &impl Abort, alloc: Global, players: usize, count: u32) -> Option<Fault> {
-    let mut names = Vec::new(alloc);
-    names.resize(players, "").expect(rt, "memory");
+    let mut entrants = Vec::new(alloc);
+    for _ in 0..players {
+        entrants.push(named("")).expect(rt, "memory");
+    }
     let mut rounds = Vec::new(alloc);
     for _ in 0..count {
         rounds.push(Vec::new(alloc)).expect(rt, "memory");
     }
-    report(alloc, &EVENT, &names, &rounds).err()
+    report(alloc, &EVENT, &[], &entrants, &[], &rounds).err()
 }
 
 #[test]
@@ -77,7 +99,91 @@ const ENDS: [(Meeting, &[u8]); 4] = [
 fn ends_of_a_report(rt: HostRuntime) {
     for (meeting, end) in ENDS {
         let round = Vec::from_array(rt.alloc(), [meeting]).expect(&rt, "memory");
-        let text = report(rt.alloc(), &EVENT, &["Ann", "Bob"], &[round]).expect(&rt, "a report");
+        let text = report(
+            rt.alloc(),
+            &EVENT,
+            &[],
+            &[named("Ann"), named("Bob")],
+            &[],
+            &[round],
+        )
+        .expect(&rt, "a report");
         assert!(rt; text.as_slice().ends_with(end));
+    }
+}
+
+// Particulars: the columns in an order of their own, two teams, and names that are not ASCII.
+const ROSTER: &[u8] = b"rating,name,full_name,title,sex,federation,fide_number,born,team,board\r\n\
+    2400,ann,\"Lee, Ann\",WGM,w,ENG,1234567,2001/02/03,Leeds,2\r\n\
+    2400,bob,\"\xc3\x96z, Bob\",FM,m,TUR,,,York,1\r\n\
+    ,cid,\"Ash, Cid\",,,,,,Leeds,1\r\n\
+    987,dee,,,w,,,,,\r\n";
+
+// Its report, with a day above each of two rounds in which nobody is paired.
+const WHOLE: &str = "012 \n022 \n032 \n042 \n052 \n062 4\n072 3\n082 2\n092 \n102 \n112 \n122 \n\
+132                                                                                        26/11/27  26/12/04\n\
+001    1 wWGM Lee, Ann                          2400 ENG     1234567 2001/02/03  0.0    1  0000 - Z  0000 - Z\n\
+001    2 m FM \u{d6}z, Bob                           2400 TUR                         0.0    1  0000 - Z  0000 - Z\n\
+001    3 w                                       987                             0.0    1  0000 - Z  0000 - Z\n\
+001    4      Ash, Cid                                                           0.0    1  0000 - Z  0000 - Z\n\
+013 Leeds                              4    1\n\
+013 York                               2\n";
+
+#[test]
+fn a_whole_report(rt: HostRuntime) {
+    let alloc = rt.alloc();
+    let roster = roster_of(alloc, ROSTER).expect(&rt, "a roster");
+    let known = roster.particulars(alloc).expect(&rt, "memory");
+    let players = starting_order(alloc, &known).expect(&rt, "memory");
+    let teams = teams_of(alloc, &players).expect(&rt, "memory");
+    let rounds = Vec::from_array(alloc, [Vec::new(alloc), Vec::new(alloc)]).expect(&rt, "memory");
+    let days = ["2026/11/27", "2026/12/04"];
+    let text = report(alloc, &EVENT, &days, &players, &teams, &rounds).expect(&rt, "a report");
+    assert!(rt; text.as_slice() == WHOLE.as_bytes());
+}
+
+// What is wrong with files of particulars.
+const WRONG: [(&[u8], RosterFault); 14] = [
+    (b"", RosterFault::NoNames),
+    (b"title\nGM\n", RosterFault::NoNames),
+    (b"name,elo\n", RosterFault::Column(2)),
+    (b"name,sex,name\n", RosterFault::Column(1)),
+    (b"name,sex\nann\n", RosterFault::Row(2, RowFault::BadShape)),
+    (b"name,sex\n,w\n", RosterFault::Row(2, RowFault::NoName)),
+    (b"name,sex\nann,f\n", RosterFault::Row(2, RowFault::BadSex)),
+    (
+        b"name,title\nann,GM\nbob,gm\n",
+        RosterFault::Row(3, RowFault::BadTitle),
+    ),
+    (
+        b"name,rating\nann,02400\n",
+        RosterFault::Row(2, RowFault::BadRating),
+    ),
+    (
+        b"name,federation\nann,England\n",
+        RosterFault::Row(2, RowFault::BadFederation),
+    ),
+    (
+        b"name,fide_number\nann,123456789012\n",
+        RosterFault::Row(2, RowFault::BadNumber),
+    ),
+    (
+        b"name,born\nann,2001-02-03\n",
+        RosterFault::Row(2, RowFault::BadBirth),
+    ),
+    (
+        b"name,board\nann,first\n",
+        RosterFault::Row(2, RowFault::BadBoard),
+    ),
+    (
+        b"name\nann\nbob\nann\n",
+        RosterFault::Row(2, RowFault::NameTwice),
+    ),
+];
+
+#[test]
+fn wrong_particulars(rt: HostRuntime) {
+    for (text, wanted) in WRONG {
+        assert!(rt; roster_of(rt.alloc(), text).err() == Some(wanted));
     }
 }

@@ -4,7 +4,7 @@ use club_words::{Word, read_words};
 use lobby_desk::Limits;
 use lobby_serving::Serving;
 use night_boards::Starting;
-use night_keeping::{Form, Keeping, Living, Source};
+use night_keeping::{Besides, Form, Keeping, Living, Source};
 use night_outcomes::Reporting;
 use night_rounds::verdict_text;
 use std::alloc::{AllocError, Global};
@@ -45,11 +45,18 @@ fn keep_said(alloc: Global, keeping: &Keeping<'_>) -> Result<String, AllocError>
     format!(in alloc; "keep {source} {archive} {drops} {asks}")
 }
 
+fn besides_said(alloc: Global, besides: &Besides<'_>) -> Result<String, AllocError> {
+    let (particulars, rounds) = (besides.particulars.unwrap_or("-"), besides.rounds.len());
+    format!(in alloc; "{particulars} {rounds}")
+}
+
 fn live_said(alloc: Global, living: &Living<'_>) -> Result<String, AllocError> {
     let source = source_said(alloc, &living.source)?;
     let (file, archive) = (living.file, living.archive.unwrap_or("-"));
     let (since, kept) = (living.since.unwrap_or("-"), living.kept.unwrap_or("-"));
-    format!(in alloc; "live {source} {file} {archive} {since} {kept}")
+    let besides = besides_said(alloc, &living.besides)?;
+    let delay = living.delay;
+    format!(in alloc; "live {source} {file} {archive} {since} {kept} {besides} {delay}")
 }
 
 fn start_said(alloc: Global, starting: &Starting<'_>) -> Result<String, AllocError> {
@@ -66,7 +73,8 @@ fn report_said(alloc: Global, reporting: &Reporting<'_>) -> Result<String, Alloc
         reporting.rounds.len(),
         reporting.tournament.rounds.unwrap_or(0),
     );
-    format!(in alloc; "trf {players} {name} {rounds} {all}")
+    let (particulars, days) = (reporting.particulars.unwrap_or("-"), reporting.days.len());
+    format!(in alloc; "trf {players} {name} {rounds} {all} {particulars} {days}")
 }
 
 // What a word asks for, told in a line.
@@ -87,7 +95,9 @@ fn said_by(alloc: Global, word: &Word<'_>) -> Result<String, AllocError> {
         Word::Export(exporting) => {
             let archive = exporting.archive;
             let is_csv = matches!(exporting.form, Form::Csv);
-            format!(in alloc; "export {archive} {is_csv}")
+            let players = exporting.players.unwrap_or("-");
+            let besides = besides_said(alloc, &exporting.besides)?;
+            format!(in alloc; "export {archive} {is_csv} {players} {besides}")
         }
         Word::Live(living) => live_said(alloc, living),
         Word::Start(starting) => start_said(alloc, starting),
@@ -105,6 +115,12 @@ fn said_by(alloc: Global, word: &Word<'_>) -> Result<String, AllocError> {
             format!(in alloc; "decide {file} {board} {result}")
         }
         Word::Report(reporting) => report_said(alloc, reporting),
+        Word::Standings(standing) => {
+            let (players, rounds) = (standing.reporting.players, standing.reporting.rounds.len());
+            let breaks = standing.criteria.len();
+            let is_json = matches!(standing.form, night_standings::Form::Json);
+            format!(in alloc; "standings {players} {rounds} {breaks} {is_json}")
+        }
     }
 }
 
@@ -122,7 +138,7 @@ fn check_line(rt: &impl Abort, alloc: Global, line: &str, wanted: Result<&str, E
 }
 
 // Command lines, and what each asks for, or why it is refused.
-static LINES: [(&str, Result<&str, ErrorKind>); 35] = [
+static LINES: [(&str, Result<&str, ErrorKind>); 45] = [
     (
         "chess-club lobby --players p --server 127.0.0.1:1",
         Ok("lobby p 127.0.0.1:8080 page 0 4 8 32"),
@@ -141,15 +157,34 @@ static LINES: [(&str, Result<&str, ErrorKind>); 35] = [
         "chess-club keep --server s/ --archive a --drop --lobby 127.0.0.1:2 --event E --every 5",
         Ok("keep s/ E ????.??.?? 5 a true true"),
     ),
-    ("chess-club export --archive a --csv", Ok("export a true")),
-    ("chess-club export --archive a", Ok("export a false")),
+    (
+        "chess-club export --archive a --csv",
+        Ok("export a true - - 0"),
+    ),
+    ("chess-club export --archive a", Ok("export a false - - 0")),
     (
         "chess-club live --server s/ --file f --date 2026.11.??",
-        Ok("live s/ ? 2026.11.?? 0 f - 2026.11.?? -"),
+        Ok("live s/ ? 2026.11.?? 0 f - 2026.11.?? - - 0 0"),
     ),
     (
         "chess-club live --server s/ --file f --archive a --since 2026.11.26 --date 2026.11.27 --kept k",
-        Ok("live s/ ? 2026.11.27 0 f a 2026.11.26 k"),
+        Ok("live s/ ? 2026.11.27 0 f a 2026.11.26 k - 0 0"),
+    ),
+    (
+        "chess-club export --archive a --players p --particulars q --rounds a,b --rounds c,d,e",
+        Ok("export a false p q 2"),
+    ),
+    (
+        "chess-club live --server s/ --file f --rounds a,b --particulars q --delay 15",
+        Ok("live s/ ? ????.??.?? 0 f - - - q 1 15"),
+    ),
+    (
+        "chess-club live --server s/ --file f --delay 61",
+        Err(ErrorKind::ValueValidation),
+    ),
+    (
+        "chess-club export --archive a --rounds a",
+        Err(ErrorKind::InvalidValue),
     ),
     (
         "chess-club live --server s/ --file f --kept k",
@@ -177,7 +212,27 @@ static LINES: [(&str, Result<&str, ErrorKind>); 35] = [
     ),
     (
         "chess-club trf --players p --server s/ --rounds a,b --rounds c,d,e --name N --all-rounds 5",
-        Ok("trf p N 2 5"),
+        Ok("trf p N 2 5 - 0"),
+    ),
+    (
+        "chess-club trf --players p --archive a --rounds a,b --particulars q --round-date 2026/11/27",
+        Ok("trf p  1 0 q 1"),
+    ),
+    (
+        "chess-club standings --players p --archive a --rounds a,b",
+        Ok("standings p 1 5 false"),
+    ),
+    (
+        "chess-club standings --players p --archive a --rounds a,b --by SB,DE --form json",
+        Ok("standings p 1 2 true"),
+    ),
+    (
+        "chess-club standings --players p --archive a --rounds a,b --by SB,,DE",
+        Err(ErrorKind::InvalidValue),
+    ),
+    (
+        "chess-club standings --players p --archive a --rounds a,b --form pdf",
+        Err(ErrorKind::InvalidValue),
     ),
     (
         "chess-club lobby --players p --server 127.0.0.1",
@@ -225,6 +280,10 @@ static LINES: [(&str, Result<&str, ErrorKind>); 35] = [
     ),
     (
         "chess-club trf --players p --archive a --rounds a,b --ends 2026/02/30",
+        Err(ErrorKind::InvalidValue),
+    ),
+    (
+        "chess-club trf --players p --archive a --rounds a,b --round-date 2026/11/27 --round-date 27/11",
         Err(ErrorKind::InvalidValue),
     ),
     (

@@ -1,19 +1,27 @@
 //! Plays lines of standard input, for tests by whole runs and for measuring. A line `play WORD` says on what the lines
 //! after it are played, anew: a table in memory (`table`), a store in memory (`store`), lives of a store (`lives`), a
 //! hub (`hub`), a server over loopback (`sockets`), journals and stores on files (`files`). The head of each of these
-//! modules has its lines; those in memory are modules of `test_memory`. What a line answers is written; one that
-//! cannot be played is the last, and standard error says why.
+//! modules has its lines. What a line answers is written; one that cannot be played is the last, and standard error
+//! says why.
 #![tactic(auto)]
 
 mod files;
+mod hub;
+mod lives;
+mod memory;
 mod socket_lines;
+mod store;
+mod table;
 
 use files::FilePlayer;
+use hub::HubPlayer;
+use lives::LivesPlayer;
 use socket_lines::SocketPlayer;
 use std::mem;
 use std::process::ExitCode;
+use store::StorePlayer;
+use table::TablePlayer;
 use test_lines::{Fault, LinePlayer, play_lines};
-use test_memory::{HubPlayer, LivesPlayer, StorePlayer, TablePlayer};
 
 /// On what lines are played.
 #[derive(Drop)]

@@ -12,6 +12,7 @@
 //! - `moment MOMENT`: that of the turns from now on, in milliseconds, 1,000 at first;
 //! - `silence COUNT`: a new server, without clients and over a new store, closes who is silent for so many
 //!   milliseconds; with 0 nobody.
+use crate::memory::store_in_memory;
 use chess_hub::Hub;
 use chess_sockets::{Server, Turned};
 use sector_dev::MemoryDevice;
@@ -19,7 +20,6 @@ use sockets::LocalListener;
 use std::mem;
 use test_lines::clients::Clients;
 use test_lines::{Fault, SMALL};
-use test_memory::store_in_memory;
 
 /// The first turns' moment.
 const MOMENT: u64 = 1_000;

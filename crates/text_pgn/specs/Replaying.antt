@@ -43,6 +43,10 @@ pub record IsUnderWay (game : ℕ) (pgn : List ℕ) (replay : Replay) : Type 0 w
   pub at : replay.board ≡ position_after start done
   pub rows : PutsRows start done (head game (length (words_in pgn)) start) (string_bytes replay.text)
 
+-- Nothing of it is played yet: all of its words are left.
+abbrev pub IsUnplayed : Replay → Type 0
+IsUnplayed replay = replay.at ≡ 0
+
 -- one word is played
 pub record Goes (old new : Replay) : Type 0 where
   pub goes : (game : ℕ) → (pgn : List ℕ) → IsUnderWay game pgn old → IsUnderWay game pgn new

@@ -5,7 +5,7 @@ ghost use Rattle.std.specs.String.{string_bytes};
 ghost use Rattle.chess_board.specs.declared.moves.Move.{Move};
 ghost use Rattle.chess_board.specs.Position.{Position};
 ghost use Rattle.text_pgn.specs.Game.{Plays, TellsNone};
-ghost use Rattle.text_pgn.specs.Replaying.{left, IsUnderWay, Goes, IsPart};
+ghost use Rattle.text_pgn.specs.Replaying.{left, IsUnderWay, IsUnplayed, Goes, IsPart};
 
 use crate::game_words::{start_of, words_of};
 use crate::rows::{head_text, push_row};
@@ -60,10 +60,11 @@ fn owned(alloc: Global, words: &[&str]) -> Result<Vec<String>, AllocError>
 
 impl Replay {
     /// Begins with the start of a game of this number, by the lines of its PGN, each with its line feed, without the
-    /// server's line `ok pgn G K` in front. `None` just where its start is no valid position. It fails where memory is
+    /// server's line `ok pgn G K` in front, and plays nothing yet. `None` just where its start is no valid position. It fails where memory is
     /// refused.
     pub fn begin(alloc: Global, game: u32, pgn: &str) -> Result<Option<Replay>, AllocError>
         ensures some { IfOk result (λ begun. IfSome begun (IsUnderWay game pgn.now)) }
+        ensures unplayed { IfOk result (λ begun. IfSome begun IsUnplayed) }
         ensures none { IfOk result (λ begun. IfNone begun (TellsNone pgn.now)) }
     {
         let lines = parts(alloc, pgn, '\n')?;

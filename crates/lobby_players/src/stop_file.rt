@@ -1,0 +1,77 @@
+//! Why all clocks are stopped, for a lobby that begins anew: the server's moment stands still while this file is there.
+use crate::file::{put_own_file, read_file, take_away};
+use anyhow::{Context, Result};
+use std::fs::File;
+use std::rt::Files;
+use std::str;
+use text_parts::before;
+
+// The reason where the file names none that can be told.
+const UNTOLD: &str = "no reason is given";
+
+// A reason has so many bytes at most, as one that an arbiter says.
+const MOST: usize = 243;
+
+// The reason in a file: its first line, where that can be told.
+fn reason_in(bytes: &[u8]) -> &str {
+    let line = before(str::from_utf8(bytes).unwrap_or(""), '\n');
+    let is_told = !line.is_empty() && line.len() <= MOST && line.bytes().all(|byte| byte >= 32);
+    if is_told { line } else { UNTOLD }
+}
+
+/// What is kept of that.
+#[derive(Drop)]
+pub struct StopFile<'a, R> {
+    rt: &'a R,
+    file: &'a str,
+    reason: String,
+}
+
+impl<'a, R: Files<File = File> + AllocGlobal + Eprint> StopFile<'a, R> {
+    /// As it is kept in this file; where clocks are stopped that is told. It fails where the system does not tell, where
+    /// something else than a file has its name, or where none can be written beside it.
+    pub fn new(rt: &'a R, file: &'a str) -> Result<Self> {
+        let bytes = read_file(rt, file)?;
+        let tried = format!(in rt.alloc(); "{file}.try")?;
+        put_own_file(rt, rt.alloc(), tried.as_str(), "").context(format_args!(
+            "writing beside {file}, by which clocks are stopped"
+        ))?;
+        take_away(rt, tried.as_str())?;
+        let is_there = std::fs::exists(rt, file)?;
+        let reason = if is_there {
+            reason_in(bytes.as_slice())
+        } else {
+            ""
+        };
+        if is_there {
+            eprintln!(rt; "all clocks are stopped, as they were: {file} is there: {reason}")?;
+        }
+        let reason = String::from_str(rt.alloc(), reason)?;
+        Ok(StopFile { rt, file, reason })
+    }
+
+    /// Why all clocks are stopped; empty where they run.
+    pub fn reason(&self) -> &str {
+        self.reason.as_str()
+    }
+
+    // Keeps it in the file.
+    fn put(&self, reason: &str) -> Result<()> {
+        if reason.is_empty() {
+            Ok(take_away(self.rt, self.file)?)
+        } else {
+            let text = format!(in self.rt.alloc(); "{reason}\n")?;
+            put_own_file(self.rt, self.rt.alloc(), self.file, text.as_str())
+        }
+    }
+
+    /// Keeps it, where it is another. Where it answers, it is on the disk.
+    pub fn keep(&mut self, reason: &str) -> Result<()> {
+        if reason == self.reason.as_str() {
+            return Ok(());
+        }
+        self.put(reason)?;
+        self.reason = String::from_str(self.rt.alloc(), reason)?;
+        Ok(())
+    }
+}

@@ -1,0 +1,2 @@
+pub mod Particulars
+pub mod Roster

@@ -1,0 +1,70 @@
+//! What may be wrong with a file of particulars.
+ghost use Rattle.std.specs.Prelude.{◌≡◌};
+ghost use Rattle.night_games.specs.declared.roster_faults.RosterFault.TheVariants as faults;
+
+use std::alloc::AllocError;
+use std::fmt;
+use thiserror::Error;
+
+/// What is wrong with a row.
+#[derive(Clone, Copy, Debug, PartialEq, Eq)]
+pub enum RowFault {
+    BadShape,
+    NoName,
+    BadSex,
+    BadTitle,
+    BadRating,
+    BadFederation,
+    BadNumber,
+    BadBirth,
+    BadBoard,
+    NameTwice,
+}
+
+fn text_of(fault: RowFault) -> &'static str {
+    match fault {
+        RowFault::BadShape => "it has not as many fields as the first row",
+        RowFault::NoName => "it has no name",
+        RowFault::BadSex => "the sex is neither m nor w",
+        RowFault::BadTitle => "the title is none of GM, IM, WGM, FM, WIM, CM, WFM, WCM",
+        RowFault::BadRating => "the rating is no number of at most four digits",
+        RowFault::BadFederation => "the federation is no three capital letters",
+        RowFault::BadNumber => "FIDE's number is none of at most eleven digits",
+        RowFault::BadBirth => "the date of birth is not as 2001/02/03",
+        RowFault::BadBoard => "the board is no number of at most four digits",
+        RowFault::NameTwice => "the name stands in a row below too",
+    }
+}
+
+impl fmt::Display for RowFault {
+    fn fmt<W: fmt::Write>(&self, f: &mut fmt::Formatter<W>) -> fmt::Result {
+        f.write_str(text_of(*self))
+    }
+}
+
+impl std::error::Error for RowFault {}
+
+/// Why a text is no file of particulars.
+#[derive(Clone, Copy, Debug, PartialEq, Eq, Error)]
+pub enum RosterFault {
+    #[error("the first row has no column name")]
+    NoNames,
+    #[error("column {0} of row 1 is none of name, full_name, sex, title, rating, federation, fide_number, born, \
+        team, board, or stands behind it once more")]
+    Column(usize),
+    /// The row of this number, the header being row 1, has this fault.
+    #[error("row {0}: {1}")]
+    Row(usize, RowFault),
+    #[error("it is not in UTF-8")]
+    NotText,
+    #[error("memory was refused")]
+    NoMemory,
+}
+
+impl From<AllocError> for RosterFault {
+    ghost from_gives = { λ _ fault. fault ≡ faults.NoMemory };
+
+    fn from(_error: AllocError) -> RosterFault {
+        RosterFault::NoMemory
+    }
+}

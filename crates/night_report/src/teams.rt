@@ -1,0 +1,62 @@
+//! The teams of players.
+use crate::particulars::Particulars;
+use std::alloc::{AllocError, Global};
+
+/// A team, and the starting numbers of its players in the order of their boards.
+#[derive(Drop)]
+pub struct Team<'a> {
+    pub name: &'a str,
+    pub numbers: Vec<u32>,
+}
+
+// The names of the teams, in the order in which players have them.
+fn names_of<'a>(alloc: Global, players: &[Particulars<'a>]) -> Result<Vec<&'a str>, AllocError> {
+    let mut names = Vec::new(alloc);
+    for player in players {
+        if !player.team.is_empty() && !names.as_slice().contains(&player.team) {
+            names.push(player.team)?;
+        }
+    }
+    Ok(names)
+}
+
+// The place of a player in the team; behind all others where it is not known.
+fn board_of(player: &Particulars<'_>) -> u32 {
+    player.board.parse::<u32>().unwrap_or(u32::MAX)
+}
+
+// The starting numbers of a team's players, in the order of their boards.
+fn numbers_of(
+    alloc: Global,
+    players: &[Particulars<'_>],
+    team: &str,
+) -> Result<Vec<u32>, AllocError> {
+    let mut members = Vec::new(alloc);
+    let mut number: u32 = 0;
+    for player in players {
+        number = number.saturating_add(1);
+        if player.team == team {
+            members.push((board_of(player), number))?;
+        }
+    }
+    members.sort()?;
+    members.iter().map(|member| member.1).collect(alloc)
+}
+
+/// The teams of players, who are numbered from 1 on in their order: in the order in which their first players stand
+/// there, and within a team by their boards, and who have the same one, or none, behind the others by their numbers. It
+/// fails where memory is refused.
+pub fn teams_of<'a>(
+    alloc: Global,
+    players: &[Particulars<'a>],
+) -> Result<Vec<Team<'a>>, AllocError> {
+    let names = names_of(alloc, players)?;
+    let mut teams = Vec::new(alloc);
+    for name in names.as_slice() {
+        teams.push(Team {
+            name: *name,
+            numbers: numbers_of(alloc, players, name)?,
+        })?;
+    }
+    Ok(teams)
+}

@@ -1,0 +1,213 @@
+//! Rounds and standings as an object of JSON, which the lobby serves and the page shows.
+use crate::places::Standings;
+use crate::texts::{Table, criterion_word, number_at, points_text, value_text};
+use night_report::{Bye, Meeting, Opponent, Play, Score};
+use std::alloc::{AllocError, Global};
+use text_parts::push_escaped;
+
+/// A player's name in the protocol, and as it is shown.
+#[derive(Clone, Copy)]
+pub struct Named<'a> {
+    pub name: &'a str,
+    pub shown: &'a str,
+}
+
+/// A board of a round, by its number, its game where one was noted, and who met.
+#[derive(Clone, Copy)]
+pub struct Board {
+    pub number: u32,
+    pub game: Option<u32>,
+    pub meeting: Meeting,
+}
+
+// Appends a text, as it is.
+fn put(out: &mut Vec<u8>, text: &str) -> Result<(), AllocError> {
+    out.extend_from_slice(text.as_bytes())
+}
+
+// Appends what stands between others, but before the first of them.
+fn put_comma(out: &mut Vec<u8>, at: usize) -> Result<(), AllocError> {
+    if at > 0 { put(out, ",") } else { Ok(()) }
+}
+
+// Appends a member whose value is a string.
+fn put_string(out: &mut Vec<u8>, member: &str, text: &str) -> Result<(), AllocError> {
+    put(out, "\"")?;
+    put(out, member)?;
+    put(out, "\":\"")?;
+    push_escaped(out, text.as_bytes())?;
+    put(out, "\"")
+}
+
+// What came of a game, as `results` tells it.
+fn result_of(score: Score, play: Play) -> &'static str {
+    match (score, play) {
+        (Score::White, Play::Forfeit) => "+/-",
+        (Score::Black, Play::Forfeit) => "-/+",
+        (Score::Neither, Play::Forfeit) => "-/-",
+        (Score::White, _) => "1-0",
+        (Score::Black, _) => "0-1",
+        (Score::Neither, _) => "0-0",
+        (Score::Draw, _) => "1/2-1/2",
+        (Score::HalfWhite, _) => "1/2-0",
+        (Score::HalfBlack, _) => "0-1/2",
+        (Score::Open, _) => "*",
+    }
+}
+
+// The sign of a bye, and what it is worth.
+fn bye_texts(bye: Bye) -> (&'static str, &'static str) {
+    match bye {
+        Bye::Pairing => ("U", "1"),
+        Bye::Full => ("F", "1"),
+        Bye::Half => ("H", "1/2"),
+        Bye::Zero => ("Z", "0"),
+    }
+}
+
+// Appends whom White has at a board, and what came of it.
+fn put_meeting(out: &mut Vec<u8>, alloc: Global, meeting: Meeting) -> Result<(), AllocError> {
+    let white = meeting.white;
+    let head = format!(in alloc; ",\"white\":{white},")?;
+    put(out, head.as_str())?;
+    match meeting.black {
+        Opponent::Bye(bye) => {
+            let (sign, worth) = bye_texts(bye);
+            put_string(out, "bye", sign)?;
+            put(out, ",")?;
+            put_string(out, "result", worth)
+        }
+        Opponent::Player(black) => {
+            let second = format!(in alloc; "\"black\":{black},")?;
+            put(out, second.as_str())?;
+            put_string(out, "result", result_of(meeting.score, meeting.play))
+        }
+    }
+}
+
+// Appends a board.
+fn put_board(out: &mut Vec<u8>, alloc: Global, board: &Board) -> Result<(), AllocError> {
+    let number = board.number;
+    let head = format!(in alloc; "{{\"board\":{number}")?;
+    put(out, head.as_str())?;
+    put_meeting(out, alloc, board.meeting)?;
+    if let Some(game) = board.game {
+        let member = format!(in alloc; ",\"game\":{game}")?;
+        put(out, member.as_str())?;
+    }
+    put(out, "}")
+}
+
+fn put_round(out: &mut Vec<u8>, alloc: Global, boards: &[Board]) -> Result<(), AllocError> {
+    put(out, "[")?;
+    for (at, board) in boards.iter().enumerate() {
+        put_comma(out, at)?;
+        put_board(out, alloc, board)?;
+    }
+    put(out, "]")
+}
+
+fn put_rounds(out: &mut Vec<u8>, alloc: Global, rounds: &[Vec<Board>]) -> Result<(), AllocError> {
+    put(out, ",\"rounds\":[")?;
+    for (at, boards) in rounds.iter().enumerate() {
+        put_comma(out, at)?;
+        put_round(out, alloc, boards.as_slice())?;
+    }
+    put(out, "]")
+}
+
+// Appends the words of the tie-breaks.
+fn put_criteria(out: &mut Vec<u8>, table: Table<'_>) -> Result<(), AllocError> {
+    put(out, ",\"breaks\":[")?;
+    for (at, criterion) in table.criteria.iter().enumerate() {
+        put_comma(out, at)?;
+        put(out, "\"")?;
+        put(out, criterion_word(*criterion))?;
+        put(out, "\"")?;
+    }
+    put(out, "]")
+}
+
+// Appends what a player has by each tie-break.
+fn put_values(
+    out: &mut Vec<u8>,
+    alloc: Global,
+    table: Table<'_>,
+    at: usize,
+) -> Result<(), AllocError> {
+    put(out, ",\"values\":[")?;
+    let mut place: usize = 0;
+    for (criterion, column) in table
+        .criteria
+        .iter()
+        .zip(table.standings.columns.as_slice())
+    {
+        put_comma(out, place)?;
+        let value = value_text(alloc, *criterion, number_at(column.as_slice(), at))?;
+        put(out, "\"")?;
+        put(out, value.as_str())?;
+        put(out, "\"")?;
+        place = place.saturating_add(1);
+    }
+    put(out, "]")
+}
+
+fn place_of(standings: &Standings, at: usize) -> u64 {
+    match standings.places.get(at) {
+        Some(place) => (*place as u64).saturating_add(1),
+        None => 0,
+    }
+}
+
+// Appends a player.
+fn put_player(
+    out: &mut Vec<u8>,
+    alloc: Global,
+    table: Table<'_>,
+    named: Named<'_>,
+    at: usize,
+) -> Result<(), AllocError> {
+    put(out, "{")?;
+    put_string(out, "name", named.name)?;
+    put(out, ",")?;
+    put_string(out, "full", named.shown)?;
+    let place = place_of(table.standings, at);
+    let member = format!(in alloc; ",\"place\":{place},")?;
+    put(out, member.as_str())?;
+    let points = points_text(alloc, number_at(table.standings.points.as_slice(), at))?;
+    put_string(out, "points", points.as_str())?;
+    put_values(out, alloc, table, at)?;
+    put(out, "}")
+}
+
+fn put_players(
+    out: &mut Vec<u8>,
+    alloc: Global,
+    table: Table<'_>,
+    named: &[Named<'_>],
+) -> Result<(), AllocError> {
+    put(out, ",\"players\":[")?;
+    for (at, one) in named.iter().enumerate() {
+        put_comma(out, at)?;
+        put_player(out, alloc, table, *one, at)?;
+    }
+    put(out, "]")
+}
+
+/// Rounds and standings as an object of JSON (docs/client/LOBBY.md, "A tournament's file"), in a line.
+pub fn round_json(
+    alloc: Global,
+    event: &str,
+    rounds: &[Vec<Board>],
+    named: &[Named<'_>],
+    table: Table<'_>,
+) -> Result<Vec<u8>, AllocError> {
+    let mut out = Vec::new(alloc);
+    put(&mut out, "{")?;
+    put_string(&mut out, "event", event)?;
+    put_rounds(&mut out, alloc, rounds)?;
+    put_criteria(&mut out, table)?;
+    put_players(&mut out, alloc, table, named)?;
+    put(&mut out, "}\n")?;
+    Ok(out)
+}

@@ -1,0 +1,158 @@
+//! The word that writes the standings of a tournament.
+use crate::asked::{Form, Standing};
+use crate::json::{Board, Named, round_json};
+use crate::places::{Standings, standings_of};
+use crate::texts::Table;
+use anyhow::{Result, ensure};
+use lobby_players::players_of;
+use lobby_words::{NameForm, Player, name_told};
+use night_boards::{Paired, Round, paired_of};
+use night_games::roster_in;
+use night_outcomes::{Met, check_fault, entrants_of, met_in, noted_game};
+use night_report::{Meeting, Particulars};
+use std::alloc::{AllocError, Global};
+use std::io::{self, Write};
+use std::net::{Net, TcpStream};
+use std::rt::Files;
+
+// The full names of players, as they are told.
+fn shown_names(
+    alloc: Global,
+    players: &[Particulars<'_>],
+    form: NameForm,
+) -> Result<Vec<String>, AllocError> {
+    let mut names = Vec::new(alloc);
+    for player in players {
+        names.push(name_told(alloc, form, player.full_name)?)?;
+    }
+    Ok(names)
+}
+
+fn texts_of<'a>(alloc: Global, names: &'a [String]) -> Result<Vec<&'a str>, AllocError> {
+    let mut texts = Vec::new(alloc);
+    for name in names {
+        texts.push(name.as_str())?;
+    }
+    Ok(texts)
+}
+
+// Players by their names in the protocol, and as they are shown.
+fn named_of<'a>(
+    alloc: Global,
+    players: &[Particulars<'a>],
+    shown: &[&'a str],
+) -> Result<Vec<Named<'a>>, AllocError> {
+    let mut named = Vec::new(alloc);
+    for (player, shown) in players.iter().zip(shown) {
+        named.push(Named {
+            name: player.name,
+            shown,
+        })?;
+    }
+    Ok(named)
+}
+
+// The boards of a round.
+fn boards_of(
+    alloc: Global,
+    paired: &Paired,
+    meetings: &[Meeting],
+) -> Result<Vec<Board>, AllocError> {
+    let mut boards = Vec::new(alloc);
+    for (pairing, meeting) in paired.pairings.as_slice().iter().zip(meetings) {
+        boards.push(Board {
+            number: pairing.board,
+            game: noted_game(paired.notes.as_slice(), pairing.board),
+            meeting: *meeting,
+        })?;
+    }
+    Ok(boards)
+}
+
+// The boards of each round.
+fn all_boards<R: Files + AllocGlobal + Eprint>(
+    rt: &R,
+    rounds: &[Round<'_>],
+    met: &[Vec<Meeting>],
+) -> Result<Vec<Vec<Board>>> {
+    let mut all = Vec::new(rt.alloc());
+    for (round, meetings) in rounds.iter().zip(met) {
+        let paired = paired_of(rt, round.pairings, round.games)?;
+        all.push(boards_of(rt.alloc(), &paired, meetings.as_slice())?)?;
+    }
+    Ok(all)
+}
+
+// The text of standings, of players with these names.
+fn text_of<R: Files + AllocGlobal + Eprint>(
+    rt: &R,
+    asked: &Standing<'_>,
+    players: &[Particulars<'_>],
+    rounds: &[Vec<Meeting>],
+    standings: &Standings,
+) -> Result<Vec<u8>> {
+    let alloc = rt.alloc();
+    let shown = shown_names(alloc, players, asked.names)?;
+    let names = texts_of(alloc, shown.as_slice())?;
+    let table = Table {
+        names: names.as_slice(),
+        criteria: asked.criteria.as_slice(),
+        standings,
+    };
+    match asked.form {
+        Form::Rows => Ok(table.standings_csv(alloc)?),
+        Form::Crosstable => Ok(table.crosstable_csv(alloc, rounds)?),
+        Form::Json => {
+            let boards = all_boards(rt, asked.reporting.rounds.as_slice(), rounds)?;
+            let named = named_of(alloc, players, names.as_slice())?;
+            let event = asked.reporting.tournament.name;
+            Ok(round_json(alloc, event, boards.as_slice(), named.as_slice(), table)?)
+        }
+    }
+}
+
+// Writes the standings of what was met. It fails behind that where something was wrong.
+fn write_met<R>(rt: &R, asked: &Standing<'_>, players: &[Particulars<'_>], met: &Met) -> Result<()>
+where
+    R: Files + AllocGlobal + Print + Eprint,
+{
+    let rounds = met.rounds.as_slice();
+    ensure!(
+        players.len() <= 9_999,
+        "standings are of 9,999 players at most"
+    );
+    ensure!(rounds.len() <= 99, "standings are of 99 rounds at most");
+    let count = players.len() as u32;
+    let standings = standings_of(rt.alloc(), rounds, count, asked.criteria.as_slice())?;
+    let text = text_of(rt, asked, players, rounds, &standings)?;
+    io::writer(rt).write_all(text.as_slice())?;
+    check_fault(met.fault)
+}
+
+// The same of these players, of whom this is known.
+fn write_of<R>(
+    rt: &R,
+    asked: &Standing<'_>,
+    all: &[Player],
+    known: &[Particulars<'_>],
+) -> Result<()>
+where
+    R: Files + Net<Stream = TcpStream> + AllocGlobal + Print + Eprint,
+{
+    let players = entrants_of(rt.alloc(), all, known)?;
+    let met = met_in(rt, &asked.reporting, all, players.as_slice())?;
+    write_met(rt, asked, players.as_slice(), &met)
+}
+
+/// Writes the standings of a tournament, its crosstable, or both with its rounds for the page; none where a board's
+/// game is of others than its players. It fails behind that where a board has the result of a game that was played on
+/// as another, where a line of the archive was left out, or the server is away.
+pub fn write_standings<R>(rt: &R, asked: &Standing<'_>) -> Result<()>
+where
+    R: Files + Net<Stream = TcpStream> + AllocGlobal + Print + Eprint,
+{
+    let all = players_of(rt, asked.reporting.players)?;
+    let roster = roster_in(rt, asked.reporting.particulars)?;
+    let known = roster.particulars(rt.alloc())?;
+    write_of(rt, asked, all.as_slice(), known.as_slice())
+}

@@ -1,0 +1,131 @@
+//! Standings of tournaments that were reckoned by hand, by the articles of FIDE's Handbook, C.07.
+use night_report::{Bye, Meeting, Opponent, Play, Score};
+use night_standings::{Criterion, Standings, standings_of};
+use std::alloc::Global;
+use std::process::Abort;
+
+const ALL: [Criterion; 5] = [
+    Criterion::Direct,
+    Criterion::BuchholzCut,
+    Criterion::Buchholz,
+    Criterion::SonnebornBerger,
+    Criterion::Wins,
+];
+
+const WIN: Meeting = Meeting {
+    white: 1,
+    black: Opponent::Player(2),
+    score: Score::White,
+    play: Play::Board,
+};
+
+const DRAW: Meeting = Meeting {
+    white: 3,
+    black: Opponent::Player(4),
+    score: Score::Draw,
+    play: Play::Board,
+};
+
+// The first player beats the second, draws with the third and wins by a forfeit against the fourth, who was away in the
+// round before; the second has the bye, and loses to the third.
+const FOUR: [&[Meeting]; 3] = [
+    &[WIN, DRAW],
+    &[
+        Meeting {
+            white: 1,
+            black: Opponent::Player(3),
+            ..DRAW
+        },
+        Meeting {
+            white: 2,
+            black: Opponent::Bye(Bye::Pairing),
+            ..DRAW
+        },
+    ],
+    &[
+        Meeting {
+            black: Opponent::Player(4),
+            play: Play::Forfeit,
+            ..WIN
+        },
+        Meeting {
+            white: 2,
+            black: Opponent::Player(3),
+            score: Score::Black,
+            ..WIN
+        },
+    ],
+];
+
+// All three have two points; the first has beaten both others, who have not met.
+const TIED: [&[Meeting]; 3] = [
+    &[
+        WIN,
+        Meeting {
+            white: 3,
+            black: Opponent::Bye(Bye::Pairing),
+            ..WIN
+        },
+    ],
+    &[
+        Meeting {
+            white: 3,
+            black: Opponent::Player(1),
+            score: Score::Black,
+            ..WIN
+        },
+        Meeting {
+            white: 2,
+            black: Opponent::Bye(Bye::Pairing),
+            ..WIN
+        },
+    ],
+    &[
+        Meeting {
+            white: 2,
+            black: Opponent::Bye(Bye::Full),
+            ..WIN
+        },
+        Meeting {
+            white: 3,
+            black: Opponent::Bye(Bye::Full),
+            ..WIN
+        },
+    ],
+];
+
+fn told(rt: &impl Abort, alloc: Global, rounds: [&[Meeting]; 3], count: u32) -> Standings {
+    let mut all = Vec::new(alloc);
+    for round in rounds {
+        let meetings = Vec::from_slice(alloc, round).expect(rt, "memory");
+        all.push(meetings).expect(rt, "memory");
+    }
+    assert!(rt; all.len() == 3);
+    standings_of(alloc, all.as_slice(), count, &ALL).expect(rt, "memory")
+}
+
+#[test]
+fn unplayed_rounds_count_as_the_handbook_says(rt: HostRuntime) {
+    let told = told(&rt, rt.alloc(), FOUR, 4);
+    assert!(rt; told.places.as_slice() == [0, 2, 1, 3].as_slice());
+    assert!(rt; told.points.as_slice() == [5, 2, 4, 1].as_slice());
+    let wanted: [[u64; 4]; 5] = [
+        [0, 0, 0, 0],
+        [9, 9, 7, 5],
+        [11, 11, 9, 6],
+        [18, 4, 11, 4],
+        [2, 1, 1, 0],
+    ];
+    for (column, wanted) in told.columns.as_slice().iter().zip(&wanted) {
+        assert!(rt; column.as_slice() == wanted.as_slice());
+    }
+}
+
+#[test]
+fn a_rank_is_given_that_no_missing_game_can_change(rt: HostRuntime) {
+    let told = told(&rt, rt.alloc(), TIED, 3);
+    assert!(rt; told.points.as_slice() == [4, 4, 4].as_slice());
+    let won = told.columns.as_slice().first();
+    assert!(rt; won.is_some_and(|won| won.as_slice() == [4, 0, 0].as_slice()));
+    assert!(rt; told.places.as_slice().first() == Some(&0));
+}

@@ -1,0 +1,202 @@
+// A round at the desk: pairings are read from CSV, as chess-club start reads them, and their games opened by the
+// arbiter's word. The table is looked at first, so that no board gets a second game.
+
+import { t } from './language.js';
+import { readPgn, readRefusal, readRows, readTimes, timesOfOpen } from './lines.js';
+import { byId, copy, make, setText } from './make.js';
+import { isOf } from './pairing.js';
+import { arbiterWords, timesWords } from './words.js';
+
+const HEADER = 'board,white,black,times,start', FIELDS = 5;
+const SETTLES = 700;                 // milliseconds between two looks at the table
+const ZONE = /(Z|[+-]\d\d:\d\d)$/;
+const FIELD = /(?:"((?:[^"]|"")*)"|([^,"\r\n]*))(,|\r?\n|$)/y;
+
+export class Openings {
+  /** desk: {app, question}. */
+  constructor(desk) {
+    this.app = desk.app;
+    this.question = desk.question;
+    this.boards = [];
+    this.isUnsure = false;
+    const form = byId('boards-form'), file = form.elements.file;
+    form.elements.csv.placeholder = HEADER;
+    form.addEventListener('submit', (event) => {
+      event.preventDefault();
+      this.take(form.elements.csv.value);
+    });
+    file.addEventListener('change', async () => {
+      if (file.files[0]) form.elements.csv.value = await file.files[0].text();
+      file.value = '';
+    });
+    byId('boards-open').addEventListener('click', () => this.ask());
+    byId('boards-copy').addEventListener('click', async () => {
+      const done = await copy(this.taken());
+      this.note(done ? t`It is copied.` : this.taken(), 'news');
+    });
+  }
+
+  // ---- reading
+
+  take(text) {
+    const { boards, wrong } = readPairings(text, (name) => this.app.players.has(name));
+    this.boards = wrong ? [] : boards;
+    this.note(wrong);
+    this.render();
+  }
+
+  // ---- opening
+
+  /** The boards that have no game yet and whose start has come. */
+  due() {
+    return this.boards.filter(({ game, start, black }) => black && !game && start <= Date.now());
+  }
+
+  ask() {
+    this.question.ask({ title: t`Open the games of this round: ${this.due().length}?`, yes: t`Open these games`,
+      words: t`Each is opened for White and joined for Black. From then on the clocks run.` }, () => this.open());
+  }
+
+  async open() {
+    this.isBusy = true;
+    this.note('');
+    this.render();
+    try {
+      for (const board of this.due()) if (!await this.openOne(board)) break;
+    } finally {
+      this.isBusy = false;
+      this.render();
+    }
+  }
+
+  /** Whether the next board may be opened: not behind an answer that was lost. */
+  async openOne(board) {
+    const rows = await this.table(), { white, black, line } = board;
+    const known = rows && rows.find((row) => row.white === white && row.black === black);
+    if (!rows) return this.isLost('');
+    if (known) {
+      Object.assign(board, { game: known.number, said: t`A game of the two is on the table already.` });
+      return true;
+    }
+    const waits = await this.waiting(rows, board), join = waits && `as ${black} join ${waits}`;
+    const [answer] = await this.app.wire.say(join || `pair ${white} ${black} ${line}`);
+    const done = /^ok (?:pair|join) (\d+)/.exec(answer), refusal = readRefusal(answer);
+    if (done) Object.assign(board, { game: Number(done[1]), said: '' });
+    else if (refusal) board.said = arbiterWords(refusal);
+    else return this.isLost(answer);
+    this.render();
+    return true;
+  }
+
+  /** The game of White's with the board's times that waits for a second player, as a pairing that was cut off leaves
+   * it; 0 where there is none. */
+  async waiting(rows, { white, line }) {
+    for (const row of rows.filter((one) => one.white === white && !one.black && one.result === '*')) {
+      const pgn = await this.app.wire.say(`pgn ${row.number}`);
+      if (pgn[0].startsWith('ok ') && isOf(readPgn(pgn.slice(1)).tags, `open white ${line}`)) return row.number;
+    }
+    return 0;
+  }
+
+  /** The rows of the table. What an earlier connection sent may be taken behind the first answer of a new one: then it
+   * is asked twice. */
+  async table() {
+    if (this.isUnsure) {
+      await this.app.wire.say('list');
+      await new Promise((over) => setTimeout(over, SETTLES));
+    }
+    const answer = await this.app.wire.say('list');
+    if (!answer[0].startsWith('ok list')) return null;
+    this.isUnsure = false;
+    return readRows(answer.slice(1));
+  }
+
+  isLost(answer) {
+    this.isUnsure = true;
+    this.note(answer === 'unsent' ? t`There is no connection. Nothing was sent.`
+      : t`The connection broke before the answer came. Open the others once it is there again: no board gets a second
+        game.`);
+    return false;
+  }
+
+  // ---- showing
+
+  /** Which games are which board's, as chess-club start takes them. */
+  taken() {
+    return this.boards.filter(({ game }) => game).map(({ board, game }) => `--take ${board}=${game}`).join(' ');
+  }
+
+  note(text, kind = 'refused') {
+    byId('boards-note').className = text ? `note ${kind}` : 'note';
+    setText(byId('boards-note'), text);
+  }
+
+  render() {
+    const count = this.due().length;
+    byId('boards-list').replaceChildren(...this.boards.map((board) => this.item(board)));
+    byId('boards-open').hidden = !count;
+    byId('boards-open').disabled = this.isBusy || !this.app.reachable();
+    byId('boards-copy').hidden = !this.taken();
+  }
+
+  item({ board, white, black, line, start, game, said }) {
+    const name = (one) => this.app.nameWords(one), times = timesWords(readTimes(timesOfOpen(`open white ${line}`)));
+    return make('li', { class: game ? 'done' : said ? 'open' : 'still' }, t`Board ${board}`, ': ',
+      black ? `${name(white)} – ${name(black)}, ${times}` : t`${name(white)} has no opponent`,
+      start > Date.now() && `, ${t`from ${momentWords(start)} on`}`, said && `. ${said}`,
+      game > 0 && ' ', game > 0 && make('a', { href: `#/game/${game}` }, t`Look at game ${game}`));
+  }
+}
+
+function momentWords(at) {
+  return new Date(at).toLocaleString([], { dateStyle: 'short', timeStyle: 'short' });
+}
+
+/** The rows of a CSV (RFC 4180), empty lines left out; null where quotes stand within a field. */
+function readCsv(text) {
+  const rows = [[]];
+  FIELD.lastIndex = 0;
+  for (let at = 0; at < text.length || rows[rows.length - 1].length; at = FIELD.lastIndex) {
+    const found = FIELD.exec(text);
+    if (!found) return null;
+    rows[rows.length - 1].push(found[1] === undefined ? found[2] : found[1].replaceAll('""', '"'));
+    if (found[3] === '') break;
+    if (found[3] !== ',') rows.push([]);
+  }
+  return rows.filter((row) => row.length > 1 || row[0]);
+}
+
+/** The boards of a round: {board, white, black, line, start}, `line` having the times as `open` has them, `black` being
+ * empty where White has no opponent, `start` in milliseconds; or what is wrong with the first row that is. */
+function readPairings(text, isPlayer) {
+  const rows = readCsv(text.replace(/^\ufeff/, '')) || [[]], boards = [], seen = new Set();
+  if (!rows.length || rows[0].join() !== HEADER) return { boards, wrong: t`The first line has to be ${HEADER}` };
+  for (const [place, row] of rows.slice(1).entries()) {
+    const board = boardOf(row), names = board.black ? [board.white, board.black] : [board.white];
+    const wrong = wrongWith(row, board, names.find((name) => !isPlayer(name)),
+      [row[0], ...names].find((one, at, all) => seen.has(one) || all.indexOf(one) < at));
+    if (wrong) return { boards, wrong: t`Row ${place + 2}: ${wrong}.` };
+    [row[0], ...names].forEach((one) => seen.add(one));
+    boards.push(board);
+  }
+  return { boards, wrong: boards.length ? '' : t`There is no board in it.` };
+}
+
+function boardOf(row) {
+  const [board, white, black, times, begins] = row;
+  const { initial, increment, moves, second } = readTimes(times || '') || { initial: NaN };
+  const line = moves ? `${moves}/${initial}:${second} ${increment}` : `${initial} ${increment}`;
+  return { board, white, black, line, start: begins ? Date.parse(begins) : 0, game: 0, said: '' };
+}
+
+/** What is wrong with a row, which has a name of no player, or a field twice, where these are given; else ''. */
+function wrongWith(row, { line, start }, stranger, twice) {
+  const [board, , black, times, begins] = row;
+  if (row.length !== FIELDS) return t`it has not five fields`;
+  if (!/^[1-9]\d{0,5}$/.test(board)) return t`the board is no number`;
+  if (stranger !== undefined) return t`no player has the name ${stranger}`;
+  if (twice !== undefined) return t`${twice} stands twice`;
+  if (Number.isNaN(start) || begins && !ZONE.test(begins)) return t`the start is not as 2026-11-26T19:30Z is`;
+  const isBye = !black && !begins, areTimes = timesOfOpen(`open white ${line}`) === times;
+  return isBye || areTimes ? '' : t`the times are not as 300+2 is`;
+}

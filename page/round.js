@@ -1,0 +1,179 @@
+// A round's pairings, the standings and the crosstable, as the lobby serves them in one file, for everybody.
+
+import { t } from './language.js';
+import { byId, make, setText } from './make.js';
+
+const FILE = 'round.json';
+const LOOKS_AGAIN = 15000, KNOWS_FOR = 60000;       // milliseconds: while it is shown, and for a game's page
+const SIGNS = { w: t`White`, b: t`Black` };
+
+const TITLES = {
+  DE: t`Direct encounter`, BHC1: t`Buchholz without the least`, BH: t`Buchholz`, SB: t`Sonneborn-Berger`, WIN: t`Wins`,
+};
+
+export class RoundView {
+  constructor(app) {
+    this.app = app;
+    this.root = byId('round-view');
+    this.hash = '#/round';
+    this.number = 0;                   // the round that is shown, 0 for the newest
+    this.told = null;                  // what the file tells
+    this.state = 'sought';
+    this.readAt = -Infinity;
+  }
+
+  // ---- coming and going
+
+  open(number) {
+    this.number = number;
+    this.root.hidden = false;
+    this.look();
+    this.looking = setInterval(() => !document.hidden && this.look(), LOOKS_AGAIN);
+    this.render();
+  }
+
+  close() {
+    this.root.hidden = true;
+    clearInterval(this.looking);
+  }
+
+  /** The games that this view has to be told of. */
+  needs() {
+    return [];
+  }
+
+  /** Reads the file, and draws what has changed; where it cannot be read what was told stays. A file that is empty tells
+   * of no round. */
+  async look() {
+    this.readAt = performance.now();
+    try {
+      const answer = await fetch(FILE, { cache: 'no-cache' }), text = answer.ok ? await answer.text() : '';
+      const isNone = answer.ok ? !text.trim() : answer.status === 404;
+      if (isNone) Object.assign(this, { told: null, state: 'none' });
+      else if (answer.ok) Object.assign(this, { told: JSON.parse(text), state: 'told' });
+      else this.state = this.told ? 'told' : 'failed';
+    } catch (refused) {
+      this.state = this.told ? 'told' : 'failed';
+    }
+    byId('to-round').hidden = !this.told;
+    this.render();
+    if (this.app.view === this.app.game) this.app.game.render();
+  }
+
+  /** For a game's page: which round's board a game is, in words; '' where it is none's. */
+  boardWords(number) {
+    if (performance.now() - this.readAt > KNOWS_FOR) this.look();
+    for (const [place, boards] of (this.told ? this.told.rounds : []).entries()) {
+      const found = boards.find(({ game }) => game === number);
+      if (found) return t`Round ${place + 1}, board ${found.board}`;
+    }
+    return '';
+  }
+
+  // ---- drawing
+
+  render() {
+    if (this.root.hidden) return;
+    const { told } = this, shown = told ? Math.min(this.number || told.rounds.length, told.rounds.length) : 0;
+    const title = shown ? t`Round ${shown}` : t`The round`;
+    setText(byId('round-title'), title);
+    this.app.titled(title);
+    setText(byId('round-event'), told ? told.event : '');
+    setText(byId('round-none'), { none: t`There is no round here.`, sought: t`Reading …`,
+      failed: t`The round cannot be read now.` }[this.state] || '');
+    for (const part of this.root.querySelectorAll('.round-part')) part.hidden = !shown;
+    if (!shown) return;
+    this.renderRounds(told.rounds.length, shown);
+    byId('round-boards').replaceChildren(...told.rounds[shown - 1].map((board) => this.boardRow(board)));
+    const places = this.placed();
+    byId('round-breaks').replaceChildren(...this.headCells());
+    byId('round-standings').replaceChildren(...places.map((player) => this.standingRow(player)));
+    byId('round-columns').replaceChildren(...this.crossHead());
+    byId('round-cross').replaceChildren(...places.map((player, place) => this.crossRow(player, place, places)));
+  }
+
+  /** The ways to the other rounds. */
+  renderRounds(count, shown) {
+    byId('round-others').replaceChildren(...Array.from({ length: count }, (_, place) => {
+      const link = make('a', { href: `#/round/${place + 1}` }, t`Round ${place + 1}`);
+      if (place + 1 === shown) link.setAttribute('aria-current', 'true');
+      return link;
+    }));
+  }
+
+  /** Players by their places, with their starting numbers. */
+  placed() {
+    return this.told.players.map((player, place) => ({ ...player, number: place + 1 }))
+      .sort((one, other) => one.place - other.place || one.number - other.number);
+  }
+
+  seat(number) {
+    const player = this.told.players[number - 1];
+    return player ? player.full : '';
+  }
+
+  boardRow({ board, white, black, bye, result, game }) {
+    const words = bye ? t`bye` : result !== '*' ? resultText(result) : game ? t`goes on` : t`not begun`;
+    return make('tr', {}, make('td', { class: 'number' }, String(board)), make('td', {}, this.seat(white)),
+      make('td', { class: 'result' }, game ? make('a', { href: `#/game/${game}` }, words) : words),
+      make('td', {}, bye ? '' : this.seat(black)));
+  }
+
+  headCells() {
+    return [make('th', { scope: 'col' }, t`Place`), make('th', { scope: 'col' }, t`Player`),
+      make('th', { scope: 'col' }, t`Points`), ...this.told.breaks.map((name) => make('th', { scope: 'col' },
+        make('abbr', { title: TITLES[name] || name }, name)))];
+  }
+
+  standingRow({ place, full, name, points, values }) {
+    return make('tr', {}, make('td', { class: 'number' }, String(place)),
+      make('th', { scope: 'row' }, make('a', { href: `#/player/${encodeURIComponent(name)}` }, full)),
+      make('td', { class: 'number' }, pointsText(points)),
+      ...values.map((value) => make('td', { class: 'number' }, pointsText(value))));
+  }
+
+  crossHead() {
+    return [make('th', { scope: 'col' }, t`No.`), make('th', { scope: 'col' }, t`Player`),
+      ...this.told.rounds.map((_, place) => make('th', { scope: 'col' }, String(place + 1)))];
+  }
+
+  /** A player's rounds: the line of the opponent, the colour and what it was worth. */
+  crossRow(player, place, places) {
+    return make('tr', {}, make('td', { class: 'number' }, String(place + 1)), make('th', { scope: 'row' }, player.full),
+      ...this.told.rounds.map((boards) => this.crossCell(player.number, boards, places)));
+  }
+
+  crossCell(number, boards, places) {
+    const found = boards.find(({ white, black }) => white === number || black === number);
+    if (!found) return make('td', { class: 'number' }, '–');
+    if (found.bye) return make('td', { class: 'number' }, pointText(found.result));
+    const isWhite = found.white === number, [one, other] = found.result.split('-');
+    const line = places.findIndex((player) => player.number === (isWhite ? found.black : found.white)) + 1;
+    const points = found.result === '*' ? '*' : sidePoints(found.result, isWhite, one, other);
+    return make('td', { class: 'number' }, `${line}`, make('span', { title: SIGNS[isWhite ? 'w' : 'b'] },
+      isWhite ? t`w` : t`b`), pointText(points));
+  }
+}
+
+/** What a side has of `1-0`, `1/2-0`, `+/-` and the like. */
+function sidePoints(result, isWhite, one, other) {
+  if (result.includes('/') && /^[+-]/.test(result)) return isWhite ? result[0] : result[2];
+  return isWhite ? one : other;
+}
+
+function pointText(text) {
+  return text.replace('1/2', '½').replace('-', '–');
+}
+
+/** `2½` of `2.5`. */
+function pointsText(text) {
+  const [whole, part] = text.split('.'), half = part === '5' || part === '50' ? '½' : '';
+  if (part && !half && Number(part)) return text;
+  return half && whole === '0' ? half : `${whole}${half}`;
+}
+
+/** `1–0` of `1-0`, `½–½`, `+ –`. */
+function resultText(result) {
+  if (/^[+-]\//.test(result)) return `${pointText(result[0])} ${pointText(result[2])}`;
+  return result.split('-').map(pointText).join('–');
+}
