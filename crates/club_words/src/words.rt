@@ -51,7 +51,8 @@ pub enum Word<'a> {
 // that has texts tells of all their bytes.)
 fn words() -> [WordText; 12] {
     [
-        LOBBY, PLAYER, EVIDENCE, VERIFY_LOG, KEEP, EXPORT, LIVE, START, RESULTS, DECIDE, TRF, STANDINGS,
+        LOBBY, PLAYER, EVIDENCE, VERIFY_LOG, KEEP, EXPORT, LIVE, START, RESULTS, DECIDE, TRF,
+        STANDINGS,
     ]
 }
 
