@@ -144,13 +144,8 @@ where
         let mut moments = Moments::new(self.rt)?;
         for _ in 0..u64::MAX {
             let at = moments.next();
-            match lobby.left(at) {
-                Some(left) => lobby.rest(Turned::Idle(Some(left)))?,
-                None => {
-                    players.look(lobby, at);
-                    self.turn(lobby, log, at)?;
-                }
-            }
+            players.look(lobby, at);
+            self.turn(lobby, log, at)?;
         }
         Ok(())
     }
