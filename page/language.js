@@ -12,7 +12,9 @@ const SAID_BY = ['aria-label', 'title', 'placeholder'];
 
 export const language = [read(() => localStorage, 'language'), ...navigator.languages]
   .map((one) => (one || '').split('-')[0]).find((one) => one in LANGUAGES) || 'en';
-const TABLE = language === 'en' ? {} : (await import(`./words-${language}.js`)).WORDS;
+// (a table that does not come leaves the page in English)
+const { WORDS: TABLE } = language === 'en' ? { WORDS: {} }
+  : await import(`./words-${language}.js`).catch(() => ({ WORDS: {} }));
 const FORMS = ['one', 'few', 'many', 'other'], PLURAL = new Intl.PluralRules(language);
 
 /** Of a word's forms, as `minuta|minuty|minut`, the one that goes with this number: one, few, and any other number, as
