@@ -4,7 +4,8 @@ import { t } from './language.js';
 import { byId, make, setText } from './make.js';
 
 const FILE = 'round.json';
-const LOOKS_AGAIN = 15000, KNOWS_FOR = 60000;       // milliseconds: while it is shown, and for a game's page
+// In milliseconds: while it is shown or none was told, and for a game's page where one was told.
+const LOOKS_AGAIN = 15000, KNOWS_FOR = 60000;
 const SIGNS = { w: t`White`, b: t`Black` };
 
 const TITLES = {
@@ -62,7 +63,7 @@ export class RoundView {
 
   /** For a game's page: which round's board a game is, in words; '' where it is none's. */
   boardWords(number) {
-    if (performance.now() - this.readAt > KNOWS_FOR) this.look();
+    if (performance.now() - this.readAt > (this.told ? KNOWS_FOR : LOOKS_AGAIN)) this.look();
     for (const [place, boards] of (this.told ? this.told.rounds : []).entries()) {
       const found = boards.find(({ game }) => game === number);
       if (found) return t`Round ${place + 1}, board ${found.board}`;
