@@ -11,6 +11,7 @@ use crate::sources::{Sources, link_to};
 use crate::telling::{Work, go_on};
 use crate::written::WrittenFile;
 use anyhow::Result;
+use lobby_words::NameForm;
 use night_archive::{game_of, lines_of, pgn_of as pgn_in};
 use night_games::Telling;
 use night_links::Link;
@@ -117,24 +118,23 @@ fn boards_of(alloc: Global, text: &str, since: Option<&str>) -> Result<Vec<Board
     Ok(boards)
 }
 
-impl<R> Writer<'_, R> {
-    // What the file is to have: the PGNs, one behind the other.
-    fn text(&self, alloc: Global, telling: &Telling<'_>) -> Result<Vec<u8>> {
-        let boards = in_order(alloc, self.seen.as_slice(), self.archived.as_slice())?;
-        let mut text = Vec::new(alloc);
-        for board in boards.as_slice() {
-            push_with(
-                &mut text,
-                alloc,
-                self.living.names,
-                telling,
-                board.game,
-                board.pgn.as_slice(),
-            )?;
-        }
-        Ok(text)
+// The PGNs of the table's boards and of those of the archive that are not there any more, one behind the other.
+fn text_of(
+    alloc: Global,
+    form: NameForm,
+    table: &[Board],
+    archived: &[Board],
+    telling: &Telling<'_>,
+) -> Result<Vec<u8>> {
+    let mut text = Vec::new(alloc);
+    for board in in_order(alloc, table, archived)?.as_slice() {
+        let pgn = board.pgn.as_slice();
+        push_with(&mut text, alloc, form, telling, board.game, pgn)?;
     }
+    Ok(text)
+}
 
+impl<R> Writer<'_, R> {
     // Those games of the server's list that are played or over, but those that were kept.
     fn push_rows(
         &self,
@@ -216,11 +216,18 @@ impl<'a, R: Files<File = File> + AllocGlobal + Eprint> Writer<'a, R> {
 
     // What the file is to have, with what is told besides; and writes the file of all games of the archive anew, where
     // it is another.
-    fn texts(&mut self, read: &Read) -> Result<Vec<u8>> {
+    fn texts(&mut self) -> Result<Vec<u8>> {
         let (alloc, form) = (self.rt.alloc(), self.living.names);
+        let read = Read::now(self.rt, &self.living.besides)?;
         let known = read.known(alloc, form)?;
         let telling = read.telling(self.sources.known().players, known.as_slice());
-        let text = self.text(alloc, &telling)?;
+        let text = text_of(
+            alloc,
+            form,
+            self.seen.as_slice(),
+            self.archived.as_slice(),
+            &telling,
+        )?;
         if let Some(kept) = &mut self.kept {
             kept.renew(self.rt, form, &telling, self.archive)?;
         }
@@ -262,8 +269,7 @@ where
     // (a file is written where it has changed)
     fn work(&mut self, _is_once: bool) -> Result<()> {
         self.look()?;
-        let read = Read::now(self.rt, &self.living.besides)?;
-        let text = self.texts(&read)?;
+        let text = self.texts()?;
         if let Some(text) = self.delay.due(self.rt, text)? {
             self.file.put(self.rt, text)?;
         }
