@@ -1,16 +1,9 @@
 //! Rounds and standings as an object of JSON, which the lobby serves and the page shows.
 use crate::places::Standings;
-use crate::texts::{Table, criterion_word, number_at, points_text, value_text};
-use night_report::{Bye, Meeting, Opponent, Play, Score};
+use crate::texts::{Table, criterion_word, name_at, number_at, points_text, value_text};
+use night_report::{Bye, Meeting, Opponent, Particulars, Play, Score};
 use std::alloc::{AllocError, Global};
 use text_parts::push_escaped;
-
-/// A player's name in the protocol, and as it is shown.
-#[derive(Clone, Copy)]
-pub struct Named<'a> {
-    pub name: &'a str,
-    pub shown: &'a str,
-}
 
 /// A board of a round, by its number, its game where one was noted, and who met.
 #[derive(Clone, Copy)]
@@ -117,7 +110,7 @@ fn put_rounds(out: &mut Vec<u8>, alloc: Global, rounds: &[Vec<Board>]) -> Result
 }
 
 // Appends the words of the tie-breaks.
-fn put_criteria(out: &mut Vec<u8>, table: Table<'_>) -> Result<(), AllocError> {
+fn put_criteria(out: &mut Vec<u8>, table: Table<'_, '_>) -> Result<(), AllocError> {
     put(out, ",\"breaks\":[")?;
     for (at, criterion) in table.criteria.iter().enumerate() {
         put_comma(out, at)?;
@@ -132,7 +125,7 @@ fn put_criteria(out: &mut Vec<u8>, table: Table<'_>) -> Result<(), AllocError> {
 fn put_values(
     out: &mut Vec<u8>,
     alloc: Global,
-    table: Table<'_>,
+    table: Table<'_, '_>,
     at: usize,
 ) -> Result<(), AllocError> {
     put(out, ",\"values\":[")?;
@@ -159,18 +152,18 @@ fn place_of(standings: &Standings, at: usize) -> u64 {
     }
 }
 
-// Appends a player.
+// Appends a player, by the name in the protocol and the one that is shown.
 fn put_player(
     out: &mut Vec<u8>,
     alloc: Global,
-    table: Table<'_>,
-    named: Named<'_>,
+    table: Table<'_, '_>,
+    name: &str,
     at: usize,
 ) -> Result<(), AllocError> {
     put(out, "{")?;
-    put_string(out, "name", named.name)?;
+    put_string(out, "name", name)?;
     put(out, ",")?;
-    put_string(out, "full", named.shown)?;
+    put_string(out, "full", name_at(table.names, at))?;
     let place = place_of(table.standings, at);
     let member = format!(in alloc; ",\"place\":{place},")?;
     put(out, member.as_str())?;
@@ -183,13 +176,13 @@ fn put_player(
 fn put_players(
     out: &mut Vec<u8>,
     alloc: Global,
-    table: Table<'_>,
-    named: &[Named<'_>],
+    table: Table<'_, '_>,
+    players: &[Particulars<'_>],
 ) -> Result<(), AllocError> {
     put(out, ",\"players\":[")?;
-    for (at, one) in named.iter().enumerate() {
+    for (at, player) in players.iter().enumerate() {
         put_comma(out, at)?;
-        put_player(out, alloc, table, *one, at)?;
+        put_player(out, alloc, table, player.name, at)?;
     }
     put(out, "]")
 }
@@ -199,15 +192,15 @@ pub fn round_json(
     alloc: Global,
     event: &str,
     rounds: &[Vec<Board>],
-    named: &[Named<'_>],
-    table: Table<'_>,
+    players: &[Particulars<'_>],
+    table: Table<'_, '_>,
 ) -> Result<Vec<u8>, AllocError> {
     let mut out = Vec::new(alloc);
     put(&mut out, "{")?;
     put_string(&mut out, "event", event)?;
     put_rounds(&mut out, alloc, rounds)?;
     put_criteria(&mut out, table)?;
-    put_players(&mut out, alloc, table, named)?;
+    put_players(&mut out, alloc, table, players)?;
     put(&mut out, "}\n")?;
     Ok(out)
 }

@@ -85,8 +85,8 @@ pub fn number_at(numbers: &[u64], at: usize) -> u64 {
     }
 }
 
-// The name of a player.
-fn name_at<'a>(names: &[&'a str], at: usize) -> &'a str {
+/// The name of a player; empty where there is none.
+pub fn name_at<'a>(names: &[&'a str], at: usize) -> &'a str {
     match names.get(at) {
         Some(name) => *name,
         None => "",
@@ -137,13 +137,13 @@ fn push_rounds(rows: &mut Vec<u8>, alloc: Global, count: usize) -> Result<(), Al
 
 /// What a table is of: the players' names in the order of their numbers, and the tie-breaks.
 #[derive(Clone, Copy)]
-pub struct Table<'a> {
+pub struct Table<'a, 'b> {
     pub names: &'a [&'a str],
-    pub criteria: &'a [Criterion],
-    pub standings: &'a Standings,
+    pub criteria: &'b [Criterion],
+    pub standings: &'b Standings,
 }
 
-impl<'a> Table<'a> {
+impl Table<'_, '_> {
     // A player's place, from 1 on.
     fn place(self, at: usize) -> u64 {
         match self.standings.places.get(at) {

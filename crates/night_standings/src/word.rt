@@ -1,6 +1,6 @@
 //! The word that writes the standings of a tournament.
 use crate::asked::{Form, Standing};
-use crate::json::{Board, Named, round_json};
+use crate::json::{Board, round_json};
 use crate::places::{Standings, standings_of};
 use crate::texts::Table;
 use anyhow::{Result, ensure};
@@ -36,22 +36,6 @@ fn texts_of<'a>(alloc: Global, names: &'a [String]) -> Result<Vec<&'a str>, Allo
     Ok(texts)
 }
 
-// Players by their names in the protocol, and as they are shown.
-fn named_of<'a>(
-    alloc: Global,
-    players: &[Particulars<'a>],
-    shown: &[&'a str],
-) -> Result<Vec<Named<'a>>, AllocError> {
-    let mut named = Vec::new(alloc);
-    for (player, shown) in players.iter().zip(shown) {
-        named.push(Named {
-            name: player.name,
-            shown,
-        })?;
-    }
-    Ok(named)
-}
-
 // The boards of a round.
 fn boards_of(
     alloc: Global,
@@ -84,12 +68,12 @@ fn all_boards<R: Files + AllocGlobal + Eprint>(
 }
 
 // The text of standings, of players with these names.
-fn text_of<R: Files + AllocGlobal + Eprint>(
+fn text_of<'a, R: Files + AllocGlobal + Eprint>(
     rt: &R,
-    asked: &Standing<'_>,
+    asked: &'a Standing<'_>,
     players: &[Particulars<'_>],
     rounds: &[Vec<Meeting>],
-    standings: &Standings,
+    standings: &'a Standings,
 ) -> Result<Vec<u8>> {
     let alloc = rt.alloc();
     let shown = shown_names(alloc, players, asked.names)?;
@@ -104,9 +88,8 @@ fn text_of<R: Files + AllocGlobal + Eprint>(
         Form::Crosstable => Ok(table.crosstable_csv(alloc, rounds)?),
         Form::Json => {
             let boards = all_boards(rt, asked.reporting.rounds.as_slice(), rounds)?;
-            let named = named_of(alloc, players, names.as_slice())?;
             let event = asked.reporting.tournament.name;
-            Ok(round_json(alloc, event, boards.as_slice(), named.as_slice(), table)?)
+            Ok(round_json(alloc, event, boards.as_slice(), players, table)?)
         }
     }
 }
