@@ -48,12 +48,6 @@ fn cell_of(alloc: Global, pgn: &str, tag: &str) -> Result<Cell, AllocError> {
     }
 }
 
-// Puts the cell of a number behind others.
-fn push_count(cells: &mut Vec<Cell>, alloc: Global, number: u64) -> Result<(), AllocError> {
-    cells.push(Cell::of_number(alloc, number)?)?;
-    Ok(())
-}
-
 // Puts the cells of a game behind others, but for that of its PGN.
 fn push_cells(
     cells: &mut Vec<Cell>,
@@ -61,11 +55,11 @@ fn push_cells(
     game: u32,
     pgn: &str,
 ) -> Result<(), AllocError> {
-    push_count(cells, alloc, u64::from(game))?;
+    cells.push(Cell::of_number(alloc, u64::from(game))?)?;
     for tag in &TAGS {
         cells.push(cell_of(alloc, pgn, tag)?)?;
     }
-    push_count(cells, alloc, plies_of(alloc, pgn)? as u64)?;
+    cells.push(Cell::of_number(alloc, plies_of(alloc, pgn)? as u64)?)?;
     cells.push(cell_of(alloc, pgn, "FEN")?)?;
     cells.push(cell_of(alloc, pgn, "Continues")?)?;
     Ok(())
