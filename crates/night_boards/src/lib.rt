@@ -1,16 +1,17 @@
 //! The games of a round's boards: the round's files, what the server tells of its table, the way of each board to its
 //! game, and the word that goes it with all of them.
 //!
-//! Modules: `start_word` goes round the boards, `asked` has what is asked of it; `files` reads pairings and notes,
-//! `checks` has what is asked of pairings first, `round_file` puts notes, `said` those of what the arbiter said,
-//! `token` reads an arbiter's token, `lobby` is the connection to the lobby, `table` what is told of the table, `board`
-//! the way of one board to its game.
+//! Modules: `start_word` goes round the boards, `asked` has what is asked of it, `host` what it has of the system;
+//! `files` reads pairings and notes, `checks` has what is asked of pairings first, `round_file` puts notes, `said` those
+//! of what the arbiter said, `token` reads an arbiter's token, `lobby` is the connection to the lobby, `table` what is
+//! told of the table, `board` the way of one board to its game.
 #![tactic(auto)]
 
 mod asked;
 mod board;
 mod checks;
 mod files;
+mod host;
 mod lobby;
 mod round_file;
 mod said;
@@ -22,6 +23,7 @@ pub use asked::{Round, Said, Starting};
 pub use board::{Became, Board, boards_of};
 pub use checks::{check_players, check_times};
 pub use files::{Paired, check_notes, paired_of, pairings_of};
+pub use host::Host;
 pub use lobby::LobbyLink;
 pub use round_file::RoundFile;
 pub use said::take_words;

@@ -3,6 +3,7 @@ use crate::asked::Starting;
 use crate::board::{Became, Board, boards_of};
 use crate::checks::{check_players, check_times};
 use crate::files::{check_notes, pairings_of};
+use crate::host::Host;
 use crate::lobby::LobbyLink;
 use crate::round_file::RoundFile;
 use crate::said::take_words;
@@ -14,8 +15,7 @@ use lobby_players::players_of;
 use night_rounds::Pairing;
 use std::alloc::Global;
 use std::fs::File;
-use std::net::{Net, SocketAddr, TcpStream};
-use std::random::RandomSource;
+use std::net::SocketAddr;
 use std::rt::{Clock, Files};
 use std::thread;
 use std::time::Duration;
@@ -98,10 +98,7 @@ impl<'a> Rounds<'a> {
     }
 
     // Connects to the lobby as the arbiter. Where the token is no arbiter's, it cannot go on.
-    fn link<'b, R>(&mut self, rt: &'b R) -> Result<LobbyLink<'b, R>>
-    where
-        R: Net<Stream = TcpStream> + RandomSource + AllocGlobal + Clock + Clone + Drop,
-    {
+    fn link<'b, R: Host>(&mut self, rt: &'b R) -> Result<LobbyLink<'b, R>> {
         let lobby = self.arbiter.lobby;
         let mut link = LobbyLink::open(rt, lobby)?;
         if !link.log_in(self.arbiter.token)? {
@@ -112,17 +109,12 @@ impl<'a> Rounds<'a> {
     }
 
     // Goes on with a board over a connection.
-    fn go_on_over<R>(&mut self, rt: &R, link: &mut LobbyLink<'_, R>, board: &Board) -> Result<()>
-    where
-        R: Net<Stream = TcpStream>
-            + RandomSource
-            + AllocGlobal
-            + Clock
-            + Clone
-            + Drop
-            + Print
-            + Eprint,
-    {
+    fn go_on_over<R: Host>(
+        &mut self,
+        rt: &R,
+        link: &mut LobbyLink<'_, R>,
+        board: &Board,
+    ) -> Result<()> {
         let (number, lobby) = (board.pairing.board, self.arbiter.lobby);
         let became = board
             .go_on(link, &mut self.file)
@@ -131,22 +123,12 @@ impl<'a> Rounds<'a> {
     }
 
     // Goes on with a board over a connection, which is made where there is none, and is given up where it fails.
-    fn go_on_with<'b, R>(
+    fn go_on_with<'b, R: Host>(
         &mut self,
         rt: &'b R,
         link: &mut Option<LobbyLink<'b, R>>,
         board: &Board,
-    ) -> Result<()>
-    where
-        R: Net<Stream = TcpStream>
-            + RandomSource
-            + AllocGlobal
-            + Clock
-            + Clone
-            + Drop
-            + Print
-            + Eprint,
-    {
+    ) -> Result<()> {
         let mut held = match link.take() {
             Some(held) => held,
             None => self.link(rt)?,
@@ -157,23 +139,13 @@ impl<'a> Rounds<'a> {
     }
 
     // The same, where a failure after which boards may be gone on with is kept, if it is the first.
-    fn go_on_at<'b, R>(
+    fn go_on_at<'b, R: Host>(
         &mut self,
         rt: &'b R,
         link: &mut Option<LobbyLink<'b, R>>,
         board: &Board,
         first: &mut Result<()>,
-    ) -> Result<()>
-    where
-        R: Net<Stream = TcpStream>
-            + RandomSource
-            + AllocGlobal
-            + Clock
-            + Clone
-            + Drop
-            + Print
-            + Eprint,
-    {
+    ) -> Result<()> {
         let done = self.go_on_with(rt, link, board);
         if self.has_failed() {
             return done;
@@ -186,17 +158,7 @@ impl<'a> Rounds<'a> {
 
     // Goes on with each board whose start has come. It tells the first of the failures, after which a board may be gone
     // on with again.
-    fn go_on<R>(&mut self, rt: &R, boards: &[Board]) -> Result<()>
-    where
-        R: Net<Stream = TcpStream>
-            + RandomSource
-            + AllocGlobal
-            + Clock
-            + Clone
-            + Drop
-            + Print
-            + Eprint,
-    {
+    fn go_on<R: Host>(&mut self, rt: &R, boards: &[Board]) -> Result<()> {
         let now = moment(rt)?;
         let mut link = None;
         let mut first = Ok(());
@@ -220,10 +182,12 @@ fn tell_failure<R: AllocGlobal + Eprint>(rt: &R, told: &mut String, error: Error
 }
 
 // Goes once round the boards. Where the lobby or its server is gone it is tried again.
-fn go_once<R>(rt: &R, rounds: &mut Rounds<'_>, boards: &[Board], told: &mut String) -> Result<()>
-where
-    R: Net<Stream = TcpStream> + RandomSource + AllocGlobal + Clock + Clone + Drop + Print + Eprint,
-{
+fn go_once<R: Host>(
+    rt: &R,
+    rounds: &mut Rounds<'_>,
+    boards: &[Board],
+    told: &mut String,
+) -> Result<()> {
     match rounds.go_on(rt, boards) {
         Ok(()) => {
             told.clear();
@@ -256,10 +220,7 @@ fn tell_waits<R: Eprint + Clock>(rt: &R, boards: &[Board]) -> Result<()> {
 }
 
 // Goes round the boards until each has its game or is the arbiter's.
-fn go_round<R>(rt: &R, rounds: &mut Rounds<'_>, boards: &[Board]) -> Result<()>
-where
-    R: Net<Stream = TcpStream> + RandomSource + AllocGlobal + Clock + Clone + Drop + Print + Eprint,
-{
+fn go_round<R: Host>(rt: &R, rounds: &mut Rounds<'_>, boards: &[Board]) -> Result<()> {
     let mut told = String::new(rt.alloc());
     for _ in 0..u64::MAX {
         go_once(rt, rounds, boards, &mut told)?;
@@ -338,33 +299,19 @@ fn rounds_of<'a>(alloc: Global, arbiter: Arbiter<'a>, file: RoundFile) -> Rounds
 }
 
 // Goes round the boards to the end, and tells how many have their games.
-fn go_through<R>(rt: &R, rounds: &mut Rounds<'_>, boards: &[Board]) -> Result<usize>
-where
-    R: Net<Stream = TcpStream> + RandomSource + AllocGlobal + Clock + Clone + Drop + Print + Eprint,
-{
+fn go_through<R: Host>(rt: &R, rounds: &mut Rounds<'_>, boards: &[Board]) -> Result<usize> {
     tell_waits(rt, boards)?;
     go_round(rt, rounds, boards)?;
     Ok(rounds.done.len())
 }
 
 // Opens the games of boards, and tells how many have theirs.
-fn open_games<R>(
+fn open_games<R: Host>(
     rt: &R,
     starting: &Starting<'_>,
     file: RoundFile,
     boards: &[Board],
-) -> Result<usize>
-where
-    R: Files
-        + Net<Stream = TcpStream>
-        + RandomSource
-        + AllocGlobal
-        + Clock
-        + Clone
-        + Drop
-        + Print
-        + Eprint,
-{
+) -> Result<usize> {
     let token = token_of(rt, starting.token_file)?;
     let arbiter = Arbiter {
         lobby: starting.lobby,
@@ -384,18 +331,7 @@ fn tell_end<R: Print>(rt: &R, boards: usize, games: usize) -> Result<()> {
 }
 
 // The games of boards are opened, by what the round's file has.
-fn start_boards<R>(rt: &R, starting: &Starting<'_>, pairings: &[Pairing]) -> Result<()>
-where
-    R: Files<File = File>
-        + Net<Stream = TcpStream>
-        + RandomSource
-        + AllocGlobal
-        + Clock
-        + Clone
-        + Drop
-        + Print
-        + Eprint,
-{
+fn start_boards<R: Host>(rt: &R, starting: &Starting<'_>, pairings: &[Pairing]) -> Result<()> {
     let boards = boards_of(rt.alloc(), pairings, starting.said.takes.as_slice())?;
     let file = file_of(rt, starting, pairings, boards.as_slice())?;
     let games = open_games(rt, starting, file, boards.as_slice())?;
@@ -403,18 +339,7 @@ where
 }
 
 /// Opens the game of each board at its start, and notes which it is.
-pub fn start<R>(rt: &R, starting: &Starting<'_>) -> Result<()>
-where
-    R: Files<File = File>
-        + Net<Stream = TcpStream>
-        + RandomSource
-        + AllocGlobal
-        + Clock
-        + Clone
-        + Drop
-        + Print
-        + Eprint,
-{
+pub fn start<R: Host>(rt: &R, starting: &Starting<'_>) -> Result<()> {
     let pairings = pairings_of(rt, starting.round.pairings)?;
     check_pairings(rt, starting, pairings.as_slice())?;
     start_boards(rt, starting, pairings.as_slice())
