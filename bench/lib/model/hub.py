@@ -1,7 +1,7 @@
 """Plays the lines of the part `hub` of `test_player` (see there) by the rules in words alone, on the plain model of the
 table: what each session of a hub is told, and what `run` writes. Devices and memory are no part of the model; of a
 device that serves so many calls more it knows only that a commit takes five calls, or four where all records fit into
-one sector (here: up to four entries). The last of the lines long_run.py has. """
+one sector (here: up to four entries). """
 
 import re
 from lib.model.rules import LAST_MOMENT, Table, parse
