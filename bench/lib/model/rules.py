@@ -438,6 +438,12 @@ class Game:
         self.judged = {}        # index of a claim -> right or wrong,
         self.seen = None        # the fields for the entries so far
 
+    def copy(self):
+        made = Game(None)
+        made.entries, made.known, made.judged = self.entries[:], self.known.copy(), self.judged.copy()
+        made.seen = self.seen
+        return made
+
     def add(self, entry):
         self.entries.append(entry)
         self.seen = None
@@ -673,6 +679,13 @@ class Table:
         self.greatest = 0       # the greatest moment of all entries
         self.last = 0           # the last number given
         self.entries = 0        # the count of all entries
+
+    def copy(self):
+        """The same table, which goes its own way."""
+        made = type(self)(self.games_limit, self.plies_limit)
+        made.greatest, made.last, made.entries = self.greatest, self.last, self.entries
+        made.games = {number: game.copy() for number, game in self.games.items()}
+        return made
 
     # ---- one command
 

@@ -1,6 +1,6 @@
-"""Plays the lines of the parts `store` and `lives` of `test_player` (bench/lib/model/README.md): a device in memory, and
-a journal and a store on it, from docs/design/DISK.md and docs/client/PROTOCOL.md alone, over the table of rules.py.
-Records are made by images.py, and read by reader.py.
+"""Plays the lines of the parts `store` and `lives` of `test_player` (see there): a device in memory, and a journal and
+a store on it, from docs/design/DISK.md and docs/client/PROTOCOL.md alone, over the table of rules.py. Records are made
+by images.py, and read by reader.py.
 
 A sector that cannot be read has zeros here, which are no header and no record: so it is refused all the same. """
 
@@ -8,7 +8,7 @@ import itertools
 
 from lib.model.images import Noted, fours, header, sectors_of, snapshot_of
 from lib.model.reader import SECTOR, SIGNATURE, Fault, Header, Sizes, contents, enter, read_entry, read_snapshot, up
-from lib.model.rules import READS, Game, split_input
+from lib.model.rules import READS, split_input
 from lib.model.tables import is_record
 
 WORN = 2 ** 64 - 1
@@ -77,16 +77,6 @@ class Device:
 
 # ------------------------------------------------------------------- a store
 
-def copied(table):
-    """The same table, which goes its own way."""
-    new = Noted(table.games_limit, table.plies_limit)
-    new.greatest, new.last, new.entries = table.greatest, table.last, table.entries
-    for number, game in table.games.items():
-        new.games[number] = Game(game.entries[0])
-        new.games[number].__dict__.update(entries=list(game.entries), known=dict(game.known), judged=dict(game.judged))
-    return new
-
-
 MEANT = {}                      # kept for speed: limits and records -> the table that they mean
 
 
@@ -98,7 +88,7 @@ def meaning(limits, snapshot, journal):
             read_snapshot(snapshot, table)
         for data in journal:
             enter(table, read_entry(data))
-    return copied(MEANT[key])
+    return MEANT[key].copy()
 
 
 class Journal:
@@ -205,12 +195,12 @@ class Store:
             raise Fault('Device { pending: %d }' % pending, 'a call that is not served') from None
 
     def submit(self, commands):
-        """The answers to `(moment, name, line)`."""
+        """The answers to `(moment, name, line)`, each as its lines."""
         refuse_if(self.has_failed, 'Failed')
         acts = sum(line.split(' ')[0] not in READS for _, _, line in commands)
         refuse_if(acts and (self.journal.seq == WORN or self.table.entries + acts > WORN), 'Worn')
         before = snapshot_of(self.table) if self.journal.is_due() else None
-        answers = [line for command in commands for line in self.table.command(*command)]
+        answers = [self.table.command(*command) for command in commands]
         records, self.table.noted = self.table.noted, []
         if records:
             self.call(len(records), self.journal.commit, before, records)
@@ -261,7 +251,7 @@ class Player:
 
     def submit(self):
         commands, self.batch = self.batch, []
-        return self.store.submit(commands)
+        return sum(self.store.submit(commands), [])
 
     def widen(self, *limits):
         self.store.widen(numbers(limits))
