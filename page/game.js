@@ -284,7 +284,7 @@ export class GameView {
     }
     if (this.standing.offer && !own && (word === 'offer' || word === 'claim') && this.seat()) sound('offer');
     if (answer.startsWith('fallen')) say(t`The flag has fallen.`);
-    else if (this.adjournedBy) say(this.adjournedWords());
+    else if (this.adjournedBy) say(`${t`Adjourned`}. ${this.adjournedWords()}`);
     else if (arbiter) this.news(t`The arbiter, ${this.app.nameWords(arbiter)}, has entered ${enteredWords(word)} for ${
       own ? t`you` : name}.`);
     else if (word === 'join') this.news(t`${name} has joined. The game has begun.`);
@@ -300,13 +300,13 @@ export class GameView {
   }
 
   adjournedWords() {
-    return t`Adjourned by the arbiter, ${this.app.nameWords(this.adjournedBy)}: it goes on later as another game. In the
-      record this one is a draw.`;
+    return t`By the arbiter, ${this.app.nameWords(this.adjournedBy)}: it goes on later as another game. In the record this
+      one is a draw.`;
   }
 
   over() {
     const words = resultWords(this.standing.result, this.standing.article);
-    if (words.result) say(`${withReason(words.result, words.reason)}.`);
+    if (words.result && !this.adjournedBy) say(`${withReason(words.result, words.reason)}.`);
     sound('end');
   }
 
@@ -723,6 +723,7 @@ export class GameView {
     const names = `${white || '…'} – ${black || '…'}`;
     if (this.isOffered()) return t`Draw offered: ${names}`;
     if (this.myTurn()) return t`Your turn: ${names}`;
+    if (this.adjournedBy) return t`Adjourned: ${names}`;
     return this.running() ? names : `${names}, ${this.standing.article ? this.standing.result : t`waiting`}`;
   }
 

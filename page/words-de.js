@@ -707,9 +707,10 @@ export const WORDS = {
     'Auf dem Blatt stehen {0} von {1} Links. Es ist nur dieses eine Mal da: drucke es jetzt.',
   'Who opens this link plays as {0}: keep it for yourself.':
     'Wer diesen Link öffnet, spielt als {0}: behalte ihn für dich.',
-  'Adjourned by the arbiter, {0}: it goes on later as another game. In the record this one is a draw.':
-    'Vom Schiedsrichter, {0}, vertagt: sie geht später als andere Partie weiter. In der Aufzeichnung ist diese '
-    + 'remis.',
+  'Adjourned': 'Vertagt',
+  'Adjourned: {0}': 'Vertagt: {0}',
+  'By the arbiter, {0}: it goes on later as another game. In the record this one is a draw.':
+    'Durch den Schiedsrichter, {0}: sie geht später als andere Partie weiter. In der Aufzeichnung ist diese remis.',
   'It is taken back at {0}, when you leave this page, or when another game of yours begins.':
     'Sie wird um {0} zurückgenommen, wenn du diese Seite verlässt oder wenn eine andere deiner Partien beginnt.',
   'Your other game that waited is taken back, since one has begun.':

@@ -701,8 +701,10 @@ export const WORDS = {
     'La hoja tiene {0} de {1} enlaces. Está solo esta vez: imprímela ahora.',
   'Who opens this link plays as {0}: keep it for yourself.':
     'Quien abre este enlace juega como {0}: guárdalo para ti.',
-  'Adjourned by the arbiter, {0}: it goes on later as another game. In the record this one is a draw.':
-    'Aplazada por el árbitro, {0}: continúa más tarde como otra partida. En el registro esta es tablas.',
+  'Adjourned': 'Aplazada',
+  'Adjourned: {0}': 'Aplazada: {0}',
+  'By the arbiter, {0}: it goes on later as another game. In the record this one is a draw.':
+    'Por el árbitro, {0}: continúa más tarde como otra partida. En el registro esta es tablas.',
   'It is taken back at {0}, when you leave this page, or when another game of yours begins.':
     'Se retira a las {0}, cuando dejes esta página o cuando empiece otra partida tuya.',
   'Your other game that waited is taken back, since one has begun.':

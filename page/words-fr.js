@@ -711,9 +711,10 @@ export const WORDS = {
     'La feuille a {0} liens sur {1}. Elle n’est là que cette fois : imprimez-la maintenant.',
   'Who opens this link plays as {0}: keep it for yourself.':
     'Qui ouvre ce lien joue comme {0} : gardez-le pour vous.',
-  'Adjourned by the arbiter, {0}: it goes on later as another game. In the record this one is a draw.':
-    'Ajournée par l’arbitre, {0} : elle reprend plus tard comme une autre partie. Dans les archives, celle-ci '
-    + 'est nulle.',
+  'Adjourned': 'Ajournée',
+  'Adjourned: {0}': 'Ajournée : {0}',
+  'By the arbiter, {0}: it goes on later as another game. In the record this one is a draw.':
+    'Par l’arbitre, {0} : elle reprend plus tard comme une autre partie. Dans les archives, celle-ci est nulle.',
   'It is taken back at {0}, when you leave this page, or when another game of yours begins.':
     'Elle est retirée à {0}, quand vous quittez cette page ou quand une autre de vos parties commence.',
   'Your other game that waited is taken back, since one has begun.':

@@ -703,8 +703,10 @@ export const WORDS = {
   'The sheet has {0} of {1} links. It is there this once: print it now.':
     'Il foglio ha {0} link su {1}. C’è solo questa volta: stampalo ora.',
   'Who opens this link plays as {0}: keep it for yourself.': 'Chi apre questo link gioca come {0}: tienilo per te.',
-  'Adjourned by the arbiter, {0}: it goes on later as another game. In the record this one is a draw.':
-    'Aggiornata dall’arbitro, {0}: continua più tardi come un’altra partita. Nel registro questa è patta.',
+  'Adjourned': 'Aggiornata',
+  'Adjourned: {0}': 'Aggiornata: {0}',
+  'By the arbiter, {0}: it goes on later as another game. In the record this one is a draw.':
+    'Dall’arbitro, {0}: continua più tardi come un’altra partita. Nel registro questa è patta.',
   'It is taken back at {0}, when you leave this page, or when another game of yours begins.':
     'Viene ritirata alle {0}, quando lasci questa pagina o quando comincia un’altra tua partita.',
   'Your other game that waited is taken back, since one has begun.':

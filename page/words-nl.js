@@ -706,8 +706,10 @@ export const WORDS = {
     'Op het vel staan {0} van {1} links. Het is er alleen deze keer: druk het nu af.',
   'Who opens this link plays as {0}: keep it for yourself.':
     'Wie deze link opent, speelt als {0}: houd hem voor jezelf.',
-  'Adjourned by the arbiter, {0}: it goes on later as another game. In the record this one is a draw.':
-    'Afgebroken door de arbiter, {0}: ze gaat later verder als een andere partij. In het verslag is deze remise.',
+  'Adjourned': 'Afgebroken',
+  'Adjourned: {0}': 'Afgebroken: {0}',
+  'By the arbiter, {0}: it goes on later as another game. In the record this one is a draw.':
+    'Door de arbiter, {0}: ze gaat later verder als een andere partij. In het verslag is deze remise.',
   'It is taken back at {0}, when you leave this page, or when another game of yours begins.':
     'Ze wordt teruggenomen om {0}, als je deze pagina verlaat of als een andere partij van je begint.',
   'Your other game that waited is taken back, since one has begun.':

@@ -700,8 +700,10 @@ export const WORDS = {
     'Arkusz ma {0} z {1} linków. Jest tylko ten jeden raz: wydrukuj go teraz.',
   'Who opens this link plays as {0}: keep it for yourself.':
     'Kto otworzy ten link, gra jako {0}: zachowaj go dla siebie.',
-  'Adjourned by the arbiter, {0}: it goes on later as another game. In the record this one is a draw.':
-    'Odłożona przez sędziego, {0}: będzie kontynuowana później jako inna partia. W zapisie ta jest remisem.',
+  'Adjourned': 'Odłożona',
+  'Adjourned: {0}': 'Odłożona: {0}',
+  'By the arbiter, {0}: it goes on later as another game. In the record this one is a draw.':
+    'Przez sędziego, {0}: będzie kontynuowana później jako inna partia. W zapisie ta jest remisem.',
   'It is taken back at {0}, when you leave this page, or when another game of yours begins.':
     'Zostanie cofnięta o {0}, gdy opuścisz tę stronę albo gdy zacznie się inna twoja partia.',
   'Your other game that waited is taken back, since one has begun.':

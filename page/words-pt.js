@@ -695,8 +695,10 @@ export const WORDS = {
   'The sheet has {0} of {1} links. It is there this once: print it now.':
     'A folha tem {0} de {1} links. Ela aparece só desta vez: imprima agora.',
   'Who opens this link plays as {0}: keep it for yourself.': 'Quem abre este link joga como {0}: guarde-o para você.',
-  'Adjourned by the arbiter, {0}: it goes on later as another game. In the record this one is a draw.':
-    'Adiada pelo árbitro, {0}: continua mais tarde como outra partida. No registro, esta é empate.',
+  'Adjourned': 'Adiada',
+  'Adjourned: {0}': 'Adiada: {0}',
+  'By the arbiter, {0}: it goes on later as another game. In the record this one is a draw.':
+    'Pelo árbitro, {0}: continua mais tarde como outra partida. No registro, esta é empate.',
   'It is taken back at {0}, when you leave this page, or when another game of yours begins.':
     'É retirada às {0}, quando você deixa esta página ou quando outra partida sua começa.',
   'Your other game that waited is taken back, since one has begun.':
