@@ -1,6 +1,7 @@
 // The arbiter's desk: all running games at a glance, and what is entered for their players.
 
 import { Adjournments, timesToGoOn, wordsToGoOn } from './adjourn.js';
+import { announced } from './announced.js';
 import { Picture } from './board.js';
 import { Clock } from './clock.js';
 import { pgnOf } from './kept.js';
@@ -27,6 +28,13 @@ const STAYS = 8000;                  // so long a game that has ended keeps its 
 const STAYS_BEFORE_OTHERS = 2000;    // or so long where a running game has none on the page for it,
 const UNTOUCHED = 3000;              // and longer until no hand was at the boards for so long,
 const STAYS_AT_MOST = 60000;         // but no longer than this
+const MOST_ANNOUNCED = 200;          // bytes, as the lobby takes them
+/** What is written otherwise where only ASCII can be, and has no mark that could be left out. */
+const PLAIN = {
+  ß: 'ss', ł: 'l', Ł: 'L', ø: 'o', Ø: 'O', đ: 'd', Đ: 'D', æ: 'ae', Æ: 'AE', œ: 'oe', Œ: 'OE', ı: 'i', '\u2013': '-',
+  '\u2014': '-', '\u2018': "'", '\u2019': "'", '\u201a': "'", '\u201c': '"', '\u201d': '"', '\u201e': '"', '«': '"',
+  '»': '"', '\u2026': '...',
+};
 
 export class ArbiterView {
   /** rows(): the table's rows by number. */
@@ -64,6 +72,12 @@ export class ArbiterView {
       this.clocks();
     });
     addEventListener('clocks', () => this.renderClocks());
+    byId('announcing').addEventListener('submit', (event) => {
+      event.preventDefault();
+      this.tellAll(`announce ${plain(byId('announcement').value.trim()).slice(0, MOST_ANNOUNCED)}`, byId('announcement'));
+    });
+    byId('unannounce').addEventListener('click', () => this.tellAll('announce', byId('announcement')));
+    addEventListener('announced', () => this.renderAnnounced());
     for (const id of ['pair-by-hand', 'open-a-round', 'players-and-links']) {
       byId(id).addEventListener('toggle', (event) => event.target.open && this.app.askPlayers());
     }
@@ -124,6 +138,7 @@ export class ArbiterView {
     byId('arbiter-only').hidden = may;
     byId('arbiter-desk').hidden = !may;
     this.renderEntries();
+    this.renderAnnounced();
     for (const card of this.cards.values()) this.renderActs(card);
     for (const part of [this.pairing, this.openings, this.adjourned, this.links]) part.render();
     this.fill();
@@ -577,11 +592,15 @@ export class ArbiterView {
   }
 
   /** Stops all clocks, for the reason that is written, or has them run again. */
-  async clocks() {
-    const reason = plain(byId('stop-reason').value.trim());
-    const [answer] = await this.app.wire.say(stopped ? 'start clocks' : `stop clocks ${reason}`);
-    const refusal = readRefusal(answer);
-    if (answer.startsWith('ok ')) byId('stop-reason').value = '';
+  clocks() {
+    const field = byId('stop-reason');
+    this.tellAll(stopped ? 'start clocks' : `stop clocks ${plain(field.value.trim())}`, field);
+  }
+
+  /** Says to the lobby what it tells every page; the field of it is empty then. */
+  async tellAll(line, field) {
+    const [answer] = await this.app.wire.say(line), refusal = readRefusal(answer);
+    if (answer.startsWith('ok ')) field.value = '';
     const lost = t`The connection broke before the answer came. Do it again.`;
     this.note(answer.startsWith('ok ') ? '' : refusal ? refusalWords(refusal) : lost, 'refused');
   }
@@ -590,6 +609,13 @@ export class ArbiterView {
     byId('stop-reason').hidden = byId('stop-label').hidden = Boolean(stopped);
     byId('stop-reason').required = !stopped;
     setText(byId('stop-clocks'), stopped ? t`Start the clocks` : t`Stop the clocks`);
+  }
+
+  /** Where something is announced it can be taken away. */
+  renderAnnounced() {
+    const had = focused() === byId('unannounce');
+    byId('unannounce').hidden = !announced;
+    if (had && !announced) byId('announcement').focus();
   }
 
   note(text, kind = 'news') {
@@ -601,7 +627,8 @@ export class ArbiterView {
 
 /** A text as a message to the lobby may have it: without what is beyond ASCII. */
 function plain(text) {
-  return text.normalize('NFD').replace(/[\u0300-\u036f]/g, '').replace(/[^ -~]/g, '?');
+  return text.replace(/[^ -~]/g, (sign) => PLAIN[sign] || sign).normalize('NFD').replace(/[\u0300-\u036f]/g, '')
+    .replace(/[^ -~]/g, '?');
 }
 
 /** Of a row of the table, or of how a game stands. */

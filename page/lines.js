@@ -80,9 +80,19 @@ export function readAct(line) {
   return as ? { by: as[1], sent: as[2], arbiter: found[1] } : { by: found[1], sent: found[2], arbiter: '' };
 }
 
-/** Why all clocks are stopped, by `clocks stopped REASON`; empty by any other line, as by `clocks run`. */
-export function stoppedIn(line = '') {
-  return line.startsWith('clocks stopped ') ? line.slice('clocks stopped '.length) : '';
+/** Why all clocks are stopped, by the line `clocks stopped REASON` of a message; empty where it has none. */
+export function stoppedIn(lines) {
+  return behind(lines, 'clocks stopped ');
+}
+
+/** What the arbiter announces, by the line `announced TEXT` of a message; empty where it has none. */
+export function announcedIn(lines) {
+  return behind(lines, 'announced ');
+}
+
+function behind(lines, front) {
+  const found = lines.find((line) => line.startsWith(front));
+  return found ? found.slice(front.length) : '';
 }
 
 /** `ok who paused K` or `ok who open K`, and the names behind it. */

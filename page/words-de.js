@@ -709,6 +709,11 @@ export const WORDS = {
     'Wer diesen Link öffnet, spielt als {0}: behalte ihn für dich.',
   'Adjourned': 'Vertagt',
   'Adjourned: {0}': 'Vertagt: {0}',
+  'The arbiter announces: {0}': 'Der Schiedsrichter sagt an: {0}',
+  'Announcement': 'Ansage',
+  'Announce it': 'Ansagen',
+  'Take it away': 'Wegnehmen',
+  'Hide': 'Ausblenden',
   'By the arbiter, {0}: it goes on later as another game. In the record this one is a draw.':
     'Durch den Schiedsrichter, {0}: sie geht später als andere Partie weiter. In der Aufzeichnung ist diese remis.',
   'It is taken back at {0}, when you leave this page, or when another game of yours begins.':

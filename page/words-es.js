@@ -703,6 +703,11 @@ export const WORDS = {
     'Quien abre este enlace juega como {0}: guárdalo para ti.',
   'Adjourned': 'Aplazada',
   'Adjourned: {0}': 'Aplazada: {0}',
+  'The arbiter announces: {0}': 'El árbitro anuncia: {0}',
+  'Announcement': 'Anuncio',
+  'Announce it': 'Anunciar',
+  'Take it away': 'Quitar',
+  'Hide': 'Ocultar',
   'By the arbiter, {0}: it goes on later as another game. In the record this one is a draw.':
     'Por el árbitro, {0}: continúa más tarde como otra partida. En el registro esta es tablas.',
   'It is taken back at {0}, when you leave this page, or when another game of yours begins.':

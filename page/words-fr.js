@@ -713,6 +713,11 @@ export const WORDS = {
     'Qui ouvre ce lien joue comme {0} : gardez-le pour vous.',
   'Adjourned': 'Ajournée',
   'Adjourned: {0}': 'Ajournée : {0}',
+  'The arbiter announces: {0}': 'L’arbitre annonce : {0}',
+  'Announcement': 'Annonce',
+  'Announce it': 'Annoncer',
+  'Take it away': 'Retirer',
+  'Hide': 'Masquer',
   'By the arbiter, {0}: it goes on later as another game. In the record this one is a draw.':
     'Par l’arbitre, {0} : elle reprend plus tard comme une autre partie. Dans les archives, celle-ci est nulle.',
   'It is taken back at {0}, when you leave this page, or when another game of yours begins.':

@@ -705,6 +705,11 @@ export const WORDS = {
   'Who opens this link plays as {0}: keep it for yourself.': 'Chi apre questo link gioca come {0}: tienilo per te.',
   'Adjourned': 'Aggiornata',
   'Adjourned: {0}': 'Aggiornata: {0}',
+  'The arbiter announces: {0}': 'L’arbitro annuncia: {0}',
+  'Announcement': 'Annuncio',
+  'Announce it': 'Annuncia',
+  'Take it away': 'Togli',
+  'Hide': 'Nascondi',
   'By the arbiter, {0}: it goes on later as another game. In the record this one is a draw.':
     'Dall’arbitro, {0}: continua più tardi come un’altra partita. Nel registro questa è patta.',
   'It is taken back at {0}, when you leave this page, or when another game of yours begins.':

@@ -708,6 +708,11 @@ export const WORDS = {
     'Wie deze link opent, speelt als {0}: houd hem voor jezelf.',
   'Adjourned': 'Afgebroken',
   'Adjourned: {0}': 'Afgebroken: {0}',
+  'The arbiter announces: {0}': 'De arbiter meldt: {0}',
+  'Announcement': 'Mededeling',
+  'Announce it': 'Melden',
+  'Take it away': 'Weghalen',
+  'Hide': 'Verbergen',
   'By the arbiter, {0}: it goes on later as another game. In the record this one is a draw.':
     'Door de arbiter, {0}: ze gaat later verder als een andere partij. In het verslag is deze remise.',
   'It is taken back at {0}, when you leave this page, or when another game of yours begins.':

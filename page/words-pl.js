@@ -702,6 +702,11 @@ export const WORDS = {
     'Kto otworzy ten link, gra jako {0}: zachowaj go dla siebie.',
   'Adjourned': 'Odłożona',
   'Adjourned: {0}': 'Odłożona: {0}',
+  'The arbiter announces: {0}': 'Sędzia ogłasza: {0}',
+  'Announcement': 'Ogłoszenie',
+  'Announce it': 'Ogłoś',
+  'Take it away': 'Zdejmij',
+  'Hide': 'Ukryj',
   'By the arbiter, {0}: it goes on later as another game. In the record this one is a draw.':
     'Przez sędziego, {0}: będzie kontynuowana później jako inna partia. W zapisie ta jest remisem.',
   'It is taken back at {0}, when you leave this page, or when another game of yours begins.':

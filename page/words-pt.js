@@ -697,6 +697,11 @@ export const WORDS = {
   'Who opens this link plays as {0}: keep it for yourself.': 'Quem abre este link joga como {0}: guarde-o para você.',
   'Adjourned': 'Adiada',
   'Adjourned: {0}': 'Adiada: {0}',
+  'The arbiter announces: {0}': 'O árbitro anuncia: {0}',
+  'Announcement': 'Anúncio',
+  'Announce it': 'Anunciar',
+  'Take it away': 'Retirar',
+  'Hide': 'Ocultar',
   'By the arbiter, {0}: it goes on later as another game. In the record this one is a draw.':
     'Pelo árbitro, {0}: continua mais tarde como outra partida. No registro, esta é empate.',
   'It is taken back at {0}, when you leave this page, or when another game of yours begins.':
