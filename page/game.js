@@ -7,6 +7,7 @@ import { dateWords, findKept, pgnOf, toldOf } from './kept.js';
 import { language, t } from './language.js';
 import { placementOf, readLine, readPgn, readRefusal, readStanding, readTimes, sideOf, squaresOf } from './lines.js';
 import { byId, copy, focused, make, save, say, setText } from './make.js';
+import { Room } from './room.js';
 import { drawActions, drawFacts, drawMoves, drawOutcome, drawPlayers } from './sheet.js';
 import { asksFirst } from './settings.js';
 import { sound } from './sound.js';
@@ -53,6 +54,7 @@ export class GameView {
     this.plan = null;                  // a move for the next turn, {from, to}
     this.proposed = '';                // a move that stands on the board, and is sent once it is agreed to
     this.isSlow = false;               // whether what was sent is not answered soon
+    this.room = new Room(this);
     this.board = new Board({ chosen: (move) => this.moveOnBoard(move), planned: (plan) => this.planned(plan),
       says: say });
     byId('board').append(this.board.root);
@@ -117,6 +119,7 @@ export class GameView {
       this.note('');
       this.suggest(null);
       byId('move-text').value = '';
+      this.room.clear();
       if (number === this.lostJoin) this.lost({ word: 'join' });
       this.lostJoin = 0;
     }
@@ -199,6 +202,7 @@ export class GameView {
     if (this.wasAway) this.note('');
     this.wasAway = false;
     this.settleUnsure(this.standing);
+    this.room.ask();
   }
 
   /** Once more in a while: of a game that was not told, nobody says when it can be. */
@@ -243,6 +247,7 @@ export class GameView {
       return;
     }
     this.follow(sent, answer);
+    if (!arbiter) this.room.acted(by);
     if (answer.startsWith('ok ')) this.watchAdjourning(by, sent, arbiter);
     this.tell(by, sent, answer, arbiter);
     if (ended) this.over();            // (a mate is said behind its move)

@@ -100,6 +100,14 @@ export function readWho(lines) {
   return { arePaused: lines[0].startsWith('ok who paused '), names: new Set(lines.slice(1)) };
 }
 
+/** `ok room G WHITE BLACK N` as {away, watchers}: for how many seconds each player is not connected, null where that is not
+ * known, or undefined where the player is here; and how many watch. Null for any other line. */
+export function readRoom(line) {
+  const found = /^ok room \d+ (?:here|away (\d+|-)) (?:here|away (\d+|-)) (\d+)$/.exec(line);
+  const seconds = (text) => (text === '-' ? null : text && Number(text));
+  return found ? { away: { w: seconds(found[1]), b: seconds(found[2]) }, watchers: Number(found[3]) } : null;
+}
+
 /** `e2e4` as {from, to}; empty texts for `-` or anything else. */
 export function squaresOf(move) {
   const found = /^([a-h][1-8])([a-h][1-8])[qrbn]?$/.exec(move);

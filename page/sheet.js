@@ -21,6 +21,7 @@ export function drawPlayers(game) {
     setText(root.querySelector('.name'), name ? game.app.nameWords(name) : t`waiting …`);
     root.querySelector('.name').title = name;
     setText(root.querySelector('.colour'), colourWord(side));
+    setText(root.querySelector('.away'), game.room.awayWords(side));
     const period = standing.article ? '' : periodWords(times, standing.ply, game.startSide(), side);
     setText(root.querySelector('.period'), period);
     setText(root.querySelector('.score'), game.adjournedBy ? '' : scoreOf(standing.result, side));
@@ -165,6 +166,7 @@ export function drawFacts(game) {
   setText(byId('game-kept'), game.keptWords());
   setText(byId('game-board'), game.app.round.boardWords(game.number));
   byId('fen-text').value = game.fenShown();
+  setText(byId('game-watched'), game.room.watchedWords());
   byId('watching').hidden = Boolean(game.seat()) || !game.started();
 }
 
