@@ -28,8 +28,13 @@ export function readStanding(lines) {
   const show = readShow(lines[0] || '');
   const fen = /^ok fen \d+ (.+)$/.exec(lines[1] || '');
   if (!show || !fen) return null;
-  const words = (lines[2] || 'moves -').split(' ');
-  return { ...show, fen: fen[1], check: words[1] === '+', moves: words.slice(2).filter((move) => move !== '') };
+  return { ...show, fen: fen[1], ...readMoves(lines[2] || 'moves -') };
+}
+
+/** `moves CHECK MOVE ..`, or the answer to `moves FEN`, as {check, moves}; null for any other line. */
+export function readMoves(line) {
+  const found = /^(?:ok )?moves ([+-])(.*)$/.exec(line);
+  return found ? { check: found[1] === '+', moves: found[2].split(' ').filter(Boolean) } : null;
 }
 
 /** Whether the answer to `show G` says that there is no such game. */
@@ -100,12 +105,17 @@ export function readWho(lines) {
   return { arePaused: lines[0].startsWith('ok who paused '), names: new Set(lines.slice(1)) };
 }
 
-/** `ok room G WHITE BLACK N` as {away, watchers}: for how many seconds each player is not connected, null where that is not
- * known, or undefined where the player is here; and how many watch. Null for any other line. */
-export function readRoom(line) {
-  const found = /^ok room \d+ (?:here|away (\d+|-)) (?:here|away (\d+|-)) (\d+)$/.exec(line);
-  const seconds = (text) => (text === '-' ? null : text && Number(text));
-  return found ? { away: { w: seconds(found[1]), b: seconds(found[2]) }, watchers: Number(found[3]) } : null;
+/** `ok room G N` and the lines behind it as {watching, here, away}: how many connections watch the game, which of its
+ * players are here, and for how many seconds each other one is away, null where that is not known. Null for other lines. */
+export function readRoom(lines) {
+  const found = /^ok room \d+ (\d+)$/.exec(lines[0]), here = new Set(), away = new Map();
+  if (!found) return null;
+  for (const line of lines.slice(1)) {
+    const [name, word, seconds] = line.split(' ');
+    if (word === 'here') here.add(name);
+    if (word === 'away') away.set(name, seconds === '-' ? null : Number(seconds));
+  }
+  return { watching: Number(found[1]), here, away };
 }
 
 /** `e2e4` as {from, to}; empty texts for `-` or anything else. */

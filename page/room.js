@@ -18,51 +18,45 @@ export class Room {
 
   /** Another game is shown, of which nothing is known so far. */
   clear() {
-    this.since = { w: undefined, b: undefined };       // when each player went, null where that is not known
-    this.watchers = 0;
+    this.since = new Map();            // of each player who is away, the moment since when, null where that is not known
+    this.watching = 0;
   }
 
   /** Asks the lobby, which tells it to who has signed in. */
   async ask() {
     const { game } = this, { app, number } = game;
     if (!app.me() || !number || !game.running()) return;
-    const [answer] = await app.wire.say(`room ${number}`, true), room = readRoom(answer);
+    const room = readRoom(await app.wire.say(`room ${number}`, true)), now = Date.now();
     if (!room || game.number !== number) return;
-    const now = Date.now(), before = this.since;
-    const since = (seconds) => (typeof seconds === 'number' ? now - 1000 * seconds : seconds);
-    this.since = { w: since(room.away.w), b: since(room.away.b) };
-    this.watchers = room.watchers;
+    const before = this.since;
+    this.since = new Map([...room.away].map(([name, seconds]) => [name, seconds === null ? null : now - 1000 * seconds]));
+    this.watching = Math.max(0, room.watching - room.here.size);         // (a player who is here watches too)
     this.tell(before);
     game.render();
   }
 
-  isAway(side, since = this.since) {
-    return this.game.running() && since[side] !== undefined;
-  }
-
-  /** A player has done something, and so is here. */
+  /** Who has done something is here. */
   acted(name) {
-    const { white, black } = this.game.standing;
-    if (name === white) this.since.w = undefined;
-    if (name === black) this.since.b = undefined;
+    this.since.delete(name);
   }
 
   /** Who plays hears that the opponent goes, and comes again. */
   tell(before) {
-    const { app, standing } = this.game, side = OTHER[this.game.seat()];
-    if (!side || this.isAway(side) === this.isAway(side, before)) return;
-    const name = app.nameWords(side === 'w' ? standing.white : standing.black);
-    say(this.isAway(side) ? t`${name} is not connected.` : t`${name} is connected again.`);
+    const { app, standing } = this.game, other = OTHER[this.game.seat()];
+    if (!other) return;
+    const name = other === 'w' ? standing.white : standing.black, isAway = this.since.has(name);
+    if (isAway === before.has(name)) return;
+    say(isAway ? t`${app.nameWords(name)} is not connected.` : t`${app.nameWords(name)} is connected again.`);
   }
 
   /** What stands beside a player's name. */
-  awayWords(side) {
-    if (!this.isAway(side)) return '';
-    const since = this.since[side], minutes = since === null ? 0 : Math.floor((Date.now() - since) / MINUTE);
+  awayWords(name) {
+    if (!this.game.running() || !this.since.has(name)) return '';
+    const since = this.since.get(name), minutes = since === null ? 0 : Math.floor((Date.now() - since) / MINUTE);
     return minutes ? t`not connected for ${minutes} min` : t`not connected`;
   }
 
   watchedWords() {
-    return this.watchers && this.game.running() ? t`Spectators: ${this.watchers}` : '';
+    return this.watching && this.game.running() ? t`Spectators signed in: ${this.watching}` : '';
   }
 }

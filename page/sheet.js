@@ -21,7 +21,7 @@ export function drawPlayers(game) {
     setText(root.querySelector('.name'), name ? game.app.nameWords(name) : t`waiting …`);
     root.querySelector('.name').title = name;
     setText(root.querySelector('.colour'), colourWord(side));
-    setText(root.querySelector('.away'), game.room.awayWords(side));
+    setText(root.querySelector('.away'), game.room.awayWords(name));
     const period = standing.article ? '' : periodWords(times, standing.ply, game.startSide(), side);
     setText(root.querySelector('.period'), period);
     setText(root.querySelector('.score'), game.adjournedBy ? '' : scoreOf(standing.result, side));
