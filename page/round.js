@@ -9,6 +9,7 @@ const LOOKS_AGAIN = 15000, KNOWS_FOR = 60000;
 const SIGNS = { w: t`White`, b: t`Black` };
 
 const TITLES = {
+  BP: t`Board points`,                 // (of teams alone)
   DE: t`Direct encounter`, BHC1: t`Buchholz without the least`, BH: t`Buchholz`, SB: t`Sonneborn-Berger`, WIN: t`Wins`,
 };
 
@@ -108,6 +109,14 @@ export class RoundView {
       .sort((one, other) => one.place - other.place || one.number - other.number);
   }
 
+  isOfTeams() {
+    return this.told.breaks.includes('BP');
+  }
+
+  whoCell() {
+    return make('th', { scope: 'col' }, this.isOfTeams() ? t`Team` : t`Player`);
+  }
+
   seat(number) {
     const player = this.told.players[number - 1];
     return player ? player.full : '';
@@ -121,20 +130,21 @@ export class RoundView {
   }
 
   headCells() {
-    return [make('th', { scope: 'col' }, t`Place`), make('th', { scope: 'col' }, t`Player`),
+    return [make('th', { scope: 'col' }, t`Place`), this.whoCell(),
       make('th', { scope: 'col' }, t`Points`), ...this.told.breaks.map((name) => make('th', { scope: 'col' },
         make('abbr', { title: TITLES[name] || name }, name)))];
   }
 
+  /** A team has no page of its own. */
   standingRow({ place, full, name, points, values }) {
-    return make('tr', {}, make('td', { class: 'number' }, String(place)),
-      make('th', { scope: 'row' }, make('a', { href: `#/player/${encodeURIComponent(name)}` }, full)),
+    const named = this.isOfTeams() ? full : make('a', { href: `#/player/${encodeURIComponent(name)}` }, full);
+    return make('tr', {}, make('td', { class: 'number' }, String(place)), make('th', { scope: 'row' }, named),
       make('td', { class: 'number' }, pointsText(points)),
       ...values.map((value) => make('td', { class: 'number' }, pointsText(value))));
   }
 
   crossHead() {
-    return [make('th', { scope: 'col' }, t`No.`), make('th', { scope: 'col' }, t`Player`),
+    return [make('th', { scope: 'col' }, t`No.`), this.whoCell(),
       ...this.told.rounds.map((_, place) => make('th', { scope: 'col' }, String(place + 1)))];
   }
 
@@ -163,7 +173,7 @@ function sidePoints(result, isWhite, one, other) {
 }
 
 function pointText(text) {
-  return text.replace('1/2', '½').replace('-', '–');
+  return text.includes('.') ? pointsText(text) : text.replace('1/2', '½').replace('-', '–');
 }
 
 /** `2½` of `2.5`. */

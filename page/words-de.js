@@ -829,6 +829,8 @@ export const WORDS = {
   'bye': 'spielfrei',
   'not begun': 'nicht begonnen',
   'Direct encounter': 'Direkter Vergleich',
+  'Board points': 'Brettpunkte',
+  'Team': 'Mannschaft',
   'Buchholz without the least': 'Buchholz ohne den niedrigsten Wert',
   'Buchholz': 'Buchholz',
   'Sonneborn-Berger': 'Sonneborn-Berger',

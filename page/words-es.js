@@ -820,6 +820,8 @@ export const WORDS = {
   'bye': 'descansa',
   'not begun': 'sin empezar',
   'Direct encounter': 'Resultado particular',
+  'Board points': 'Puntos de tablero',
+  'Team': 'Equipo',
   'Buchholz without the least': 'Buchholz sin el valor menor',
   'Buchholz': 'Buchholz',
   'Sonneborn-Berger': 'Sonneborn-Berger',

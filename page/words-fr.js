@@ -834,6 +834,8 @@ export const WORDS = {
   'bye': 'exempt',
   'not begun': 'pas commencée',
   'Direct encounter': 'Confrontation directe',
+  'Board points': 'Points de partie',
+  'Team': 'Équipe',
   'Buchholz without the least': 'Buchholz sans le plus faible',
   'Buchholz': 'Buchholz',
   'Sonneborn-Berger': 'Sonneborn-Berger',

@@ -825,6 +825,8 @@ export const WORDS = {
   'bye': 'riposa',
   'not begun': 'non iniziata',
   'Direct encounter': 'Scontro diretto',
+  'Board points': 'Punti individuali',
+  'Team': 'Squadra',
   'Buchholz without the least': 'Buchholz senza il valore minore',
   'Buchholz': 'Buchholz',
   'Sonneborn-Berger': 'Sonneborn-Berger',

@@ -827,6 +827,8 @@ export const WORDS = {
   'bye': 'vrij',
   'not begun': 'niet begonnen',
   'Direct encounter': 'Onderling resultaat',
+  'Board points': 'Bordpunten',
+  'Team': 'Team',
   'Buchholz without the least': 'Buchholz zonder de laagste',
   'Buchholz': 'Buchholz',
   'Sonneborn-Berger': 'Sonneborn-Berger',

@@ -820,6 +820,8 @@ export const WORDS = {
   'bye': 'pauzuje',
   'not begun': 'nierozpoczęta',
   'Direct encounter': 'Wynik bezpośredni',
+  'Board points': 'Małe punkty',
+  'Team': 'Drużyna',
   'Buchholz without the least': 'Buchholz bez najniższego',
   'Buchholz': 'Buchholz',
   'Sonneborn-Berger': 'Sonneborn-Berger',

@@ -815,6 +815,8 @@ export const WORDS = {
   'bye': 'isento',
   'not begun': 'não começada',
   'Direct encounter': 'Confronto direto',
+  'Board points': 'Pontos de tabuleiro',
+  'Team': 'Equipa',
   'Buchholz without the least': 'Buchholz sem o menor',
   'Buchholz': 'Buchholz',
   'Sonneborn-Berger': 'Sonneborn-Berger',
