@@ -206,7 +206,8 @@ export class AgainView {
     const { app } = this, fen = fenOf(this.at.position);
     if (!app.me() || this.told.has(fen)) return;
     this.asksMoves = setTimeout(async () => {
-      const [answer] = await app.wire.say(`moves ${fen}`, true), told = readMoves(answer), refusal = readRefusal(answer);
+      const [answer] = await app.wire.say(`moves ${fen}`, true);
+      const told = readMoves(answer), refusal = readRefusal(answer);
       const isBad = refusal && refusal.number === BAD_LINE;
       if (told || isBad) this.told.set(fen, told);
       if (fen !== fenOf(this.at.position)) return;

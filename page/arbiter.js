@@ -11,6 +11,7 @@ import { Links } from './links.js';
 import { arrange, byId, focused, make, save, setText } from './make.js';
 import { Openings } from './openings.js';
 import { Pairing } from './pairing.js';
+import { plain } from './plain.js';
 import { Question } from './question.js';
 import { stopped } from './stopped.js';
 import { Waits } from './waits.js';
@@ -29,12 +30,6 @@ const STAYS_BEFORE_OTHERS = 2000;    // or so long where a running game has none
 const UNTOUCHED = 3000;              // and longer until no hand was at the boards for so long,
 const STAYS_AT_MOST = 60000;         // but no longer than this
 const MOST_ANNOUNCED = 200;          // bytes, as the lobby takes them
-/** What is written otherwise where only ASCII can be, and has no mark that could be left out. */
-const PLAIN = {
-  ß: 'ss', ł: 'l', Ł: 'L', ø: 'o', Ø: 'O', đ: 'd', Đ: 'D', æ: 'ae', Æ: 'AE', œ: 'oe', Œ: 'OE', ı: 'i', '\u2013': '-',
-  '\u2014': '-', '\u2018': "'", '\u2019': "'", '\u201a': "'", '\u201c': '"', '\u201d': '"', '\u201e': '"', '«': '"',
-  '»': '"', '\u2026': '...',
-};
 
 export class ArbiterView {
   /** rows(): the table's rows by number. */
@@ -74,7 +69,8 @@ export class ArbiterView {
     addEventListener('clocks', () => this.renderClocks());
     byId('announcing').addEventListener('submit', (event) => {
       event.preventDefault();
-      this.tellAll(`announce ${plain(byId('announcement').value.trim()).slice(0, MOST_ANNOUNCED)}`, byId('announcement'));
+      const field = byId('announcement');
+      this.tellAll(`announce ${plain(field.value.trim()).slice(0, MOST_ANNOUNCED)}`, field);
     });
     byId('unannounce').addEventListener('click', () => this.tellAll('announce', byId('announcement')));
     addEventListener('announced', () => this.renderAnnounced());
@@ -302,8 +298,9 @@ export class ArbiterView {
     card.root = make('article', { class: 'desk-card', 'aria-label': t`Game ${number}` }, card.board.root,
       make('h2', {}, card.title), player('b'), card.state, card.last, player('w'),
       make('div', { class: 'desk-acts', role: 'group', 'aria-label': t`Decide game ${number}` },
-        act('w', t`White resigns`), act('b', t`Black resigns`), act('draw', t`Draw`), act('flag', t`Flag`),
-        act('adjourn', t`Adjourn`), act('pgn', t`Save PGN`), card.more), card.note);
+        act('w', t`White resigns`), act('b', t`Black resigns`), act('draw', t`Draw`), act('mistake', t`By mistake`),
+        act('flag', t`Flag`), act('adjourn', t`Adjourn`), act('pgn', t`Save PGN`), card.more), card.note);
+    card.acts.mistake.title = t`The game was begun by mistake`;
     this.cards.set(number, card);
     this.renderActs(card);
     this.ask(number);
@@ -424,13 +421,15 @@ export class ArbiterView {
   renderActs(card) {
     const { standing, acts, busy, runs } = card;
     const had = document.activeElement;
+    const isEarly = Boolean(standing) && standing.ply < AGREED;
     for (const [kind, button] of Object.entries(acts)) {
       button.hidden = kind === 'pgn' ? !card.isOver : kind !== 'drop' && Boolean(standing) && !runs;
-      button.disabled = !standing || busy || !this.app.reachable() || kind === 'draw' && standing.ply < AGREED;
+      button.disabled = !standing || busy || !this.app.reachable() || kind === 'draw' && isEarly;
     }
+    // (one stands in the other's place)
+    acts.draw.hidden = acts.draw.hidden || isEarly;
+    acts.mistake.hidden = acts.mistake.hidden || !isEarly;
     card.more.hidden = !standing || runs || card.isOver;
-    const isEarly = standing && standing.ply < AGREED;
-    acts.draw.title = isEarly ? t`A draw can be agreed on once both sides have made a move.` : '';
     if (card.root.contains(had) && !had.getClientRects().length) card.title.focus();
   }
 
@@ -482,6 +481,13 @@ export class ArbiterView {
           decides.`,
         lines: [`as ${seat[OTHER[side]]} flag ${number}`] };
     }
+    if (kind === 'mistake') {
+      return { title: t`Was game ${number} of ${name.w} and ${name.b} begun by mistake?`, yes: t`End it`,
+        words: t`Before both have moved only a resignation ends a game. It is entered for ${name[side]}, who is to move:
+          in the record ${name[OTHER[side]]} has won without a game. In a league chess-club decide puts down another
+          result. It cannot be taken back.`,
+        lines: [`as ${seat[side]} resign ${number}`] };
+    }
     const title = t`Take game ${number} of ${[name.w, name.b].filter(Boolean).join(t` and `)} off the table?`;
     return { title, words: t`It waits for a second player. No move has been made.`, yes: t`Take it off`,
       lines: [`drop ${number}`] };
@@ -499,7 +505,10 @@ export class ArbiterView {
       return;
     }
     const asked = this.asked(card, kind);
-    this.question.ask({ ...asked, about: number }, () => this.enter({ number, lines: asked.lines, button }));
+    this.question.ask({ ...asked, about: number }, () => {
+      if (kind !== 'mistake' || card.standing.ply < AGREED) this.enter({ number, lines: asked.lines, button });
+      else this.tellCard(number, t`Both have moved meanwhile. Nothing was entered.`);
+    });
   }
 
   async savePgn(number) {
@@ -623,12 +632,6 @@ export class ArbiterView {
     note.className = text ? `note ${kind}` : 'note';
     setText(note, text);
   }
-}
-
-/** A text as a message to the lobby may have it: without what is beyond ASCII. */
-function plain(text) {
-  return text.replace(/[^ -~]/g, (sign) => PLAIN[sign] || sign).normalize('NFD').replace(/[\u0300-\u036f]/g, '')
-    .replace(/[^ -~]/g, '?');
 }
 
 /** Of a row of the table, or of how a game stands. */

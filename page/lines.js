@@ -106,7 +106,8 @@ export function readWho(lines) {
 }
 
 /** `ok room G N` and the lines behind it as {watching, here, away}: how many connections watch the game, which of its
- * players are here, and for how many seconds each other one is away, null where that is not known. Null for other lines. */
+ * players are here, and for how many seconds each other one is away, null where that is not known. Null for other
+ * lines. */
 export function readRoom(lines) {
   const found = /^ok room \d+ (\d+)$/.exec(lines[0]), here = new Set(), away = new Map();
   if (!found) return null;

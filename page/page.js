@@ -44,7 +44,8 @@ class Page {
     this.view = null;
     this.wire = new Wire(address.href, {
       opened: (server) => this.opened(server), notice: (lines) => this.notice(lines), clocks: clocksTold,
-      announced: announcedTold, offers: () => this.challenges.look(), changed: () => this.changed(), unnamed: () => this.who.unnamed(),
+      announced: announcedTold, offers: () => this.challenges.look(), changed: () => this.changed(),
+      unnamed: () => this.who.unnamed(),
     });
     this.table = new TableView(this);
     this.game = new GameView(this);

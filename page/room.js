@@ -18,7 +18,7 @@ export class Room {
 
   /** Another game is shown, of which nothing is known so far. */
   clear() {
-    this.since = new Map();            // of each player who is away, the moment since when, null where that is not known
+    this.since = new Map();            // of each player who is away, since when, null where that is not known
     this.watching = 0;
   }
 
@@ -29,7 +29,8 @@ export class Room {
     const room = readRoom(await app.wire.say(`room ${number}`, true)), now = Date.now();
     if (!room || game.number !== number) return;
     const before = this.since;
-    this.since = new Map([...room.away].map(([name, seconds]) => [name, seconds === null ? null : now - 1000 * seconds]));
+    const since = (seconds) => (seconds === null ? null : now - 1000 * seconds);
+    this.since = new Map([...room.away].map(([name, seconds]) => [name, since(seconds)]));
     this.watching = Math.max(0, room.watching - room.here.size);         // (a player who is here watches too)
     this.tell(before);
     game.render();

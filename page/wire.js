@@ -18,9 +18,10 @@ export const LOST = Object.freeze(['lost']);
 export const UNSENT = Object.freeze(['unsent']);
 
 export class Wire {
-  /** told: {opened, notice(lines), clocks(reason), announced(text), offers, changed, unnamed}; changed() is called whenever
-   * `state` is another, clocks() where all clocks are stopped, with why, or run again, announced() where the arbiter announces
-   * something, or nothing any more, and unnamed() where an answer says that the connection has shown no token. */
+  /** told: {opened, notice(lines), clocks(reason), announced(text), offers, changed, unnamed}; changed() is called
+   * whenever `state` is another, clocks() where all clocks are stopped, with why, or run again, announced() where the
+   * arbiter announces something, or nothing any more, and unnamed() where an answer says that the connection has
+   * shown no token. */
   constructor(address, told) {
     this.address = address;
     this.told = { announced() {}, offers() {}, ...told };

@@ -73,6 +73,16 @@ export const WORDS = {
   'More': 'Mehr',
   'Take off': 'Vom Tisch nehmen',
   'Decide game {0}': 'Partie {0} entscheiden',
+  'By mistake': 'Versehentlich',
+  'The game was begun by mistake': 'Die Partie wurde aus Versehen begonnen',
+  'Was game {0} of {1} and {2} begun by mistake?': 'Wurde Partie {0} von {1} und {2} aus Versehen begonnen?',
+  'End it': 'Beenden',
+  ['Before both have moved only a resignation ends a game. It is entered for {0}, who is to move: in the record {1} '
+    + 'has won without a game. In a league chess-club decide puts down another result. It cannot be taken back.']:
+    'Bevor beide gezogen haben, beendet nur eine Aufgabe eine Partie. Sie wird für {0} am Zug eingetragen: in der '
+    + 'Aufzeichnung hat {1} ohne Spiel gewonnen. In einer Liga trägt chess-club decide ein anderes Ergebnis ein. Es '
+    + 'lässt sich nicht zurücknehmen.',
+  'Both have moved meanwhile. Nothing was entered.': 'Inzwischen haben beide gezogen. Nichts wurde eingetragen.',
   'White resigns': 'Weiß gibt auf',
   'Black resigns': 'Schwarz gibt auf',
   'Flag': 'Zeit',
@@ -836,4 +846,15 @@ export const WORDS = {
   'This lobby can stop no clocks: whoever runs it has not named the server’s file.':
     'Diese Lobby kann keine Uhren anhalten: Wer sie betreibt, hat die Datei des Servers nicht genannt.',
   'Reason': 'Grund',
+  'A player who is new: the full name': 'Wer neu dazukommt: der volle Name',
+  'Copy the command': 'Befehl kopieren',
+  'The command is copied.': 'Der Befehl ist kopiert.',
+  'A player of this full name is listed already.': 'Jemand mit diesem vollen Namen ist schon aufgeführt.',
+  'To be run on the club’s machine, with the evening’s folder for FOLDER.':
+    'Auf dem Rechner des Vereins auszuführen, mit dem Ordner des Abends statt FOLDER.',
+  '{0} Run it on the club’s machine, with the evening’s folder for FOLDER. A second later the player is listed here.':
+    '{0} Führe ihn auf dem Rechner des Vereins aus, mit dem Ordner des Abends statt FOLDER. Eine Sekunde später '
+    + 'steht der Spieler hier in der Liste.',
+  '{0} is listed now: make a new link, which is shown here once.':
+    '{0} ist jetzt aufgeführt: mache einen neuen Link, der hier einmal gezeigt wird.',
 };

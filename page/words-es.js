@@ -70,6 +70,15 @@ export const WORDS = {
   'More': 'Más',
   'Take off': 'Retirar',
   'Decide game {0}': 'Decidir la partida {0}',
+  'By mistake': 'Por error',
+  'The game was begun by mistake': 'La partida se empezó por error',
+  'Was game {0} of {1} and {2} begun by mistake?': '¿Se empezó por error la partida {0} de {1} y {2}?',
+  'End it': 'Terminarla',
+  ['Before both have moved only a resignation ends a game. It is entered for {0}, who is to move: in the record {1} '
+    + 'has won without a game. In a league chess-club decide puts down another result. It cannot be taken back.']:
+    'Antes de que ambos hayan jugado, solo un abandono termina una partida. Se anota por {0}, a quien le toca: en el '
+    + 'registro {1} ha ganado sin jugar. En una liga, chess-club decide anota otro resultado. No se puede deshacer.',
+  'Both have moved meanwhile. Nothing was entered.': 'Entretanto ambos han jugado. No se anotó nada.',
   'White resigns': 'Abandonan blancas',
   'Black resigns': 'Abandonan negras',
   'Flag': 'Bandera',
@@ -827,4 +836,15 @@ export const WORDS = {
   'This lobby can stop no clocks: whoever runs it has not named the server’s file.':
     'Este lobby no puede detener relojes: quien lo dirige no ha indicado el archivo del servidor.',
   'Reason': 'Motivo',
+  'A player who is new: the full name': 'Quien es nuevo: el nombre completo',
+  'Copy the command': 'Copiar la orden',
+  'The command is copied.': 'La orden está copiada.',
+  'A player of this full name is listed already.': 'Ya figura alguien con este nombre completo.',
+  'To be run on the club’s machine, with the evening’s folder for FOLDER.':
+    'Se ejecuta en la máquina del club, con la carpeta de la velada en lugar de FOLDER.',
+  '{0} Run it on the club’s machine, with the evening’s folder for FOLDER. A second later the player is listed here.':
+    '{0} Ejecútala en la máquina del club, con la carpeta de la velada en lugar de FOLDER. Un segundo después el '
+    + 'jugador figura aquí.',
+  '{0} is listed now: make a new link, which is shown here once.':
+    '{0} figura ahora en la lista: crea un enlace nuevo, que se muestra aquí una vez.',
 };

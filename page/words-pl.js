@@ -71,6 +71,15 @@ export const WORDS = {
   'More': 'Więcej',
   'Take off': 'Usuń z listy',
   'Decide game {0}': 'Rozstrzygnij partię {0}',
+  'By mistake': 'Pomyłka',
+  'The game was begun by mistake': 'Partię rozpoczęto przez pomyłkę',
+  'Was game {0} of {1} and {2} begun by mistake?': 'Czy partię {0} ({1} i {2}) rozpoczęto przez pomyłkę?',
+  'End it': 'Zakończ',
+  ['Before both have moved only a resignation ends a game. It is entered for {0}, who is to move: in the record {1} '
+    + 'has won without a game. In a league chess-club decide puts down another result. It cannot be taken back.']:
+    'Zanim obie strony wykonają ruch, partię kończy tylko poddanie. Zapisuje się je za stronę na posunięciu ({0}): w '
+    + 'zapisie wygrywa bez gry {1}. W lidze chess-club decide zapisuje inny wynik. Tego nie można cofnąć.',
+  'Both have moved meanwhile. Nothing was entered.': 'Tymczasem obie strony wykonały ruch. Niczego nie zapisano.',
   'White resigns': 'Białe się poddają',
   'Black resigns': 'Czarne się poddają',
   'Flag': 'Czas',
@@ -828,4 +837,14 @@ export const WORDS = {
   'This lobby can stop no clocks: whoever runs it has not named the server’s file.':
     'To lobby nie może zatrzymać zegarów: kto je prowadzi, nie podał pliku serwera.',
   'Reason': 'Powód',
+  'A player who is new: the full name': 'Nowy uczestnik: pełne nazwisko',
+  'Copy the command': 'Kopiuj polecenie',
+  'The command is copied.': 'Polecenie skopiowano.',
+  'A player of this full name is listed already.': 'Ktoś o tym pełnym nazwisku jest już na liście.',
+  'To be run on the club’s machine, with the evening’s folder for FOLDER.':
+    'Do uruchomienia na komputerze klubu, z folderem wieczoru zamiast FOLDER.',
+  '{0} Run it on the club’s machine, with the evening’s folder for FOLDER. A second later the player is listed here.':
+    '{0} Uruchom je na komputerze klubu, z folderem wieczoru zamiast FOLDER. Sekundę później gracz jest tu na liście.',
+  '{0} is listed now: make a new link, which is shown here once.':
+    '{0} jest już na liście: utwórz nowy link, pokazany tu jeden raz.',
 };

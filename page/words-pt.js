@@ -71,6 +71,16 @@ export const WORDS = {
   'More': 'Mais',
   'Take off': 'Retirar',
   'Decide game {0}': 'Decidir a partida {0}',
+  'By mistake': 'Por engano',
+  'The game was begun by mistake': 'A partida começou por engano',
+  'Was game {0} of {1} and {2} begun by mistake?': 'A partida {0} de {1} e {2} começou por engano?',
+  'End it': 'Encerrar',
+  ['Before both have moved only a resignation ends a game. It is entered for {0}, who is to move: in the record {1} '
+    + 'has won without a game. In a league chess-club decide puts down another result. It cannot be taken back.']:
+    'Antes que os dois tenham jogado, só um abandono encerra uma partida. Ele é registrado por {0}, que tem a vez: '
+    + 'no registro, {1} venceu sem jogar. Numa liga, chess-club decide registra outro resultado. Não pode ser '
+    + 'desfeito.',
+  'Both have moved meanwhile. Nothing was entered.': 'Enquanto isso, os dois jogaram. Nada foi registrado.',
   'White resigns': 'Brancas abandonam',
   'Black resigns': 'Pretas abandonam',
   'Flag': 'Seta',
@@ -821,4 +831,15 @@ export const WORDS = {
   'This lobby can stop no clocks: whoever runs it has not named the server’s file.':
     'Este lobby não pode parar relógios: quem o gere não indicou o ficheiro do servidor.',
   'Reason': 'Motivo',
+  'A player who is new: the full name': 'Quem é novo: o nome completo',
+  'Copy the command': 'Copiar o comando',
+  'The command is copied.': 'O comando foi copiado.',
+  'A player of this full name is listed already.': 'Já há alguém com este nome completo na lista.',
+  'To be run on the club’s machine, with the evening’s folder for FOLDER.':
+    'Para executar na máquina do clube, com a pasta da noite no lugar de FOLDER.',
+  '{0} Run it on the club’s machine, with the evening’s folder for FOLDER. A second later the player is listed here.':
+    '{0} Execute-o na máquina do clube, com a pasta da noite no lugar de FOLDER. Um segundo depois o jogador está '
+    + 'aqui na lista.',
+  '{0} is listed now: make a new link, which is shown here once.':
+    '{0} já está na lista: crie um novo link, mostrado aqui uma vez.',
 };
