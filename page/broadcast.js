@@ -91,7 +91,7 @@ export class Broadcast {
     this.games = new File(GAMES, this.host);
     this.files = new Map();            // number -> the game's file
     this.names = new Map();            // who plays -> the full name
-    this.reason = '';                  // why all clocks are stopped
+    this.reason = null;                // why all clocks are stopped, once that was told
     this.failures = 0;                 // one behind the other
     this.rowsOf = null;
     this.all = new Map();

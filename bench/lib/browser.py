@@ -21,6 +21,10 @@ window.sentLines = []; window.breaches = []; window.tries = []; window.tables = 
 window.WebSocket = class extends WebSocket {
   constructor(...words) { super(...words); tries.push(performance.now()); } };
  window.spied = WebSocket.prototype.send;
+window.fetch = ((ask) => async (...words) => {
+  const answer = await ask(...words);
+  if (String(words[0]).endsWith('/games.json')) window.tables += 1;
+  return answer; })(window.fetch);
 WebSocket.prototype.send = function (line) {
   if (window.lastSocket !== this) this.addEventListener('message', (event) => {
     if (event.data.startsWith('ok lobby')) window.tables += 1;
