@@ -95,6 +95,7 @@ export class Broadcast {
     this.failures = 0;                 // one behind the other
     this.rowsOf = null;
     this.all = new Map();
+    this.leaves = 0;                   // how often the table was left
     this.forget();
     this.left = new AbortController();
     const again = () => this.retry(), { signal } = this.left;
@@ -105,9 +106,14 @@ export class Broadcast {
 
   /** Nothing is watched any more, and nobody is told of the table. */
   forget() {
-    this.isAtTable = false;
+    this.leaveTable();
     this.watched = new Set();
     this.known = new Map();            // number -> how the game stood when that was told last, null where it was not there
+  }
+
+  leaveTable() {
+    this.isAtTable = false;
+    this.leaves += 1;
   }
 
   /** Looks now. */
@@ -152,7 +158,7 @@ export class Broadcast {
 
   async readShown() {
     const isDue = (file) => file.told || file.age() >= LOOKS_FOR;
-    if (!this.state.open || this.isAtTable || !this.games.told) await this.games.read();
+    if (!this.state.open || this.isAtTable || !this.games.told || this.reason) await this.games.read();
     const alone = this.isAtTable ? [] : [...this.watched].map((number) => this.fileOf(number)).filter(isDue);
     await Promise.all(alone.map((file) => file.read()));
   }
@@ -212,6 +218,7 @@ export class Broadcast {
   tell() {
     const numbers = this.isAtTable ? [...this.rows().keys(), ...this.known.keys()] : this.watched;
     for (const number of new Set(numbers)) {
+      if (this.watched.has(number) && !this.known.has(number)) continue;          // (its answer is still to come)
       const before = this.known.get(number) || null, now = this.now(number);
       this.known.set(number, now);
       const isForTable = !before || !now || now.article !== before.article;
@@ -262,8 +269,9 @@ export class Broadcast {
   }
 
   async table() {
+    const { leaves } = this;
     await this.games.fresh();
-    this.isAtTable = true;
+    this.isAtTable = leaves === this.leaves;      // (it may have been left meanwhile)
     const rows = [...this.rows().values()];
     for (const row of rows) if (!this.watched.has(row.number)) this.known.set(row.number, row);
     return ['ok lobby', `ok list ${rows.length}`,
@@ -272,7 +280,7 @@ export class Broadcast {
 
   leave(given, number) {
     if (given === 'lobby') {
-      this.isAtTable = false;
+      this.leaveTable();
       this.retry();                    // (games that are watched stood as their rows, which are read less often)
     } else {
       this.watched.delete(number);
@@ -285,10 +293,10 @@ export class Broadcast {
   }
 
   async watch(number) {
+    this.watched.add(number);
     if (!this.isAtTable) await this.fileOf(number).fresh();
     const now = this.now(number);
-    this.watched.add(number);
-    this.known.set(number, now);
+    if (this.watched.has(number)) this.known.set(number, now);
     return now ? [`ok watch ${number}`, ...this.standsAs(now)] : GONE;
   }
 
