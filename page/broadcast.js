@@ -1,11 +1,11 @@
 // The games as the club shows them to everybody, for a page without a link: the files /games.json and /games/G.json are
-// read again and again, and told to the views in the lobby's lines, as wire.js tells them. Nothing is sent to the lobby.
+// read again and again, and told to the views in the lobby's lines, as wire.js tells them. Nobody connects for it.
 
-import { t } from './language.js';
 import { sideOf } from './lines.js';
+import { UNSAID } from './stopped.js';
 import { begin, pgnOf, play } from './study.js';
 import { LOST, UNSENT } from './wire.js';
-import { OTHER } from './words.js';
+import { OTHER, SIDES } from './words.js';
 
 const GAMES = 'games.json';
 const LOOKS = { all: 2000, one: 1000 };           // milliseconds between two looks at all games, or at one
@@ -15,10 +15,11 @@ const ANSWER_WITHIN = 8000;
 const FRESH = 900;                                // what was read so short a time ago is not asked for again
 const QUIETLY = 150;                              // between two files for which nobody waits
 const NONE = '-', GONE = ['no 3 NoGame'];
+const OFFERED_BY = { white: 'w', black: 'b', both: 'wb', [NONE]: NONE };
 const ENDED_BY = { '5.1.2': 'resign', '5.2.3': 'accept', '6.9': 'flag' };
 
-/** The time of who makes the files, in milliseconds since 1970, whatever this machine's clock shows: each answer that has
- * a Date tells between which two moments it is. */
+/** The time of who makes the files, in milliseconds since 1970, whatever this machine's clock shows: each answer that
+ * has a Date tells between which two moments it is. */
 class Host {
   constructor() {
     this.least = -Infinity;
@@ -82,8 +83,8 @@ class File {
 }
 
 export class Broadcast {
-  /** told: {opened, notice(lines), clocks(reason), changed, served(isServed)}: as of Wire; served() says whether the files
-   * are there. */
+  /** told: {opened, notice(lines), clocks(reason), changed, served(isServed)}, as of Wire; served() says whether the
+   * files are there. */
   constructor(told) {
     this.told = told;
     this.state = { open: false, server: '', retryAt: 0, ever: false };
@@ -108,7 +109,7 @@ export class Broadcast {
   forget() {
     this.leaveTable();
     this.watched = new Set();
-    this.known = new Map();            // number -> how the game stood when that was told last, null where it was not there
+    this.known = new Map();            // number -> how the game stood when that was told last, null where it was not
   }
 
   leaveTable() {
@@ -193,7 +194,7 @@ export class Broadcast {
   now(number) {
     if (this.isAtTable) return this.rows().get(number) || null;
     const { told } = this.fileOf(number);
-    return told && this.standing(told, lastOf(told));
+    return isPlayed(told) ? this.standing(told, lastOf(told)) : null;
   }
 
   /** All games as they were read last, by number. */
@@ -201,8 +202,8 @@ export class Broadcast {
     const { told } = this.games;
     if (this.rowsOf !== told) {
       this.rowsOf = told;
-      this.all = new Map((told ? told.games : []).map((row) => [row.game, this.standing({ ...row, at: told.at },
-        { ply: row.plies, san: row.last, text: row.lastMove, fen: row.fen })]));
+      this.all = new Map((told ? told.games : []).filter(isPlayed).map((row) => [row.game, this.standing({ ...row,
+        at: told.at }, { ply: row.plies, san: row.last, text: row.lastMove, fen: row.fen })]));
     }
     return this.all;
   }
@@ -210,21 +211,22 @@ export class Broadcast {
   standing({ game, white, black, names, clocks, running, at, check, offer, result, article, times, start }, last) {
     names.forEach((full, place) => this.names.set([white, black][place], full));
     return { number: game, white, black, ...last, side: sideOf(last.fen), clocks, running: running[0], at, check, times,
-      start, offer: offer[0], result, article: article === NONE && result !== '*' ? '?' : article };
+      start, offer: OFFERED_BY[offer], result, article: article === NONE && result !== '*' ? '?' : article };
   }
 
-  /** Tells what was done since it was told last: of a game that is watched all of it, and to the table what begins, ends
-   * and goes. */
+  /** Tells what was done since it was told last: of a game that is watched all of it, and to the table what begins,
+   * ends and goes. */
   tell() {
     const numbers = this.isAtTable ? [...this.rows().keys(), ...this.known.keys()] : this.watched;
     for (const number of new Set(numbers)) {
-      if (this.watched.has(number) && !this.known.has(number)) continue;          // (its answer is still to come)
+      if (this.watched.has(number) && !this.known.has(number)) continue;        // (its answer is still to come)
       const before = this.known.get(number) || null, now = this.now(number);
       this.known.set(number, now);
       const isForTable = !before || !now || now.article !== before.article;
       if (!before && !now || !this.watched.has(number) && !isForTable) continue;
       for (const [by, line, answer] of actsBetween(before, now)) {
-        this.told.notice([`told ${number}`, `by ${by} ${line}`, answer, ...now ? this.standsAs(now) : [GONE[0], GONE[0]]]);
+        const stands = now ? this.standsAs(now) : [...GONE, ...GONE];
+        this.told.notice([`told ${number}`, `by ${by} ${line}`, answer, ...stands]);
       }
     }
   }
@@ -243,7 +245,7 @@ export class Broadcast {
   standsAs(game) {
     const { number, white, black, ply, side, offer, result, article } = game;
     const gone = Math.max(0, this.host.now() - game.at);
-    const [left, right] = ['w', 'b'].map((one, place) => Math.max(0, Math.round(game.clocks[place]
+    const [left, right] = SIDES.map((one, place) => Math.max(0, Math.round(game.clocks[place]
       - (game.running === one ? gone : 0))));
     return [`ok show ${[number, white, black, ply, side, left, right, offer, result, article].join(' ')}`,
       `ok fen ${number} ${game.fen}`, `moves ${game.check ? '+' : NONE}`];
@@ -289,7 +291,8 @@ export class Broadcast {
   }
 
   players() {
-    return [`ok players ${this.names.size}`, ...[...this.names].map(([name, full]) => [name, 'player', full].join(' '))];
+    const rows = [...this.names].map(([name, full]) => [name, 'player', full].join(' '));
+    return [`ok players ${rows.length}`, ...rows];
   }
 
   async watch(number) {
@@ -306,13 +309,13 @@ export class Broadcast {
     if (row && row.times) return [`ok pgn ${number} 1`, ...tagsOf({ TimeControl: row.times, FEN: row.start })];
     if (quietly) await new Promise((goOn) => setTimeout(goOn, QUIETLY));
     const told = await this.fileOf(number).fresh();
-    if (!told) return GONE;
+    if (!isPlayed(told)) return GONE;
     const lines = word === 'line' ? stepsOf(told).map(lineOf) : pgnLines(told);
     return [`ok ${word} ${number} ${word === 'line' ? lines.length - 1 : lines.length}`, ...lines];
   }
 }
 
-/** What was done between two looks at a game, each as who did it, the line and its answer. Of several moves the last. */
+/** What was done between two looks at a game, as who did it, the line and its answer. Of several moves the last. */
 function actsBetween(before, now) {
   const game = now || before, { number } = game, nameOf = (side) => (side === 'w' ? game.white : game.black);
   const act = (side, word, answer = `ok ${word} ${number}`) => [nameOf(side), `${word} ${number}`, answer];
@@ -324,18 +327,24 @@ function actsBetween(before, now) {
   } else if (isOver && before.article === NONE) {
     const word = ENDED_BY[now.article] || 'claim', loser = now.result === '1-0' ? 'b' : 'w';
     acts.push(word === 'flag' ? act(OTHER[loser], word, `fallen ${number} ${now.result} ${now.article}`)
-      : act(word === 'accept' ? OTHER[before.offer] || side : loser, word));
+      : act(word === 'accept' ? OTHER[before.offer[0]] || side : loser, word));
   } else if (now.offer === NONE && before.offer !== NONE) {
-    acts.push(act(OTHER[before.offer], 'decline'));
+    acts.push(act(OTHER[before.offer[0]], 'decline'));
   }
-  if (!isOver && now.offer !== NONE && now.offer !== before.offer) acts.push(act(now.offer, 'offer'));
-  return acts;
+  const offers = isOver ? [] : SIDES.filter((one) => now.offer.includes(one) && !before.offer.includes(one));
+  return [...acts, ...offers.map((one) => act(one, 'offer'))];
 }
 
-/** Why all clocks are stopped; '' where they run. A file may leave the reason out: then a game that goes on shows it. */
+/** Whether a file or a row is of a game of the table: of one that left it before the files were begun the PGN alone is
+ * known, and it is among those that were kept. */
+function isPlayed(told) {
+  return Boolean(told) && told.white !== NONE;
+}
+
+/** Why all clocks are stopped; '' where they run. Where a file leaves the reason out a game that goes on shows it. */
 function stoppedIn(told) {
   const isStill = (game) => game.result === '*' && game.running === NONE;
-  return told.stopped || ((told.games || [told]).some(isStill) ? t`no reason is given` : '');
+  return told.stopped || ((told.games || [told]).some(isStill) ? UNSAID : '');
 }
 
 /** The positions of a game, the start first, each with the move by which it came. */

@@ -514,7 +514,6 @@ export const WORDS = {
     'Partien sind hier zu sehen, sobald die Übertragung des Vereins läuft („chess-club live“).',
   'Game {0} is not being played. It is shown here as soon as it begins.':
     'Partie {0} wird nicht gespielt. Sie ist hier zu sehen, sobald sie beginnt.',
-  'no reason is given': 'ohne Angabe eines Grundes',
   'To the games': 'Zu den Partien',
   'Copy link': 'Link kopieren',
   'There is no game here.': 'Hier ist keine Partie.',

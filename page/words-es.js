@@ -510,7 +510,6 @@ export const WORDS = {
     'Las partidas se verán aquí en cuanto funcione la retransmisión del club («chess-club live»).',
   'Game {0} is not being played. It is shown here as soon as it begins.':
     'La partida {0} no se está jugando. Se verá aquí en cuanto empiece.',
-  'no reason is given': 'no se indica el motivo',
   'To the games': 'A las partidas',
   'Copy link': 'Copiar enlace',
   'There is no game here.': 'Aquí no hay ninguna partida.',

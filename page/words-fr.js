@@ -518,7 +518,6 @@ export const WORDS = {
     'Les parties s’affichent ici dès que la retransmission du club fonctionne (« chess-club live »).',
   'Game {0} is not being played. It is shown here as soon as it begins.':
     'La partie {0} n’est pas en cours. Elle s’affiche ici dès qu’elle commence.',
-  'no reason is given': 'aucune raison n’est donnée',
   'To the games': 'Vers les parties',
   'Copy link': 'Copier le lien',
   'There is no game here.': 'Il n’y a pas de partie ici.',

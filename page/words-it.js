@@ -512,7 +512,6 @@ export const WORDS = {
     'Le partite si vedono qui appena la trasmissione del circolo è attiva («chess-club live»).',
   'Game {0} is not being played. It is shown here as soon as it begins.':
     'La partita {0} non è in corso. Si vede qui appena comincia.',
-  'no reason is given': 'nessun motivo indicato',
   'To the games': 'Alle partite',
   'Copy link': 'Copia link',
   'There is no game here.': 'Qui non c’è nessuna partita.',

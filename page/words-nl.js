@@ -513,7 +513,6 @@ export const WORDS = {
     'Partijen zijn hier te zien zodra de uitzending van de club loopt (‘chess-club live’).',
   'Game {0} is not being played. It is shown here as soon as it begins.':
     'Partij {0} wordt niet gespeeld. Ze is hier te zien zodra ze begint.',
-  'no reason is given': 'er is geen reden gegeven',
   'To the games': 'Naar de partijen',
   'Copy link': 'Link kopiëren',
   'There is no game here.': 'Hier is geen partij.',

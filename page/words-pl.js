@@ -509,7 +509,6 @@ export const WORDS = {
     'Partie będą tu widoczne, gdy tylko ruszy transmisja klubu („chess-club live”).',
   'Game {0} is not being played. It is shown here as soon as it begins.':
     'Partia {0} nie jest rozgrywana. Pojawi się tu, gdy tylko się zacznie.',
-  'no reason is given': 'nie podano powodu',
   'To the games': 'Do partii',
   'Copy link': 'Kopiuj link',
   'There is no game here.': 'Nie ma tu partii.',

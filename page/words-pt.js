@@ -506,7 +506,6 @@ export const WORDS = {
     'As partidas aparecem aqui assim que a transmissão do clube estiver no ar (“chess-club live”).',
   'Game {0} is not being played. It is shown here as soon as it begins.':
     'A partida {0} não está em andamento. Ela aparece aqui assim que começar.',
-  'no reason is given': 'nenhum motivo foi dado',
   'To the games': 'Às partidas',
   'Copy link': 'Copiar link',
   'There is no game here.': 'Não há partida aqui.',

@@ -1,5 +1,5 @@
-"""Scenes of bench/browser/page: who has no link watches by files that everybody may read. A small server of the bench has
-them beside the page, so that each moment of a game can be made, and the server be gone."""
+"""Scenes of bench/browser/page: who has no link watches by files that everybody may read. A small server of the bench
+has them beside the page, so that each moment of a game can be made, and the server be gone."""
 
 import contextlib
 import http.server
@@ -24,8 +24,8 @@ MOVES = (('e4', 'e2e4', 'rnbqkbnr/pppppppp/8/8/4P3/8/PPPP1PPP/RNBQKBNR b KQkq - 
 SANS = [san for san, _, _ in MOVES]
 FULL = {'ann': 'Ann Lee', 'bob': 'Bob <b>Stone</b> & Sons', 'cid': 'Cid Okonkwo', 'dee': 'Dee van der Meer'}
 TYPES = {'html': 'text/html', 'css': 'text/css', 'js': 'text/javascript', 'svg': 'image/svg+xml'}
-POLICY = ("default-src 'none'; script-src 'self'; style-src 'self'; img-src 'self'; connect-src 'self'; base-uri 'none'; "
-          "form-action 'none'; frame-ancestors 'none'")
+POLICY = ("default-src 'none'; script-src 'self'; style-src 'self'; img-src 'self'; connect-src 'self'; "
+          "base-uri 'none'; form-action 'none'; frame-ancestors 'none'")
 CLOCK, SOCKETS = '.player.%s .clock', 'return window.tries.length'
 
 
@@ -80,7 +80,8 @@ class Shown:
     def body(self, path):
         if path in self.files:
             return self.files[path].encode()
-        name = 'index.html' if path == '/' else 'board.html' if path.startswith('/board') and '.' not in path else path[1:]
+        is_board = path.startswith('/board') and '.' not in path
+        name = 'index.html' if path == '/' else 'board.html' if is_board else path[1:]
         with contextlib.suppress(OSError):
             with open(os.path.join(PAGE, os.path.basename(name)), 'rb') as file:
                 return file.read() if '/' not in name else None
@@ -93,7 +94,8 @@ class Shown:
     def has(self, number, plies, white='ann', black='bob', **other):
         """A game stands so: by its first moves, and what is said besides."""
         side = 'white' if plies % 2 == 0 else 'black'
-        stands = {'game': number, 'white': white, 'black': black, 'names': [FULL[white], FULL[black]], 'toMove': side,
+        names = [FULL.get(name, 'Zoe') for name in (white, black)]
+        stands = {'game': number, 'white': white, 'black': black, 'names': names, 'toMove': side,
                   'running': side, 'clocks': [300000, 300000], 'check': plies == 7, 'offer': '-', 'result': '*',
                   'article': '-', 'at': self.host(), 'times': '300+2', 'plies': plies, **other}
         if stands['result'] != '*':
@@ -106,9 +108,8 @@ class Shown:
         for number, stands in self.games.items():
             moves = [[*move, 298000 - 1000 * ply] for ply, move in enumerate(MOVES[:stands['plies']])]
             row = {name: value for name, value in stands.items() if name not in ('plies', 'times')}
-            self.files['/games/%d.json' % number] = json.dumps(
-                {**row, 'tags': [['Round', '3'], ['Board', '2']], 'times': stands['times'], 'start': START, 'moves': moves,
-                 **more})
+            told = {'tags': [['Round', '3'], ['Board', '2']], 'times': stands['times'], 'start': START, 'moves': moves}
+            self.files['/games/%d.json' % number] = json.dumps({**row, **told, **more})
         rows = []
         for stands in self.games.values():
             san, text, fen = MOVES[stands['plies'] - 1] if stands['plies'] else ('-', '-', START)
@@ -185,6 +186,10 @@ def a_game_by_files(sue, shown):
     sue.is_so(clock() == stood, 'the clocks stand')
     shown.put()
     sue.loses('#clocks-stopped', 'and run again').until(lambda: clock() < stood, 'which is seen')
+    shown.has(7, 5, running='-')
+    sue.reads('#clocks-stopped', 'The arbiter has stopped all clocks.')
+    shown.has(7, 6, offer='both')
+    sue.loses('#clocks-stopped', 'also where no reason is told').reads('#note', 'offers a draw')
     shown.has(7, 7, result='1-0', article='5.1.1')
     sue.reads('#outcome', 'White wins by checkmate', 'Article 5.1.1').moved(SANS, 'to the end')
     sue.is_so(sue.lit('.check') == {'e8'}, 'the mated king is marked')
@@ -212,6 +217,7 @@ def the_hall_by_files(sue, shown):
     sue.has('#only-watching', 'one watches').lacks('#lost', 'nothing is lost')
     shown.has(8, 7, 'cid', 'dee', result='1-0', article='5.1.1')
     shown.has(9, 0, 'cid', 'dee')
+    shown.has(6, 7, '-', '-', clocks=[None, None], result='1-0', article='5.1.1')
     sue.shows('#over-count', '1', 'one has ended').shows('#running-count', '2', 'another has begun')
     sue.goes('hall').until(lambda: sue.run('return document.querySelectorAll(".card").length') == 2, 'two boards')
     sue.until(lambda: sorted(sue.run('return [...document.querySelectorAll(".card-last")].map((e) => e.textContent)'))
@@ -224,7 +230,6 @@ def the_hall_by_files(sue, shown):
     time.sleep(7)
     asked = [(path, status) for at, path, status in shown.asked if at >= begun]
     sue.is_so(set(asked) <= {('/games.json', 304)} and 2 <= len(asked) <= 5, 'one file, every two seconds: %s' % asked)
-    shown.has(7, 2, 'cid', 'ann')
     sue.is_so(sue.run(SOCKETS) == 0, 'no socket was opened')
     is_quiet(sue)
 
@@ -278,8 +283,8 @@ def a_hidden_tab(sue, shown):
 
 @watching
 def a_game_not_there(sue, shown):
-    """Where no files are made that is said; a game that is not there is looked for among those that were kept, and shown
-    as soon as it begins; who signs in has a socket, and who forgets the link none."""
+    """Where no files are made that is said; a game that is not there is looked for among those that were kept, and
+    shown as soon as it begins; who signs in has a socket, and who forgets the link none."""
     shown.files['/kept.pgn'] = kept_pgn(5, 'Ann Lee', 'Zoe', '2026.11.28', '1-0', '5.1.2', '1. d4 d5 2. c4 1-0')
     comes(sue, shown).reads('#no-broadcast', 'Games are shown here as soon as', 'chess-club live')
     sue.goes('game/5').reads('#outcome', 'White wins by resignation').moved(['d4', 'd5', 'c4'], 'a game that was kept')
@@ -322,8 +327,8 @@ def files_on_a_phone(sue, shown):
 
 @watching
 def a_screen_by_files(sue, shown):
-    """A projector's screens without a socket: a game that has not begun, its moves and end; the server away and back; all
-    that run."""
+    """A projector's screens without a socket: a game that has not begun, its moves and end; the server away and back;
+    all that run."""
     sue.screen(1920, 1080)
     last = lambda: sue.text('.card-last')
     comes(sue, shown, 'board/7').reads('#no-broadcast', 'Games are shown here as soon as')

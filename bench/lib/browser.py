@@ -219,10 +219,12 @@ class Person:
         return self.run('return [...document.querySelectorAll("#moves button")].map((e) => e.textContent)')
 
     def complaints(self):
-        """What the browser's console says is wrong: a breach of the policy, an error of a script."""
+        """What the browser's console says is wrong, as a breach of the policy or an error of a script; not that who is
+        asked is away, or that a game has no file so far."""
         return [entry['message'] for entry in self.driver.get_log('browser')
                 if entry['level'] == 'SEVERE' and 'WebSocket connection to' not in entry['message']
-                and not re.search('ERR_(CONNECTION_(REFUSED|RESET)|EMPTY_RESPONSE)', entry['message'])]
+                and not re.search('ERR_(CONNECTION_(REFUSED|RESET)|EMPTY_RESPONSE)', entry['message'])
+                and not re.search(r'/games/\d+\.json - .* 404 ', entry['message'])]
 
     # ---- doing
 
