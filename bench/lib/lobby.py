@@ -175,11 +175,11 @@ class Programs(Lobby):
         self.server = Server(os.path.join(folder, 'club.journal'), *stops, games=games, plies=plies)
         self.relay = Relay(self.server) if has_relay else None
         watched = os.path.join(folder, 'games')
-        self.live = begin('chess_club', 'live', '--server', '127.0.0.1:%d' % self.server.port, '--file',
-                          os.path.join(folder, 'evening.pgn'), '--games', watched, '--players', club, '--every', '1'
-                          ) if has_live else None
         words += ('--games-files', watched) if has_live else ()
         super().__init__(club, (self.relay or self.server).port, *words, **how)
+        self.live = begin('chess_club', 'live', '--server', '127.0.0.1:%d' % self.server.port, '--file',
+                          os.path.join(folder, 'evening.pgn'), '--games', watched, '--players', club, '--log', self.log,
+                          '--every', '1') if has_live else None
 
     def control(self, word):
         word, *words = word.split()
