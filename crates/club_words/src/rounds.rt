@@ -84,11 +84,11 @@ const HELP_OF_TRF: &str = "\
 It writes the tournament's report, TRF-16: who played whom in each round, with the results
 and points. Players are numbered by their place in the players' file; by --particulars, which
 has their ratings, titles, federations, teams and more, by rating, title and full name; they
-are ranked as by standings. Asked for results are the archive, where --archive names one, and then the server, where --server
-does; the last decision of an arbiter about a board counts in their place. Where a game is of
-others than its board's players it writes nothing, and ends with status 1; where a board has no
-result yet, a line of the archive is no game's or the server is away, that status is behind the
-report.
+are ranked as by standings. Asked for results are the archive, where --archive names one, and
+then the server, where --server does; the last decision of an arbiter about a board counts in
+their place. Where a game is of others than its board's players it writes nothing, and ends with
+status 1; where a board has no result yet, a line of the archive is no game's or the server is
+away, that status is behind the report.
 
 Exit status: 0; 1 with what is wrong on standard error; 2 for words that the program does
 not know.

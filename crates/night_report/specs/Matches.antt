@@ -143,7 +143,7 @@ abbrev pub is_against : List ℕ → ℕ → ℕ → Option Meeting → Bool
 is_against sides one other None = false
 is_against sides one other (Some m) = is_between sides one other m
 
--- Whether a board is of a match: two teams meet there, and neither meets another one before. A bye is of none.
+-- Whether a board is of a match: two teams meet there, and neither meets another one before. A bye, of none, passes.
 abbrev pub is_matched : List ℕ → List Meeting → Meeting → Opponent → Bool
 is_matched sides round m (opponents.Bye bye) = true
 is_matched sides round m (opponents.Player n) =

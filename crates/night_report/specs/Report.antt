@@ -1,6 +1,7 @@
 -- A tournament report, FIDE's TRF-16: lines of fixed columns. Columns are counted in characters from 1 on.
 use Rattle.std.specs.Prelude.{ℕ, zero, suc, ◌+◌, ◌-◌, ◌/◌, ◌%◌, ◌==◌, Bool, not, nat_lt, List, [], ◌∷◌, ◌++◌, length}
-use Rattle.std.specs.Prelude.{replicate, codes, decimal, map, drop, flat_map, Option, None, Some, unwrap_or, slice_get, if◌then◌else◌}
+use Rattle.std.specs.Prelude.{replicate, codes, decimal, map, drop, flat_map, Option, None, Some, if◌then◌else◌}
+use Rattle.std.specs.Prelude.{unwrap_or, slice_get}
 use Rattle.std.specs.Option.{option_map}
 use Rattle.night_report.specs.declared.cells.Cell.{Cell}
 use Rattle.night_report.specs.declared.cells.Meeting.{Meeting}
@@ -164,6 +165,7 @@ tournament_text e days players teams =
     place_text e ++ (counts_text players teams ++ (kind_text e ++ (days_line days ++ rounds_line e.rounds)))
 
 -- the report of these players, who are numbered from 1 on in their order, of their places, and of their teams
-unfoldable pub report_text : Tournament → List (List ℕ) → List Particulars → List ℕ → List Team → List (List Meeting) → List ℕ
+unfoldable pub report_text :
+    Tournament → List (List ℕ) → List Particulars → (places : List ℕ) → List Team → List (List Meeting) → List ℕ
 report_text e days players places teams rounds =
     tournament_text e days players (length teams) ++ (players_text rounds places 0 players ++ teams_text teams)

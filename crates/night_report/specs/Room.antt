@@ -1,5 +1,5 @@
 -- Whether the columns of a report have room for what stands there, and why a report is not made.
-use Rattle.std.specs.Prelude.{ℕ, ◌≡◌, ◌≤◌, ◌<◌, ◌&&◌, Bool, true, false, nat_le, List, length, Option, unwrap_or}
+use Rattle.std.specs.Prelude.{ℕ, ◌≡◌, ◌≤◌, ◌<◌, ◌⊎◌, ◌&&◌, Bool, true, false, nat_le, List, length, Option, unwrap_or}
 use Rattle.std.specs.List.{list_all}
 use Rattle.std.specs.Global.{Vec}
 use Rattle.night_report.specs.declared.cells.Meeting.{Meeting}
@@ -61,8 +61,8 @@ abbrev pub IsFault : Tournament → ℕ → List Particulars → List Team → L
 IsFault e days players teams rounds faults.TooManyPlayers = 9999 < length players
 IsFault e days players teams rounds faults.TooManyRounds = 99 < all_rounds e (length rounds)
 IsFault e days players teams rounds faults.TooFewRounds =
-    nat_le (length rounds) (all_rounds e (length rounds)) && nat_le days (all_rounds e (length rounds)) ≡ false
+    (all_rounds e (length rounds) < length rounds) ⊎ (all_rounds e (length rounds) < days)
 IsFault e days players teams rounds faults.TooWide = list_all fits players ≡ false
 IsFault e days players teams rounds faults.NoPlayer =
-    are_seated (length players) rounds && are_members (length players) teams ≡ false
+    (are_seated (length players) rounds ≡ false) ⊎ (are_members (length players) teams ≡ false)
 IsFault e days players teams rounds faults.NoMemory = Unit {0}

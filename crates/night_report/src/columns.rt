@@ -414,13 +414,6 @@ fn push_place(out: &mut Vec<u8>, tournament: &Tournament<'_>) -> Result<(), Allo
     push_line(out, "052", tournament.ends)
 }
 
-// Whether a player has a rating.
-fn has_rating(player: &Particulars<'_>) -> bool
-    ensures { result ≡ spec.has_rating player.now }
-{
-    !player.rating.is_empty()
-}
-
 // How many of these players have a rating.
 fn rated_among(players: &[Particulars<'_>]) -> u64
     ensures rated { result ≡ spec.rated_among players.now }
@@ -428,7 +421,7 @@ fn rated_among(players: &[Particulars<'_>]) -> u64
 {
     let mut rated: u64 = 0;
     for player in players {
-        if has_rating(player) {
+        if !player.rating.is_empty() {
             rated += 1;
         }
     }

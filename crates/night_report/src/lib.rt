@@ -1,9 +1,10 @@
 //! What leaves a tournament: its report for FIDE and for pairing programs, TRF-16, and rows of CSV (RFC 4180) for
 //! spreadsheets and databases, of which no cell is a formula.
 //!
-//! Modules: `columns` has the report, `room` whether it has room, and `cells` what stands in its rounds; `particulars` has what is known of a
-//! player, `order` gives players their starting numbers, `teams` finds teams, and `matches` the results of their matches; `records` reads rows of CSV, `csv_rows`
-//! puts them behind others, and `csv_cells` has the texts of their cells.
+//! Modules: `columns` has the report, `room` whether it has room, and `cells` what stands in its rounds; `particulars`
+//! has what is known of a player, `order` gives players their starting numbers, `teams` finds teams, and `matches` the
+//! results of their matches; `records` reads rows of CSV, `csv_rows` puts them behind others, and `csv_cells` has the
+//! texts of their cells.
 #![tactic(auto)]
 
 pub mod cells;

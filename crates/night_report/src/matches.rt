@@ -300,8 +300,8 @@ fn is_against(sides: &[u32], team: u32, one: u32, other: u32, round: &[Meeting])
     }
 }
 
-/// Whether a board of a round is of a match: two teams meet there, and neither meets another one before; or it is a bye,
-/// which is of none.
+/// Whether a board of a round is of a match: two teams meet there, and neither meets another one before. A bye, which is
+/// of none, passes.
 pub fn is_matched(sides: &[u32], round: &[Meeting], meeting: Meeting) -> bool
     ensures { result ≡ spec.is_matched sides.now round.now meeting meeting.black }
 {

@@ -8,14 +8,17 @@ use crate::columns::{Fault, Tournament};
 use crate::particulars::Particulars;
 use crate::teams::Team;
 
+// Whether bytes are printed ASCII.
+fn are_shown(bytes: &[u8]) -> bool
+    ensures { result ≡ list_all spec.is_shown bytes.now }
+{
+    bytes.iter().all(|byte| 32 <= *byte && *byte <= 126)
+}
+
 fn has_width(width: usize, text: &str) -> bool
     ensures { result ≡ spec.has_width width text.now }
 {
-    text.len() <= width
-        && text
-            .as_bytes()
-            .iter()
-            .all(|byte| 32 <= *byte && *byte <= 126)
+    text.len() <= width && are_shown(text.as_bytes())
 }
 
 // Whether a player's title, rating and FIDE number have room.
@@ -99,13 +102,19 @@ pub(crate) fn fault_in(
     if all > 99 {
         return Some(Fault::TooManyRounds);
     }
-    if !(rounds.len() <= all && days <= all) {
+    if rounds.len() > all {
+        return Some(Fault::TooFewRounds);
+    }
+    if days > all {
         return Some(Fault::TooFewRounds);
     }
     if !players.iter().all(|player| fits(player)) {
         return Some(Fault::TooWide);
     }
-    if !(are_seated(count, rounds) && are_members(count, teams)) {
+    if !are_seated(count, rounds) {
+        return Some(Fault::NoPlayer);
+    }
+    if !are_members(count, teams) {
         return Some(Fault::NoPlayer);
     }
     None

@@ -223,8 +223,8 @@ fn put_players(
     put(out, "]")
 }
 
-/// Rounds and standings as an object of JSON (docs/client/LOBBY.md, "A tournament's file"), in a line; `names` are those
-/// of the protocol.
+/// Rounds and standings as an object of JSON (docs/client/LOBBY.md, "A tournament's file"), in a line; `names` are
+/// those of the protocol.
 pub fn round_json(
     alloc: Global,
     event: &str,

@@ -8,8 +8,8 @@ use crate::places::standings_of;
 use night_report::{Fault, Meeting, Particulars, Team, Tournament, report};
 use std::alloc::Global;
 
-/// The report of a tournament (`night_report::report`), in which players are ranked by points, and those who are tied by
-/// one tie-break after another.
+/// The report of a tournament (`night_report::report`), in which players are ranked by points, and those who are tied
+/// by one tie-break after another.
 pub fn ranked_report(
     alloc: Global,
     tournament: &Tournament<'_>,

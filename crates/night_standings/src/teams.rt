@@ -152,9 +152,9 @@ fn text_by(
     )?)
 }
 
-/// The text of the standings of the players' teams, by match points, and among those who are tied by one tie-break after
-/// another. It fails where no player has a team, where a board is of no match, and where colours do not alternate in a
-/// match.
+/// The text of the standings of the players' teams, by match points, and among those who are tied by one tie-break
+/// after another. It fails where no player has a team, where a board is of no match, and where colours do not alternate
+/// in a match.
 pub fn teams_text(
     alloc: Global,
     asked: &Standing<'_>,

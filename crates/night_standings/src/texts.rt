@@ -259,9 +259,9 @@ impl Table<'_, '_> {
         push_row(rows, alloc, cells.as_slice())
     }
 
-    /// The crosstable as CSV: `line,name`, a column for each round and `points`, a row for each player by the places. A
-    /// round is the opponent's line, `w` or `b`, and the sign of the result, as `3w1`; of a bye its sign; and of a match
-    /// the board points behind them, as `3w1:2.5`.
+    /// The crosstable as CSV: `line,name`, a column for each round and `points`, a row for each player by the places.
+    /// A round is the opponent's line, `w` or `b`, and the sign of the result, as `3w1`; of a bye its sign; and of a
+    /// match the board points behind them, as `3w1:2.5`.
     pub fn crosstable_csv(
         self,
         alloc: Global,

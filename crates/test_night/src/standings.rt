@@ -133,7 +133,7 @@ fn a_rank_is_given_that_no_missing_game_can_change(rt: HostRuntime) {
     assert!(rt; told.places.as_slice().first() == Some(&0));
 }
 
-// The two teams of a match of eight, by round and table: each meets each, and table 0 has the eighth. The first is named
+// The two teams of a match, by round and table: each of eight meets each, the eighth at table 0. The first is named
 // first.
 fn paired(round: u32, table: u32) -> (u32, u32) {
     let pair = if table == 0 {
