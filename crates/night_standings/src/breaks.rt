@@ -1,14 +1,16 @@
 //! Points and tie-breaks of players (FIDE's Handbook, C.07).
 ghost use Rattle.std.specs.Prelude.{◌≡◌, ◌≤◌, ◌<◌, ◌*◌, ◌^◌, length, map, get_or, filter, sum_by, count_by, None, IfOk};
-ghost use Rattle.std.specs.List.{list_all, list_any};
+ghost use Rattle.std.specs.List.{list_all};
 ghost use Rattle.night_standings.specs.Breaks as spec;
 
 use night_report::cells::{Cell, Meeting, cell_of};
 use std::alloc::{AllocError, Global};
 
-/// What is looked at among players who have as many points.
+/// What is looked at among players, or teams, who have as many points.
 #[derive(Clone, Copy)]
 pub enum Criterion {
+    /// The points of a team's boards.
+    BoardPoints,
     /// What they scored against each other.
     Direct,
     /// Buchholz without its least part.
@@ -50,12 +52,6 @@ fn are_voluntary(cells: &[Cell]) -> bool
     ensures { result ≡ list_all spec.is_voluntary cells.now }
 {
     cells.iter().all(|cell| is_voluntary(*cell))
-}
-
-fn has_voluntary(cells: &[Cell]) -> bool
-    ensures { result ≡ list_any spec.is_voluntary cells.now }
-{
-    cells.iter().any(|cell| is_voluntary(*cell))
 }
 
 /// The rounds of a player.
@@ -197,7 +193,8 @@ fn cut(scores: &[u32], cells: &[Cell]) -> u32
     requires { length cells.now ≤ 99 }
     ensures { result ≡ spec.cut scores.now cells.now }
 {
-    match cut_among(scores, points(cells), has_voluntary(cells), cells) {
+    let has_voluntary = cells.iter().any(|cell| is_voluntary(*cell));
+    match cut_among(scores, points(cells), has_voluntary, cells) {
         Some(least) => least,
         None => 0,
     }
@@ -245,7 +242,7 @@ fn value_of(criterion: Criterion, scores: &[u32], cells: &[Cell]) -> u64
     ensures { result ≡ spec.value_of criterion scores.now cells.now }
 {
     match criterion {
-        Criterion::Direct => 0,
+        Criterion::BoardPoints | Criterion::Direct => 0,
         Criterion::BuchholzCut => buchholz_cut(scores, cells),
         Criterion::Buchholz => buchholz(scores, cells),
         Criterion::SonnebornBerger => sonneborn_berger(scores, cells),
