@@ -1,4 +1,4 @@
--- What spectators are told of a game, as values of JSON (docs/client/LOBBY.md, "Games for spectators").
+-- What spectators are told of a game, as values of JSON (docs/client/LOBBY.md).
 use Rattle.std.specs.Prelude.{ℕ, ◌-◌, ◌≡◌, ◌↔◌, Bool, true, false, not, ◌&&◌, ◌==◌, IsTrue, List, [], ◌∷◌, ◌++◌, length, map, drop}
 use Rattle.std.specs.Prelude.{codes, decimal, Option, Some, None, flat_map, filter, if◌then◌else◌}
 use Rattle.std.specs.List.{after_first}
