@@ -101,7 +101,8 @@ pub struct GamesFile {
     file: String,
     /// How it stood when it was looked at last; none where it was not there.
     pub seen: Option<Mark>,
-    next_at: u64,
+    /// From when on it is looked at again.
+    pub next_at: u64,
     // What was read of it where that is not done.
     reading: Option<Reading>,
     // Whether it was told that the file is too long.

@@ -81,24 +81,18 @@ impl<'a> GamesFolder<'a> {
             }
         }
         self.games.retain(|known| games.contains(&known.game));
+        let folder = self.folder;
         for game in games {
             let is_known = self.games.iter().any(|known| known.game == *game);
             if self.games.len() < GAMES_MOST && !is_known {
-                self.push(*game)?;
+                let path = format!(in self.alloc; "/games/{game}.json")?;
+                let file = format!(in self.alloc; "{folder}/{game}.json")?;
+                self.games.push(GameFile {
+                    game: *game,
+                    file: GamesFile::new(path, Kind::Games, file),
+                })?;
             }
         }
-        Ok(())
-    }
-
-    // The file of a game is served from now on.
-    fn push(&mut self, game: u32) -> Result<(), AllocError> {
-        let folder = self.folder;
-        let path = format!(in self.alloc; "/games/{game}.json")?;
-        let file = format!(in self.alloc; "{folder}/{game}.json")?;
-        self.games.push(GameFile {
-            game,
-            file: GamesFile::new(path, Kind::Games, file),
-        })?;
         Ok(())
     }
 
@@ -125,6 +119,7 @@ impl<'a> GamesFolder<'a> {
             let Some(game) = self.games.get_mut(self.next) else {
                 return Ok(());
             };
+            game.file.next_at = 0;
             game.file.look(rt, lobby, at)?;
             if game.file.is_reading() {
                 return Ok(());
