@@ -108,7 +108,10 @@ pub fn site_of<R: Files + AllocGlobal + Clone + Drop>(
     let mut files = Vec::new(rt.alloc());
     push_files(&mut files, rt, folder)?;
     let page = format!(in rt.alloc(); "{folder}/index.html")?;
-    anyhow::ensure!(fs::exists(rt, page.as_str())?, "there is no index.html in {folder}");
+    anyhow::ensure!(
+        fs::exists(rt, page.as_str())?,
+        "there is no index.html in {folder}"
+    );
     let mut hosts = Vec::new(rt.alloc());
     push_hosts(&mut hosts, rt.alloc(), address, names)?;
     Ok(Site::new(hosts, files))

@@ -286,7 +286,9 @@ where
     ) -> Result<()> {
         let (rt, serving) = (self.rt, self.serving);
         let asked = serving.address;
-        let listener = LobbyListener::bind(rt, asked).context(format_args!("listening on {asked}"))?;
+        let listener = LobbyListener::bind(rt, asked).context(format_args!(
+            "listening on {asked}"
+        ))?;
         let address = listener.address()?;
         let links = FileLinks::open(rt, serving)?;
         let mut lobby = self.lobby(listener, address, known, links.halts()?)?;

@@ -136,14 +136,16 @@ fn boards_of(alloc: Global, text: &str, since: Option<&str>) -> Result<Vec<Board
 }
 
 // The PGN of a board, with what is told besides.
-fn told_of(
-    alloc: Global,
-    form: NameForm,
-    telling: &Telling<'_>,
-    board: &Board,
-) -> Result<Vec<u8>> {
+fn told_of(alloc: Global, form: NameForm, telling: &Telling<'_>, board: &Board) -> Result<Vec<u8>> {
     let mut text = Vec::new(alloc);
-    push_with(&mut text, alloc, form, telling, board.game, board.pgn.as_slice())?;
+    push_with(
+        &mut text,
+        alloc,
+        form,
+        telling,
+        board.game,
+        board.pgn.as_slice(),
+    )?;
     Ok(text)
 }
 
@@ -385,13 +387,7 @@ where
 
 impl<R> Work for Writer<'_, R>
 where
-    R: Files<File = File>
-        + Net<Stream = TcpStream>
-        + AllocGlobal
-        + Eprint
-        + Clock
-        + Clone
-        + Drop,
+    R: Files<File = File> + Net<Stream = TcpStream> + AllocGlobal + Eprint + Clock + Clone + Drop,
 {
     // (a file is written where it has changed)
     fn work(&mut self, _is_once: bool) -> Result<()> {
@@ -427,13 +423,7 @@ fn pace_of(living: &Living<'_>) -> Pace {
 /// and, where it is done once, at whatever goes wrong.
 pub fn live<R>(rt: &R, living: &Living<'_>) -> Result<()>
 where
-    R: Files<File = File>
-        + Net<Stream = TcpStream>
-        + AllocGlobal
-        + Eprint
-        + Clock
-        + Clone
-        + Drop,
+    R: Files<File = File> + Net<Stream = TcpStream> + AllocGlobal + Eprint + Clock + Clone + Drop,
 {
     let all = all_games(rt.alloc(), living)?;
     let mut writer = Writer::new(rt, living, all.as_ref().map(|all| all.as_str()))?;

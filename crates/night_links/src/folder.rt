@@ -108,8 +108,9 @@ impl<'a> GamesFolder<'a> {
         games: &[u32],
     ) -> Result<()> {
         let folder = self.folder;
-        let entries =
-            fs::read_dir(rt, folder).context(format_args!("reading the folder {folder}"))?;
+        let entries = fs::read_dir(rt, folder).context(format_args!(
+            "reading the folder {folder}"
+        ))?;
         for entry in entries {
             let entry = entry.context(format_args!("reading the folder {folder}"))?;
             self.take_off(rt, &entry, games)

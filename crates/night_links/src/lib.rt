@@ -10,8 +10,8 @@
 #![tactic(auto)]
 
 mod delay;
-mod file_state;
 mod figures;
+mod file_state;
 mod folder;
 mod link;
 mod reading;

@@ -68,7 +68,11 @@ const NO_OFFERS: Offers = Offers {
 
 // How many moves were played.
 fn plies_of(played: &PlayedGame) -> usize {
-    let rows = played.answer.as_bytes().iter().filter(|byte| **byte == b'\n');
+    let rows = played
+        .answer
+        .as_bytes()
+        .iter()
+        .filter(|byte| **byte == b'\n');
     rows.count().saturating_sub(2)
 }
 
@@ -219,7 +223,11 @@ impl<'a> Spectators<'a> {
             }
             (None, None) => {}
         }
-        Ok(if watched.is_whole() { Some(watched) } else { None })
+        Ok(if watched.is_whole() {
+            Some(watched)
+        } else {
+            None
+        })
     }
 
     // Writes the file of a game, and knows it by this from now on.

@@ -122,11 +122,7 @@ fn push_more_moves(
 }
 
 // Appends moves.
-fn push_moves(
-    out: &mut Vec<u8>,
-    rows: &[&str],
-    clocks: &[Option<u64>],
-) -> Result<(), AllocError>
+fn push_moves(out: &mut Vec<u8>, rows: &[&str], clocks: &[Option<u64>]) -> Result<(), AllocError>
     ensures { OnOk result (out.new.items
         ≡ out.old.items ++ listed (spec.moves_from (map (λ row. row.now) rows.now) clocks.now)) }
 {
@@ -228,7 +224,12 @@ fn push_stand(
     out.extend_from_slice(b",\"running\":")?;
     push_string(out, running_word(stand.running).as_bytes())?;
     out.extend_from_slice(b",\"clocks\":")?;
-    push_clocks(out, at.saturating_sub(stand.at), stand.running, stand.clocks)?;
+    push_clocks(
+        out,
+        at.saturating_sub(stand.at),
+        stand.running,
+        stand.clocks,
+    )?;
     out.extend_from_slice(b",\"offer\":")?;
     push_string(out, offer_word(stand.offers).as_bytes())?;
     out.extend_from_slice(b",\"result\":")?;
