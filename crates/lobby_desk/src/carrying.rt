@@ -75,15 +75,7 @@ impl Desk {
             Plan::Room(game, at) => {
                 let watches = self.watches.as_slice();
                 let attendances = self.attendances.as_slice();
-                let text = room_text(
-                    alloc,
-                    *game,
-                    *at,
-                    seats,
-                    watches,
-                    attendances,
-                    visitors,
-                )?;
+                let text = room_text(alloc, *game, *at, seats, watches, attendances, visitors)?;
                 Ok(Some(text))
             }
             Plan::Moves => Ok(Some(String::new(alloc))),

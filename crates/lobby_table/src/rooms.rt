@@ -115,11 +115,7 @@ fn date_all(all: &mut [Attendance], at: u64)
 
 /// Notes that a connection says something at a moment that acts so: its player is known from then on, and what was
 /// closed before counts as closed.
-pub fn attend(
-    all: &mut Vec<Attendance>,
-    who: &Option<Identity>,
-    at: u64,
-) -> Result<(), AllocError>
+pub fn attend(all: &mut Vec<Attendance>, who: &Option<Identity>, at: u64) -> Result<(), AllocError>
     ensures { OnOk result (all.new.items ≡ spec.attended who.now at all.old.items) }
 {
     meet(all, who)?;
@@ -164,9 +160,7 @@ fn push_away(text: &mut String, left: Left, at: u64) -> Result<(), AllocError>
 fn is_present(visitors: &BTreeMap<u64, Visitor>, connections: &[u64], name: &str) -> bool
     ensures { result ≡ is_present (who_in visitors.now) connections.now name.now }
 {
-    connections
-        .iter()
-        .any(|connection| is_named(&who_acts(visitors, *connection), name))
+    connections.iter().any(|connection| is_named(&who_acts(visitors, *connection), name))
 }
 
 // Puts a player's name, and whether he is there, behind a text.
@@ -240,12 +234,12 @@ pub fn room_text(
     visitors: &BTreeMap<u64, Visitor>,
 ) -> Result<String, AllocError>
     ensures { IfOk result (λ text. spec.IsRoom (record {
-        seats = seats.now;
-        watches = watches.now;
-        attendances = attendances.now;
-        is_open = open_in_map visitors.now;
-        acts_for = who_in visitors.now;
-      }) game at (string_bytes text)) }
+      seats = seats.now;
+      watches = watches.now;
+      attendances = attendances.now;
+      is_open = open_in_map visitors.now;
+      acts_for = who_in visitors.now;
+    }) game at (string_bytes text)) }
 {
     let all = open_ones(alloc, visitors)?;
     let mut text = room_head(alloc, game, watching(watches, game))?;
