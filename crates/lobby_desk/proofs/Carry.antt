@@ -26,7 +26,7 @@ use Rattle.lobby_table.specs.Owed.{ForItself, ForPositions, ForTable, ForGame, F
 use Rattle.lobby_table.specs.Owed.{owed_lines}
 use Rattle.lobby_table.specs.Watching.{risen}
 use Rattle.lobby_desk.specs.Tellings.{left_game, IsToldOrSent}
-use Rattle.lobby_offers.specs.Offers.{Offered, is_party, other_party, is_agreed, may_offer, accord_by, parted, accord_noted, ends_offers, offers_said}
+use Rattle.lobby_offers.specs.Offers.{Offered, is_party, other_party, is_agreed, may_offer, accord_by, but_by, parted, accord_noted, ends_offers, pairs_at_once, offers_said}
 use Rattle.lobby_desk.specs.Who.{View, name_of, plan_watches, plan_table, IsAnswered, offers_now}
 use Rattle.lobby_words.specs.Players.{known_name}
 use Rattle.lobby_desk.specs.History.{IsArbiter}
@@ -518,9 +518,14 @@ link_none players acts_for (Some who) c text at offers link =
     let may : may_offer players who text ≡ false =
     ap (λ (b : Bool). b && not who.is_arbiter && is_party who.name text && is_some (known_name players one) && is_some (known_name players other))
     (and_none (is_message text) (is_pair_sort (sort_of text)) (link_no_pair (sort_of text) link)) in
-    sym (ap (λ (b : Bool). if b then parted who.name (rest_of text) offers else accord_noted accord who.name c text at offers) ends
+    let at_once : pairs_at_once who text ≡ false =
+    ap (λ (b : Bool). b && who.is_arbiter) (and_none (is_message text) (is_pair_sort (sort_of text)) (link_no_pair (sort_of text) link)) in
+    let both = but_by one (but_by other offers) in
+    sym (ap (λ (b : Bool). if b then parted who.name (rest_of text) offers
+    else (if pairs_at_once who text then both else accord_noted accord who.name c text at offers)) ends
+    ∙ (ap (λ (b : Bool). if b then both else accord_noted accord who.name c text at offers) at_once
     ∙ ap (λ (b : Bool). accord_noted (if b then (if is_agreed acts_for (other_party who.name text) text at offers then accords.Agreed else accords.Offered)
-    else accords.Nothing) who.name c text at offers) may)
+    else accords.Nothing) who.name c text at offers) may))
 
 pub link_offers : (players : List Player) (acts_for : ℕ → Option Identity) (c : ℕ) (text : List ℕ) (at : ℕ) (offers : List Offered) →
     is_link_sort (sort_of text) ≡ true → offers ≡ offers_now players acts_for (Said c text at) offers
