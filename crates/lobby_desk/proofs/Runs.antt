@@ -649,13 +649,16 @@ said_alike f g same table [] c tells h =
       | inl one ↦ inl one
       | inr more ↦ elim more [
         | inl two ↦ inr (inl two)
-        | inr some ↦ inr (inr (record {
-          by = some.by;
-          said = some.said;
-          stops = some.stops;
-          text = some.text;
-          told = record { to = some.told.to; all = λ d. some.told.all d ∙ same d; told = some.told.told };
-        }))
+        | inr rest ↦ elim rest [
+          | inl some ↦ inr (inr (inl (record {
+            by = some.by;
+            said = some.said;
+            call = some.call;
+            text = some.text;
+            told = record { to = some.told.to; all = λ d. some.told.all d ∙ same d; told = some.told.told };
+          })))
+          | inr moves ↦ inr (inr (inr moves))
+        ]
       ]
     ]
 said_alike f g same table (line ∷ lines) c tells h = h

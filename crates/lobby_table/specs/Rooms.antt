@@ -36,7 +36,7 @@ gone (Some who) all = map (gone_if who.name) all
 abbrev pub dated : ℕ → Left → Left
 dated at lefts.Lately = lefts.At at
 dated at lefts.Never = lefts.Never
-dated at (lefts.At then) = lefts.At then
+dated at (lefts.At since) = lefts.At since
 
 abbrev pub dated_of : ℕ → Attendance → Attendance
 dated_of at a = record { name = a.name; left = dated at a.left }
@@ -57,7 +57,7 @@ left_of name all = left_at (attendance_of name all)
 abbrev pub away_text : Left → ℕ → List ℕ
 away_text lefts.Never at = codes " away -\n"
 away_text lefts.Lately at = codes " away 0\n"
-away_text (lefts.At then) at = codes " away " ++ decimal ((at - then) / 1000) ++ codes "\n"
+away_text (lefts.At since) at = codes " away " ++ decimal ((at - since) / 1000) ++ codes "\n"
 
 abbrev pub presence_text : Bool → Left → ℕ → List ℕ
 presence_text true left at = codes " here\n"

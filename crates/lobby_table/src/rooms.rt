@@ -148,9 +148,9 @@ fn push_away(text: &mut String, left: Left, at: u64) -> Result<(), AllocError>
     match left {
         Left::Never => text.push_str(" away -\n"),
         Left::Lately => text.push_str(" away 0\n"),
-        Left::At(then) => {
+        Left::At(since) => {
             text.push_str(" away ")?;
-            push_number(text, at.saturating_sub(then) / 1000)?;
+            push_number(text, at.saturating_sub(since) / 1000)?;
             text.push('\n')
         }
     }
