@@ -1,7 +1,7 @@
 -- Who of a game's players is there, how many watch it, and since when a player is away.
 use Rattle.std.specs.Prelude.{ℕ, ◌≡◌, ◌-◌, ◌/◌, ◌==◌, Bool, true, false, List, [], ◌∷◌, ◌++◌, length, codes, decimal}
-use Rattle.std.specs.Prelude.{map, filter, find, Option, None, Some, is_some, if◌then◌else◌}
-use Rattle.std.specs.List.{flat_map}
+use Rattle.std.specs.Prelude.{map, filter, find, Option, None, Some, if◌then◌else◌}
+use Rattle.std.specs.List.{flat_map, list_any}
 use Rattle.std.specs.Str.{bytes_eq}
 use Rattle.lobby_words.specs.declared.listing.Seat.{Seat}
 use Rattle.lobby_words.specs.declared.planning.Identity.{Identity}
@@ -15,14 +15,14 @@ use Rattle.lobby_table.specs.Watching.{at_table}
 abbrev pub is_of : List ℕ → Attendance → Bool
 is_of name a = bytes_eq a.name name
 
-abbrev pub attendance_of : List ℕ → List Attendance → Option Attendance
-attendance_of name all = find (is_of name) all
+abbrev pub is_met : List ℕ → List Attendance → Bool
+is_met name all = list_any (is_of name) all
 
 -- A player is known from the first message on that a connection says which acts for him.
 abbrev pub met : Option Identity → List Attendance → List Attendance
 met None all = all
 met (Some who) all =
-    if is_some (attendance_of who.name all) then all else all ++ record { name = who.name; left = lefts.Never } ∷ []
+    if is_met who.name all then all else all ++ record { name = who.name; left = lefts.Never } ∷ []
 
 -- A connection that acts for a player is closed.
 abbrev pub gone_if : List ℕ → Attendance → Attendance
@@ -49,6 +49,9 @@ attended who at all = map (dated_of at) (met who all)
 abbrev pub left_at : Option Attendance → Left
 left_at None = lefts.Never
 left_at (Some a) = a.left
+
+abbrev pub attendance_of : List ℕ → List Attendance → Option Attendance
+attendance_of name all = find (is_of name) all
 
 abbrev pub left_of : List ℕ → List Attendance → Left
 left_of name all = left_at (attendance_of name all)

@@ -40,6 +40,13 @@ fn attendance_of<'a>(all: &'a [Attendance], name: &str) -> Option<&'a Attendance
     all.iter().find(|one| one.name.as_str() == name)
 }
 
+// Whether a player is known.
+fn is_met(all: &[Attendance], name: &str) -> bool
+    ensures { result ≡ spec.is_met name.now all.now }
+{
+    all.iter().any(|one| one.name.as_str() == name)
+}
+
 // A player is known from now on.
 fn meet(all: &mut Vec<Attendance>, who: &Option<Identity>) -> Result<(), AllocError>
     ensures { OnOk result (all.new.items ≡ spec.met who.now all.old.items) }
@@ -47,7 +54,7 @@ fn meet(all: &mut Vec<Attendance>, who: &Option<Identity>) -> Result<(), AllocEr
     match who {
         None => Ok(()),
         Some(who) => {
-            if attendance_of(all.as_slice(), who.name.as_str()).is_none() {
+            if !is_met(all.as_slice(), who.name.as_str()) {
                 all.push(Attendance {
                     name: who.name,
                     left: Left::Never,
@@ -163,25 +170,6 @@ fn is_present(visitors: &BTreeMap<u64, Visitor>, connections: &[u64], name: &str
     connections.iter().any(|connection| is_named(&who_acts(visitors, *connection), name))
 }
 
-// Puts a player's name, and whether he is there, behind a text.
-fn push_seat(
-    text: &mut String,
-    name: &str,
-    is_there: bool,
-    left: Left,
-    at: u64,
-) -> Result<(), AllocError>
-    ensures { OnOk result (string_bytes text.new
-        ≡ string_bytes text.old ++ (name.now ++ spec.presence_text is_there left at)) }
-{
-    text.push_str(name)?;
-    if is_there {
-        text.push_str(" here\n")
-    } else {
-        push_away(text, left, at)
-    }
-}
-
 // Puts the row of a seat behind a text, if it is one in this game.
 fn push_row(
     text: &mut String,
@@ -199,8 +187,12 @@ fn push_row(
         return Ok(());
     }
     let name = seat.by.as_str();
-    let is_there = is_present(visitors, connections, name);
-    push_seat(text, name, is_there, left_of(attendances, name), at)
+    text.push_str(name)?;
+    if is_present(visitors, connections, name) {
+        text.push_str(" here\n")
+    } else {
+        push_away(text, left_of(attendances, name), at)
+    }
 }
 
 // How many connections watch a game.
