@@ -1,5 +1,5 @@
 //! Messages as browsers get them: what the desk told, with what the positions say.
-ghost use Rattle.std.specs.Prelude.{◌≡◌, ◌++◌, ◌∷◌, [], OnOk};
+ghost use Rattle.std.specs.Prelude.{◌≡◌, ◌++◌, ◌∷◌, [], codes, OnOk};
 ghost use Rattle.std.specs.List.{AllZip};
 ghost use Rattle.std.specs.String.{string_bytes};
 ghost use Rattle.lobby_words.specs.Words.{rest_of};
@@ -65,23 +65,31 @@ fn add_moves(alloc: Global, text: &mut String) -> Result<(), AllocError>
     }
 }
 
-// The legal moves of the position that a message `moves FEN` names, in place of it; that it has no form where that is
-// none.
+// A text takes the place of another.
+fn put(alloc: Global, text: &mut String, new: &str) -> Result<(), AllocError>
+    ensures { OnOk result (string_bytes text.new ≡ new.now) }
+{
+    *text = String::from_str(alloc, new)?;
+    Ok(())
+}
+
+// The line of the legal moves, behind `ok`, takes its place.
+fn put_moves(alloc: Global, text: &mut String, line: &str) -> Result<(), AllocError>
+    ensures { OnOk result (string_bytes text.new ≡ codes "ok " ++ line.now ++ 10 ∷ []) }
+{
+    put(alloc, text, "ok ")?;
+    push_line(text, line)
+}
+
+// The legal moves of the position that a message `moves FEN` names take its place; where it names none, that it has no
+// form.
 fn tell_moves(alloc: Global, text: &mut String) -> Result<(), AllocError>
     ensures { OnOk result (IsOfMoves (string_bytes text.old) (string_bytes text.new)) }
 {
     let line = moves_line(alloc, rest_of(text.as_str()))?;
     match line {
-        None => {
-            *text = String::from_str(alloc, Refusal::BadLine.line())?;
-            Ok(())
-        }
-        Some(line) => {
-            let mut told = String::from_str(alloc, "ok ")?;
-            push_line(&mut told, line.as_str())?;
-            *text = told;
-            Ok(())
-        }
+        None => put(alloc, text, Refusal::BadLine.line()),
+        Some(line) => put_moves(alloc, text, line.as_str()),
     }
 }
 
