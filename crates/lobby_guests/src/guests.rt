@@ -1,7 +1,7 @@
 //! All browsers that are connected, by the names of their sockets, which grow.
 #![tactic(auto, using(lobby_talk::proofs::Each::zipped_none, lobby_talk::proofs::Each::zipped_vec))]
 
-ghost use Rattle.std.specs.Prelude.{ℕ, Bool, true, false, nat_lt, ◌≡◌, ◌++◌, ◌∷◌, [], List, Option, OnOk, count_by};
+ghost use Rattle.std.specs.Prelude.{ℕ, Bool, true, false, nat_lt, length, ◌<◌, ◌≡◌, ◌++◌, ◌∷◌, [], List, Option, OnOk, count_by};
 ghost use Rattle.std.specs.Option.{option_map};
 ghost use Rattle.std.specs.List.{AllZip};
 ghost use Rattle.lobby_guests.specs.Counting.{refusals_in, CountsLogins};
@@ -10,8 +10,7 @@ ghost use Rattle.lobby_guests.specs.Guests as guests;
 ghost use Rattle.lobby_guests.specs.Guests.{IsAsBefore, IsServed, IsPlayersTurn, IsOthersTurn, InTurn, Room, full_room};
 ghost use Rattle.lobby_guests.specs.Guests.{AreAttended, AreTold, AreDelivered, IsWritten, IsLookedAfter, IsClosedIf};
 ghost use Rattle.lobby_guests.specs.Guests.{AreClosed, AreParted, IsCaughtUp, first_wanted, has_waiting, pass_of};
-ghost use Rattle.lobby_guests.specs.Rests.{LeavesOthers};
-ghost use Rattle.lobby_guests.specs.declared.rounds.Others.TheVariants.{Strangers};
+ghost use Rattle.lobby_guests.specs.Rests.{LeavesOthers, LeavesNewcomers};
 ghost use Rattle.lobby_guests.specs.Waiting as waiting;
 ghost use Rattle.lobby_talk.specs.Replaying.{IsReplayed};
 ghost use Rattle.lobby_talk.specs.Talking.{IsTalkAsBefore};
@@ -163,10 +162,12 @@ fn attend_others<S: Read + Write, K: KeepsLinks>(
     Ok(any | can_more)
 }
 
-// Attends some of those who act for nobody and were heard before, where these do not rest.
-fn attend_rested<S: Read + Write, K: KeepsLinks>(
+// Attends some of these others, where they do not rest.
+fn attend_unless<S: Read + Write, K: KeepsLinks>(
     guests: &mut Vec<Guest<S>>,
     rests: bool,
+    others: Others,
+    is_fresh: bool,
     round: &mut Round,
     site: &Site,
     talk: &mut Talk,
@@ -176,24 +177,25 @@ fn attend_rested<S: Read + Write, K: KeepsLinks>(
     coming: &mut Coming,
 ) -> Result<bool, AllocError>
     ensures turned { OnOk result ((room : Room) × (room.talk ≡ talk.new)
-        × InTurn (IsOthersTurn (pass_of Strangers false at) S.remaining site.now) guests.old.items guests.new.items
+        × InTurn (IsOthersTurn (pass_of others is_fresh at) S.remaining site.now) guests.old.items guests.new.items
         (full_room talk.old) room) }
     ensures rests { rests ≡ true → (guests.new.items ≡ guests.old.items) × (talk.new ≡ talk.old) }
 {
     if rests {
         return Ok(false);
     }
-    let strange = Others::Strangers;
     attend_others(
-        guests, strange, false, round, site, talk, at, links, piece, coming,
+        guests, others, is_fresh, round, site, talk, at, links, piece, coming,
     )
 }
 
 /// Reads for players, and says to the desk what came next of each of them; and then for some of the others, of whom
-/// those who were heard before may rest. It tells whether there was anything.
+/// those who have no socket yet wait in a short turn, and those who were heard before may rest. It tells whether there
+/// was anything of players.
 pub fn attend_all<S: Read + Write, K: KeepsLinks>(
     guests: &mut Vec<Guest<S>>,
     rounds: &mut Rounds,
+    is_short: bool,
     site: &Site,
     talk: &mut Talk,
     at: u64,
@@ -202,7 +204,8 @@ pub fn attend_all<S: Read + Write, K: KeepsLinks>(
     counts: &mut Counts,
 ) -> Result<bool, AllocError>
     ensures attended { OnOk result ((attended : AreAttended S.remaining site.now at guests.old.items guests.new.items
-        talk.old talk.new) × (nat_lt at rounds.old.rests_until ≡ true → LeavesOthers attended)) }
+        talk.old talk.new) × (nat_lt at rounds.old.rests_until ≡ true → LeavesOthers attended)
+        × (is_short ≡ true → LeavesNewcomers attended)) }
     ensures rests { OnOk result (rounds.new.rests_until ≡ rounds.old.rests_until) }
     ensures logins { OnOk result (counts.new.logins_refused ≡ counts.old.logins_refused) }
 {
@@ -210,8 +213,9 @@ pub fn attend_all<S: Read + Write, K: KeepsLinks>(
     let new = Others::Newcomers;
     let round = &mut rounds.newcomers;
     let players = attend_players(guests, site, talk, at, links, piece, &mut coming)?;
-    let newcomers = attend_others(
+    let newcomers = attend_unless(
         guests,
+        is_short,
         new,
         true,
         round,
@@ -238,9 +242,11 @@ pub fn attend_all<S: Read + Write, K: KeepsLinks>(
     )?;
     let rests = rounds.rests(at);
     let round = &mut rounds.strangers;
-    let other = attend_rested(
+    let other = attend_unless(
         guests,
         rests,
+        strange,
+        false,
         round,
         site,
         talk,
@@ -250,7 +256,8 @@ pub fn attend_all<S: Read + Write, K: KeepsLinks>(
         &mut coming,
     )?;
     counts.add(&coming);
-    Ok(players | newcomers | fresh | other)
+    rounds.has_others = is_short | newcomers | fresh | other;
+    Ok(players)
 }
 
 // Each is told the messages that go to it, or they wait.
@@ -379,9 +386,11 @@ fn has_turn_to_write<S>(guest: &Guest<S>, talk: &Talk, round: &mut Round) -> boo
     is_turn
 }
 
-// Writes to some of the others what they take, and tells whether that was anything or more can be written at once.
+// Writes to some of the others what they take, and to none in a short turn. It tells whether that was anything, or more
+// can be written.
 fn write_others<S: Read + Write>(
     guests: &mut Vec<Guest<S>>,
+    is_short: bool,
     site: &Site,
     talk: &Talk,
     round: &mut Round,
@@ -389,7 +398,7 @@ fn write_others<S: Read + Write>(
     ensures { AllZip (IsWritten S.contents site.now) guests.old.items guests.new.items }
 {
     let mut any = false;
-    round.begin_writing();
+    round.begin_writing(is_short);
     for guest in guests.iter_mut() {
         let is_turn = has_turn_to_write(guest, talk, round);
         any |= guest.write_out(site, is_turn);
@@ -398,10 +407,12 @@ fn write_others<S: Read + Write>(
     any | can_more
 }
 
-/// Writes to players what they take, and then to some of the others. It tells whether that was anything.
+/// Writes to players what they take, and then to some of the others, but not in a short turn. It tells whether that was
+/// anything for players.
 pub fn write_all<S: Read + Write>(
     guests: &mut Vec<Guest<S>>,
     rounds: &mut Rounds,
+    is_short: bool,
     site: &Site,
     talk: &Talk,
 ) -> bool
@@ -410,8 +421,9 @@ pub fn write_all<S: Read + Write>(
     ensures rests { rounds.new.rests_until ≡ rounds.old.rests_until }
 {
     let players = write_players(guests, site, talk);
-    let others = write_others(guests, site, talk, &mut rounds.written);
-    players | others
+    let others = write_others(guests, is_short, site, talk, &mut rounds.written);
+    rounds.has_others |= others;
+    players
 }
 
 /// The earlier of two moments, where there are any.
@@ -454,22 +466,35 @@ pub fn is_crowded<S>(connections: &[Guest<S>]) -> bool
     count_unheard(connections) > ATTENDED_MOST
 }
 
-/// Looks after each, where it is time.
-pub fn look_after_all<S>(guests: &mut Vec<Guest<S>>, is_time: bool, at: u64)
-    ensures { AllZip IsLookedAfter guests.old.items guests.new.items }
+/// Of each it is seen whether it acts for a player; and where it is time each is looked after.
+pub fn look_after_all<S>(guests: &mut Vec<Guest<S>>, talk: &Talk, is_time: bool, at: u64)
+    ensures { AllZip (IsLookedAfter talk.now.desk at) guests.old.items guests.new.items }
 {
     for guest in guests.iter_mut() {
-        guest.look_after(is_time, at);
+        guest.look_after(talk, is_time, at);
     }
 }
 
-/// The socket of this name may be ready.
-pub fn wake_all<S>(guests: &mut Vec<Guest<S>>, key: usize)
+// The browser at this place is awake, if its socket has this name.
+fn wake_at<S>(guests: &mut Vec<Guest<S>>, place: usize, key: usize)
+    requires { place < length guests.old.items }
     ensures { AllZip IsAsBefore guests.old.items guests.new.items }
 {
-    for guest in guests.iter_mut() {
-        guest.wake(key);
+    guests[place].wake(key);
+}
+
+/// The socket of this name may be ready: it is looked for by names, which grow. It tells of whom it is, as the desk
+/// knows it, if of anybody there.
+pub fn wake_one<S>(guests: &mut Vec<Guest<S>>, key: usize) -> Option<u64>
+    ensures { AllZip IsAsBefore guests.old.items guests.new.items }
+{
+    let place = guests.as_slice().partition_point(|guest| guest.key() < key);
+    if place >= guests.len() {
+        return None;
     }
+    let number = guests[place].number();
+    wake_at(guests, place, key);
+    number
 }
 
 // Marks those who are over.
