@@ -44,18 +44,21 @@ def frame(kind, payload):
 
 
 def taken_frame(data):
-    """Takes the first frame out of what has come: its kind and its payload; none where it is not all there."""
+    """Takes the first frame out of what has come: its kind and its payload without a mask; none where it is not all
+    there."""
     if len(data) < 2:
         return None
-    size, at = data[1], 2
-    if size == 126:
-        size, at = int.from_bytes(data[2:4], 'big'), 4
-    elif size == 127:
-        size, at = int.from_bytes(data[2:10], 'big'), 10
-    if len(data) < at + size:
+    size, at = data[1] & 127, 2
+    if size >= 126:
+        at = 4 if size == 126 else 10
+        size = int.from_bytes(data[2:at], 'big')
+    start = at + (4 if data[1] & 128 else 0)
+    if len(data) < start + size:
         return None
-    kind, payload = data[0] & 15, bytes(data[at:at + size])
-    del data[:at + size]
+    kind, payload = data[0] & 15, bytes(data[start:start + size])
+    if mask := data[at:start]:
+        payload = bytes(byte ^ mask[place & 3] for place, byte in enumerate(payload))
+    del data[:start + size]
     return kind, payload
 
 
