@@ -28,6 +28,12 @@ fn fits(player: &Particulars<'_>) -> bool
     has_width(3, player.title) && has_width(4, player.rating) && has_width(11, player.fide_number)
 }
 
+fn all_fit(players: &[Particulars<'_>]) -> bool
+    ensures { result ≡ list_all spec.fits players.now }
+{
+    players.iter().all(|player| fits(player))
+}
+
 // Whether it is the starting number of one of so many players.
 fn is_number(count: usize, number: u32) -> bool
     ensures { result ≡ spec.is_number count number }
@@ -108,7 +114,7 @@ pub(crate) fn fault_in(
     if days > all {
         return Some(Fault::TooFewRounds);
     }
-    if !players.iter().all(|player| fits(player)) {
+    if !all_fit(players) {
         return Some(Fault::TooWide);
     }
     if !are_seated(count, rounds) {

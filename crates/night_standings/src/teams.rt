@@ -10,12 +10,14 @@ use night_report::{
 };
 use std::alloc::{AllocError, Global};
 
-// Fails where a board of a round is of no match.
-fn check_boards(
+// Fails where a board of a round is of no match, or the colours of a match do not alternate.
+fn check_round(
     players: &[Particulars<'_>],
+    teams: &[Team<'_>],
     sides: &[u32],
     number: usize,
     round: &[Meeting],
+    matches: &[Meeting],
 ) -> Result<()> {
     for meeting in round {
         if !is_matched(sides, round, *meeting) {
@@ -29,17 +31,6 @@ fn check_boards(
             );
         }
     }
-    Ok(())
-}
-
-// Fails where the colours of a match do not alternate.
-fn check_colours(
-    teams: &[Team<'_>],
-    sides: &[u32],
-    number: usize,
-    round: &[Meeting],
-    matches: &[Meeting],
-) -> Result<()> {
     for meeting in matches {
         if let Opponent::Player(black) = meeting.black
             && !alternates(sides, meeting.white, black, round)
@@ -56,7 +47,7 @@ fn check_colours(
     Ok(())
 }
 
-// Fails where a board of a round is of no match, or the colours of a match do not alternate.
+// Fails where it does so in a round.
 fn check_rounds(
     players: &[Particulars<'_>],
     teams: &[Team<'_>],
@@ -67,8 +58,14 @@ fn check_rounds(
     let mut number: usize = 0;
     for (round, matches) in rounds.iter().zip(matches) {
         number = number.saturating_add(1);
-        check_boards(players, sides, number, round.as_slice())?;
-        check_colours(teams, sides, number, round.as_slice(), matches.as_slice())?;
+        check_round(
+            players,
+            teams,
+            sides,
+            number,
+            round.as_slice(),
+            matches.as_slice(),
+        )?;
     }
     Ok(())
 }
