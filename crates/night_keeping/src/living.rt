@@ -427,14 +427,6 @@ fn all_games(alloc: Global, living: &Living<'_>) -> Result<Option<String>> {
     }
 }
 
-// How often it is looked: for spectators twice a second.
-fn pace_of(living: &Living<'_>) -> Pace {
-    match living.source.every {
-        Some(_) if living.games.is_some() => Pace::HalfSeconds,
-        every => Pace::every(every),
-    }
-}
-
 /// Writes all games that are played on the server's table, those that are over, and those of the archive to a file, and
 /// where it is asked for all games of the archive to another, and those of the first to a folder for spectators: once,
 /// or again and again until it is killed. It fails where another writes one of them, where the players' file is none,
@@ -445,12 +437,12 @@ where
 {
     let all = all_games(rt.alloc(), living)?;
     let mut writer = Writer::new(rt, living, all.as_ref().map(|all| all.as_str()))?;
-    let done = go_on(
-        rt,
-        &mut writer,
-        pace_of(living),
-        "the file is written again",
-    );
+    // (for spectators it is looked twice a second)
+    let pace = match living.source.every {
+        Some(_) if living.games.is_some() => Pace::HalfSeconds,
+        every => Pace::every(every),
+    };
+    let done = go_on(rt, &mut writer, pace, "the file is written again");
     drop(writer);
     done
 }
