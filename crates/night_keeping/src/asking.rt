@@ -4,7 +4,7 @@ use lobby_players::full_name;
 use lobby_words::Player;
 use night_links::{Link, ToldGame};
 use night_log::{LogEntry, clocks};
-use server_answers::{Refusal, Row, Seats, Shown, pgn_head_of, refusal_of, seat_text, shown_of};
+use server_answers::{Refusal, Row, Shown, pgn_head_of, refusal_of, seat_text, shown_of};
 use std::alloc::Global;
 use text_pgn::{Heading, archived};
 
@@ -83,15 +83,6 @@ fn clocks_of(
     clocks_told(alloc, known, row, answer.first.as_str())
 }
 
-// What the tags are to say of a game of these players.
-fn heading_of<'a>(known: &Knowledge<'a>, seats: &'a Seats) -> Heading<'a> {
-    Heading {
-        white: full_name(known.players, seat_text(&seats.white)),
-        black: full_name(known.players, seat_text(&seats.black)),
-        ..known.heading
-    }
-}
-
 /// Asks for the PGN of a game, and makes it as the archive has it, with the clocks that the log knows, and where it is
 /// given that of the last move by the server; none where the game has left the table since.
 pub fn pgn_of(
@@ -104,7 +95,11 @@ pub fn pgn_of(
     let Some(told) = told(alloc, link, game)? else {
         return Ok(None);
     };
-    let heading = heading_of(known, &row.seats);
+    let heading = Heading {
+        white: full_name(known.players, seat_text(&row.seats.white)),
+        black: full_name(known.players, seat_text(&row.seats.black)),
+        ..known.heading
+    };
     let clocks = clocks_of(alloc, link, known, row)?;
     let pgn = archived(alloc, &heading, told.as_str(), clocks.as_slice()).context(format_args!(
         "game {game}"
@@ -137,6 +132,10 @@ pub fn pgn_told(
     let Some(shown) = shown_of(told.shown.as_str()) else {
         bail!("game {game} does not stand");
     };
-    let heading = heading_of(known, &shown.seats);
+    let heading = Heading {
+        white: full_name(known.players, seat_text(&shown.seats.white)),
+        black: full_name(known.players, seat_text(&shown.seats.black)),
+        ..known.heading
+    };
     archived(alloc, &heading, told.pgn.as_str(), clocks).context(format_args!("game {game}"))
 }

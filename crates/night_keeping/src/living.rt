@@ -149,6 +149,32 @@ fn told_of(alloc: Global, form: NameForm, telling: &Telling<'_>, board: &Board) 
     Ok(text)
 }
 
+// The same of the table's boards and of those of the archive that were kept or are not there any more, in their order.
+fn pgns_of(
+    alloc: Global,
+    form: NameForm,
+    table: &[Board],
+    archived: &[Board],
+    telling: &Telling<'_>,
+) -> Result<Vec<Vec<u8>>> {
+    let boards = in_order(alloc, table, archived)?;
+    let mut pgns = Vec::new(alloc);
+    for board in boards.as_slice() {
+        let pgn = told_of(alloc, form, telling, board)?;
+        pgns.push(pgn)?;
+    }
+    Ok(pgns)
+}
+
+// PGNs, one behind the other.
+fn text_of(alloc: Global, pgns: &[Vec<u8>]) -> Result<Vec<u8>> {
+    let mut text = Vec::new(alloc);
+    for pgn in pgns {
+        text.extend_from_slice(pgn.as_slice())?;
+    }
+    Ok(text)
+}
+
 // A game of the table with its PGN: the clocks are looked for where it was told anew since the boards of before.
 fn board_of(
     alloc: Global,
@@ -304,23 +330,32 @@ impl<'a, R: Files<File = File> + AllocGlobal + Eprint> Writer<'a, R> {
         }
         Ok(())
     }
+
+    // The PGNs of all boards, with what is told besides; and writes the file of all games of the archive anew, where it
+    // is another.
+    fn pgns(&mut self) -> Result<Vec<Vec<u8>>> {
+        let (alloc, form) = (self.rt.alloc(), self.living.names);
+        let read = Read::now(self.rt, &self.living.besides)?;
+        let known = read.known(alloc, form)?;
+        let telling = read.telling(self.sources.known().players, known.as_slice());
+        let pgns = pgns_of(
+            alloc,
+            form,
+            self.seen.as_slice(),
+            self.archived.as_slice(),
+            &telling,
+        )?;
+        if let Some(kept) = &mut self.kept {
+            kept.renew(self.rt, form, &telling, self.archive)?;
+        }
+        Ok(pgns)
+    }
 }
 
 impl<'a, R> Writer<'a, R>
 where
     R: Files<File = File> + AllocGlobal + Eprint + Clone + Drop,
 {
-    // The PGNs of all boards in their order, as they are told.
-    fn pgns(&self, form: NameForm, telling: &Telling<'_>) -> Result<Vec<Vec<u8>>> {
-        let alloc = self.rt.alloc();
-        let boards = in_order(alloc, self.seen.as_slice(), self.archived.as_slice())?;
-        let mut pgns = Vec::new(alloc);
-        for board in boards.as_slice() {
-            pgns.push(told_of(alloc, form, telling, board)?)?;
-        }
-        Ok(pgns)
-    }
-
     // Tells spectators of all boards, whose PGNs are told so. Those games of which a move came between two answers are
     // asked about again.
     fn tell_spectators(&mut self, pgns: &[Vec<u8>], at: u64) -> Result<()> {
@@ -339,25 +374,6 @@ where
             games.push(board.game)?;
         }
         spectators.end(self.rt, games.as_slice(), at)
-    }
-
-    // What the file is to have, with what is told besides; spectators are told too, and the file of all games of the
-    // archive is written anew, where it is another.
-    fn texts(&mut self, at: u64) -> Result<Vec<u8>> {
-        let (alloc, form) = (self.rt.alloc(), self.living.names);
-        let read = Read::now(self.rt, &self.living.besides)?;
-        let known = read.known(alloc, form)?;
-        let telling = read.telling(self.sources.known().players, known.as_slice());
-        let pgns = self.pgns(form, &telling)?;
-        if let Some(kept) = &mut self.kept {
-            kept.renew(self.rt, form, &telling, self.archive)?;
-        }
-        self.tell_spectators(pgns.as_slice(), at)?;
-        let mut text = Vec::new(alloc);
-        for pgn in pgns.as_slice() {
-            text.extend_from_slice(pgn.as_slice())?;
-        }
-        Ok(text)
     }
 }
 
@@ -393,7 +409,9 @@ where
     fn work(&mut self, _is_once: bool) -> Result<()> {
         let at = unix_time(self.rt)?.context("the system's clock shows a time before 1970")?;
         self.look(at)?;
-        let text = self.texts(at)?;
+        let pgns = self.pgns()?;
+        self.tell_spectators(pgns.as_slice(), at)?;
+        let text = text_of(self.rt.alloc(), pgns.as_slice())?;
         if let Some(text) = self.delay.due(self.rt, text)? {
             self.file.put(self.rt, text)?;
         }
@@ -409,14 +427,6 @@ fn all_games(alloc: Global, living: &Living<'_>) -> Result<Option<String>> {
     }
 }
 
-// How often it is looked: for spectators twice a second.
-fn pace_of(living: &Living<'_>) -> Pace {
-    match living.source.every {
-        Some(_) if living.games.is_some() => Pace::HalfSeconds,
-        every => Pace::every(every),
-    }
-}
-
 /// Writes all games that are played on the server's table, those that are over, and those of the archive to a file, and
 /// where it is asked for all games of the archive to another, and those of the first to a folder for spectators: once,
 /// or again and again until it is killed. It fails where another writes one of them, where the players' file is none,
@@ -427,12 +437,12 @@ where
 {
     let all = all_games(rt.alloc(), living)?;
     let mut writer = Writer::new(rt, living, all.as_ref().map(|all| all.as_str()))?;
-    let done = go_on(
-        rt,
-        &mut writer,
-        pace_of(living),
-        "the file is written again",
-    );
+    // (for spectators it is looked twice a second)
+    let pace = match living.source.every {
+        Some(_) if living.games.is_some() => Pace::HalfSeconds,
+        every => Pace::every(every),
+    };
+    let done = go_on(rt, &mut writer, pace, "the file is written again");
     drop(writer);
     done
 }
