@@ -1,6 +1,6 @@
 //! Points and tie-breaks of players (FIDE's Handbook, C.07).
 ghost use Rattle.std.specs.Prelude.{◌≡◌, ◌≤◌, ◌<◌, ◌*◌, ◌^◌, length, map, get_or, filter, sum_by, count_by, None, IfOk};
-ghost use Rattle.std.specs.List.{list_all};
+ghost use Rattle.std.specs.List.{list_all, list_any};
 ghost use Rattle.night_standings.specs.Breaks as spec;
 
 use night_report::cells::{Cell, Meeting, cell_of};
@@ -52,6 +52,12 @@ fn are_voluntary(cells: &[Cell]) -> bool
     ensures { result ≡ list_all spec.is_voluntary cells.now }
 {
     cells.iter().all(|cell| is_voluntary(*cell))
+}
+
+fn has_voluntary(cells: &[Cell]) -> bool
+    ensures { result ≡ list_any spec.is_voluntary cells.now }
+{
+    cells.iter().any(|cell| is_voluntary(*cell))
 }
 
 /// The rounds of a player.
@@ -193,8 +199,7 @@ fn cut(scores: &[u32], cells: &[Cell]) -> u32
     requires { length cells.now ≤ 99 }
     ensures { result ≡ spec.cut scores.now cells.now }
 {
-    let has_voluntary = cells.iter().any(|cell| is_voluntary(*cell));
-    match cut_among(scores, points(cells), has_voluntary, cells) {
+    match cut_among(scores, points(cells), has_voluntary(cells), cells) {
         Some(least) => least,
         None => 0,
     }
