@@ -1,5 +1,5 @@
 -- What waits in front is told.
-use Rattle.std.proofs.Common.{◌≡◌, ◌<◌, ◌≤◌, ◌∙◌, ℕ, zero, suc, Bool, true, false, List, [], ◌∷◌, ◌++◌, not, length, get_or, set, refl, ap, sym, subst, arith}
+use Rattle.std.proofs.Common.{◌≡◌, ◌<◌, ◌≤◌, ◌∙◌, ℕ, Bool, true, false, List, [], ◌∷◌, ◌++◌, not, length, get_or, refl, ap, sym, subst, arith}
 use Rattle.std.specs.List.{AllZip, remove}
 use Rattle.std.specs.String.{string_bytes}
 use Rattle.std.proofs.lemmas.Bool.{false≢true}
@@ -71,18 +71,6 @@ module _ {S : Type 0} where
     origin = refl;
     paid = refl;
   }
-
-  pub all_same : (guests : List (Guest S)) → AllZip IsAsBefore guests guests
-  all_same [] = tt
-  all_same (guest ∷ guests) = (same_guest guest, all_same guests)
-
-  -- one is awake, and the others are as they were
-  pub one_awake : (guests : List (Guest S)) (i : ℕ) (d after : Guest S) → i < length guests → IsAsBefore (get_or guests i d) after →
-      AllZip IsAsBefore guests (set guests i after)
-  one_awake [] i d after below one = absurd (omega (arith, below))
-  one_awake (guest ∷ guests) zero d after below one = (one, all_same guests)
-  one_awake (guest ∷ guests) (suc i) d after below one =
-      (same_guest guest, one_awake guests i d after (omega (arith, below)) one)
 
   pub caught_none : (guest : Guest S) → IsCaughtUp guest guest
   caught_none guest = record { front = []; are = same_guest guest; at_line = λ at. at }

@@ -134,8 +134,8 @@ paid_for at text until = if is_answer text then taken_until at until (length tex
 abbrev pub paid_after : ℕ → ℕ → ℕ → ℕ
 paid_after at until count = if count == 0 then until else taken_until at until (1 + count / 40)
 
--- At most 1,024 bytes of one are read, for which its time is taken, and which are then to be heard; of one that acts for
--- nobody none while something of it may wait to be heard.
+-- At most 1,024 bytes of one are read, for which its time is taken, and which are then to be heard; of one that acts
+-- for nobody none while something of it may wait to be heard.
 pub record IsPaid {S : Type 0} (remaining : S → Option (List ℕ)) (acts : Bool) (at : ℕ)
     (old new : Guest S) : Type 0 where
   pub taken : List ℕ

@@ -36,8 +36,8 @@ abbrev pub player_of : Desk → Option ℕ → Option (List ℕ)
 player_of desk None = None
 player_of desk (Some c) = player_at desk c
 
--- a connection's place; its time counts from when it came, and of one that acted for a player from the last turn in which
--- it did
+-- a connection's place; its time counts from when it came, and of one that acted for a player from the last turn in
+-- which it did
 abbrev pub place_of : {S : Type 0} → Desk → Guest S → Place
 place_of desk guest = record {
   address = guest.origin.address;

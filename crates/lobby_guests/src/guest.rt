@@ -4,8 +4,10 @@ ghost use Rattle.std.specs.Prelude.{◌≢◌};
 ghost use Rattle.lobby_desk.specs.Who.{IsReady, at_table};
 ghost use Rattle.lobby_guests.specs.Guests.{has_time, is_beyond, IsNewGuest, ComesFrom, IsAsBefore, IsRead};
 ghost use Rattle.lobby_guests.specs.Guests.{IsHeardAs, IsHeard, IsAsked, MaySpeak, IsSaid, IsTold, AreTold, IsWritten};
-ghost use Rattle.lobby_guests.specs.Guests.{IsPutBehind, IsNextTold, IsCaughtUp, IsFirst, IsSameVisit, IsStill, IsPinged};
+ghost use Rattle.lobby_guests.specs.Guests.{IsPutBehind, IsNextTold, IsCaughtUp, IsFirst, IsSameVisit, IsStill};
+ghost use Rattle.lobby_guests.specs.Guests.{IsPinged};
 ghost use Rattle.lobby_guests.specs.Waiting.{must_wait, AtLine};
+ghost use Rattle.lobby_guests.specs.Waking.{IsAwake};
 ghost use Rattle.lobby_guests.specs.declared.waiting.Waiting.{Waiting as WaitingValue};
 ghost use Rattle.std.specs.String.{string_bytes};
 ghost use Rattle.std.specs.Option.{option_map};
@@ -80,7 +82,7 @@ pub struct Guest<S> {
     has_more: bool,
     /// Whether it is to be closed at once.
     is_lost: bool,
-    /// From when on its time counts where it is nameless: when it came, or the last turn in which it acted for a player.
+    /// From when on its time as a nameless one counts: when it came, or the last turn in which it acted for a player.
     since: u64,
     /// When it last sent something.
     heard_at: u64,
@@ -166,7 +168,9 @@ impl<S> Guest<S> {
     }
 
     /// The name of its socket.
-    pub fn key(&self) -> usize {
+    pub fn key(&self) -> usize
+        ensures { result ≡ self.now.key }
+    {
         self.key
     }
 
@@ -255,14 +259,12 @@ impl<S> Guest<S> {
         self.can_write && !self.is_lost && !self.browser.out().is_empty()
     }
 
-    /// The socket of this name may be ready.
-    pub fn wake(&mut self, key: usize)
-        ensures { IsAsBefore self.old self.new }
+    /// Its socket may be ready.
+    pub fn wake(&mut self)
+        ensures { IsAwake self.old self.new }
     {
-        if self.key == key {
-            self.can_read = true;
-            self.can_write = true;
-        }
+        self.can_read = true;
+        self.can_write = true;
     }
 
     /// It is to be closed where it is over, with nothing left to write or to hear.
@@ -751,7 +753,8 @@ impl<S: Read + Write> Guest<S> {
     /// Writes what the socket takes at once of what waits to be written, at most 16,384 bytes, if it is its turn. It
     /// tells whether that was anything.
     pub fn write_out(&mut self, site: &Site, is_turn: bool) -> bool
-        ensures { IsWritten S.contents site.now self.old self.new }
+        ensures written { IsWritten S.contents site.now self.old self.new }
+        ensures waits { is_turn ≡ false → self.new ≡ self.old }
     {
         if !is_turn || !self.has_to_write() {
             return false;

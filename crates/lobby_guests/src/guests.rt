@@ -1,19 +1,22 @@
 //! All browsers that are connected, by the names of their sockets, which grow.
 #![tactic(auto, using(lobby_talk::proofs::Each::zipped_none, lobby_talk::proofs::Each::zipped_vec))]
 
-ghost use Rattle.std.specs.Prelude.{ℕ, Bool, true, false, nat_lt, length, ◌<◌, ◌≡◌, ◌++◌, ◌∷◌, [], List, Option, OnOk, count_by};
+ghost use Rattle.std.specs.Prelude.{ℕ, Bool, true, false, nat_lt, length, ◌<◌, ◌≡◌, ◌++◌, ◌∷◌, [], List, Option, OnOk};
+ghost use Rattle.std.specs.Prelude.{count_by, slice_index_or, slice_set, ◌≢◌};
 ghost use Rattle.std.specs.Option.{option_map};
-ghost use Rattle.std.specs.List.{AllZip};
+ghost use Rattle.std.specs.List.{AllZip, HoldsAt};
 ghost use Rattle.lobby_guests.specs.Counting.{refusals_in, CountsLogins};
 ghost use Rattle.lobby_talk.specs.Counting.{counted_up};
 ghost use Rattle.lobby_guests.specs.Guests as guests;
 ghost use Rattle.lobby_guests.specs.Guests.{IsAsBefore, IsServed, IsPlayersTurn, IsOthersTurn, InTurn, Room, full_room};
 ghost use Rattle.lobby_guests.specs.Guests.{AreAttended, AreTold, AreDelivered, IsWritten, IsLookedAfter, IsClosedIf};
 ghost use Rattle.lobby_guests.specs.Guests.{AreClosed, AreParted, IsCaughtUp, first_wanted, has_waiting, pass_of};
-ghost use Rattle.lobby_guests.specs.Rests.{LeavesOthers, LeavesNewcomers};
+ghost use Rattle.lobby_guests.specs.Rests.{LeavesOthers, LeavesNewcomers, LeavesStranger};
+ghost use Rattle.lobby_guests.specs.Waking.{IsAwake, StaysUnlessNamed, IsAwakeIfNamed, NamesGrow, IsPlaceNamed};
+ghost use Rattle.lobby_guests.specs.Waking.{number_named};
 ghost use Rattle.lobby_guests.specs.Waiting as waiting;
 ghost use Rattle.lobby_talk.specs.Replaying.{IsReplayed};
-ghost use Rattle.lobby_talk.specs.Talking.{IsTalkAsBefore};
+ghost use Rattle.lobby_talk.specs.Talking.{IsTalkAsBefore, acts_at};
 ghost use Rattle.lobby_talk.specs.Keeping.{AreKept};
 
 use crate::guest::Guest;
@@ -365,13 +368,21 @@ pub fn deliver<S>(
     Ok(())
 }
 
+// Whether something is to be written to a browser that acts for a player.
+fn has_for_player<S>(guest: &Guest<S>, talk: &Talk) -> bool
+    ensures { acts_at talk.now.desk guest.now.number ≡ false → result ≡ false }
+{
+    guest.has_to_write() && talk.acts(guest.number())
+}
+
 // Writes to each that acts for a player what it takes.
 fn write_players<S: Read + Write>(guests: &mut Vec<Guest<S>>, site: &Site, talk: &Talk) -> bool
-    ensures { AllZip (IsWritten S.contents site.now) guests.old.items guests.new.items }
+    ensures written { AllZip (IsWritten S.contents site.now) guests.old.items guests.new.items }
+    ensures strangers { AllZip (LeavesStranger talk.now.desk) guests.old.items guests.new.items }
 {
     let mut any = false;
     for guest in guests.iter_mut() {
-        let is_turn = guest.has_to_write() && talk.acts(guest.number());
+        let is_turn = has_for_player(guest, talk);
         any |= guest.write_out(site, is_turn);
     }
     any
@@ -386,11 +397,9 @@ fn has_turn_to_write<S>(guest: &Guest<S>, talk: &Talk, round: &mut Round) -> boo
     is_turn
 }
 
-// Writes to some of the others what they take, and to none in a short turn. It tells whether that was anything, or more
-// can be written.
+// Writes to some of the others what they take. It tells whether that was anything, or more can be written.
 fn write_others<S: Read + Write>(
     guests: &mut Vec<Guest<S>>,
-    is_short: bool,
     site: &Site,
     talk: &Talk,
     round: &mut Round,
@@ -398,13 +407,30 @@ fn write_others<S: Read + Write>(
     ensures { AllZip (IsWritten S.contents site.now) guests.old.items guests.new.items }
 {
     let mut any = false;
-    round.begin_writing(is_short);
+    round.begin_writing();
     for guest in guests.iter_mut() {
         let is_turn = has_turn_to_write(guest, talk, round);
         any |= guest.write_out(site, is_turn);
     }
     let can_more = round.end();
     any | can_more
+}
+
+// Writes to some of the others, where they do not wait.
+fn write_unless<S: Read + Write>(
+    guests: &mut Vec<Guest<S>>,
+    waits: bool,
+    site: &Site,
+    talk: &Talk,
+    round: &mut Round,
+) -> bool
+    ensures written { AllZip (IsWritten S.contents site.now) guests.old.items guests.new.items }
+    ensures waits { waits ≡ true → guests.new.items ≡ guests.old.items }
+{
+    if waits {
+        return false;
+    }
+    write_others(guests, site, talk, round)
 }
 
 /// Writes to players what they take, and then to some of the others, but not in a short turn. It tells whether that was
@@ -418,10 +444,11 @@ pub fn write_all<S: Read + Write>(
 ) -> bool
     ensures written { (first : List (Guest S)) × AllZip (IsWritten S.contents site.now) guests.old.items first
         × AllZip (IsWritten S.contents site.now) first guests.new.items }
+    ensures short { is_short ≡ true → AllZip (LeavesStranger talk.now.desk) guests.old.items guests.new.items }
     ensures rests { rounds.new.rests_until ≡ rounds.old.rests_until }
 {
     let players = write_players(guests, site, talk);
-    let others = write_others(guests, is_short, site, talk, &mut rounds.written);
+    let others = write_unless(guests, is_short, site, talk, &mut rounds.written);
     rounds.has_others |= others;
     players
 }
@@ -475,26 +502,53 @@ pub fn look_after_all<S>(guests: &mut Vec<Guest<S>>, talk: &Talk, is_time: bool,
     }
 }
 
-// The browser at this place is awake, if its socket has this name.
-fn wake_at<S>(guests: &mut Vec<Guest<S>>, place: usize, key: usize)
-    requires { place < length guests.old.items }
-    ensures { AllZip IsAsBefore guests.old.items guests.new.items }
+// Whether the socket of the browser at this place has this name.
+fn is_named_at<S>(connections: &[Guest<S>], place: usize, key: usize) -> bool
+    requires { place < length connections.now }
+    ensures yes { result ≡ true → HoldsAt (λ guest. guest.key ≡ key) connections.now place }
+    ensures no { result ≡ false → HoldsAt (λ guest. guest.key ≢ key) connections.now place }
 {
-    guests[place].wake(key);
+    connections[place].key() == key
+}
+
+// The place of the browser whose socket has this name, if there is one: names grow.
+fn place_named<S>(connections: &[Guest<S>], key: usize) -> Option<usize>
+    ensures { IsPlaceNamed key connections.now result }
+{
+    let place = connections.partition_point(|guest| guest.key() < key);
+    if place >= connections.len() {
+        return None;
+    }
+    if is_named_at(connections, place, key) {
+        Some(place)
+    } else {
+        None
+    }
+}
+
+// The socket of the browser at this place may be ready. It tells its number at the desk.
+fn wake_at<S>(guests: &mut Vec<Guest<S>>, place: usize) -> Option<u64>
+    requires { place < length guests.old.items }
+    ensures { (woken : Guest S) × IsAwake (slice_index_or guests.old.items place woken) woken
+        × (guests.new.items ≡ slice_set guests.old.items place woken) × (result ≡ woken.number) }
+{
+    let guest = &mut guests[place];
+    guest.wake();
+    guest.number()
 }
 
 /// The socket of this name may be ready: it is looked for by names, which grow. It tells of whom it is, as the desk
 /// knows it, if of anybody there.
 pub fn wake_one<S>(guests: &mut Vec<Guest<S>>, key: usize) -> Option<u64>
-    ensures { AllZip IsAsBefore guests.old.items guests.new.items }
+    ensures before { AllZip IsAsBefore guests.old.items guests.new.items }
+    ensures others { AllZip (StaysUnlessNamed key) guests.old.items guests.new.items }
+    ensures named { NamesGrow guests.old.items → AllZip (IsAwakeIfNamed key) guests.old.items guests.new.items
+        × (result ≡ number_named key guests.old.items) }
 {
-    let place = guests.as_slice().partition_point(|guest| guest.key() < key);
-    if place >= guests.len() {
-        return None;
+    match place_named(guests.as_slice(), key) {
+        Some(place) => wake_at(guests, place),
+        None => None,
     }
-    let number = guests[place].number();
-    wake_at(guests, place, key);
-    number
 }
 
 // Marks those who are over.

@@ -81,9 +81,9 @@ impl Round {
         self.begin(ATTENDED_MOST);
     }
 
-    /// Some of those to whom something is written have a turn from now on, and none in a short turn.
-    pub fn begin_writing(&mut self, is_short: bool) {
-        self.begin(if is_short { 0 } else { WRITTEN_MOST });
+    /// Some of those to whom something is written have a turn from now on.
+    pub fn begin_writing(&mut self) {
+        self.begin(WRITTEN_MOST);
     }
 
     /// Whether it may be the turn of this one.

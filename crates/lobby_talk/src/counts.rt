@@ -167,7 +167,8 @@ impl Counts {
 
     /// A text is for a browser: a login that it refuses is counted.
     pub fn note_login(&mut self, text: &str)
-        ensures logins { self.new.logins_refused ≡ counted_up self.old.logins_refused (one_if (refuses_login text.now)) }
+        ensures logins { self.new.logins_refused
+            ≡ counted_up self.old.logins_refused (one_if (refuses_login text.now)) }
         ensures at { self.new.at ≡ self.old.at }
     {
         if is_refused_login(text) {
