@@ -1,6 +1,6 @@
 -- One turn of all that are connected.
-use Rattle.std.specs.Prelude.{ℕ, ◌≡◌, ◌⊎◌, ◌||◌, ◌+◌, ◌-◌, ◌^◌, ◌==◌, ◌&&◌, nat_le, nat_lt, min, Bool, true, false, List, [], ◌∷◌, ◌++◌}
-use Rattle.std.specs.Prelude.{Option, None, Some, is_some, length, if◌then◌else◌}
+use Rattle.std.specs.Prelude.{ℕ, ◌≡◌, ◌⊎◌, ◌||◌, ◌&&◌, ◌+◌, ◌-◌, ◌^◌, ◌==◌, nat_le, nat_lt, min, Bool, true, false}
+use Rattle.std.specs.Prelude.{List, [], ◌∷◌, ◌++◌, Option, None, Some, is_some, length, if◌then◌else◌}
 use Rattle.std.specs.declared.net.ip_addr.IpAddr.{IpAddr}
 use Rattle.std.specs.List.{AllZip}
 use Rattle.lobby_words.specs.declared.players.Player.{Player}
@@ -14,7 +14,7 @@ use Rattle.lobby_talk.specs.Talking.{Begins, MovesAnew}
 use Rattle.lobby_guests.specs.Origins.{IsPlain, IsFrom}
 use Rattle.lobby_guests.specs.Guests.{IsNewGuest, ComesFrom, AreAttended, AreDelivered, IsWritten, IsLookedAfter}
 use Rattle.lobby_guests.specs.Guests.{AreParted, has_waiting, earlier, first_due}
-use Rattle.lobby_guests.specs.Rests.{rested, rest_over, LeavesOthers, LeavesNewcomers}
+use Rattle.lobby_guests.specs.Rests.{rested, rest_over, LeavesOthers, LeavesNewcomers, LeavesStranger}
 use Rattle.lobby_talk.specs.Held.{TakesIn, HandsOn, IsKept}
 use Rattle.lobby_talk.specs.Replaying.{IsReplayed}
 use Rattle.lobby_loop.specs.Seating.{AreSeated}
@@ -130,8 +130,8 @@ HasPlaces {S} has_come at attended new =
     × AreSeated at new.away_at new.talk.desk looked new.guests.items
 
 -- What comes is taken in: the server is heard, and the desk is told where its connection is lost; then each browser is,
--- but in a short turn none of those who have no socket yet, and until their rest is over none of those who act for nobody
--- and were heard before. For all that is told then they rest on.
+-- but in a short turn none of those who have no socket yet, and until their rest is over none of those who act for
+-- nobody and were heard before. For all that is told then they rest on.
 pub record TakesAllIn {S : Type 0} (remaining : S → Option (List ℕ)) (at : ℕ) (is_short : Bool)
     (old new : Hall S) : Type 0 where
   pub server_heard : Option (Link S)
@@ -152,9 +152,9 @@ pub record TakesAllIn {S : Type 0} (remaining : S → Option (List ℕ)) (at : �
   pub site : new.site ≡ old.site
 
 -- What is to go is handed out: what the desk told is delivered, for which of all replays the one that is under way goes
--- on by at most 16 plies, and what is to go is written, to the server and to each
--- browser; and the desk is told who is let go.
-pub record HandsAllOut {S : Type 0} (contents : S → Option (List ℕ)) (old new : Hall S) : Type 0 where
+-- on by at most 16 plies, and what is to go is written, to the server and to each browser, but in a short turn to none
+-- that acts for nobody; and the desk is told who is let go.
+pub record HandsAllOut {S : Type 0} (contents : S → Option (List ℕ)) (is_short : Bool) (old new : Hall S) : Type 0 where
   pub told : List (Guest S)
   pub delivers : AreDelivered old.talk.kept.answers.items old.talk.told.items old.guests.items told
   pub rest : Talk
@@ -168,6 +168,7 @@ pub record HandsAllOut {S : Type 0} (contents : S → Option (List ℕ)) (old ne
   pub writes_first : AllZip (IsWritten contents old.site) told first
   pub written : List (Guest S)
   pub writes : AllZip (IsWritten contents old.site) first written
+  pub strangers : is_short ≡ true → AllZip (LeavesStranger rest.desk) told written
   pub parted_from : AreParted written new.guests.items rest new.talk
   pub site : new.site ≡ old.site
   pub rests : new.rounds.rests_until ≡ old.rounds.rests_until
@@ -183,13 +184,13 @@ next_moment at hall =
 abbrev pub has_more : {S : Type 0} → Hall S → Bool
 has_more hall = has_waiting hall.guests.items hall.talk
 
--- A turn, a short one or not: all that comes is taken in, and then all that is to go is handed out. Between them the log
--- has its texts.
+-- A turn, a short one or not: all that comes is taken in, and then all that is to go is handed out. Between them the
+-- log has its texts.
 pub record HasTurned {S : Type 0} (remaining contents : S → Option (List ℕ)) (at : ℕ) (old new : Hall S) : Type 0 where
   pub is_short : Bool
   pub between : Hall S
   pub takes : TakesAllIn remaining at is_short old between
-  pub hands : HandsAllOut contents between new
+  pub hands : HandsAllOut contents is_short between new
 
 -- the texts that the log has in a turn: those for it among all that is to go then
 abbrev pub texts_put : {S : Type 0} → {remaining contents : S → Option (List ℕ)} → {at : ℕ} → {old new : Hall S} →
@@ -215,8 +216,8 @@ short_after short_until at = if nat_lt at short_until then short_until else min 
 abbrev pub left_at : Bool → ℕ → ℕ → Option ℕ
 left_at is_awake short_until at = if is_awake || nat_le short_until at then None else Some (short_until - at)
 
--- until when those who come may be held at the listener, once that was judged at a moment: as long as too many wait to be
--- heard that moment stays
+-- until when those who come may be held at the listener, once that was judged at a moment: as long as too many wait to
+-- be heard that moment stays
 abbrev pub held_after : ℕ → Bool → ℕ → ℕ
 held_after held_until crowded at = if nat_lt at held_until && crowded then held_until else min (at + 1000) (2 ^ 64 - 1)
 
