@@ -749,9 +749,6 @@ export const WORDS = {
     + 'sie werden notiert, wie sie am Ende stehen.',
   'Delete from here': 'Ab hier löschen',
   'Put another game here': 'Eine andere Partie hierher',
-  'Both sides are moved here, for you alone: nothing of it is sent. What you try is kept in this browser.':
-    'Hier ziehst du beide Seiten, für dich allein: nichts davon wird gesendet. Was du versuchst, bewahrt dieser '
-    + 'Browser auf.',
   'Start anew': 'Neu beginnen',
   ['Both players are told that it is adjourned. In the record this game stays a draw. The game that goes on '
     + 'with it later is the board’s.']:
@@ -859,4 +856,6 @@ export const WORDS = {
     + 'steht der Spieler hier in der Liste.',
   '{0} is listed now: make a new link, which is shown here once.':
     '{0} ist jetzt aufgeführt: mache einen neuen Link, der hier einmal gezeigt wird.',
+  'Both sides are moved here, for you alone. What you try is kept in this browser.':
+    'Hier ziehst du beide Seiten, für dich allein. Was du versuchst, bewahrt dieser Browser auf.',
 };

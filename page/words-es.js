@@ -742,8 +742,6 @@ export const WORDS = {
     + 'anotan como estén al final.',
   'Delete from here': 'Borrar desde aquí',
   'Put another game here': 'Poner otra partida',
-  'Both sides are moved here, for you alone: nothing of it is sent. What you try is kept in this browser.':
-    'Aquí mueves ambos bandos, solo para ti: nada se envía. Lo que pruebas se guarda en este navegador.',
   'Start anew': 'Empezar de nuevo',
   ['Both players are told that it is adjourned. In the record this game stays a draw. The game that goes on '
     + 'with it later is the board’s.']:
@@ -849,4 +847,6 @@ export const WORDS = {
     + 'jugador figura aquí.',
   '{0} is listed now: make a new link, which is shown here once.':
     '{0} figura ahora en la lista: crea un enlace nuevo, que se muestra aquí una vez.',
+  'Both sides are moved here, for you alone. What you try is kept in this browser.':
+    'Aquí mueves ambos bandos, solo para ti. Lo que pruebas se guarda en este navegador.',
 };

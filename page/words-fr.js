@@ -753,9 +753,6 @@ export const WORDS = {
     + 'tournent, et elles sont notées telles qu’elles sont à la fin.',
   'Delete from here': 'Effacer à partir d’ici',
   'Put another game here': 'Mettre une autre partie',
-  'Both sides are moved here, for you alone: nothing of it is sent. What you try is kept in this browser.':
-    'Ici vous jouez les deux camps, pour vous seul : rien n’est envoyé. Ce que vous essayez est gardé dans ce '
-    + 'navigateur.',
   'Start anew': 'Recommencer',
   ['Both players are told that it is adjourned. In the record this game stays a draw. The game that goes on '
     + 'with it later is the board’s.']:
@@ -864,4 +861,6 @@ export const WORDS = {
     + 'le joueur figure ici.',
   '{0} is listed now: make a new link, which is shown here once.':
     '{0} figure maintenant dans la liste : créez un nouveau lien, affiché ici une seule fois.',
+  'Both sides are moved here, for you alone. What you try is kept in this browser.':
+    'Ici vous jouez les deux camps, pour vous seul. Ce que vous essayez est gardé dans ce navigateur.',
 };

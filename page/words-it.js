@@ -746,8 +746,6 @@ export const WORDS = {
     + 'annotati come sono alla fine.',
   'Delete from here': 'Cancella da qui',
   'Put another game here': 'Metti un’altra partita',
-  'Both sides are moved here, for you alone: nothing of it is sent. What you try is kept in this browser.':
-    'Qui muovi entrambe le parti, solo per te: nulla viene inviato. Ciò che provi è conservato in questo browser.',
   'Start anew': 'Ricomincia',
   ['Both players are told that it is adjourned. In the record this game stays a draw. The game that goes on '
     + 'with it later is the board’s.']:
@@ -854,4 +852,6 @@ export const WORDS = {
     + 'giocatore è qui nell’elenco.',
   '{0} is listed now: make a new link, which is shown here once.':
     '{0} è ora nell’elenco: crea un nuovo link, mostrato qui una volta sola.',
+  'Both sides are moved here, for you alone. What you try is kept in this browser.':
+    'Qui muovi entrambe le parti, solo per te. Ciò che provi è conservato in questo browser.',
 };

@@ -748,9 +748,6 @@ export const WORDS = {
     + 'genoteerd zoals ze aan het eind staan.',
   'Delete from here': 'Vanaf hier wissen',
   'Put another game here': 'Een andere partij neerzetten',
-  'Both sides are moved here, for you alone: nothing of it is sent. What you try is kept in this browser.':
-    'Hier zet je beide kanten, alleen voor jezelf: niets ervan wordt verstuurd. Wat je probeert, bewaart deze '
-    + 'browser.',
   'Start anew': 'Opnieuw beginnen',
   ['Both players are told that it is adjourned. In the record this game stays a draw. The game that goes on '
     + 'with it later is the board’s.']:
@@ -857,4 +854,6 @@ export const WORDS = {
     + 'staat de speler hier in de lijst.',
   '{0} is listed now: make a new link, which is shown here once.':
     '{0} staat nu in de lijst: maak een nieuwe link, die hier één keer wordt getoond.',
+  'Both sides are moved here, for you alone. What you try is kept in this browser.':
+    'Hier zet je beide kanten, alleen voor jezelf. Wat je probeert, bewaart deze browser.',
 };

@@ -741,9 +741,6 @@ export const WORDS = {
     + 'stoją na końcu.',
   'Delete from here': 'Usuń odtąd',
   'Put another game here': 'Wstaw inną partię',
-  'Both sides are moved here, for you alone: nothing of it is sent. What you try is kept in this browser.':
-    'Tutaj grasz obiema stronami, tylko dla siebie: nic z tego nie jest wysyłane. To, czego próbujesz, zachowuje '
-    + 'ta przeglądarka.',
   'Start anew': 'Zacznij od nowa',
   ['Both players are told that it is adjourned. In the record this game stays a draw. The game that goes on '
     + 'with it later is the board’s.']:
@@ -849,4 +846,6 @@ export const WORDS = {
     '{0} Uruchom je na komputerze klubu, z folderem wieczoru zamiast FOLDER. Sekundę później gracz jest tu na liście.',
   '{0} is listed now: make a new link, which is shown here once.':
     '{0} jest już na liście: utwórz nowy link, pokazany tu jeden raz.',
+  'Both sides are moved here, for you alone. What you try is kept in this browser.':
+    'Tutaj grasz obiema stronami, tylko dla siebie. To, czego próbujesz, zachowuje ta przeglądarka.',
 };

@@ -737,8 +737,6 @@ export const WORDS = {
     + 'estiverem no fim.',
   'Delete from here': 'Apagar daqui em diante',
   'Put another game here': 'Pôr outra partida',
-  'Both sides are moved here, for you alone: nothing of it is sent. What you try is kept in this browser.':
-    'Aqui você move os dois lados, só para si: nada é enviado. O que você tenta fica guardado neste navegador.',
   'Start anew': 'Recomeçar',
   ['Both players are told that it is adjourned. In the record this game stays a draw. The game that goes on '
     + 'with it later is the board’s.']:
@@ -844,4 +842,6 @@ export const WORDS = {
     + 'aqui na lista.',
   '{0} is listed now: make a new link, which is shown here once.':
     '{0} já está na lista: crie um novo link, mostrado aqui uma vez.',
+  'Both sides are moved here, for you alone. What you try is kept in this browser.':
+    'Aqui você move os dois lados, só para si. O que você tenta fica guardado neste navegador.',
 };
