@@ -20,7 +20,7 @@ import subprocess
 import sys
 import time
 
-from lib.program import Closing
+from lib.program import Closing, data
 
 SECTOR = 512
 LIBC = ctypes.CDLL(None, use_errno=True)
@@ -196,8 +196,7 @@ def made_image(path, size, block, journal):
     environment = dict(os.environ, PATH=os.environ['PATH'] + ':/usr/sbin:/sbin')
     subprocess.run(['mkfs.ext4', '-q', '-F', '-b', str(block), '-N', '64', '-m', '0', '-J', 'size=%d' % journal, '-E',
                     'lazy_itable_init=0,lazy_journal_init=0,nodiscard', path], check=True, env=environment)
-    with open(path, 'rb') as file:
-        return file.read()
+    return data(path)
 
 
 def extents(path):
@@ -375,13 +374,11 @@ class Log:
     """The events of a disk: a list of (kind, place, data)."""
 
     def __init__(self, path):
-        with open(path, 'rb') as file:
-            data = memoryview(file.read())
-        self.events, at = [], 0
-        while at < len(data):
-            kind, size, offset = EVENT.unpack_from(data, at)
+        held, self.events, at = memoryview(data(path)), [], 0
+        while at < len(held):
+            kind, size, offset = EVENT.unpack_from(held, at)
             at += EVENT.size
-            self.events.append((kind, offset, data[at:at + size]))
+            self.events.append((kind, offset, held[at:at + size]))
             at += size
         # after how many events each flush stood
         self.flushes = [at + 1 for at, event in enumerate(self.events) if event[0] == FLUSHED]

@@ -12,7 +12,7 @@ import time
 from lib.net import Door, connect, cut
 from lib.program import PAGE, Closing, Wrong, end, path_of, put
 from lib.server import Server
-from lib.web import TEXT, token_of
+from lib.web import TEXT, taken_frame, token_of
 
 ACTS = (b'open ', b'join ', b'move ', b'offer ', b'accept ', b'decline ', b'resign ', b'claim ', b'flag ', b'drop ')
 # Who plays in most benches.
@@ -323,37 +323,25 @@ class LobbyTap(Tap):
         far.sendall(head(lines).replace(own, its))
         near.sendall(head(answers))
         threading.Thread(target=self.answers_on, args=(near, answers), daemon=True).start()
-        is_on = True
-        while is_on:
-            kind, payload, whole = read_frame(lines)
+        for kind, payload, whole in frames(lines):
             if kind == TEXT:
                 self.is_here = self.is_at(payload)
-            is_on = self.sent(far, whole, kind == TEXT and self.is_here)
+            if not self.sent(far, whole, kind == TEXT and self.is_here):
+                return
 
     def answers_on(self, near, answers):
         with contextlib.suppress(OSError, ValueError):
-            is_on = True
-            while is_on:
-                kind, payload, whole = read_frame(answers)
-                is_on = self.told(near, whole, self.is_here and kind == TEXT
-                                  and payload.startswith((b'ok ', b'no ', b'lost')))
+            for kind, payload, whole in frames(answers):
+                if not self.told(near, whole, self.is_here and kind == TEXT
+                                 and payload.startswith((b'ok ', b'no ', b'lost'))):
+                    break
             cut(near)
 
 
-def read_frame(file):
-    """The next frame of a WebSocket: its kind, its payload without the mask, and its bytes as they came."""
-    def read(count):
-        some = file.read(count)
-        if len(some) < count:
-            raise OSError
-        return some
-
-    head = read(2)
-    size, more = head[1] & 127, b''
-    if size >= 126:
-        more = read(2 if size == 126 else 8)
-        size = int.from_bytes(more, 'big')
-    mask = read(4) if head[1] & 128 else b''
-    body = read(size)
-    shown = bytes(byte ^ mask[place & 3] for place, byte in enumerate(body)) if mask else body
-    return head[0] & 15, shown, head + more + mask + body
+def frames(file):
+    """The frames of a WebSocket: of each its kind, its payload without the mask, and its bytes as they came."""
+    come = bytearray()
+    while some := file.read1(65536):
+        come += some
+        while (before := bytes(come)) and (taken := taken_frame(come)):
+            yield *taken, before[:len(before) - len(come)]

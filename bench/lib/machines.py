@@ -9,7 +9,7 @@ import sys
 import time
 
 from lib.disk import die_with_parent
-from lib.program import Wrong, is_soon
+from lib.program import Wrong, is_soon, put
 
 SYSTEMD = ('systemd', 'systemd-sysv', 'sudo', 'procps')
 
@@ -35,8 +35,7 @@ class Group:
     def enter(self):
         for folder in self.folders:
             os.makedirs(folder, exist_ok=True)
-            with open(os.path.join(folder, 'cgroup.procs'), 'w') as file:
-                file.write('0')
+            put(os.path.join(folder, 'cgroup.procs'), '0')
 
     def is_removed(self):
         """Takes it away, once its processes have ended."""
@@ -58,8 +57,7 @@ class Machine:
     def name_and_boot(self):
         # (sudo looks its own machine up)
         for name, text in (('hostname', self.named + '\n'), ('hosts', '127.0.0.1 localhost %s\n' % self.named)):
-            with open('%s/etc/%s' % (self.root, name), 'w') as file:
-                file.write(text)
+            put('%s/etc/%s' % (self.root, name), text)
         self.boot()
 
     def boot(self):

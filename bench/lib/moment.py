@@ -6,6 +6,7 @@ shim before the C library's `clock_gettime` gives the first another value, and s
 itself is the one that is served. So each answer, the times of `show` and fallen flags among them, can be told to the
 last byte. """
 
+import contextlib
 import fcntl
 import os
 import subprocess
@@ -51,12 +52,6 @@ class Program:
         environment = dict(os.environ, LD_PRELOAD=self.shim, MOMENT=str(moment))
         return subprocess.Popen([self.server, 'run', '--journal', journal], env=environment, stdin=subprocess.PIPE,
                                 stdout=subprocess.PIPE, stderr=subprocess.PIPE, bufsize=0)
-
-    def format(self, journal, games, plies):
-        words = [self.server, 'format', '--journal', journal, '--games', str(games), '--plies', str(plies)]
-        made = subprocess.run(words, capture_output=True)
-        if made.returncode != 0 or not made.stdout.startswith(b'ok format '):
-            raise Wrong('format with limits %d and %d: status %d, %r' % (games, plies, made.returncode, made.stderr))
 
     def run(self, journal, moment, data):
         """Status and output of a run that reads all of data, and the last line of its standard error, which names the
@@ -104,14 +99,10 @@ class Program:
 
 def feed(stream, pieces):
     """Writes each piece by itself, as long as anybody reads."""
-    try:
+    with contextlib.suppress(BrokenPipeError):
         for piece in pieces:
             view = memoryview(piece)
             while view:
                 view = view[stream.write(view):]
-    except BrokenPipeError:
-        pass
-    try:
+    with contextlib.suppress(BrokenPipeError):
         stream.close()
-    except BrokenPipeError:
-        pass

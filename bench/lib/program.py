@@ -167,22 +167,32 @@ def more_files():
 def shared_library(folder, name, text):
     """A library of C, compiled in a folder, to be loaded before a program."""
     source, library = (os.path.join(folder, name + kind) for kind in ('.c', '.so'))
-    with open(source, 'w') as file:
-        file.write(text)
+    put(source, text)
     subprocess.run(['cc', '-O1', '-shared', '-fPIC', '-o', library, source, '-ldl'], check=True)
     return library
 
 
 # ------------------------------------------------------------------- a bench
 
-def put(path, text):
-    with open(path, 'w', encoding='utf-8') as file:
-        file.write(text)
+def put(path, text, mode=0o666):
+    """Writes a file anew, of a text or of bytes."""
+    with open(os.open(path, os.O_WRONLY | os.O_CREAT | os.O_TRUNC, mode), 'wb') as file:
+        file.write(text if isinstance(text, bytes) else text.encode())
+
+
+def put_at_once(path, text):
+    """The same, so that whoever reads it finds the old one or the whole new one."""
+    put(path + '.new', text)
+    os.rename(path + '.new', path)
+
+
+def data(path):
+    with open(path, 'rb') as file:
+        return file.read()
 
 
 def content(path):
-    with open(path, encoding='utf-8') as file:
-        return file.read()
+    return data(path).decode()
 
 
 def is_soon(holds, seconds=4, rest=0.05):

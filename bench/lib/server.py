@@ -6,6 +6,9 @@ import time
 from lib.net import connect, to_end
 from lib.program import PATIENCE, Closing, begin, end, fault_of, memory, run, used, wrong_if
 
+# Moves of a long game: between those of pawns no position comes a fifth time.
+QUIET = [text for file in 'abcdeh' for low, high in ('36', '45')
+         for text in (file + low, file + high, *('Nf3', 'Nf6', 'Ng1', 'Ng8') * 3)]
 # `serve` goes on so many turns, which is for ever.
 FOR_EVER = ('--turns', '4294967295')
 

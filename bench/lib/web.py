@@ -1,6 +1,6 @@
 """What benches say to a lobby over HTTP and its WebSocket: by blocking calls (Line, and Guest, who hears answers
-alone), as a player who comes back (Seat, and Person, who keeps what was said), in an asyncio program (Browser), one
-request (fetch), and the figures of /health."""
+alone), as a player who comes back and keeps what was said (Person), in an asyncio program (Browser), one request
+(fetch), and the figures of /health."""
 
 import asyncio
 import base64
@@ -44,18 +44,21 @@ def frame(kind, payload):
 
 
 def taken_frame(data):
-    """Takes the first frame out of what has come: its kind and its payload; none where it is not all there."""
+    """Takes the first frame out of what has come: its kind and its payload without a mask; none where it is not all
+    there."""
     if len(data) < 2:
         return None
-    size, at = data[1], 2
-    if size == 126:
-        size, at = int.from_bytes(data[2:4], 'big'), 4
-    elif size == 127:
-        size, at = int.from_bytes(data[2:10], 'big'), 10
-    if len(data) < at + size:
+    size, at = data[1] & 127, 2
+    if size >= 126:
+        at = 4 if size == 126 else 10
+        size = int.from_bytes(data[2:at], 'big')
+    start = at + (4 if data[1] & 128 else 0)
+    if len(data) < start + size:
         return None
-    kind, payload = data[0] & 15, bytes(data[at:at + size])
-    del data[:at + size]
+    kind, payload = data[0] & 15, bytes(data[start:start + size])
+    if mask := data[at:start]:
+        payload = bytes(byte ^ mask[place & 3] for place, byte in enumerate(payload))
+    del data[:start + size]
     return kind, payload
 
 
@@ -132,22 +135,28 @@ class Guest(Line):
         return [row.split() for row in self.ask('list').splitlines()[1:]]
 
 
-class Seat:
-    """A player's connection to a lobby, by blocking calls, who comes back where it is gone. With a name it has the
-    token `token_of(NAME)`. `port_of` answers the lobby's port."""
+class Person:
+    """A player's connection to a lobby, by blocking calls, who comes back where it is gone, with all acts that were
+    said from it: each its line, its answer, where that was not lost on the way, the moments at which it was sent and
+    answered, and both in Unix time. With a name it has the token `token_of(NAME)`; without one it watches. `port_of`
+    answers the lobby's port."""
 
-    patience, timeout = 60, 5       # seconds: for coming back, and for one message
-    stays = False                   # whether it waits for its answer also where the lobby loses the server
+    patience, timeout = 90, 15      # seconds: for coming back, and for one message
 
     def __init__(self, port_of, name=None):
         self.port_of, self.name, self.line, self.has_server = port_of, name, None, False
+        # (whether the server that the lobby has is that which was lost last)
+        self.acts, self.is_lost = [], False
 
     def connect(self):
         """Comes back, as often as that takes, until the lobby has its server."""
         until = time.monotonic() + self.patience
         while time.monotonic() < until:
             try:
-                self.shake_hands()
+                if self.line:
+                    self.line.close()
+                self.has_server = self.is_lost = False
+                self.line = Line(self.port_of(), self.timeout)
                 self.wait_for_the_server()
                 if not self.name or self.say('login ' + token_of(self.name)).startswith('ok login '):
                     return
@@ -155,12 +164,6 @@ class Seat:
                 pass
             time.sleep(0.05)
         raise SystemExit('the lobby does not come back')
-
-    def shake_hands(self):
-        if self.line:
-            self.line.close()
-        self.has_server = False
-        self.line = Line(self.port_of(), self.timeout)
 
     def wait_for_the_server(self):
         while not self.has_server:
@@ -172,33 +175,6 @@ class Seat:
         if text.startswith('server '):
             self.has_server = text.startswith('server here\n')
         return text
-
-    def say(self, line):
-        """The answer to a line; it stays below the lobby's limit of messages."""
-        time.sleep(0.05)
-        self.line.send(line)
-        while True:
-            text = self.hear()
-            if text == 'server gone\n' and not self.stays:
-                raise Gone
-            if not text.startswith(NOTICES):
-                return text
-
-
-class Person(Seat):
-    """Somebody's seat, with all acts that were said from it: each its line, its answer, where that was not lost on the
-    way, the moments at which it was sent and answered, and both in Unix time. Without a name it is one who watches."""
-
-    patience, timeout, stays = 90, 15, True
-
-    def __init__(self, port_of, name=None):
-        super().__init__(port_of, name)
-        # (whether the server that the lobby has is that which was lost last)
-        self.acts, self.is_lost = [], False
-
-    def shake_hands(self):
-        self.is_lost = False
-        super().shake_hands()
 
     def again(self):
         """Waits for the lobby's server, or comes back to the lobby. It tells whether the connection is another."""
@@ -214,7 +190,11 @@ class Person(Seat):
         return True
 
     def say(self, line):
-        answer = super().say(line)
+        """The answer to a line; it stays below the lobby's limit of messages."""
+        time.sleep(0.05)
+        self.line.send(line)
+        while (answer := self.hear()).startswith(NOTICES):
+            pass
         if answer.startswith(('lost', 'no 36 ')):
             self.is_lost = True
             raise Gone(answer.rstrip('\n'))

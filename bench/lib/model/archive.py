@@ -48,7 +48,7 @@ class Archive:
         if word == 'tag' and name.capitalize() in self.heading:
             self.heading[name.capitalize()] = value
         elif word == 'clocks':
-            self.clocks = [None if clock == '-' else int(clock) for clock in given.split(' ')]
+            self.clocks = [None if clock == '-' else int(clock) for clock in given.split()]
         elif word == 'pgn':
             yield from archived(given.split('|')[:-1], self.heading, self.clocks)
             self.clocks = []

@@ -6,7 +6,7 @@ of a session have one moment, since the program's clock stands still in a run (p
 from collections import Counter
 
 from lib.model.fuzz import BAD_LINES, BAD_STARTS, PLAYERS, STARTS, Fuzz, pick
-from lib.model.rules import INITIAL_FEN, LAST_MOMENT, Game, Table, texts
+from lib.model.rules import INITIAL_FEN, LAST_MOMENT, texts
 
 WORDS = ['name', 'open', 'join', 'move', 'offer', 'accept', 'decline', 'resign', 'claim', 'flag', 'drop', 'show', 'fen',
          'pgn', 'list', 'help', 'quit', 'bye', 'ok', 'no', 'serve', 'format']
@@ -27,17 +27,6 @@ LOW = bytes(b % 32 for b in range(256)).replace(b'\n', b'\r')
 PRINTABLE = bytes(33 + b % 94 for b in range(256))
 HIGH = bytes(128 + b % 128 for b in range(256))
 NO_FEED = bytes(11 if b == 10 else b for b in range(256))
-
-
-def copy_of(table):
-    """A table that goes its own way."""
-    made = Table(table.games_limit, table.plies_limit)
-    made.greatest, made.last, made.entries = table.greatest, table.last, table.entries
-    for number, game in table.games.items():
-        made.games[number] = kept = Game(None)
-        kept.entries, kept.known = list(game.entries), dict(game.known)
-        kept.judged, kept.seen = dict(game.judged), game.seen
-    return made
 
 
 def key_of(answer):

@@ -1,10 +1,10 @@
 """Plays the lines of the part `hub` of `test_player` (see there) by the rules in words alone, on the plain model of the
-table: what each session of a hub is told, and what `run` writes. Devices and memory are no part of the model; of a
-device that serves so many calls more it knows only that a commit takes five calls, or four where all records fit into
-one sector (here: up to four entries). The last of the lines long_run.py has. """
+table and of a store: what each session of a hub is told, and what `run` writes. """
 
 import re
-from lib.model.rules import LAST_MOMENT, Table, parse
+from lib.model.reader import Fault
+from lib.model.rules import LAST_MOMENT, parse
+from lib.model.store import Device, Store, made_journal
 
 
 def cut(data):
@@ -21,32 +21,12 @@ def cut(data):
         data = data[end + 1:]
 
 
-class Device(Exception):
-    pass
-
-
-class Store:
-    """A table whose commits count the calls of a device."""
-
-    def __init__(self, games, plies, calls):
-        self.table = Table(games, plies)
-        self.calls = calls
-        self.failed = False
-
-    def submit(self, commands):
-        """The answers to `(at, who, line)`, or Device."""
-        if self.failed:
-            raise Device('Store(Failed)')
-        before = self.table.entries
-        answers = [self.table.command(*c) for c in commands]
-        entries = self.table.entries - before
-        if entries and self.calls is not None:
-            needs = 3 + (entries + 3) // 4
-            if self.calls < needs:
-                self.failed = True
-                raise Device('Store(Device { pending: %d })' % entries)
-            self.calls -= needs
-        return answers
+def store_of(sectors, games, plies, calls):
+    """A new store, on a device that serves so many calls from then on."""
+    device = Device(sectors)
+    journal = made_journal(device, (games, plies))
+    device.arm(calls)
+    return Store(journal)
 
 
 class Session:
@@ -74,7 +54,7 @@ class Session:
 
 
 def answer_lines(store, at, taken):
-    """The answers to lines `(session, line)` as one batch; names hold from then on. Device changes nothing."""
+    """The answers to lines `(session, line)` as one batch; names hold from then on. A Fault changes nothing."""
     names, places, commands, answers = {}, [], [], []
     for session, line in taken:
         name = names.get(id(session), session.name)
@@ -162,8 +142,8 @@ def run(store, reader, writer, moments, data):
             last = given.pop(0)
         try:
             out += written(answer_lines(store, last, [(session, line)]))
-        except Device as fault:
-            end, long = 'Err(Hub(%s))' % fault, False
+        except Fault as fault:
+            end, long = 'Err(Hub(Store(%s)))' % fault.name, False
             break
     if long:
         out += 'bye LineTooLong\n'
@@ -175,16 +155,16 @@ def run(store, reader, writer, moments, data):
 
 def play(lines):
     """What is printed for these lines."""
-    ground, hub = (4, 60, None), None
+    ground, hub = (212, 4, 60, None), None
     for text in lines:
         word, _, rest = text.partition(' ')
         fields = rest.split(' ')
         session = hub.sessions.get(int(fields[0])) if hub and fields[0].isdigit() else None
         said = None
         if word == 'store':
-            ground = (int(fields[1]), int(fields[2]), None if fields[3] == '-' else int(fields[3]))
+            ground = [None if field == '-' else int(field) for field in fields]
         elif word == 'hub':
-            hub = Hub(Store(*ground))
+            hub = Hub(store_of(*ground))
         elif word == 'connect':
             sid = hub.connect()
             said = 'fault Busy' if sid is None else 'session %d' % sid
@@ -196,8 +176,8 @@ def play(lines):
         elif word == 'turn':
             try:
                 hub.turn(int(fields[0]), int(fields[1]))
-            except Device as fault:
-                said = 'fault %s' % fault
+            except Fault as fault:
+                said = 'fault Store(%s)' % fault.name
         elif word == 'output':
             said = ('to %s:\n%s' % (rest, written(session.due())))[:-1]
         elif word == 'waiting':
@@ -207,7 +187,7 @@ def play(lines):
         elif word == 'close':
             hub.close(int(rest))
         elif word == 'run':
-            said = '%s|\n%s' % run(Store(*ground), *fields[:3], unescape(' '.join(fields[3:])))
+            said = '%s|\n%s' % run(store_of(*ground), *fields[:3], unescape(' '.join(fields[3:])))
         if said is not None:
             yield said
 

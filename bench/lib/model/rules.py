@@ -72,12 +72,7 @@ WAYS = {(colour, kind): {a: {b: way((colour, kind), a, b) for b in SQUARES
 def attacks(men, a, b):
     """Whether the man on a attacks b."""
     between = WAYS[men[a]][a].get(b)
-    if between is None:
-        return False
-    for sq in between:
-        if sq in men:
-            return False
-    return True
+    return between is not None and men.keys().isdisjoint(between)
 
 
 def attacked(men, sq, by):
@@ -104,12 +99,9 @@ class Position:
     """A placement, the side to move, rights, a target or None, two counters."""
 
     def __init__(self, men, side, rights, target, half, full):
-        self.men = men          # map: square -> (colour, kind)
-        self.side = side
-        self.rights = rights    # frozenset of letters of KQkq
-        self.target = target
-        self.half = half
-        self.full = full
+        self.men, self.side = men, side         # map: square -> (colour, kind)
+        self.rights, self.target = rights, target       # frozenset of letters of KQkq
+        self.half, self.full = half, full
         self.worked = None      # kept for speed alone
 
     def whole(self):
@@ -277,13 +269,9 @@ DRAW = '1/2-1/2'
 
 def listed_dead(p):
     rest = [(sq, kind) for sq, (_, kind) in p.men.items() if kind != 'K']
-    if not rest:
-        return True
-    if len(rest) == 1 and rest[0][1] == 'N':
-        return True
     if all(kind == 'B' for _, kind in rest):
-        return len({(sq[0] + sq[1]) % 2 for sq, _ in rest}) == 1
-    return False
+        return len({(sq[0] + sq[1]) % 2 for sq, _ in rest}) <= 1
+    return len(rest) == 1 and rest[0][1] == 'N'
 
 
 def ending_of_line(line):
@@ -323,12 +311,8 @@ def bare_san(p, m):
     if is_castling(p, m):
         return 'O-O' if b[0] > a[0] else 'O-O-O'
     if kind == 'P':
-        text = square_name(b)
-        if a[0] != b[0]:
-            text = FILES[a[0] - 1] + 'x' + text
-        if became:
-            text += '=' + became
-        return text
+        taking = FILES[a[0] - 1] + 'x' if a[0] != b[0] else ''
+        return taking + square_name(b) + ('=' + became if became else '')
     rivals = [n[0] for n in legal_moves(p) if n[1] == b and n[0] != a and p.men[n[0]][1] == kind]
     apart = ''
     if rivals:
@@ -411,9 +395,7 @@ class Entry:
     given = {WHITE: 0, BLACK: 0}        # of an opening: the milliseconds that are held besides what the entries sum to
 
     def __init__(self, kind, game, at, **more):
-        self.kind = kind
-        self.game = game
-        self.at = at            # the effective moment
+        self.kind, self.game, self.at = kind, game, at          # (the effective moment)
         # open: who, colour, initial, increment, period, start;  join: who
         # move: move;  offer, accept, decline, resign: side
         # claim: side, fifty, move (or None);  ended: ending
@@ -437,6 +419,12 @@ class Game:
         self.known = {}         # kept for speed: (count of moves, move) -> position,
         self.judged = {}        # index of a claim -> right or wrong,
         self.seen = None        # the fields for the entries so far
+
+    def copy(self):
+        made = Game(None)
+        made.entries, made.known, made.judged = self.entries[:], self.known.copy(), self.judged.copy()
+        made.seen = self.seen
+        return made
 
     def add(self, entry):
         self.entries.append(entry)
@@ -483,19 +471,7 @@ class Fields:
         # the ending: no entry follows the one that ends a game (number 6),
         # so only the last can be it
         i, last = len(entries) - 1, entries[-1]
-        self.ending = None
-        if last.kind == 'accept':
-            self.ending = (DRAW, '5.2.3')
-        elif last.kind == 'resign':
-            self.ending = (WIN[other(last.side)], '5.1.2')
-        elif last.kind == 'ended':
-            self.ending = last.ending
-        elif last.kind == 'fallen':
-            self.ending = ending_of_flag(self.present)
-        elif last.kind == 'claim' and self.right[i]:
-            self.ending = (DRAW, '9.3' if last.fifty else '9.2')
-        elif self.moves and self.moves[-1][0] == i:
-            self.ending = ending_of_line(self.line)
+        self.ending = self.ending_by(i, last)
         self.ended_at = last.at if self.ending else None
 
         # offers and claims
@@ -506,10 +482,21 @@ class Fields:
         self.claimed = runs and any(i > last_move for i in claims)
 
         # times, by sums
-        self.since = self.joined
-        if self.moves:
-            self.since = self.moves[-1][1]
+        self.since = self.moves[-1][1] if self.moves else self.joined
         self.held = {s: self.time_held(entries, s) for s in (WHITE, BLACK)}
+
+    def ending_by(self, i, last):
+        if last.kind == 'accept':
+            return (DRAW, '5.2.3')
+        if last.kind == 'resign':
+            return (WIN[other(last.side)], '5.1.2')
+        if last.kind == 'ended':
+            return last.ending
+        if last.kind == 'fallen':
+            return ending_of_flag(self.present)
+        if last.kind == 'claim' and self.right[i]:
+            return (DRAW, '9.3' if last.fifty else '9.2')
+        return ending_of_line(self.line) if self.moves and self.moves[-1][0] == i else None
 
     def offer_stands(self, entries, side):
         made = [i for i, e in enumerate(entries) if e.kind == 'offer' and e.side == side or e.kind == 'claim'
@@ -560,31 +547,17 @@ class Fields:
 # ------------------------------------------------------------------------- PGN
 
 def pgn(f):
-    def tag(name, value):
-        return '[%s "%s"]' % (name, value)
-    o = f.opened
-    lines = [tag('Event', '?'), tag('Site', '?'), tag('Date', '????.??.??'), tag('Round', '?'),
-             tag('White', f.seats[WHITE] or '?'), tag('Black', f.seats[BLACK] or '?'), tag('Result', f.result())]
-    if f.ending:
-        lines.append(tag('Article', f.ending[1]))
-    if f.start.whole() != INITIAL.whole():
-        lines.append(tag('FEN', fen_write(f.start)))
-        lines.append(tag('SetUp', '1'))
-    if f.ending is None:
-        termination = 'unterminated'
-    elif f.ending[1] == '6.9':
-        termination = 'time forfeit'
-    else:
-        termination = 'normal'
-    lines.append(tag('Termination', termination))
+    o, article = f.opened, f.ending and f.ending[1]
+    is_other = f.start.whole() != INITIAL.whole()
     plus = '+%d' % o.increment if o.increment else ''
-    if o.period is None:
-        control = '%d%s' % (o.initial, plus)
-    else:
-        control = '%d/%d%s:%d%s' % (o.period[0], o.initial, plus, o.period[1], plus)
-    lines.append(tag('TimeControl', control))
-    lines.append('')
-
+    control = '%d%s' % (o.initial, plus)
+    if o.period is not None:
+        control = '%d/%s:%d%s' % (o.period[0], control, o.period[1], plus)
+    tags = (('Event', '?'), ('Site', '?'), ('Date', '????.??.??'), ('Round', '?'), ('White', f.seats[WHITE] or '?'),
+            ('Black', f.seats[BLACK] or '?'), ('Result', f.result()), ('Article', article),
+            ('FEN', is_other and fen_write(f.start)), ('SetUp', is_other and '1'),
+            ('Termination', {None: 'unterminated', '6.9': 'time forfeit'}.get(article, 'normal')),
+            ('TimeControl', control))
     tokens = []
     for k, (_, _, mover, m) in enumerate(f.moves):
         p = f.line[k]
@@ -594,7 +567,7 @@ def pgn(f):
             tokens.append('%d...' % p.full)
         tokens.append(san(p, m))
     tokens.append(f.result())
-    return lines + in_lines(tokens) + ['']
+    return ['[%s "%s"]' % tag for tag in tags if tag[1]] + [''] + in_lines(tokens) + ['']
 
 
 def in_lines(tokens):
@@ -641,19 +614,15 @@ def parse(line):
     return word, f
 
 
-NAMES = ['', 'BadLine', 'NoName', 'NoGame', 'NotSeated', 'NotStarted', 'Over',
-         'WrongPly', 'NotYourMove', 'BadMove', 'OfferStands', 'NoOffer',
-         'TooEarly', 'AlreadyClaimed', 'FlagUp', 'Taken', 'SamePlayer',
-         'BadFen', 'BadTime', 'TooManyGames', 'TooLong', 'NotOver', 'NoMemory',
-         'BadMoment', 'Finished']
+NAMES = ['', 'BadLine', 'NoName', 'NoGame', 'NotSeated', 'NotStarted', 'Over', 'WrongPly', 'NotYourMove', 'BadMove',
+         'OfferStands', 'NoOffer', 'TooEarly', 'AlreadyClaimed', 'FlagUp', 'Taken', 'SamePlayer', 'BadFen', 'BadTime',
+         'TooManyGames', 'TooLong', 'NotOver', 'NoMemory', 'BadMoment', 'Finished']
 
 
 class Refused(Exception):
     def __init__(self, number, ply=None):
         self.number = number
-        self.line = 'no %d %s' % (number, NAMES[number])
-        if ply is not None:
-            self.line += ' %d' % ply
+        self.line = 'no %d %s%s' % (number, NAMES[number], '' if ply is None else ' %d' % ply)
 
 
 def refuse_if(holds, number, ply=None):
@@ -667,12 +636,18 @@ class Fallen(Exception):
 
 class Table:
     def __init__(self, games_limit, plies_limit):
-        self.games_limit = games_limit
-        self.plies_limit = plies_limit
+        self.games_limit, self.plies_limit = games_limit, plies_limit
         self.games = {}         # number -> Game, of those opened and not dropped
         self.greatest = 0       # the greatest moment of all entries
         self.last = 0           # the last number given
         self.entries = 0        # the count of all entries
+
+    def copy(self):
+        """The same table, which goes its own way."""
+        made = type(self)(self.games_limit, self.plies_limit)
+        made.greatest, made.last, made.entries = self.greatest, self.last, self.entries
+        made.games = {number: game.copy() for number, game in self.games.items()}
+        return made
 
     # ---- one command
 

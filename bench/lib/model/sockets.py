@@ -3,9 +3,9 @@ the table and of the sessions of a hub (hub.py): what each client is sent. A tur
 sent, answers, and closes whose connection is over (docs/client/PROTOCOL.md, "Sessions over a socket"); how much of it
 comes in one turn is not told here. """
 
-from lib.model.hub import Hub, Store
+from lib.model.hub import Hub, store_of
 
-GAMES, PLIES, MOMENT, LINES = 4, 60, 1000, 64
+GROUND, MOMENT, LINES = (212, 4, 60, None), 1000, 64
 # Within so many turns a client has its answer.
 TURNS = 1000
 
@@ -23,7 +23,7 @@ class Client:
 
 class Server:
     def __init__(self, silence=0):
-        self.hub = Hub(Store(GAMES, PLIES, None))
+        self.hub = Hub(store_of(*GROUND))
         self.moment, self.silence = MOMENT, silence
         self.clients = []       # in the order in which they connected
         self.gone = []          # those that dropped the connection
