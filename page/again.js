@@ -4,13 +4,14 @@
 import { Board } from './board.js';
 import { findKept } from './kept.js';
 import { t } from './language.js';
-import { readLine, readPgn, readRefusal, squaresOf } from './lines.js';
+import { readLine, readMoves, readPgn, readRefusal, squaresOf } from './lines.js';
 import { byId, copy, make, read, save, say, setText, write } from './make.js';
 import { fenOf, isInCheck, legalMoves } from './rules.js';
 import { keepInSight } from './sheet.js';
 import { begin, endOf, graft, isMain, makeMain, pgnOf, play, readGame, takeOut } from './study.js';
-import { NO_GAME, refusalWords, sanShown, sanWords } from './words.js';
+import { BAD_FEN, BAD_LINE, NO_GAME, refusalWords, sanShown, sanWords } from './words.js';
 
+const ASKS_MOVES = 200;              // milliseconds that a position stands before the lobby is asked for its moves
 const local = () => localStorage;
 
 export class AgainView {
@@ -21,6 +22,7 @@ export class AgainView {
     this.board = new Board({ chosen: (move) => this.chosen(move), planned: () => {}, says: say });
     byId('again-board').append(this.board.root);
     this.buttons = new Map();          // position -> its button
+    this.told = new Map();             // FEN -> {check, moves} as the lobby has told them, null where it is no FEN
     this.turned = false;
     this.number = -1;
     this.tags = {};
@@ -198,6 +200,22 @@ export class AgainView {
     else this.note(t`The ${what} could not be copied. Save it instead.`);
   }
 
+  /** The moves of the position that is shown, which the lobby tells to who has signed in. */
+  askMoves() {
+    clearTimeout(this.asksMoves);
+    const { app } = this, fen = fenOf(this.at.position);
+    if (!app.me() || this.told.has(fen)) return;
+    this.asksMoves = setTimeout(async () => {
+      const [answer] = await app.wire.say(`moves ${fen}`, true);
+      const told = readMoves(answer), refusal = readRefusal(answer);
+      const isBad = refusal && refusal.number === BAD_LINE;
+      if (told || isBad) this.told.set(fen, told);
+      if (fen !== fenOf(this.at.position)) return;
+      if (isBad) this.note(refusalWords({ number: BAD_FEN }));
+      if (told) this.renderBoard();
+    }, ASKS_MOVES);
+  }
+
   note(text, kind = 'refused') {
     byId('again-note').className = text ? `note ${kind}` : 'note';
     setText(byId('again-note'), text);
@@ -207,9 +225,9 @@ export class AgainView {
 
   render() {
     if (this.root.hidden) return;
-    const { position, text, parent, next } = this.at, { White, Black, Result } = this.tags;
-    this.board.show({ fen: fenOf(position), last: squaresOf(text), check: isInCheck(position),
-      moves: legalMoves(position), turned: this.turned });
+    const { parent, next } = this.at, { White, Black, Result } = this.tags;
+    this.renderBoard();
+    this.askMoves();
     setText(byId('again-title'), this.number ? t`Game ${this.number}` : t`Look at a game again`);
     setText(byId('again-who'), White ? `${this.nameOf(White)} – ${this.nameOf(Black)}  ${Result || ''}` : '');
     byId('again-back').hidden = !this.number;
@@ -225,6 +243,13 @@ export class AgainView {
     const current = this.buttons.get(this.at);
     if (current) keepInSight(byId('again-moves'), current);
     this.app.titled(byId('again-title').textContent);
+  }
+
+  /** With the moves that the lobby has told, and else by the page's own rules. */
+  renderBoard() {
+    const { position, text } = this.at, fen = fenOf(position);
+    const { check, moves } = this.told.get(fen) || { check: isInCheck(position), moves: legalMoves(position) };
+    this.board.show({ fen, last: squaresOf(text), check, moves, turned: this.turned });
   }
 
   nameOf(name) {

@@ -1,6 +1,7 @@
 // The arbiter's desk: all running games at a glance, and what is entered for their players.
 
 import { Adjournments, timesToGoOn, wordsToGoOn } from './adjourn.js';
+import { announced } from './announced.js';
 import { Picture } from './board.js';
 import { Clock } from './clock.js';
 import { pgnOf } from './kept.js';
@@ -10,6 +11,7 @@ import { Links } from './links.js';
 import { arrange, byId, focused, make, save, setText } from './make.js';
 import { Openings } from './openings.js';
 import { Pairing } from './pairing.js';
+import { plain } from './plain.js';
 import { Question } from './question.js';
 import { stopped } from './stopped.js';
 import { Waits } from './waits.js';
@@ -27,6 +29,7 @@ const STAYS = 8000;                  // so long a game that has ended keeps its 
 const STAYS_BEFORE_OTHERS = 2000;    // or so long where a running game has none on the page for it,
 const UNTOUCHED = 3000;              // and longer until no hand was at the boards for so long,
 const STAYS_AT_MOST = 60000;         // but no longer than this
+const MOST_ANNOUNCED = 200;          // bytes, as the lobby takes them
 
 export class ArbiterView {
   /** rows(): the table's rows by number. */
@@ -64,6 +67,13 @@ export class ArbiterView {
       this.clocks();
     });
     addEventListener('clocks', () => this.renderClocks());
+    byId('announcing').addEventListener('submit', (event) => {
+      event.preventDefault();
+      const field = byId('announcement');
+      this.tellAll(`announce ${plain(field.value.trim()).slice(0, MOST_ANNOUNCED)}`, field);
+    });
+    byId('unannounce').addEventListener('click', () => this.tellAll('announce', byId('announcement')));
+    addEventListener('announced', () => this.renderAnnounced());
     for (const id of ['pair-by-hand', 'open-a-round', 'players-and-links']) {
       byId(id).addEventListener('toggle', (event) => event.target.open && this.app.askPlayers());
     }
@@ -124,6 +134,7 @@ export class ArbiterView {
     byId('arbiter-only').hidden = may;
     byId('arbiter-desk').hidden = !may;
     this.renderEntries();
+    this.renderAnnounced();
     for (const card of this.cards.values()) this.renderActs(card);
     for (const part of [this.pairing, this.openings, this.adjourned, this.links]) part.render();
     this.fill();
@@ -287,8 +298,9 @@ export class ArbiterView {
     card.root = make('article', { class: 'desk-card', 'aria-label': t`Game ${number}` }, card.board.root,
       make('h2', {}, card.title), player('b'), card.state, card.last, player('w'),
       make('div', { class: 'desk-acts', role: 'group', 'aria-label': t`Decide game ${number}` },
-        act('w', t`White resigns`), act('b', t`Black resigns`), act('draw', t`Draw`), act('flag', t`Flag`),
-        act('adjourn', t`Adjourn`), act('pgn', t`Save PGN`), card.more), card.note);
+        act('w', t`White resigns`), act('b', t`Black resigns`), act('draw', t`Draw`), act('mistake', t`By mistake`),
+        act('flag', t`Flag`), act('adjourn', t`Adjourn`), act('pgn', t`Save PGN`), card.more), card.note);
+    card.acts.mistake.title = t`The game was begun by mistake`;
     this.cards.set(number, card);
     this.renderActs(card);
     this.ask(number);
@@ -409,13 +421,15 @@ export class ArbiterView {
   renderActs(card) {
     const { standing, acts, busy, runs } = card;
     const had = document.activeElement;
+    const isEarly = Boolean(standing) && standing.ply < AGREED;
     for (const [kind, button] of Object.entries(acts)) {
       button.hidden = kind === 'pgn' ? !card.isOver : kind !== 'drop' && Boolean(standing) && !runs;
-      button.disabled = !standing || busy || !this.app.reachable() || kind === 'draw' && standing.ply < AGREED;
+      button.disabled = !standing || busy || !this.app.reachable() || kind === 'draw' && isEarly;
     }
+    // (one stands in the other's place)
+    acts.draw.hidden = acts.draw.hidden || isEarly;
+    acts.mistake.hidden = acts.mistake.hidden || !isEarly;
     card.more.hidden = !standing || runs || card.isOver;
-    const isEarly = standing && standing.ply < AGREED;
-    acts.draw.title = isEarly ? t`A draw can be agreed on once both sides have made a move.` : '';
     if (card.root.contains(had) && !had.getClientRects().length) card.title.focus();
   }
 
@@ -467,6 +481,13 @@ export class ArbiterView {
           decides.`,
         lines: [`as ${seat[OTHER[side]]} flag ${number}`] };
     }
+    if (kind === 'mistake') {
+      return { title: t`Was game ${number} of ${name.w} and ${name.b} begun by mistake?`, yes: t`End it`,
+        words: t`Before both have moved only a resignation ends a game. It is entered for ${name[side]}, who is to move:
+          in the record ${name[OTHER[side]]} has won without a game. In a league chess-club decide puts down another
+          result. It cannot be taken back.`,
+        lines: [`as ${seat[side]} resign ${number}`] };
+    }
     const title = t`Take game ${number} of ${[name.w, name.b].filter(Boolean).join(t` and `)} off the table?`;
     return { title, words: t`It waits for a second player. No move has been made.`, yes: t`Take it off`,
       lines: [`drop ${number}`] };
@@ -484,7 +505,10 @@ export class ArbiterView {
       return;
     }
     const asked = this.asked(card, kind);
-    this.question.ask({ ...asked, about: number }, () => this.enter({ number, lines: asked.lines, button }));
+    this.question.ask({ ...asked, about: number }, () => {
+      if (kind !== 'mistake' || card.standing.ply < AGREED) this.enter({ number, lines: asked.lines, button });
+      else this.tellCard(number, t`Both have moved meanwhile. Nothing was entered.`);
+    });
   }
 
   async savePgn(number) {
@@ -577,11 +601,15 @@ export class ArbiterView {
   }
 
   /** Stops all clocks, for the reason that is written, or has them run again. */
-  async clocks() {
-    const reason = plain(byId('stop-reason').value.trim());
-    const [answer] = await this.app.wire.say(stopped ? 'start clocks' : `stop clocks ${reason}`);
-    const refusal = readRefusal(answer);
-    if (answer.startsWith('ok ')) byId('stop-reason').value = '';
+  clocks() {
+    const field = byId('stop-reason');
+    this.tellAll(stopped ? 'start clocks' : `stop clocks ${plain(field.value.trim())}`, field);
+  }
+
+  /** Says to the lobby what it tells every page; the field of it is empty then. */
+  async tellAll(line, field) {
+    const [answer] = await this.app.wire.say(line), refusal = readRefusal(answer);
+    if (answer.startsWith('ok ')) field.value = '';
     const lost = t`The connection broke before the answer came. Do it again.`;
     this.note(answer.startsWith('ok ') ? '' : refusal ? refusalWords(refusal) : lost, 'refused');
   }
@@ -592,16 +620,18 @@ export class ArbiterView {
     setText(byId('stop-clocks'), stopped ? t`Start the clocks` : t`Stop the clocks`);
   }
 
+  /** Where something is announced it can be taken away. */
+  renderAnnounced() {
+    const had = focused() === byId('unannounce');
+    byId('unannounce').hidden = !announced;
+    if (had && !announced) byId('announcement').focus();
+  }
+
   note(text, kind = 'news') {
     const note = byId('arbiter-note');
     note.className = text ? `note ${kind}` : 'note';
     setText(note, text);
   }
-}
-
-/** A text as a message to the lobby may have it: without what is beyond ASCII. */
-function plain(text) {
-  return text.normalize('NFD').replace(/[\u0300-\u036f]/g, '').replace(/[^ -~]/g, '?');
 }
 
 /** Of a row of the table, or of how a game stands. */

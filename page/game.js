@@ -7,6 +7,7 @@ import { dateWords, findKept, pgnOf, toldOf } from './kept.js';
 import { language, t } from './language.js';
 import { placementOf, readLine, readPgn, readRefusal, readStanding, readTimes, sideOf, squaresOf } from './lines.js';
 import { byId, copy, focused, make, save, say, setText } from './make.js';
+import { Room } from './room.js';
 import { drawActions, drawFacts, drawMoves, drawOutcome, drawPlayers } from './sheet.js';
 import { asksFirst } from './settings.js';
 import { sound } from './sound.js';
@@ -53,6 +54,7 @@ export class GameView {
     this.plan = null;                  // a move for the next turn, {from, to}
     this.proposed = '';                // a move that stands on the board, and is sent once it is agreed to
     this.isSlow = false;               // whether what was sent is not answered soon
+    this.room = new Room(this);
     this.board = new Board({ chosen: (move) => this.moveOnBoard(move), planned: (plan) => this.planned(plan),
       says: say });
     byId('board').append(this.board.root);
@@ -117,6 +119,7 @@ export class GameView {
       this.note('');
       this.suggest(null);
       byId('move-text').value = '';
+      this.room.clear();
       if (number === this.lostJoin) this.lost({ word: 'join' });
       this.lostJoin = 0;
     }
@@ -199,6 +202,7 @@ export class GameView {
     if (this.wasAway) this.note('');
     this.wasAway = false;
     this.settleUnsure(this.standing);
+    this.room.ask();
   }
 
   /** Once more in a while: of a game that was not told, nobody says when it can be. */
@@ -243,6 +247,7 @@ export class GameView {
       return;
     }
     this.follow(sent, answer);
+    if (!arbiter) this.room.acted(by);
     if (answer.startsWith('ok ')) this.watchAdjourning(by, sent, arbiter);
     this.tell(by, sent, answer, arbiter);
     if (ended) this.over();            // (a mate is said behind its move)
@@ -284,7 +289,7 @@ export class GameView {
     }
     if (this.standing.offer && !own && (word === 'offer' || word === 'claim') && this.seat()) sound('offer');
     if (answer.startsWith('fallen')) say(t`The flag has fallen.`);
-    else if (this.adjournedBy) say(this.adjournedWords());
+    else if (this.adjournedBy) say(`${t`Adjourned`}. ${this.adjournedWords()}`);
     else if (arbiter) this.news(t`The arbiter, ${this.app.nameWords(arbiter)}, has entered ${enteredWords(word)} for ${
       own ? t`you` : name}.`);
     else if (word === 'join') this.news(t`${name} has joined. The game has begun.`);
@@ -300,13 +305,13 @@ export class GameView {
   }
 
   adjournedWords() {
-    return t`Adjourned by the arbiter, ${this.app.nameWords(this.adjournedBy)}: it goes on later as another game. In the
-      record this one is a draw.`;
+    return t`By the arbiter, ${this.app.nameWords(this.adjournedBy)}: it goes on later as another game. In the record this
+      one is a draw.`;
   }
 
   over() {
     const words = resultWords(this.standing.result, this.standing.article);
-    if (words.result) say(`${withReason(words.result, words.reason)}.`);
+    if (words.result && !this.adjournedBy) say(`${withReason(words.result, words.reason)}.`);
     sound('end');
   }
 
@@ -723,6 +728,7 @@ export class GameView {
     const names = `${white || '…'} – ${black || '…'}`;
     if (this.isOffered()) return t`Draw offered: ${names}`;
     if (this.myTurn()) return t`Your turn: ${names}`;
+    if (this.adjournedBy) return t`Adjourned: ${names}`;
     return this.running() ? names : `${names}, ${this.standing.article ? this.standing.result : t`waiting`}`;
   }
 

@@ -28,8 +28,13 @@ export function readStanding(lines) {
   const show = readShow(lines[0] || '');
   const fen = /^ok fen \d+ (.+)$/.exec(lines[1] || '');
   if (!show || !fen) return null;
-  const words = (lines[2] || 'moves -').split(' ');
-  return { ...show, fen: fen[1], check: words[1] === '+', moves: words.slice(2).filter((move) => move !== '') };
+  return { ...show, fen: fen[1], ...readMoves(lines[2] || 'moves -') };
+}
+
+/** `moves CHECK MOVE ..`, or the answer to `moves FEN`, as {check, moves}; null for any other line. */
+export function readMoves(line) {
+  const found = /^(?:ok )?moves ([+-])(.*)$/.exec(line);
+  return found ? { check: found[1] === '+', moves: found[2].split(' ').filter(Boolean) } : null;
 }
 
 /** Whether the answer to `show G` says that there is no such game. */
@@ -80,14 +85,38 @@ export function readAct(line) {
   return as ? { by: as[1], sent: as[2], arbiter: found[1] } : { by: found[1], sent: found[2], arbiter: '' };
 }
 
-/** Why all clocks are stopped, by `clocks stopped REASON`; empty by any other line, as by `clocks run`. */
-export function stoppedIn(line = '') {
-  return line.startsWith('clocks stopped ') ? line.slice('clocks stopped '.length) : '';
+/** Why all clocks are stopped, by the line `clocks stopped REASON` of a message; empty where it has none. */
+export function stoppedIn(lines) {
+  return behind(lines, 'clocks stopped ');
+}
+
+/** What the arbiter announces, by the line `announced TEXT` of a message; empty where it has none. */
+export function announcedIn(lines) {
+  return behind(lines, 'announced ');
+}
+
+function behind(lines, front) {
+  const found = lines.find((line) => line.startsWith(front));
+  return found ? found.slice(front.length) : '';
 }
 
 /** `ok who paused K` or `ok who open K`, and the names behind it. */
 export function readWho(lines) {
   return { arePaused: lines[0].startsWith('ok who paused '), names: new Set(lines.slice(1)) };
+}
+
+/** `ok room G N` and the lines behind it as {watching, here, away}: how many connections watch the game, which of its
+ * players are here, and for how many seconds each other one is away, null where that is not known. Null for other
+ * lines. */
+export function readRoom(lines) {
+  const found = /^ok room \d+ (\d+)$/.exec(lines[0]), here = new Set(), away = new Map();
+  if (!found) return null;
+  for (const line of lines.slice(1)) {
+    const [name, word, seconds] = line.split(' ');
+    if (word === 'here') here.add(name);
+    if (word === 'away') away.set(name, seconds === '-' ? null : Number(seconds));
+  }
+  return { watching: Number(found[1]), here, away };
 }
 
 /** `e2e4` as {from, to}; empty texts for `-` or anything else. */

@@ -4,6 +4,7 @@ import { Cards } from './cards.js';
 import { t } from './language.js';
 import { readRefusal } from './lines.js';
 import { arrange, byId, copy, make, setText } from './make.js';
+import { NewPlayer } from './new-player.js';
 import { refusalWords } from './words.js';
 
 const MOST_SHOWN = 40;
@@ -16,6 +17,7 @@ export class Links {
     this.items = new Map();
     this.closed = new Set();           // whose link this page has closed: the lobby does not tell whose is
     this.cards = new Cards(this);
+    this.newPlayer = new NewPlayer(this);
     byId('links-find').addEventListener('input', () => this.render());
     byId('link-copy').addEventListener('click', async () => {
       const done = await copy(byId('link-made').value);
@@ -36,7 +38,14 @@ export class Links {
   close() {
     this.hide();
     this.cards.hide();
+    this.newPlayer.close();
     this.note('');
+  }
+
+  /** Lists those alone who have this in their names. */
+  find(text) {
+    byId('links-find').value = text;
+    this.render();
   }
 
   // ---- acting
@@ -122,6 +131,7 @@ export class Links {
 
   render() {
     if (!byId('players-and-links').open) return;
+    this.newPlayer.look();
     const rows = this.listed();
     this.cards.render();
     arrange(byId('links-list'), rows.slice(0, MOST_SHOWN).map((row) => this.itemOf(row)));

@@ -1,6 +1,7 @@
 // The page: which view is open, and the connection that all of it shares.
 
 import { AgainView } from './again.js';
+import { announcedTold, listenToAnnounced } from './announced.js';
 import { ArbiterView } from './arbiter.js';
 import { Challenges } from './challenges.js';
 import { FinishedView } from './finished.js';
@@ -43,8 +44,8 @@ class Page {
     this.view = null;
     this.wire = new Wire(address.href, {
       opened: (server) => this.opened(server), notice: (lines) => this.notice(lines), clocks: clocksTold,
-      offers: () => this.challenges.look(),
-      changed: () => this.changed(), unnamed: () => this.who.unnamed(),
+      announced: announcedTold, offers: () => this.challenges.look(), changed: () => this.changed(),
+      unnamed: () => this.who.unnamed(),
     });
     this.table = new TableView(this);
     this.game = new GameView(this);
@@ -76,6 +77,7 @@ class Page {
     const leave = (event) => event.target.matches('[type=number]:focus') && event.target.blur();
     addEventListener('wheel', leave, { passive: true });
     listenToSettings();
+    listenToAnnounced();
     for (const menu of [byId('who'), byId('settings')]) {
       document.addEventListener('pointerdown', (event) => this.closeMenu(menu, event.target));
       menu.addEventListener('keydown', (event) => event.key === 'Escape' && this.closeMenu(menu, null));

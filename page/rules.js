@@ -1,6 +1,7 @@
 // How men move, for the board on which a game is looked at again (again.js) and for nothing else: of a game that is
-// played the lobby tells the legal moves. A position is {men, side, rights, passing, half, full}, with `men` from squares
-// to the letters of a FEN; a move is its two squares, and the letter of what a pawn becomes.
+// played the lobby tells the legal moves. There it tells them too, but to who has signed in alone; and a PGN is read, and
+// a move written, by the moves of many positions at once. A position is {men, side, rights, passing, half, full}, with
+// `men` from squares to the letters of a FEN; a move is its two squares, and the letter of what a pawn becomes.
 
 import { placementOf } from './lines.js';
 

@@ -21,9 +21,10 @@ export function drawPlayers(game) {
     setText(root.querySelector('.name'), name ? game.app.nameWords(name) : t`waiting …`);
     root.querySelector('.name').title = name;
     setText(root.querySelector('.colour'), colourWord(side));
+    setText(root.querySelector('.away'), game.room.awayWords(name));
     const period = standing.article ? '' : periodWords(times, standing.ply, game.startSide(), side);
     setText(root.querySelector('.period'), period);
-    setText(root.querySelector('.score'), scoreOf(standing.result, side));
+    setText(root.querySelector('.score'), game.adjournedBy ? '' : scoreOf(standing.result, side));
     drawTaken(root.querySelector('.taken'), side, game.line[0] ? game.line[0].fen : standing.fen, game.fenShown());
     const clock = game.clocks[place];
     clock.label = t`${colourWord(side)}’s clock`;
@@ -124,9 +125,10 @@ export function drawOutcome(game) {
   const words = standing.article ? resultWords(standing.result, standing.article) : null;
   place.classList.toggle('over', Boolean(words));
   let [head, more] = ['', ''];
-  if (words) {
+  if (game.adjournedBy) {
+    [head, more] = [t`Adjourned`, game.adjournedWords()];
+  } else if (words) {
     [head, more] = [`${words.score}  ${withReason(words.result, words.reason)}`, words.article];
-    if (game.adjournedBy) more = game.adjournedWords();
   } else if (!game.started()) {
     head = game.seat() ? t`Waiting for an opponent` : t`This seat is free`;
     more = game.seat() ? t`The clocks start as soon as somebody joins.` : t`The clocks start as soon as you join.`;
@@ -164,6 +166,7 @@ export function drawFacts(game) {
   setText(byId('game-kept'), game.keptWords());
   setText(byId('game-board'), game.app.round.boardWords(game.number));
   byId('fen-text').value = game.fenShown();
+  setText(byId('game-watched'), game.room.watchedWords());
   byId('watching').hidden = Boolean(game.seat()) || !game.started();
 }
 

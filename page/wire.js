@@ -1,7 +1,7 @@
 // The connection to the lobby: one WebSocket, answers in the order of what was sent, and notices between them.
 // Where it breaks it comes back by itself, with growing pauses.
 
-import { linesOf, stoppedIn } from './lines.js';
+import { announcedIn, linesOf, stoppedIn } from './lines.js';
 
 const PAUSES = [400, 1000, 2000, 4000, 8000, 15000];
 const MOST_A_SECOND = 15;            // the lobby takes 20
@@ -18,12 +18,13 @@ export const LOST = Object.freeze(['lost']);
 export const UNSENT = Object.freeze(['unsent']);
 
 export class Wire {
-  /** told: {opened, notice(lines), clocks(reason), offers, changed, unnamed}; changed() is called whenever `state` is another,
-   * clocks() where all clocks are stopped, with why, or run again, and unnamed() where an answer says that the connection has
+  /** told: {opened, notice(lines), clocks(reason), announced(text), offers, changed, unnamed}; changed() is called
+   * whenever `state` is another, clocks() where all clocks are stopped, with why, or run again, announced() where the
+   * arbiter announces something, or nothing any more, and unnamed() where an answer says that the connection has
    * shown no token. */
   constructor(address, told) {
     this.address = address;
-    this.told = told;
+    this.told = { announced() {}, offers() {}, ...told };
     this.state = { open: false, server: '', retryAt: 0, ever: false };
     this.tries = 0;
     this.waiting = [];
@@ -87,14 +88,19 @@ export class Wire {
     this.heardAt = performance.now();
     const word = (lines[0] || '').split(' ', 1)[0];
     if (word === 'server') {
-      if (!this.state.open) this.told.clocks(stoppedIn(lines[1]));
+      if (!this.state.open) {
+        this.told.clocks(stoppedIn(lines));
+        this.told.announced(announcedIn(lines));
+      }
       this.serverTold(lines[0].split(' ')[1]);
     } else if (word === 'clocks') {
-      this.told.clocks(stoppedIn(lines[0]));
+      this.told.clocks(stoppedIn(lines));
+    } else if (word === 'announced') {
+      this.told.announced(announcedIn(lines));
     } else if (word === 'told') {
       this.told.notice(lines);
     } else if (word === 'offers') {
-      if (this.told.offers) this.told.offers();
+      this.told.offers();
     } else {
       const waited = this.waiting.shift();
       if (waited) waited.answered(lines);

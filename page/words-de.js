@@ -66,10 +66,23 @@ export const WORDS = {
   '{0} to {1} of {2}, {3} of them running': '{0} bis {1} von {2}, davon laufen {3}',
   'Game {0}': 'Partie {0}',
   'not connected': 'nicht verbunden',
+  'not connected for {0} min': 'seit {0} min nicht verbunden',
+  '{0} is connected again.': '{0} ist wieder verbunden.',
+  'Spectators signed in: {0}': 'Angemeldete Zuschauer: {0}',
   ', game {0}': ', Partie {0}',
   'More': 'Mehr',
   'Take off': 'Vom Tisch nehmen',
   'Decide game {0}': 'Partie {0} entscheiden',
+  'By mistake': 'Versehentlich',
+  'The game was begun by mistake': 'Die Partie wurde aus Versehen begonnen',
+  'Was game {0} of {1} and {2} begun by mistake?': 'Wurde Partie {0} von {1} und {2} aus Versehen begonnen?',
+  'End it': 'Beenden',
+  ['Before both have moved only a resignation ends a game. It is entered for {0}, who is to move: in the record {1} '
+    + 'has won without a game. In a league chess-club decide puts down another result. It cannot be taken back.']:
+    'Bevor beide gezogen haben, beendet nur eine Aufgabe eine Partie. Sie wird für {0} am Zug eingetragen: in der '
+    + 'Aufzeichnung hat {1} ohne Spiel gewonnen. In einer Liga trägt chess-club decide ein anderes Ergebnis ein. Es '
+    + 'lässt sich nicht zurücknehmen.',
+  'Both have moved meanwhile. Nothing was entered.': 'Inzwischen haben beide gezogen. Nichts wurde eingetragen.',
   'White resigns': 'Weiß gibt auf',
   'Black resigns': 'Schwarz gibt auf',
   'Flag': 'Zeit',
@@ -707,9 +720,15 @@ export const WORDS = {
     'Auf dem Blatt stehen {0} von {1} Links. Es ist nur dieses eine Mal da: drucke es jetzt.',
   'Who opens this link plays as {0}: keep it for yourself.':
     'Wer diesen Link öffnet, spielt als {0}: behalte ihn für dich.',
-  'Adjourned by the arbiter, {0}: it goes on later as another game. In the record this one is a draw.':
-    'Vom Schiedsrichter, {0}, vertagt: sie geht später als andere Partie weiter. In der Aufzeichnung ist diese '
-    + 'remis.',
+  'Adjourned': 'Vertagt',
+  'Adjourned: {0}': 'Vertagt: {0}',
+  'The arbiter announces: {0}': 'Der Schiedsrichter sagt an: {0}',
+  'Announcement': 'Ansage',
+  'Announce it': 'Ansagen',
+  'Take it away': 'Wegnehmen',
+  'Hide': 'Ausblenden',
+  'By the arbiter, {0}: it goes on later as another game. In the record this one is a draw.':
+    'Durch den Schiedsrichter, {0}: sie geht später als andere Partie weiter. In der Aufzeichnung ist diese remis.',
   'It is taken back at {0}, when you leave this page, or when another game of yours begins.':
     'Sie wird um {0} zurückgenommen, wenn du diese Seite verlässt oder wenn eine andere deiner Partien beginnt.',
   'Your other game that waited is taken back, since one has begun.':
@@ -728,9 +747,6 @@ export const WORDS = {
     + 'sie werden notiert, wie sie am Ende stehen.',
   'Delete from here': 'Ab hier löschen',
   'Put another game here': 'Eine andere Partie hierher',
-  'Both sides are moved here, for you alone: nothing of it is sent. What you try is kept in this browser.':
-    'Hier ziehst du beide Seiten, für dich allein: nichts davon wird gesendet. Was du versuchst, bewahrt dieser '
-    + 'Browser auf.',
   'Start anew': 'Neu beginnen',
   ['Both players are told that it is adjourned. In the record this game stays a draw. The game that goes on '
     + 'with it later is the board’s.']:
@@ -827,4 +843,17 @@ export const WORDS = {
   'This lobby can stop no clocks: whoever runs it has not named the server’s file.':
     'Diese Lobby kann keine Uhren anhalten: Wer sie betreibt, hat die Datei des Servers nicht genannt.',
   'Reason': 'Grund',
+  'A player who is new: the full name': 'Wer neu dazukommt: der volle Name',
+  'Copy the command': 'Befehl kopieren',
+  'The command is copied.': 'Der Befehl ist kopiert.',
+  'A player of this full name is listed already.': 'Jemand mit diesem vollen Namen ist schon aufgeführt.',
+  'To be run on the club’s machine, with the evening’s folder for FOLDER.':
+    'Auf dem Rechner des Vereins auszuführen, mit dem Ordner des Abends statt FOLDER.',
+  '{0} Run it on the club’s machine, with the evening’s folder for FOLDER. A second later the player is listed here.':
+    '{0} Führe ihn auf dem Rechner des Vereins aus, mit dem Ordner des Abends statt FOLDER. Eine Sekunde später '
+    + 'steht der Spieler hier in der Liste.',
+  '{0} is listed now: make a new link, which is shown here once.':
+    '{0} ist jetzt aufgeführt: mache einen neuen Link, der hier einmal gezeigt wird.',
+  'Both sides are moved here, for you alone. What you try is kept in this browser.':
+    'Hier ziehst du beide Seiten, für dich allein. Was du versuchst, bewahrt dieser Browser auf.',
 };

@@ -63,10 +63,22 @@ export const WORDS = {
   '{0} to {1} of {2}, {3} of them running': '{0} a {1} de {2}, {3} en juego',
   'Game {0}': 'Partida {0}',
   'not connected': 'sin conexión',
+  'not connected for {0} min': 'sin conexión desde hace {0} min',
+  '{0} is connected again.': '{0} está de nuevo en línea.',
+  'Spectators signed in: {0}': 'Espectadores identificados: {0}',
   ', game {0}': ', partida {0}',
   'More': 'Más',
   'Take off': 'Retirar',
   'Decide game {0}': 'Decidir la partida {0}',
+  'By mistake': 'Por error',
+  'The game was begun by mistake': 'La partida se empezó por error',
+  'Was game {0} of {1} and {2} begun by mistake?': '¿Se empezó por error la partida {0} de {1} y {2}?',
+  'End it': 'Terminarla',
+  ['Before both have moved only a resignation ends a game. It is entered for {0}, who is to move: in the record {1} '
+    + 'has won without a game. In a league chess-club decide puts down another result. It cannot be taken back.']:
+    'Antes de que ambos hayan jugado, solo un abandono termina una partida. Se anota por {0}, a quien le toca: en el '
+    + 'registro {1} ha ganado sin jugar. En una liga, chess-club decide anota otro resultado. No se puede deshacer.',
+  'Both have moved meanwhile. Nothing was entered.': 'Entretanto ambos han jugado. No se anotó nada.',
   'White resigns': 'Abandonan blancas',
   'Black resigns': 'Abandonan negras',
   'Flag': 'Bandera',
@@ -701,8 +713,15 @@ export const WORDS = {
     'La hoja tiene {0} de {1} enlaces. Está solo esta vez: imprímela ahora.',
   'Who opens this link plays as {0}: keep it for yourself.':
     'Quien abre este enlace juega como {0}: guárdalo para ti.',
-  'Adjourned by the arbiter, {0}: it goes on later as another game. In the record this one is a draw.':
-    'Aplazada por el árbitro, {0}: continúa más tarde como otra partida. En el registro esta es tablas.',
+  'Adjourned': 'Aplazada',
+  'Adjourned: {0}': 'Aplazada: {0}',
+  'The arbiter announces: {0}': 'El árbitro anuncia: {0}',
+  'Announcement': 'Anuncio',
+  'Announce it': 'Anunciar',
+  'Take it away': 'Quitar',
+  'Hide': 'Ocultar',
+  'By the arbiter, {0}: it goes on later as another game. In the record this one is a draw.':
+    'Por el árbitro, {0}: continúa más tarde como otra partida. En el registro esta es tablas.',
   'It is taken back at {0}, when you leave this page, or when another game of yours begins.':
     'Se retira a las {0}, cuando dejes esta página o cuando empiece otra partida tuya.',
   'Your other game that waited is taken back, since one has begun.':
@@ -721,8 +740,6 @@ export const WORDS = {
     + 'anotan como estén al final.',
   'Delete from here': 'Borrar desde aquí',
   'Put another game here': 'Poner otra partida',
-  'Both sides are moved here, for you alone: nothing of it is sent. What you try is kept in this browser.':
-    'Aquí mueves ambos bandos, solo para ti: nada se envía. Lo que pruebas se guarda en este navegador.',
   'Start anew': 'Empezar de nuevo',
   ['Both players are told that it is adjourned. In the record this game stays a draw. The game that goes on '
     + 'with it later is the board’s.']:
@@ -817,4 +834,17 @@ export const WORDS = {
   'This lobby can stop no clocks: whoever runs it has not named the server’s file.':
     'Este lobby no puede detener relojes: quien lo dirige no ha indicado el archivo del servidor.',
   'Reason': 'Motivo',
+  'A player who is new: the full name': 'Quien es nuevo: el nombre completo',
+  'Copy the command': 'Copiar la orden',
+  'The command is copied.': 'La orden está copiada.',
+  'A player of this full name is listed already.': 'Ya figura alguien con este nombre completo.',
+  'To be run on the club’s machine, with the evening’s folder for FOLDER.':
+    'Se ejecuta en la máquina del club, con la carpeta de la velada en lugar de FOLDER.',
+  '{0} Run it on the club’s machine, with the evening’s folder for FOLDER. A second later the player is listed here.':
+    '{0} Ejecútala en la máquina del club, con la carpeta de la velada en lugar de FOLDER. Un segundo después el '
+    + 'jugador figura aquí.',
+  '{0} is listed now: make a new link, which is shown here once.':
+    '{0} figura ahora en la lista: crea un enlace nuevo, que se muestra aquí una vez.',
+  'Both sides are moved here, for you alone. What you try is kept in this browser.':
+    'Aquí mueves ambos bandos, solo para ti. Lo que pruebas se guarda en este navegador.',
 };

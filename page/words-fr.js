@@ -68,10 +68,23 @@ export const WORDS = {
   '{0} to {1} of {2}, {3} of them running': '{0} à {1} sur {2}, dont {3} en cours',
   'Game {0}': 'Partie {0}',
   'not connected': 'hors ligne',
+  'not connected for {0} min': 'hors ligne depuis {0} min',
+  '{0} is connected again.': '{0} est de nouveau en ligne.',
+  'Spectators signed in: {0}': 'Spectateurs connectés : {0}',
   ', game {0}': ', partie {0}',
   'More': 'Plus',
   'Take off': 'Retirer',
   'Decide game {0}': 'Décider la partie {0}',
+  'By mistake': 'Par erreur',
+  'The game was begun by mistake': 'La partie a commencé par erreur',
+  'Was game {0} of {1} and {2} begun by mistake?': 'La partie {0} de {1} et {2} a-t-elle commencé par erreur ?',
+  'End it': 'La terminer',
+  ['Before both have moved only a resignation ends a game. It is entered for {0}, who is to move: in the record {1} '
+    + 'has won without a game. In a league chess-club decide puts down another result. It cannot be taken back.']:
+    'Avant que les deux aient joué, seul un abandon termine une partie. Il est inscrit pour {0}, au trait : dans les '
+    + 'archives, {1} a gagné sans jouer. Dans un championnat, chess-club decide inscrit un autre résultat. C’est '
+    + 'irrévocable.',
+  'Both have moved meanwhile. Nothing was entered.': 'Les deux ont joué entre-temps. Rien n’a été inscrit.',
   'White resigns': 'Abandon des Blancs',
   'Black resigns': 'Abandon des Noirs',
   'Flag': 'Drapeau',
@@ -711,9 +724,15 @@ export const WORDS = {
     'La feuille a {0} liens sur {1}. Elle n’est là que cette fois : imprimez-la maintenant.',
   'Who opens this link plays as {0}: keep it for yourself.':
     'Qui ouvre ce lien joue comme {0} : gardez-le pour vous.',
-  'Adjourned by the arbiter, {0}: it goes on later as another game. In the record this one is a draw.':
-    'Ajournée par l’arbitre, {0} : elle reprend plus tard comme une autre partie. Dans les archives, celle-ci '
-    + 'est nulle.',
+  'Adjourned': 'Ajournée',
+  'Adjourned: {0}': 'Ajournée : {0}',
+  'The arbiter announces: {0}': 'L’arbitre annonce : {0}',
+  'Announcement': 'Annonce',
+  'Announce it': 'Annoncer',
+  'Take it away': 'Retirer',
+  'Hide': 'Masquer',
+  'By the arbiter, {0}: it goes on later as another game. In the record this one is a draw.':
+    'Par l’arbitre, {0} : elle reprend plus tard comme une autre partie. Dans les archives, celle-ci est nulle.',
   'It is taken back at {0}, when you leave this page, or when another game of yours begins.':
     'Elle est retirée à {0}, quand vous quittez cette page ou quand une autre de vos parties commence.',
   'Your other game that waited is taken back, since one has begun.':
@@ -732,9 +751,6 @@ export const WORDS = {
     + 'tournent, et elles sont notées telles qu’elles sont à la fin.',
   'Delete from here': 'Effacer à partir d’ici',
   'Put another game here': 'Mettre une autre partie',
-  'Both sides are moved here, for you alone: nothing of it is sent. What you try is kept in this browser.':
-    'Ici vous jouez les deux camps, pour vous seul : rien n’est envoyé. Ce que vous essayez est gardé dans ce '
-    + 'navigateur.',
   'Start anew': 'Recommencer',
   ['Both players are told that it is adjourned. In the record this game stays a draw. The game that goes on '
     + 'with it later is the board’s.']:
@@ -832,4 +848,17 @@ export const WORDS = {
   'This lobby can stop no clocks: whoever runs it has not named the server’s file.':
     'Ce lobby ne peut arrêter aucune pendule : qui le gère n’a pas nommé le fichier du serveur.',
   'Reason': 'Motif',
+  'A player who is new: the full name': 'Qui est nouveau : le nom complet',
+  'Copy the command': 'Copier la commande',
+  'The command is copied.': 'La commande est copiée.',
+  'A player of this full name is listed already.': 'Quelqu’un de ce nom complet figure déjà dans la liste.',
+  'To be run on the club’s machine, with the evening’s folder for FOLDER.':
+    'À lancer sur la machine du club, avec le dossier de la soirée à la place de FOLDER.',
+  '{0} Run it on the club’s machine, with the evening’s folder for FOLDER. A second later the player is listed here.':
+    '{0} Lancez-la sur la machine du club, avec le dossier de la soirée à la place de FOLDER. Une seconde plus tard, '
+    + 'le joueur figure ici.',
+  '{0} is listed now: make a new link, which is shown here once.':
+    '{0} figure maintenant dans la liste : créez un nouveau lien, affiché ici une seule fois.',
+  'Both sides are moved here, for you alone. What you try is kept in this browser.':
+    'Ici vous jouez les deux camps, pour vous seul. Ce que vous essayez est gardé dans ce navigateur.',
 };

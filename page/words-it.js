@@ -65,10 +65,24 @@ export const WORDS = {
   '{0} to {1} of {2}, {3} of them running': '{0}–{1} di {2}, di cui {3} in corso',
   'Game {0}': 'Partita {0}',
   'not connected': 'non in linea',
+  'not connected for {0} min': 'non in linea da {0} min',
+  '{0} is connected again.': '{0} è di nuovo in linea.',
+  'Spectators signed in: {0}': 'Spettatori connessi: {0}',
   ', game {0}': ', partita {0}',
   'More': 'Altro',
   'Take off': 'Togli',
   'Decide game {0}': 'Decidi la partita {0}',
+  'By mistake': 'Per errore',
+  'The game was begun by mistake': 'La partita è iniziata per errore',
+  'Was game {0} of {1} and {2} begun by mistake?': 'La partita {0} di {1} e {2} è iniziata per errore?',
+  'End it': 'Terminala',
+  ['Before both have moved only a resignation ends a game. It is entered for {0}, who is to move: in the record {1} '
+    + 'has won without a game. In a league chess-club decide puts down another result. It cannot be taken back.']:
+    'Prima che entrambi abbiano mosso, solo un abbandono termina una partita. È registrato per {0}, a cui tocca: nel '
+    + 'registro {1} ha vinto senza giocare. In un campionato chess-club decide registra un altro risultato. Non si '
+    + 'può annullare.',
+  'Both have moved meanwhile. Nothing was entered.':
+    'Nel frattempo entrambi hanno mosso. Non è stato registrato nulla.',
   'White resigns': 'Bianco abbandona',
   'Black resigns': 'Nero abbandona',
   'Flag': 'Bandierina',
@@ -703,8 +717,15 @@ export const WORDS = {
   'The sheet has {0} of {1} links. It is there this once: print it now.':
     'Il foglio ha {0} link su {1}. C’è solo questa volta: stampalo ora.',
   'Who opens this link plays as {0}: keep it for yourself.': 'Chi apre questo link gioca come {0}: tienilo per te.',
-  'Adjourned by the arbiter, {0}: it goes on later as another game. In the record this one is a draw.':
-    'Aggiornata dall’arbitro, {0}: continua più tardi come un’altra partita. Nel registro questa è patta.',
+  'Adjourned': 'Aggiornata',
+  'Adjourned: {0}': 'Aggiornata: {0}',
+  'The arbiter announces: {0}': 'L’arbitro annuncia: {0}',
+  'Announcement': 'Annuncio',
+  'Announce it': 'Annuncia',
+  'Take it away': 'Togli',
+  'Hide': 'Nascondi',
+  'By the arbiter, {0}: it goes on later as another game. In the record this one is a draw.':
+    'Dall’arbitro, {0}: continua più tardi come un’altra partita. Nel registro questa è patta.',
   'It is taken back at {0}, when you leave this page, or when another game of yours begins.':
     'Viene ritirata alle {0}, quando lasci questa pagina o quando comincia un’altra tua partita.',
   'Your other game that waited is taken back, since one has begun.':
@@ -723,8 +744,6 @@ export const WORDS = {
     + 'annotati come sono alla fine.',
   'Delete from here': 'Cancella da qui',
   'Put another game here': 'Metti un’altra partita',
-  'Both sides are moved here, for you alone: nothing of it is sent. What you try is kept in this browser.':
-    'Qui muovi entrambe le parti, solo per te: nulla viene inviato. Ciò che provi è conservato in questo browser.',
   'Start anew': 'Ricomincia',
   ['Both players are told that it is adjourned. In the record this game stays a draw. The game that goes on '
     + 'with it later is the board’s.']:
@@ -820,4 +839,17 @@ export const WORDS = {
   'This lobby can stop no clocks: whoever runs it has not named the server’s file.':
     'Questa lobby non può fermare orologi: chi la gestisce non ha indicato il file del server.',
   'Reason': 'Motivo',
+  'A player who is new: the full name': 'Chi è nuovo: il nome completo',
+  'Copy the command': 'Copia il comando',
+  'The command is copied.': 'Il comando è copiato.',
+  'A player of this full name is listed already.': 'Qualcuno con questo nome completo è già nell’elenco.',
+  'To be run on the club’s machine, with the evening’s folder for FOLDER.':
+    'Da eseguire sulla macchina del circolo, con la cartella della serata al posto di FOLDER.',
+  '{0} Run it on the club’s machine, with the evening’s folder for FOLDER. A second later the player is listed here.':
+    '{0} Eseguilo sulla macchina del circolo, con la cartella della serata al posto di FOLDER. Un secondo dopo il '
+    + 'giocatore è qui nell’elenco.',
+  '{0} is listed now: make a new link, which is shown here once.':
+    '{0} è ora nell’elenco: crea un nuovo link, mostrato qui una volta sola.',
+  'Both sides are moved here, for you alone. What you try is kept in this browser.':
+    'Qui muovi entrambe le parti, solo per te. Ciò che provi è conservato in questo browser.',
 };

@@ -65,10 +65,23 @@ export const WORDS = {
   '{0} to {1} of {2}, {3} of them running': '{0} tot {1} van {2}, waarvan {3} bezig',
   'Game {0}': 'Partij {0}',
   'not connected': 'geen verbinding',
+  'not connected for {0} min': 'al {0} min geen verbinding',
+  '{0} is connected again.': '{0} heeft weer verbinding.',
+  'Spectators signed in: {0}': 'Aangemelde toeschouwers: {0}',
   ', game {0}': ', partij {0}',
   'More': 'Meer',
   'Take off': 'Weghalen',
   'Decide game {0}': 'Partij {0} beslissen',
+  'By mistake': 'Vergissing',
+  'The game was begun by mistake': 'De partij is bij vergissing begonnen',
+  'Was game {0} of {1} and {2} begun by mistake?': 'Is partij {0} van {1} en {2} bij vergissing begonnen?',
+  'End it': 'Beëindigen',
+  ['Before both have moved only a resignation ends a game. It is entered for {0}, who is to move: in the record {1} '
+    + 'has won without a game. In a league chess-club decide puts down another result. It cannot be taken back.']:
+    'Voordat beiden hebben gezet, eindigt alleen opgave een partij. Die wordt ingevoerd voor {0}, die aan zet is: in '
+    + 'het verslag heeft {1} zonder spel gewonnen. In een competitie voert chess-club decide een andere uitslag in. '
+    + 'Het is niet terug te draaien.',
+  'Both have moved meanwhile. Nothing was entered.': 'Intussen hebben beiden gezet. Er is niets ingevoerd.',
   'White resigns': 'Wit geeft op',
   'Black resigns': 'Zwart geeft op',
   'Flag': 'Vlag',
@@ -706,8 +719,15 @@ export const WORDS = {
     'Op het vel staan {0} van {1} links. Het is er alleen deze keer: druk het nu af.',
   'Who opens this link plays as {0}: keep it for yourself.':
     'Wie deze link opent, speelt als {0}: houd hem voor jezelf.',
-  'Adjourned by the arbiter, {0}: it goes on later as another game. In the record this one is a draw.':
-    'Afgebroken door de arbiter, {0}: ze gaat later verder als een andere partij. In het verslag is deze remise.',
+  'Adjourned': 'Afgebroken',
+  'Adjourned: {0}': 'Afgebroken: {0}',
+  'The arbiter announces: {0}': 'De arbiter meldt: {0}',
+  'Announcement': 'Mededeling',
+  'Announce it': 'Melden',
+  'Take it away': 'Weghalen',
+  'Hide': 'Verbergen',
+  'By the arbiter, {0}: it goes on later as another game. In the record this one is a draw.':
+    'Door de arbiter, {0}: ze gaat later verder als een andere partij. In het verslag is deze remise.',
   'It is taken back at {0}, when you leave this page, or when another game of yours begins.':
     'Ze wordt teruggenomen om {0}, als je deze pagina verlaat of als een andere partij van je begint.',
   'Your other game that waited is taken back, since one has begun.':
@@ -726,9 +746,6 @@ export const WORDS = {
     + 'genoteerd zoals ze aan het eind staan.',
   'Delete from here': 'Vanaf hier wissen',
   'Put another game here': 'Een andere partij neerzetten',
-  'Both sides are moved here, for you alone: nothing of it is sent. What you try is kept in this browser.':
-    'Hier zet je beide kanten, alleen voor jezelf: niets ervan wordt verstuurd. Wat je probeert, bewaart deze '
-    + 'browser.',
   'Start anew': 'Opnieuw beginnen',
   ['Both players are told that it is adjourned. In the record this game stays a draw. The game that goes on '
     + 'with it later is the board’s.']:
@@ -824,4 +841,17 @@ export const WORDS = {
   'This lobby can stop no clocks: whoever runs it has not named the server’s file.':
     'Deze lobby kan geen klokken stilzetten: wie haar beheert heeft het bestand van de server niet genoemd.',
   'Reason': 'Reden',
+  'A player who is new: the full name': 'Wie nieuw is: de volledige naam',
+  'Copy the command': 'Opdracht kopiëren',
+  'The command is copied.': 'De opdracht is gekopieerd.',
+  'A player of this full name is listed already.': 'Iemand met deze volledige naam staat al in de lijst.',
+  'To be run on the club’s machine, with the evening’s folder for FOLDER.':
+    'Uit te voeren op de machine van de club, met de map van de avond in plaats van FOLDER.',
+  '{0} Run it on the club’s machine, with the evening’s folder for FOLDER. A second later the player is listed here.':
+    '{0} Voer ze uit op de machine van de club, met de map van de avond in plaats van FOLDER. Een seconde later '
+    + 'staat de speler hier in de lijst.',
+  '{0} is listed now: make a new link, which is shown here once.':
+    '{0} staat nu in de lijst: maak een nieuwe link, die hier één keer wordt getoond.',
+  'Both sides are moved here, for you alone. What you try is kept in this browser.':
+    'Hier zet je beide kanten, alleen voor jezelf. Wat je probeert, bewaart deze browser.',
 };

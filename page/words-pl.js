@@ -64,10 +64,22 @@ export const WORDS = {
   '{0} to {1} of {2}, {3} of them running': '{0} do {1} z {2}, w tym trwających: {3}',
   'Game {0}': 'Partia {0}',
   'not connected': 'brak połączenia',
+  'not connected for {0} min': 'brak połączenia od {0} min',
+  '{0} is connected again.': '{0} znów ma połączenie.',
+  'Spectators signed in: {0}': 'Zalogowani widzowie: {0}',
   ', game {0}': ', partia {0}',
   'More': 'Więcej',
   'Take off': 'Usuń z listy',
   'Decide game {0}': 'Rozstrzygnij partię {0}',
+  'By mistake': 'Pomyłka',
+  'The game was begun by mistake': 'Partię rozpoczęto przez pomyłkę',
+  'Was game {0} of {1} and {2} begun by mistake?': 'Czy partię {0} ({1} i {2}) rozpoczęto przez pomyłkę?',
+  'End it': 'Zakończ',
+  ['Before both have moved only a resignation ends a game. It is entered for {0}, who is to move: in the record {1} '
+    + 'has won without a game. In a league chess-club decide puts down another result. It cannot be taken back.']:
+    'Zanim obie strony wykonają ruch, partię kończy tylko poddanie. Zapisuje się je za stronę na posunięciu ({0}): w '
+    + 'zapisie wygrywa bez gry {1}. W lidze chess-club decide zapisuje inny wynik. Tego nie można cofnąć.',
+  'Both have moved meanwhile. Nothing was entered.': 'Tymczasem obie strony wykonały ruch. Niczego nie zapisano.',
   'White resigns': 'Białe się poddają',
   'Black resigns': 'Czarne się poddają',
   'Flag': 'Czas',
@@ -700,8 +712,15 @@ export const WORDS = {
     'Arkusz ma {0} z {1} linków. Jest tylko ten jeden raz: wydrukuj go teraz.',
   'Who opens this link plays as {0}: keep it for yourself.':
     'Kto otworzy ten link, gra jako {0}: zachowaj go dla siebie.',
-  'Adjourned by the arbiter, {0}: it goes on later as another game. In the record this one is a draw.':
-    'Odłożona przez sędziego, {0}: będzie kontynuowana później jako inna partia. W zapisie ta jest remisem.',
+  'Adjourned': 'Odłożona',
+  'Adjourned: {0}': 'Odłożona: {0}',
+  'The arbiter announces: {0}': 'Sędzia ogłasza: {0}',
+  'Announcement': 'Ogłoszenie',
+  'Announce it': 'Ogłoś',
+  'Take it away': 'Zdejmij',
+  'Hide': 'Ukryj',
+  'By the arbiter, {0}: it goes on later as another game. In the record this one is a draw.':
+    'Przez sędziego, {0}: będzie kontynuowana później jako inna partia. W zapisie ta jest remisem.',
   'It is taken back at {0}, when you leave this page, or when another game of yours begins.':
     'Zostanie cofnięta o {0}, gdy opuścisz tę stronę albo gdy zacznie się inna twoja partia.',
   'Your other game that waited is taken back, since one has begun.':
@@ -720,9 +739,6 @@ export const WORDS = {
     + 'stoją na końcu.',
   'Delete from here': 'Usuń odtąd',
   'Put another game here': 'Wstaw inną partię',
-  'Both sides are moved here, for you alone: nothing of it is sent. What you try is kept in this browser.':
-    'Tutaj grasz obiema stronami, tylko dla siebie: nic z tego nie jest wysyłane. To, czego próbujesz, zachowuje '
-    + 'ta przeglądarka.',
   'Start anew': 'Zacznij od nowa',
   ['Both players are told that it is adjourned. In the record this game stays a draw. The game that goes on '
     + 'with it later is the board’s.']:
@@ -818,4 +834,16 @@ export const WORDS = {
   'This lobby can stop no clocks: whoever runs it has not named the server’s file.':
     'To lobby nie może zatrzymać zegarów: kto je prowadzi, nie podał pliku serwera.',
   'Reason': 'Powód',
+  'A player who is new: the full name': 'Nowy uczestnik: pełne nazwisko',
+  'Copy the command': 'Kopiuj polecenie',
+  'The command is copied.': 'Polecenie skopiowano.',
+  'A player of this full name is listed already.': 'Ktoś o tym pełnym nazwisku jest już na liście.',
+  'To be run on the club’s machine, with the evening’s folder for FOLDER.':
+    'Do uruchomienia na komputerze klubu, z folderem wieczoru zamiast FOLDER.',
+  '{0} Run it on the club’s machine, with the evening’s folder for FOLDER. A second later the player is listed here.':
+    '{0} Uruchom je na komputerze klubu, z folderem wieczoru zamiast FOLDER. Sekundę później gracz jest tu na liście.',
+  '{0} is listed now: make a new link, which is shown here once.':
+    '{0} jest już na liście: utwórz nowy link, pokazany tu jeden raz.',
+  'Both sides are moved here, for you alone. What you try is kept in this browser.':
+    'Tutaj grasz obiema stronami, tylko dla siebie. To, czego próbujesz, zachowuje ta przeglądarka.',
 };

@@ -64,10 +64,23 @@ export const WORDS = {
   '{0} to {1} of {2}, {3} of them running': '{0} a {1} de {2}, {3} em andamento',
   'Game {0}': 'Partida {0}',
   'not connected': 'sem conexão',
+  'not connected for {0} min': 'sem conexão há {0} min',
+  '{0} is connected again.': '{0} está de novo com conexão.',
+  'Spectators signed in: {0}': 'Espectadores conectados: {0}',
   ', game {0}': ', partida {0}',
   'More': 'Mais',
   'Take off': 'Retirar',
   'Decide game {0}': 'Decidir a partida {0}',
+  'By mistake': 'Por engano',
+  'The game was begun by mistake': 'A partida começou por engano',
+  'Was game {0} of {1} and {2} begun by mistake?': 'A partida {0} de {1} e {2} começou por engano?',
+  'End it': 'Encerrar',
+  ['Before both have moved only a resignation ends a game. It is entered for {0}, who is to move: in the record {1} '
+    + 'has won without a game. In a league chess-club decide puts down another result. It cannot be taken back.']:
+    'Antes que os dois tenham jogado, só um abandono encerra uma partida. Ele é registrado por {0}, que tem a vez: '
+    + 'no registro, {1} venceu sem jogar. Numa liga, chess-club decide registra outro resultado. Não pode ser '
+    + 'desfeito.',
+  'Both have moved meanwhile. Nothing was entered.': 'Enquanto isso, os dois jogaram. Nada foi registrado.',
   'White resigns': 'Brancas abandonam',
   'Black resigns': 'Pretas abandonam',
   'Flag': 'Seta',
@@ -695,8 +708,15 @@ export const WORDS = {
   'The sheet has {0} of {1} links. It is there this once: print it now.':
     'A folha tem {0} de {1} links. Ela aparece só desta vez: imprima agora.',
   'Who opens this link plays as {0}: keep it for yourself.': 'Quem abre este link joga como {0}: guarde-o para você.',
-  'Adjourned by the arbiter, {0}: it goes on later as another game. In the record this one is a draw.':
-    'Adiada pelo árbitro, {0}: continua mais tarde como outra partida. No registro, esta é empate.',
+  'Adjourned': 'Adiada',
+  'Adjourned: {0}': 'Adiada: {0}',
+  'The arbiter announces: {0}': 'O árbitro anuncia: {0}',
+  'Announcement': 'Anúncio',
+  'Announce it': 'Anunciar',
+  'Take it away': 'Retirar',
+  'Hide': 'Ocultar',
+  'By the arbiter, {0}: it goes on later as another game. In the record this one is a draw.':
+    'Pelo árbitro, {0}: continua mais tarde como outra partida. No registro, esta é empate.',
   'It is taken back at {0}, when you leave this page, or when another game of yours begins.':
     'É retirada às {0}, quando você deixa esta página ou quando outra partida sua começa.',
   'Your other game that waited is taken back, since one has begun.':
@@ -715,8 +735,6 @@ export const WORDS = {
     + 'estiverem no fim.',
   'Delete from here': 'Apagar daqui em diante',
   'Put another game here': 'Pôr outra partida',
-  'Both sides are moved here, for you alone: nothing of it is sent. What you try is kept in this browser.':
-    'Aqui você move os dois lados, só para si: nada é enviado. O que você tenta fica guardado neste navegador.',
   'Start anew': 'Recomeçar',
   ['Both players are told that it is adjourned. In the record this game stays a draw. The game that goes on '
     + 'with it later is the board’s.']:
@@ -811,4 +829,17 @@ export const WORDS = {
   'This lobby can stop no clocks: whoever runs it has not named the server’s file.':
     'Este lobby não pode parar relógios: quem o gere não indicou o ficheiro do servidor.',
   'Reason': 'Motivo',
+  'A player who is new: the full name': 'Quem é novo: o nome completo',
+  'Copy the command': 'Copiar o comando',
+  'The command is copied.': 'O comando foi copiado.',
+  'A player of this full name is listed already.': 'Já há alguém com este nome completo na lista.',
+  'To be run on the club’s machine, with the evening’s folder for FOLDER.':
+    'Para executar na máquina do clube, com a pasta da noite no lugar de FOLDER.',
+  '{0} Run it on the club’s machine, with the evening’s folder for FOLDER. A second later the player is listed here.':
+    '{0} Execute-o na máquina do clube, com a pasta da noite no lugar de FOLDER. Um segundo depois o jogador está '
+    + 'aqui na lista.',
+  '{0} is listed now: make a new link, which is shown here once.':
+    '{0} já está na lista: crie um novo link, mostrado aqui uma vez.',
+  'Both sides are moved here, for you alone. What you try is kept in this browser.':
+    'Aqui você move os dois lados, só para si. O que você tenta fica guardado neste navegador.',
 };

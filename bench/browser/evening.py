@@ -638,9 +638,14 @@ def looked_at_again(hall):
     ann.board = '#again-board'
     ann.click('#again-next').until(lambda: ann.men().get('f3') == 'white pawn', 'a move on')
     ann.tap('e7').is_so(ann.lit() == {'e6', 'e5'}, 'the pawn’s two squares')
+    fen = 'rnbqkbnr/pppppppp/8/8/8/5P2/PPPPP1PP/RNBQKBNR b KQkq - 0 1'
+    ann.until(lambda: 'moves ' + fen in ann.sent('moves '), 'who has signed in is told the moves by the lobby')
+    told = by_lines(hall, 'ann', 'moves ' + fen)[0].split(' ')
+    ann.is_so(told[:3] == ['ok', 'moves', '-'] and {move[2:] for move in told[3:] if move[:2] == 'e7'} == ann.lit(),
+              'and those are marked: %s' % told)
     ann.forget_sent().tap('a4').click_move('d7d5').click_move('e2e4')
     ann.drag_move('d5e4').shows('#again-moves', TREE, 'a variation')
-    ann.is_so(ann.sent('move') == [], 'nothing is sent')
+    ann.is_so(ann.sent('move ') == [], 'no move is sent')
     ann.reload().shows('#again-moves', TREE, 'which the browser keeps')
     ann.click('#again-copy-pgn').reads('#again-note', 'PGN is copied')
     ann.is_so('1. f3 e5 (1... d5 2. e4 dxe4) 2. g4 Qh4# 0-1' in ann.clipboard(), 'a PGN: ' + ann.clipboard())
@@ -659,6 +664,7 @@ def looked_at_again(hall):
     ann.click('#again-anew').shows('#again-moves', '1.f3e52.g4Qh4#', 'as it was told')
     paste(sue.goes('again'), PASTED.replace('Nxe4 Nf6', 'Nxe4 Ne4'))
     sue.reads('#again-note', 'Ne4 cannot be played there').is_so('4.Nxe4' in sue.text('#again-moves'), 'up to there')
+    sue.is_so(sue.sent('moves ') == [], 'who has not goes by the page’s own rules')
     paste(sue, PASTED)
     sue.until(lambda: '(5…Nbd76.Nd6+)' in sue.text('#again-moves'), 'a PGN with a variation')
     sue.reads('#again-who', 'Reti – Tartakower').keys(Keys.END)

@@ -1,0 +1,14 @@
+// Texts as the lobby takes them: of what ASCII has.
+
+/** What is written otherwise where only ASCII can be, and has no mark that could be left out. */
+const PLAIN = {
+  ß: 'ss', ł: 'l', Ł: 'L', ø: 'o', Ø: 'O', đ: 'd', Đ: 'D', æ: 'ae', Æ: 'AE', œ: 'oe', Œ: 'OE', ı: 'i', '\u2013': '-',
+  '\u2014': '-', '\u2018': "'", '\u2019': "'", '\u201a': "'", '\u201c': '"', '\u201d': '"', '\u201e': '"', '«': '"',
+  '»': '"', '\u2026': '...',
+};
+
+/** A text without what is beyond ASCII. */
+export function plain(text) {
+  return text.replace(/[^ -~]/g, (sign) => PLAIN[sign] || sign).normalize('NFD').replace(/[\u0300-\u036f]/g, '')
+    .replace(/[^ -~]/g, '?');
+}
