@@ -11,7 +11,7 @@ use lobby_serving::serve;
 use night_boards::start;
 use night_games::{print_evidence, verify_log};
 use night_keeping::{export, keep, live};
-use night_outcomes::{decide_result, write_report, write_results};
+use night_outcomes::{decide_result, write_results};
 use night_standings::write_standings;
 use std::process::ExitCode;
 
@@ -33,7 +33,6 @@ fn do_words(rt: &HostRuntime) -> Result<(), NotDone> {
         Word::Start(starting) => start(rt, &starting),
         Word::Results(asking) => write_results(rt, &asking),
         Word::Decide(deciding) => decide_result(rt, &deciding),
-        Word::Report(reporting) => write_report(rt, &reporting),
         Word::Standings(standing) => write_standings(rt, &standing),
     }
     .map_err(NotDone::Work)

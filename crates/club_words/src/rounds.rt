@@ -5,7 +5,7 @@ use crate::days::is_day;
 use crate::options::{ARCHIVE, PARTICULARS, PLAYERS, SERVER};
 use clap::ArgMatches;
 use command_lines::{OptionText, OptionValue, WordText};
-use lobby_words::name_form;
+use lobby_words::{NameForm, name_form};
 use night_boards::{Round, Said, Starting};
 use night_outcomes::{Asking, Deciding, Reporting, Source};
 use night_report::Tournament;
@@ -83,12 +83,12 @@ prints
 const HELP_OF_TRF: &str = "\
 It writes the tournament's report, TRF-16: who played whom in each round, with the results
 and points. Players are numbered by their place in the players' file; by --particulars, which
-has their ratings, titles, federations, teams and more, by rating, title and full name. Asked
-for results are the archive, where --archive names one, and then the server, where --server
-does; the last decision of an arbiter about a board counts in their place. Where a game is of
-others than its board's players it writes nothing, and ends with status 1; where a board has no
-result yet, a line of the archive is no game's or the server is away, that status is behind the
-report.
+has their ratings, titles, federations, teams and more, by rating, title and full name; they
+are ranked as by standings. Asked for results are the archive, where --archive names one, and
+then the server, where --server does; the last decision of an arbiter about a board counts in
+their place. Where a game is of others than its board's players it writes nothing, and ends with
+status 1; where a board has no result yet, a line of the archive is no game's or the server is
+away, that status is behind the report.
 
 Exit status: 0; 1 with what is wrong on standard error; 2 for words that the program does
 not know.
@@ -102,9 +102,10 @@ It writes who stands where, as CSV: players by points, and among those who are t
 tie-break after another, in the order of --by, as FIDE's Handbook has them (C.07, of 2024):
   DE    the direct encounter        BH   Buchholz
   BHC1  Buchholz, Cut 1             SB   Sonneborn-Berger
-  WIN   wins
+  WIN   wins                        BP   board points, of teams
 Results are looked for, and counted, as for trf. With --form crosstable it writes who met whom
-in each round, and with --form json what the lobby serves by its --round, for the page.
+in each round, and with --form json what the lobby serves by its --round, for the page. With
+--teams it does so for teams: a match is the boards of a round at which two of them meet.
 
 Exit status: 0; 1 with what is wrong on standard error; 2 for words that the program does
 not know.
@@ -311,7 +312,7 @@ const ALL_ROUNDS: OptionText = OptionText {
 const BY: OptionText = OptionText {
     name: "by",
     value: OptionValue::Text("DE,BHC1,..."),
-    help: "The tie-breaks, in their order: DE,BHC1,BH,SB,WIN without it",
+    help: "The tie-breaks, in their order: DE,BHC1,BH,SB,WIN without it, and of teams BP before them",
     is_required: false,
 };
 
@@ -326,6 +327,13 @@ const INITIALS: OptionText = OptionText {
     name: "initials",
     value: OptionValue::Nothing,
     help: "Tells the initials of players in place of their full names",
+    is_required: false,
+};
+
+const TEAMS: OptionText = OptionText {
+    name: "teams",
+    value: OptionValue::Nothing,
+    help: "Those of the teams of --particulars, by match points",
     is_required: false,
 };
 
@@ -392,6 +400,7 @@ pub const TRF: WordText = WordText {
         TIMES,
         ROUND_DATE,
         ALL_ROUNDS,
+        BY,
         PARTICULARS,
         ARCHIVE_IF_ANY,
         SERVER_IF_ANY,
@@ -409,6 +418,7 @@ pub const STANDINGS: WordText = WordText {
         BY,
         FORM,
         INITIALS,
+        TEAMS,
         PARTICULARS,
         ARCHIVE_IF_ANY,
         SERVER_IF_ANY,
@@ -611,8 +621,8 @@ pub fn rounds_of<'a>(
     all_of(alloc, values, "rounds", files_of)
 }
 
-/// What `trf` asks for; none where an address, a number or a round's files are none.
-pub fn reporting_of<'a>(
+/// The tournament that is asked for; none where an address, a number or a round's files are none.
+fn reporting_of<'a>(
     alloc: Global,
     values: &ArgMatches<'a>,
 ) -> Result<Option<Reporting<'a>>, AllocError> {
@@ -643,12 +653,9 @@ pub fn reporting_of<'a>(
 fn criteria_of(
     alloc: Global,
     values: &ArgMatches<'_>,
+    without: &str,
 ) -> Result<Option<Vec<Criterion>>, AllocError> {
-    let words = parts(
-        alloc,
-        values.get_str("by").unwrap_or("DE,BHC1,BH,SB,WIN"),
-        ',',
-    )?;
+    let words = parts(alloc, values.get_str("by").unwrap_or(without), ',')?;
     words
         .as_slice()
         .iter()
@@ -666,15 +673,23 @@ fn form_of(values: &ArgMatches<'_>) -> Option<Form> {
     }
 }
 
-/// What `standings` asks for; none where an address, a round's files, a tie-break or the form are none.
-pub fn standing_of<'a>(
+// What is asked for in this form; none where an address, a number, a round's files, a tie-break or the form are none.
+fn asked_of<'a>(
     alloc: Global,
     values: &ArgMatches<'a>,
+    form: Option<Form>,
+    names: NameForm,
+    of_teams: bool,
 ) -> Result<Option<Standing<'a>>, AllocError> {
+    let without = if of_teams {
+        "BP,DE,BHC1,BH,SB,WIN"
+    } else {
+        "DE,BHC1,BH,SB,WIN"
+    };
     let (Some(reporting), Some(criteria), Some(form)) = (
         reporting_of(alloc, values)?,
-        criteria_of(alloc, values)?,
-        form_of(values),
+        criteria_of(alloc, values, without)?,
+        form,
     ) else {
         return Ok(None);
     };
@@ -682,6 +697,30 @@ pub fn standing_of<'a>(
         reporting,
         criteria,
         form,
-        names: name_form(values.get_flag("initials")),
+        of_teams,
+        names,
     }))
+}
+
+/// What `trf` asks for; none where an address, a number, a round's files or a tie-break are none.
+pub fn report_of<'a>(
+    alloc: Global,
+    values: &ArgMatches<'a>,
+) -> Result<Option<Standing<'a>>, AllocError> {
+    asked_of(alloc, values, Some(Form::Report), NameForm::Full, false)
+}
+
+/// What `standings` asks for; none where an address, a round's files, a tie-break or the form are none.
+pub fn standing_of<'a>(
+    alloc: Global,
+    values: &ArgMatches<'a>,
+) -> Result<Option<Standing<'a>>, AllocError> {
+    let names = name_form(values.get_flag("initials"));
+    asked_of(
+        alloc,
+        values,
+        form_of(values),
+        names,
+        values.get_flag("teams"),
+    )
 }

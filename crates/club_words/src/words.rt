@@ -4,7 +4,7 @@ use crate::archive::{
 };
 use crate::lobby::{EVIDENCE, LOBBY, PLAYER, VERIFY_LOG, adding_of, evidence_of, serving_of};
 use crate::rounds::{
-    DECIDE, RESULTS, STANDINGS, START, TRF, asking_of, deciding_of, no_day_told, reporting_of,
+    DECIDE, RESULTS, STANDINGS, START, TRF, asking_of, deciding_of, no_day_told, report_of,
     standing_of, starting_of,
 };
 use clap::{ArgMatches, Command, Error};
@@ -14,7 +14,7 @@ use lobby_serving::Serving;
 use night_boards::Starting;
 use night_games::Evidence;
 use night_keeping::{Exporting, Keeping, Living};
-use night_outcomes::{Asking, Deciding, Reporting};
+use night_outcomes::{Asking, Deciding};
 use night_standings::Standing;
 use std::alloc::{AllocError, Global};
 
@@ -41,9 +41,7 @@ pub enum Word<'a> {
     Results(Asking<'a>),
     /// To decide the result of a board.
     Decide(Deciding<'a>),
-    /// To write the report of a tournament.
-    Report(Reporting<'a>),
-    /// To write the standings of a tournament.
+    /// To write the report or the standings of a tournament.
     Standings(Standing<'a>),
 }
 
@@ -106,7 +104,7 @@ fn word_of<'a>(alloc: Global, matches: &ArgMatches<'a>) -> Result<Option<Word<'a
         "start" => starting_of(alloc, values)?.map(Word::Start),
         "results" => asking_of(values).map(Word::Results),
         "decide" => deciding_of(values).map(Word::Decide),
-        "trf" => reporting_of(alloc, values)?.map(Word::Report),
+        "trf" => report_of(alloc, values)?.map(Word::Standings),
         "standings" => standing_of(alloc, values)?.map(Word::Standings),
         _ => None,
     })
@@ -136,7 +134,7 @@ fn fault_of(matches: &ArgMatches<'_>) -> &'static str {
         Some(("decide", _)) =>
             "a board is a number from 1 on, and a result as 1-0, 1/2-1/2, 0-0 or +/-",
         Some(("trf", _)) => {
-            "an address, a number or a round's files are none, or neither --archive nor --server is given"
+            "an address, a number, a round's files or a tie-break are none, or neither --archive nor --server is given"
         }
         Some(("standings", _)) => {
             "an address, a round's files, a tie-break or the form are none, or neither --archive nor --server is given"

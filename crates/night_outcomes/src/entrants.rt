@@ -1,8 +1,8 @@
 //! The players of a tournament, in the order of their starting numbers.
 use anyhow::{Result, bail};
-use lobby_words::Player;
+use lobby_words::{NameForm, Player, name_told};
 use night_report::{Particulars, starting_order};
-use std::alloc::Global;
+use std::alloc::{AllocError, Global};
 
 // A player of the players' file, with what is known of the player besides.
 fn entrant_of<'a>(player: &'a Player, known: &[Particulars<'a>]) -> Particulars<'a> {
@@ -57,4 +57,17 @@ pub fn entrants_of<'a>(
         return Ok(players);
     }
     Ok(starting_order(alloc, players.as_slice())?)
+}
+
+/// The full names of players, as they are told.
+pub fn shown_names(
+    alloc: Global,
+    players: &[Particulars<'_>],
+    form: NameForm,
+) -> Result<Vec<String>, AllocError> {
+    let mut names = Vec::new(alloc);
+    for player in players {
+        names.push(name_told(alloc, form, player.full_name)?)?;
+    }
+    Ok(names)
 }

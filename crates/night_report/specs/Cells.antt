@@ -27,13 +27,19 @@ loss_sign plays.Board = 48
 loss_sign plays.Short = 76
 loss_sign plays.Forfeit = 45
 
+-- half a point for one side alone: no forfeit, for which a report has no sign of a draw, nor then of a loss
+abbrev pub half_play : Play → Play
+half_play plays.Board = plays.Board
+half_play plays.Short = plays.Short
+half_play plays.Forfeit = plays.Board
+
 -- White's sign and half points; a game that goes on has a space
 abbrev pub white_sign : Score → Play → ℕ
 white_sign scores.White play = win_sign play
 white_sign scores.Black play = loss_sign play
 white_sign scores.Draw play = draw_sign play
 white_sign scores.HalfWhite play = draw_sign play
-white_sign scores.HalfBlack play = loss_sign play
+white_sign scores.HalfBlack play = loss_sign (half_play play)
 white_sign scores.Neither play = loss_sign play
 white_sign scores.Open play = 32
 

@@ -1,6 +1,8 @@
 -- A tournament report, FIDE's TRF-16: lines of fixed columns. Columns are counted in characters from 1 on.
 use Rattle.std.specs.Prelude.{ℕ, zero, suc, ◌+◌, ◌-◌, ◌/◌, ◌%◌, ◌==◌, Bool, not, nat_lt, List, [], ◌∷◌, ◌++◌, length}
 use Rattle.std.specs.Prelude.{replicate, codes, decimal, map, drop, flat_map, Option, None, Some, if◌then◌else◌}
+use Rattle.std.specs.Prelude.{unwrap_or, slice_get}
+use Rattle.std.specs.Option.{option_map}
 use Rattle.night_report.specs.declared.cells.Cell.{Cell}
 use Rattle.night_report.specs.declared.cells.Meeting.{Meeting}
 use Rattle.night_report.specs.declared.columns.Tournament.{Tournament}
@@ -54,15 +56,13 @@ abbrev pub halves_in : ℕ → List (List Meeting) → ℕ
 halves_in n [] = 0
 halves_in n (round ∷ rounds) = (cell_in n round).halves + halves_in n rounds
 
--- the half points of so many players, in the order of their numbers
-abbrev pub all_halves : List (List Meeting) → ℕ → List ℕ
-all_halves rounds zero = []
-all_halves rounds (suc count) = all_halves rounds count ++ (halves_in (suc count) rounds ∷ [])
+-- the rank of the player before whom so many stand, from 1 on: one more than how many have a place before; 0 where
+-- none of 9,999 is known
+abbrev pub rank_of : ℕ → ℕ
+rank_of place = if nat_lt place 9_999 then place + 1 else 0
 
--- how many of all half points are more
-abbrev pub better_than : ℕ → List ℕ → ℕ
-better_than halves [] = 0
-better_than halves (other ∷ others) = (if nat_lt halves other then 1 else 0) + better_than halves others
+abbrev pub rank_at : List ℕ → ℕ → ℕ
+rank_at places at = unwrap_or (option_map rank_of (slice_get places at)) 0
 
 -- Columns 1 to 13 of a player's line: the number in 5 to 8, the sex in 10, the title in 11 to 13.
 unfoldable pub number_text : ℕ → Particulars → List ℕ
@@ -85,30 +85,34 @@ known_text p =
 unfoldable pub front_text : ℕ → Particulars → List ℕ
 front_text n p = number_text n p ++ (name_text p ++ (known_text p ++ codes " "))
 
--- Columns 81 to 89: the points, and the place among players of all these half points.
+-- Columns 81 to 89, of the player before whom so many stand by the starting numbers: the points, and the rank.
 unfoldable pub standing_text : List (List Meeting) → List ℕ → ℕ → List ℕ
-standing_text rounds all n =
-    at_right 4 (points_text (halves_in n rounds)) ++
-    (codes " " ++ at_right 4 (decimal (better_than (halves_in n rounds) all + 1)))
+standing_text rounds places at =
+    at_right 4 (points_text (halves_in (at + 1) rounds)) ++ (codes " " ++ at_right 4 (decimal (rank_at places at)))
 
--- The line of a player among these: columns 92 to 99 have the first round, and so on.
+-- The line of that player: columns 92 to 99 have the first round, and so on.
 unfoldable pub player_line : List (List Meeting) → List ℕ → ℕ → Particulars → List ℕ
-player_line rounds all n p = front_text n p ++ (standing_text rounds all n ++ (cells_text n rounds ++ codes "\n"))
+player_line rounds places at p =
+    front_text (at + 1) p ++ (standing_text rounds places at ++ (cells_text (at + 1) rounds ++ codes "\n"))
 
--- the lines of players, numbered from this on
+-- the lines of players, before the first of whom so many stand
 abbrev pub players_text : List (List Meeting) → List ℕ → ℕ → List Particulars → List ℕ
-players_text rounds all n [] = []
-players_text rounds all n (p ∷ ps) = player_line rounds all n p ++ players_text rounds all (suc n) ps
+players_text rounds places at [] = []
+players_text rounds places at (p ∷ ps) = player_line rounds places at p ++ players_text rounds places (at + 1) ps
 
 -- the starting numbers of a team's players, in columns 37 to 40, 42 to 45, and so on
 abbrev pub members_text : List ℕ → List ℕ
 members_text [] = []
 members_text (n ∷ ns) = codes " " ++ (at_right 4 (decimal n) ++ members_text ns)
 
--- The line of a team, with its name in columns 5 to 35.
+abbrev pub numbers_text : List ℕ → List ℕ
+numbers_text [] = []
+numbers_text (n ∷ ns) = at_right 4 (decimal n) ++ members_text ns
+
+-- The line of a team, with its name in columns 5 to 36.
 unfoldable pub team_line : Team → List ℕ
 team_line t =
-    codes "013 " ++ (at_left 31 (map plain_byte t.name.now) ++ (members_text t.numbers.items ++ codes "\n"))
+    codes "013 " ++ (at_left 32 (map plain_byte t.name.now) ++ (numbers_text t.numbers.items ++ codes "\n"))
 
 abbrev pub teams_text : List Team → List ℕ
 teams_text teams = flat_map team_line teams
@@ -160,8 +164,8 @@ unfoldable pub tournament_text : Tournament → List (List ℕ) → List Particu
 tournament_text e days players teams =
     place_text e ++ (counts_text players teams ++ (kind_text e ++ (days_line days ++ rounds_line e.rounds)))
 
--- the report of these players, who are numbered from 1 on in their order, and of their teams
-unfoldable pub report_text : Tournament → List (List ℕ) → List Particulars → List Team → List (List Meeting) → List ℕ
-report_text e days players teams rounds =
-    tournament_text e days players (length teams)
-    ++ (players_text rounds (all_halves rounds (length players)) 1 players ++ teams_text teams)
+-- the report of these players, who are numbered from 1 on in their order, of their places, and of their teams
+unfoldable pub report_text :
+    Tournament → List (List ℕ) → List Particulars → (places : List ℕ) → List Team → List (List Meeting) → List ℕ
+report_text e days players places teams rounds =
+    tournament_text e days players (length teams) ++ (players_text rounds places 0 players ++ teams_text teams)

@@ -92,6 +92,16 @@ fn loss_sign(play: Play) -> u8
     }
 }
 
+// How a game came in which one side alone has half a point: never by a forfeit, which has no sign for that.
+fn half_play(play: Play) -> Play
+    ensures { result ≡ spec.half_play play }
+{
+    match play {
+        Play::Board | Play::Forfeit => Play::Board,
+        Play::Short => Play::Short,
+    }
+}
+
 // White's sign.
 fn white_sign(score: Score, play: Play) -> u8
     ensures { result ≡ spec.white_sign score play }
@@ -100,13 +110,14 @@ fn white_sign(score: Score, play: Play) -> u8
         Score::White => win_sign(play),
         Score::Black => loss_sign(play),
         Score::Draw | Score::HalfWhite => draw_sign(play),
-        Score::HalfBlack | Score::Neither => loss_sign(play),
+        Score::HalfBlack => loss_sign(half_play(play)),
+        Score::Neither => loss_sign(play),
         Score::Open => b' ',
     }
 }
 
-// White's half points.
-fn white_halves(score: Score) -> u8
+/// White's half points.
+pub(crate) fn white_halves(score: Score) -> u8
     ensures halves { result ≡ spec.white_halves score }
     ensures few { result ≤ 2 }
 {
@@ -117,8 +128,8 @@ fn white_halves(score: Score) -> u8
     }
 }
 
-// The score with the colours changed.
-fn turned(score: Score) -> Score
+/// The score with the colours changed.
+pub(crate) fn turned(score: Score) -> Score
     ensures { result ≡ spec.turned score }
 {
     match score {

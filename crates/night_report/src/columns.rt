@@ -2,11 +2,13 @@
 ghost use Rattle.std.specs.Prelude.{◌≡◌, ◌++◌, ◌∷◌, [], ◌≤◌, ◌<◌, ◌*◌, ◌^◌, length, map, decimal, codes, replicate};
 ghost use Rattle.std.specs.Prelude.{IfOk, IfErr, OnOk, if◌then◌else◌};
 ghost use Rattle.night_report.specs.Report as spec;
-ghost use Rattle.night_report.specs.Faults.{HasRoom, IsFault};
+ghost use Rattle.night_report.specs.Room as room;
+ghost use Rattle.night_report.specs.Room.{HasRoom, IsFault};
 ghost use Rattle.night_report.specs.declared.columns.Fault.TheVariants as faults;
 
 use crate::cells::{Cell, Meeting, cell_of};
 use crate::particulars::Particulars;
+use crate::room::fault_in;
 use crate::teams::Team;
 use itoa::Buffer;
 use std::alloc::{AllocError, Global};
@@ -37,6 +39,14 @@ pub enum Fault {
     TooManyPlayers,
     #[error("more than 99 rounds have no room in the columns of a report")]
     TooManyRounds,
+    /// More rounds were told, or more days of rounds, than there are to be.
+    #[error("there are fewer rounds to be than rounds or days of rounds are given")]
+    TooFewRounds,
+    /// A title has three columns, a rating four, a FIDE number eleven.
+    #[error("a title, a rating or a FIDE number is none of ASCII, or has no room in its columns")]
+    TooWide,
+    #[error("a round or a team has a number that is no player's")]
+    NoPlayer,
     #[error("memory was refused")]
     NoMemory,
 }
@@ -184,35 +194,14 @@ fn halves_of(number: u32, rounds: &[Vec<Meeting>]) -> u64
     halves
 }
 
-fn one_where(is_more: bool) -> u64
-    ensures { result ≡ (if is_more then 1 else 0) }
+// The rank of a player, from 1 on; 0 where none of 9,999 is known.
+fn rank_at(places: &[usize], at: usize) -> u64
+    ensures { result ≡ spec.rank_at places.now at }
 {
-    if is_more { 1 } else { 0 }
-}
-
-// The half points of so many players, in the order of their numbers.
-fn all_halves(alloc: Global, rounds: &[Vec<Meeting>], count: u32) -> Result<Vec<u64>, AllocError>
-    requires { length rounds.now ≤ 99 }
-    ensures { IfOk result (λ all. all.items ≡ spec.all_halves (map (λ round. round.items) rounds.now) count) }
-{
-    let mut all = Vec::new(alloc);
-    for at in 0..count {
-        all.push(halves_of(at + 1, rounds))?;
+    match places.get(at) {
+        Some(place) if *place < 9_999 => *place as u64 + 1,
+        _ => 0,
     }
-    Ok(all)
-}
-
-// How many have more half points.
-fn better_than(halves: u64, all: &[u64]) -> u64
-    ensures better { result ≡ spec.better_than halves all.now }
-    ensures few { result ≤ length all.now }
-{
-    let mut better: u64 = 0;
-    for other in all {
-        let is_more = halves < *other;
-        better += one_where(is_more);
-    }
-    better
 }
 
 // A player's number, sex and title.
@@ -263,67 +252,68 @@ fn push_front(out: &mut Vec<u8>, number: u32, player: &Particulars<'_>) -> Resul
     Ok(())
 }
 
-// A player's points and place.
+// A player's points and rank.
 #[tactic(auto, unfolding(crate::specs::Report::standing_text))]
 fn push_standing(
     out: &mut Vec<u8>,
     alloc: Global,
     rounds: &[Vec<Meeting>],
-    all: &[u64],
-    number: u32,
+    places: &[usize],
+    at: u32,
 ) -> Result<(), AllocError>
-    requires { length rounds.now ≤ 99 }
+    requires rounds { length rounds.now ≤ 99 }
+    requires at { at < 9999 }
     ensures { OnOk result (out.new.items ≡ out.old.items
-        ++ spec.standing_text (map (λ round. round.items) rounds.now) all.now number) }
+        ++ spec.standing_text (map (λ round. round.items) rounds.now) places.now at) }
 {
-    let halves = halves_of(number, rounds);
-    let points = points_text(alloc, halves)?;
+    let points = points_text(alloc, halves_of(at + 1, rounds))?;
     push_right(out, 4, points.as_slice())?;
     out.push(b' ')?;
-    push_number(out, 4, better_than(halves, all) + 1)
+    push_number(out, 4, rank_at(places, at as usize))
 }
 
-// The line of a player.
+// The line of a player, before whom so many stand.
 #[tactic(auto, unfolding(crate::specs::Report::player_line))]
 fn push_player(
     out: &mut Vec<u8>,
     alloc: Global,
     rounds: &[Vec<Meeting>],
-    all: &[u64],
-    number: u32,
+    places: &[usize],
+    at: u32,
     player: &Particulars<'_>,
 ) -> Result<(), AllocError>
-    requires { length rounds.now ≤ 99 }
+    requires rounds { length rounds.now ≤ 99 }
+    requires at { at < 9999 }
     ensures { OnOk result (out.new.items ≡ out.old.items
-        ++ spec.player_line (map (λ round. round.items) rounds.now) all.now number player.now) }
+        ++ spec.player_line (map (λ round. round.items) rounds.now) places.now at player.now) }
 {
-    push_front(out, number, player)?;
-    push_standing(out, alloc, rounds, all, number)?;
-    push_cells(out, number, rounds)?;
+    push_front(out, at + 1, player)?;
+    push_standing(out, alloc, rounds, places, at)?;
+    push_cells(out, at + 1, rounds)?;
     out.push(b'\n')?;
     Ok(())
 }
 
-// The lines of all players, of whom all half points are known.
+// The lines of all players, of whom these places are known.
 fn push_players(
     out: &mut Vec<u8>,
     alloc: Global,
     rounds: &[Vec<Meeting>],
-    all: &[u64],
+    places: &[usize],
     players: &[Particulars<'_>],
 ) -> Result<(), AllocError>
     requires rounds { length rounds.now ≤ 99 }
     requires players { length players.now ≤ 9999 }
     ensures { OnOk result (out.new.items ≡ out.old.items
-        ++ spec.players_text (map (λ round. round.items) rounds.now) all.now 1 players.now) }
+        ++ spec.players_text (map (λ round. round.items) rounds.now) places.now 0 players.now) }
 {
     for at in 0..players.len() {
-        push_player(out, alloc, rounds, all, at as u32 + 1, &players[at])?;
+        push_player(out, alloc, rounds, places, at as u32, &players[at])?;
     }
     Ok(())
 }
 
-// The starting numbers of a team's players.
+// The starting numbers of a team's players behind its first.
 fn push_members(out: &mut Vec<u8>, numbers: &[u32]) -> Result<(), AllocError>
     ensures { OnOk result (out.new.items ≡ out.old.items ++ spec.members_text numbers.now) }
 {
@@ -334,14 +324,27 @@ fn push_members(out: &mut Vec<u8>, numbers: &[u32]) -> Result<(), AllocError>
     Ok(())
 }
 
+// The starting numbers of a team's players.
+fn push_numbers(out: &mut Vec<u8>, numbers: &[u32]) -> Result<(), AllocError>
+    ensures { OnOk result (out.new.items ≡ out.old.items ++ spec.numbers_text numbers.now) }
+{
+    match numbers {
+        [] => Ok(()),
+        [first, more @ ..] => {
+            push_number(out, 4, *first as u64)?;
+            push_members(out, more)
+        }
+    }
+}
+
 // The line of a team.
 #[tactic(auto, unfolding(crate::specs::Report::team_line))]
 fn push_team(out: &mut Vec<u8>, team: &Team<'_>) -> Result<(), AllocError>
     ensures { OnOk result (out.new.items ≡ out.old.items ++ spec.team_line team.now) }
 {
     out.extend_from_slice(b"013 ")?;
-    push_left(out, 31, team.name.as_bytes())?;
-    push_members(out, team.numbers.as_slice())?;
+    push_left(out, 32, team.name.as_bytes())?;
+    push_numbers(out, team.numbers.as_slice())?;
     out.push(b'\n')?;
     Ok(())
 }
@@ -411,13 +414,6 @@ fn push_place(out: &mut Vec<u8>, tournament: &Tournament<'_>) -> Result<(), Allo
     push_line(out, "052", tournament.ends)
 }
 
-// Whether a player has a rating.
-fn has_rating(player: &Particulars<'_>) -> bool
-    ensures { result ≡ spec.has_rating player.now }
-{
-    !player.rating.is_empty()
-}
-
 // How many of these players have a rating.
 fn rated_among(players: &[Particulars<'_>]) -> u64
     ensures rated { result ≡ spec.rated_among players.now }
@@ -425,8 +421,9 @@ fn rated_among(players: &[Particulars<'_>]) -> u64
 {
     let mut rated: u64 = 0;
     for player in players {
-        let is_rated = has_rating(player);
-        rated += one_where(is_rated);
+        if !player.rating.is_empty() {
+            rated += 1;
+        }
     }
     rated
 }
@@ -482,33 +479,30 @@ fn push_tournament(
     push_rounds(out, tournament.rounds)
 }
 
-/// The report of a tournament (FIDE's TRF-16): of players in the order of their starting numbers, their teams, the
-/// meetings of each round, and the days of the rounds, as `YYYY/MM/DD`, where they are known. It fails where the
-/// columns have no room for players or rounds.
+/// The report of a tournament (FIDE's TRF-16): of players in the order of their starting numbers, how many are before
+/// each, the meetings of each round, their teams, and the days of the rounds, as `YYYY/MM/DD`, where they are known. It
+/// fails where the columns have no room for that, or a number is no player's.
 #[tactic(auto, unfolding(crate::specs::Report::report_text))]
 pub fn report(
     alloc: Global,
     tournament: &Tournament<'_>,
     days: &[&str],
     players: &[Particulars<'_>],
+    places: &[usize],
     teams: &[Team<'_>],
     rounds: &[Vec<Meeting>],
 ) -> Result<Vec<u8>, Fault>
     ensures text { IfOk result (λ text. text.items ≡ spec.report_text tournament.now (map (λ day. day.now) days.now)
-        players.now teams.now (map (λ round. round.items) rounds.now)) }
-    ensures room { IfOk result (λ _. HasRoom (length players.now) (length rounds.now)) }
-    ensures fault { IfErr result (IsFault (length players.now) (length rounds.now)) }
+        players.now places.now teams.now (map (λ round. round.items) rounds.now)) }
+    ensures room { IfOk result (λ _. HasRoom tournament.now (length days.now) players.now teams.now rounds.now) }
+    ensures fault { IfErr result (IsFault tournament.now (length days.now) players.now teams.now rounds.now) }
 {
-    if players.len() > 9_999 {
-        return Err(Fault::TooManyPlayers);
+    if let Some(fault) = fault_in(tournament, days.len(), players, teams, rounds) {
+        return Err(fault);
     }
-    if rounds.len() > 99 {
-        return Err(Fault::TooManyRounds);
-    }
-    let all = all_halves(alloc, rounds, players.len() as u32)?;
     let mut text = Vec::new(alloc);
     push_tournament(&mut text, tournament, days, players, teams.len())?;
-    push_players(&mut text, alloc, rounds, all.as_slice(), players)?;
+    push_players(&mut text, alloc, rounds, places, players)?;
     push_teams(&mut text, teams)?;
     Ok(text)
 }

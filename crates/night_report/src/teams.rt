@@ -20,12 +20,7 @@ fn names_of<'a>(alloc: Global, players: &[Particulars<'a>]) -> Result<Vec<&'a st
     Ok(names)
 }
 
-// The place of a player in the team; behind all others where it is not known.
-fn board_of(player: &Particulars<'_>) -> u32 {
-    player.board.parse::<u32>().unwrap_or(u32::MAX)
-}
-
-// The starting numbers of a team's players, in the order of their boards.
+// The starting numbers of a team's players, in the order of their boards; who has none is behind the others.
 fn numbers_of(
     alloc: Global,
     players: &[Particulars<'_>],
@@ -36,7 +31,8 @@ fn numbers_of(
     for player in players {
         number = number.saturating_add(1);
         if player.team == team {
-            members.push((board_of(player), number))?;
+            let board = player.board.parse::<u32>().unwrap_or(u32::MAX);
+            members.push((board, number))?;
         }
     }
     members.sort()?;

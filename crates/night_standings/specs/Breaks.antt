@@ -96,8 +96,10 @@ sonneborn_berger scores cells = sum_by (worth scores (points cells)) cells
 abbrev pub wins : List Cell → ℕ
 wins cells = count_by (λ c. c.halves == 2) cells
 
--- what a player has by a tie-break, by the opponents' points; the direct encounter has none alone
+-- what a player has by a tie-break, by the opponents' points; the direct encounter has none alone, nor have the points
+-- of a team's boards by its matches
 abbrev pub value_of : Criterion → List ℕ → List Cell → ℕ
+value_of criteria.BoardPoints scores cells = 0
 value_of criteria.Direct scores cells = 0
 value_of criteria.BuchholzCut scores cells = buchholz_cut scores cells
 value_of criteria.Buchholz scores cells = buchholz scores cells

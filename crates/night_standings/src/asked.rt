@@ -6,7 +6,9 @@ use night_outcomes::Reporting;
 /// As what standings are written.
 #[derive(Clone, Copy)]
 pub enum Form {
-    /// Rows of CSV, a row a player.
+    /// The report, TRF-16, with players by their ranks.
+    Report,
+    /// Rows of CSV, a row a player, or a team.
     Rows,
     /// The crosstable as CSV.
     Crosstable,
@@ -21,6 +23,8 @@ pub struct Standing<'a> {
     /// The tie-breaks, in their order.
     pub criteria: Vec<Criterion>,
     pub form: Form,
+    /// Whether they are those of the teams, by their matches.
+    pub of_teams: bool,
     /// How much of a full name is told.
     pub names: NameForm,
 }

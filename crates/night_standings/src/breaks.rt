@@ -6,9 +6,11 @@ ghost use Rattle.night_standings.specs.Breaks as spec;
 use night_report::cells::{Cell, Meeting, cell_of};
 use std::alloc::{AllocError, Global};
 
-/// What is looked at among players who have as many points.
+/// What is looked at among players, or teams, who have as many points.
 #[derive(Clone, Copy)]
 pub enum Criterion {
+    /// The points of a team's boards.
+    BoardPoints,
     /// What they scored against each other.
     Direct,
     /// Buchholz without its least part.
@@ -245,7 +247,7 @@ fn value_of(criterion: Criterion, scores: &[u32], cells: &[Cell]) -> u64
     ensures { result ≡ spec.value_of criterion scores.now cells.now }
 {
     match criterion {
-        Criterion::Direct => 0,
+        Criterion::BoardPoints | Criterion::Direct => 0,
         Criterion::BuchholzCut => buchholz_cut(scores, cells),
         Criterion::Buchholz => buchholz(scores, cells),
         Criterion::SonnebornBerger => sonneborn_berger(scores, cells),

@@ -1,11 +1,11 @@
 //! Rounds and standings as an object of JSON, which the lobby serves and the page shows.
-use crate::places::Standings;
-use crate::texts::{Table, criterion_word, name_at, number_at, points_text, value_text};
-use night_report::{Bye, Meeting, Opponent, Particulars, Play, Score};
+use crate::places::value_at;
+use crate::texts::{Table, criterion_word, name_at};
+use night_report::{Bye, Meeting, Opponent, Play, Score};
 use std::alloc::{AllocError, Global};
 use text_parts::push_escaped;
 
-/// A board of a round, by its number, its game where one was noted, and who met.
+/// A board of a round, by its number, its game where one was noted, and who met; or a match.
 #[derive(Clone, Copy)]
 pub struct Board {
     pub number: u32,
@@ -58,8 +58,35 @@ fn bye_texts(bye: Bye) -> (&'static str, &'static str) {
     }
 }
 
-// Appends whom White has at a board, and what came of it.
-fn put_meeting(out: &mut Vec<u8>, alloc: Global, meeting: Meeting) -> Result<(), AllocError> {
+// Appends what came of a game; of a match that is over its board points, as `2.5-1.5`.
+fn put_result(
+    out: &mut Vec<u8>,
+    alloc: Global,
+    table: Table<'_, '_>,
+    round: usize,
+    meeting: Meeting,
+    black: u32,
+) -> Result<(), AllocError> {
+    let result = result_of(meeting.score, meeting.play);
+    match table.boards {
+        Some(boards) if !matches!(meeting.score, Score::Open) => {
+            let ours = boards.points_text(alloc, round, meeting.white, black)?;
+            let theirs = boards.points_text(alloc, round, black, meeting.white)?;
+            let points = format!(in alloc; "{ours}-{theirs}")?;
+            put_string(out, "result", points.as_str())
+        }
+        _ => put_string(out, "result", result),
+    }
+}
+
+// Appends whom White has at a board of the round before which so many are, and what came of it.
+fn put_meeting(
+    out: &mut Vec<u8>,
+    alloc: Global,
+    table: Table<'_, '_>,
+    round: usize,
+    meeting: Meeting,
+) -> Result<(), AllocError> {
     let white = meeting.white;
     let head = format!(in alloc; ",\"white\":{white},")?;
     put(out, head.as_str())?;
@@ -73,17 +100,23 @@ fn put_meeting(out: &mut Vec<u8>, alloc: Global, meeting: Meeting) -> Result<(),
         Opponent::Player(black) => {
             let second = format!(in alloc; "\"black\":{black},")?;
             put(out, second.as_str())?;
-            put_string(out, "result", result_of(meeting.score, meeting.play))
+            put_result(out, alloc, table, round, meeting, black)
         }
     }
 }
 
 // Appends a board.
-fn put_board(out: &mut Vec<u8>, alloc: Global, board: &Board) -> Result<(), AllocError> {
+fn put_board(
+    out: &mut Vec<u8>,
+    alloc: Global,
+    table: Table<'_, '_>,
+    round: usize,
+    board: &Board,
+) -> Result<(), AllocError> {
     let number = board.number;
     let head = format!(in alloc; "{{\"board\":{number}")?;
     put(out, head.as_str())?;
-    put_meeting(out, alloc, board.meeting)?;
+    put_meeting(out, alloc, table, round, board.meeting)?;
     if let Some(game) = board.game {
         let member = format!(in alloc; ",\"game\":{game}")?;
         put(out, member.as_str())?;
@@ -91,20 +124,31 @@ fn put_board(out: &mut Vec<u8>, alloc: Global, board: &Board) -> Result<(), Allo
     put(out, "}")
 }
 
-fn put_round(out: &mut Vec<u8>, alloc: Global, boards: &[Board]) -> Result<(), AllocError> {
+fn put_round(
+    out: &mut Vec<u8>,
+    alloc: Global,
+    table: Table<'_, '_>,
+    round: usize,
+    boards: &[Board],
+) -> Result<(), AllocError> {
     put(out, "[")?;
     for (at, board) in boards.iter().enumerate() {
         put_comma(out, at)?;
-        put_board(out, alloc, board)?;
+        put_board(out, alloc, table, round, board)?;
     }
     put(out, "]")
 }
 
-fn put_rounds(out: &mut Vec<u8>, alloc: Global, rounds: &[Vec<Board>]) -> Result<(), AllocError> {
+fn put_rounds(
+    out: &mut Vec<u8>,
+    alloc: Global,
+    table: Table<'_, '_>,
+    rounds: &[Vec<Board>],
+) -> Result<(), AllocError> {
     put(out, ",\"rounds\":[")?;
     for (at, boards) in rounds.iter().enumerate() {
         put_comma(out, at)?;
-        put_round(out, alloc, boards.as_slice())?;
+        put_round(out, alloc, table, at, boards.as_slice())?;
     }
     put(out, "]")
 }
@@ -136,20 +180,13 @@ fn put_values(
         .zip(table.standings.columns.as_slice())
     {
         put_comma(out, place)?;
-        let value = value_text(alloc, *criterion, number_at(column.as_slice(), at))?;
+        let value = table.value(alloc, *criterion, value_at(column.as_slice(), at))?;
         put(out, "\"")?;
         put(out, value.as_str())?;
         put(out, "\"")?;
         place = place.saturating_add(1);
     }
     put(out, "]")
-}
-
-fn place_of(standings: &Standings, at: usize) -> u64 {
-    match standings.places.get(at) {
-        Some(place) => (*place as u64).saturating_add(1),
-        None => 0,
-    }
 }
 
 // Appends a player, by the name in the protocol and the one that is shown.
@@ -164,11 +201,10 @@ fn put_player(
     put_string(out, "name", name)?;
     put(out, ",")?;
     put_string(out, "full", name_at(table.names, at))?;
-    let place = place_of(table.standings, at);
+    let place = table.place(at);
     let member = format!(in alloc; ",\"place\":{place},")?;
     put(out, member.as_str())?;
-    let points = points_text(alloc, number_at(table.standings.points.as_slice(), at))?;
-    put_string(out, "points", points.as_str())?;
+    put_string(out, "points", table.points(alloc, at)?.as_str())?;
     put_values(out, alloc, table, at)?;
     put(out, "}")
 }
@@ -177,30 +213,31 @@ fn put_players(
     out: &mut Vec<u8>,
     alloc: Global,
     table: Table<'_, '_>,
-    players: &[Particulars<'_>],
+    names: &[&str],
 ) -> Result<(), AllocError> {
     put(out, ",\"players\":[")?;
-    for (at, player) in players.iter().enumerate() {
+    for (at, name) in names.iter().enumerate() {
         put_comma(out, at)?;
-        put_player(out, alloc, table, player.name, at)?;
+        put_player(out, alloc, table, name, at)?;
     }
     put(out, "]")
 }
 
-/// Rounds and standings as an object of JSON (docs/client/LOBBY.md, "A tournament's file"), in a line.
+/// Rounds and standings as an object of JSON (docs/client/LOBBY.md, "A tournament's file"), in a line; `names` are
+/// those of the protocol.
 pub fn round_json(
     alloc: Global,
     event: &str,
     rounds: &[Vec<Board>],
-    players: &[Particulars<'_>],
+    names: &[&str],
     table: Table<'_, '_>,
 ) -> Result<Vec<u8>, AllocError> {
     let mut out = Vec::new(alloc);
     put(&mut out, "{")?;
     put_string(&mut out, "event", event)?;
-    put_rounds(&mut out, alloc, rounds)?;
+    put_rounds(&mut out, alloc, table, rounds)?;
     put_criteria(&mut out, table)?;
-    put_players(&mut out, alloc, table, players)?;
+    put_players(&mut out, alloc, table, names)?;
     put(&mut out, "}\n")?;
     Ok(out)
 }

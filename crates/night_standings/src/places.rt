@@ -63,7 +63,8 @@ pub fn place_at(places: &[usize], at: usize) -> usize
     }
 }
 
-fn value_at(values: &[u64], at: usize) -> u64
+/// What a player has; 0 where none is known.
+pub fn value_at(values: &[u64], at: usize) -> u64
     ensures { result ≡ get_or values.now at 0 }
 {
     match values.get(at) {
@@ -104,29 +105,24 @@ fn placed(
     places_in(alloc, ranks.as_slice())
 }
 
-fn is_direct(criterion: Criterion) -> bool
-    ensures { result ≡ spec.is_direct criterion }
-{
-    matches!(criterion, Criterion::Direct)
-}
-
 // What players have by a tie-break.
 fn values_by(
     alloc: Global,
     criterion: Criterion,
     rounds: &[Vec<Meeting>],
     scores: &[u32],
+    boards: &[u64],
     count: u32,
     places: &[usize],
 ) -> Result<Vec<u64>, AllocError>
     requires { length rounds.now ≤ 99 }
     ensures { IfOk result (λ values. values.items
-        ≡ spec.values_by criterion (map (λ round. round.items) rounds.now) scores.now count places.now) }
+        ≡ spec.values_by criterion (map (λ round. round.items) rounds.now) scores.now boards.now count places.now) }
 {
-    if is_direct(criterion) {
-        all_won(alloc, rounds, places, count)
-    } else {
-        all_values(alloc, criterion, scores, rounds, count)
+    match criterion {
+        Criterion::Direct => all_won(alloc, rounds, places, count),
+        Criterion::BoardPoints => Vec::from_slice(alloc, boards),
+        _ => all_values(alloc, criterion, scores, rounds, count),
     }
 }
 
@@ -136,17 +132,18 @@ fn places_by(
     criterion: Criterion,
     rounds: &[Vec<Meeting>],
     scores: &[u32],
+    boards: &[u64],
     count: u32,
     places: &[usize],
 ) -> Result<Vec<usize>, AllocError>
     requires { length rounds.now ≤ 99 }
     ensures { IfOk result (λ next. next.items
-        ≡ spec.places_by criterion (map (λ round. round.items) rounds.now) scores.now count places.now) }
+        ≡ spec.places_by criterion (map (λ round. round.items) rounds.now) scores.now boards.now count places.now) }
 {
-    if is_direct(criterion) {
+    if matches!(criterion, Criterion::Direct) {
         return settled(alloc, rounds, count, places);
     }
-    let values = all_values(alloc, criterion, scores, rounds, count)?;
+    let values = values_by(alloc, criterion, rounds, scores, boards, count, places)?;
     placed(alloc, places, values.as_slice(), count)
 }
 
@@ -158,21 +155,21 @@ fn places_by_points(alloc: Global, points: &[u64], count: u32) -> Result<Vec<usi
 }
 
 /// The standings of so many players by the meetings of each round: by points, and among those who are tied by one
-/// tie-break after another.
+/// tie-break after another. Of teams, whose meetings are matches, `boards` has the half points of their boards.
 pub fn standings_of(
     alloc: Global,
     rounds: &[Vec<Meeting>],
+    boards: &[u64],
     count: u32,
     criteria: &[Criterion],
 ) -> Result<Standings, AllocError>
     requires { length rounds.now ≤ 99 }
     ensures points { IfOk result (λ told. told.points.items ≡ sums.all_points (map (λ round. round.items) rounds.now) count) }
-    ensures places { IfOk result (λ told. told.places.items ≡ spec.places_behind criteria.now (map (λ round. round.items) rounds.now)
-        (sums.all_adjusted (map (λ round. round.items) rounds.now) count) count
-        (spec.places_by_points (map (λ round. round.items) rounds.now) count)) }
+    ensures places { IfOk result (λ told. told.places.items
+        ≡ spec.places_of criteria.now (map (λ round. round.items) rounds.now) boards.now count) }
     ensures columns { IfOk result (λ told. map (λ column. column.items) told.columns.items
         ≡ spec.columns_behind criteria.now (map (λ round. round.items) rounds.now)
-        (sums.all_adjusted (map (λ round. round.items) rounds.now) count) count
+        (sums.all_adjusted (map (λ round. round.items) rounds.now) count) boards.now count
         (spec.places_by_points (map (λ round. round.items) rounds.now) count)) }
 {
     let scores = all_adjusted(alloc, rounds, count)?;
@@ -185,6 +182,7 @@ pub fn standings_of(
             *criterion,
             rounds,
             scores.as_slice(),
+            boards,
             count,
             places.as_slice(),
         )?)?;
@@ -193,6 +191,7 @@ pub fn standings_of(
             *criterion,
             rounds,
             scores.as_slice(),
+            boards,
             count,
             places.as_slice(),
         )?;

@@ -1,13 +1,14 @@
 //! The standings and the crosstable as rows of CSV.
 use crate::breaks::Criterion;
-use crate::places::Standings;
+use crate::places::{Standings, value_at};
 use night_report::cells::cell_of;
-use night_report::{Cell, Meeting, push_header, push_row};
+use night_report::{Cell, Meeting, board_points, push_header, push_row};
 use std::alloc::{AllocError, Global};
 
 /// The tie-break of a word, as it heads its column.
 pub fn criterion_of(word: &str) -> Option<Criterion> {
     match word {
+        "BP" => Some(Criterion::BoardPoints),
         "DE" => Some(Criterion::Direct),
         "BHC1" => Some(Criterion::BuchholzCut),
         "BH" => Some(Criterion::Buchholz),
@@ -20,6 +21,7 @@ pub fn criterion_of(word: &str) -> Option<Criterion> {
 /// The word of a tie-break.
 pub fn criterion_word(criterion: Criterion) -> &'static str {
     match criterion {
+        Criterion::BoardPoints => "BP",
         Criterion::Direct => "DE",
         Criterion::BuchholzCut => "BHC1",
         Criterion::Buchholz => "BH",
@@ -47,14 +49,13 @@ fn quarters_text(alloc: Global, quarters: u64) -> Result<String, AllocError> {
     format!(in alloc; "{whole}.{part}")
 }
 
-/// What a player has by a tie-break, as it is told.
-pub fn value_text(alloc: Global, criterion: Criterion, value: u64) -> Result<String, AllocError> {
+// What a player has by a tie-break, as it is told.
+fn value_text(alloc: Global, criterion: Criterion, value: u64) -> Result<String, AllocError> {
     match criterion {
         Criterion::SonnebornBerger => quarters_text(alloc, value),
         Criterion::Wins => format!(in alloc; "{value}"),
-        Criterion::Direct | Criterion::BuchholzCut | Criterion::Buchholz => {
-            points_text(alloc, value)
-        }
+        Criterion::BoardPoints | Criterion::Direct | Criterion::BuchholzCut | Criterion::Buchholz =>
+            points_text(alloc, value),
     }
 }
 
@@ -77,14 +78,6 @@ pub fn order_of(alloc: Global, places: &[usize]) -> Result<Vec<usize>, AllocErro
     Ok(order)
 }
 
-/// What stands at a place of a list; 0 where nothing does.
-pub fn number_at(numbers: &[u64], at: usize) -> u64 {
-    match numbers.get(at) {
-        Some(number) => *number,
-        None => 0,
-    }
-}
-
 /// The name of a player; empty where there is none.
 pub fn name_at<'a>(names: &[&'a str], at: usize) -> &'a str {
     match names.get(at) {
@@ -105,24 +98,6 @@ fn line_of(order: &[usize], number: u32) -> usize {
     0
 }
 
-// A round of a player as it stands in the crosstable.
-fn met_text(
-    alloc: Global,
-    order: &[usize],
-    at: usize,
-    round: &[Meeting],
-) -> Result<String, AllocError> {
-    let number = u32::try_from(at).map_or(0, |at| at.saturating_add(1));
-    let cell = cell_of(number, round);
-    let sign = char::from(cell.sign);
-    if cell.opponent == 0 {
-        return format!(in alloc; "{sign}");
-    }
-    let line = line_of(order, cell.opponent);
-    let colour = char::from(cell.colour);
-    format!(in alloc; "{line}{colour}{sign}")
-}
-
 // The names of the columns of the crosstable.
 fn push_rounds(rows: &mut Vec<u8>, alloc: Global, count: usize) -> Result<(), AllocError> {
     let mut cells = Vec::new(alloc);
@@ -135,17 +110,93 @@ fn push_rounds(rows: &mut Vec<u8>, alloc: Global, count: usize) -> Result<(), Al
     push_row(rows, alloc, cells.as_slice())
 }
 
-/// What a table is of: the players' names in the order of their numbers, and the tie-breaks.
+/// The boards of matches: the team of each player, and the boards of each round.
+#[derive(Clone, Copy)]
+pub struct Boards<'a> {
+    pub sides: &'a [u32],
+    pub rounds: &'a [Vec<Meeting>],
+}
+
+impl Boards<'_> {
+    /// A team's board points against another one in the round before which so many are, as points.
+    pub fn points_text(
+        self,
+        alloc: Global,
+        at: usize,
+        team: u32,
+        other: u32,
+    ) -> Result<String, AllocError> {
+        let halves = match self.rounds.get(at) {
+            Some(round) if round.len() <= 9_999 => {
+                board_points(self.sides, team, other, round.as_slice())
+            }
+            _ => 0,
+        };
+        points_text(alloc, u64::from(halves))
+    }
+}
+
+/// What a table is of: the names of players, or of teams, in the order of their numbers, and the tie-breaks; of teams
+/// their boards too.
 #[derive(Clone, Copy)]
 pub struct Table<'a, 'b> {
     pub names: &'a [&'a str],
     pub criteria: &'b [Criterion],
     pub standings: &'b Standings,
+    pub boards: Option<Boards<'b>>,
 }
 
 impl Table<'_, '_> {
-    // A player's place, from 1 on.
-    fn place(self, at: usize) -> u64 {
+    /// A player's points, or a team's match points, as they are told.
+    pub fn points(self, alloc: Global, at: usize) -> Result<String, AllocError> {
+        let points = value_at(self.standings.points.as_slice(), at);
+        match self.boards {
+            None => points_text(alloc, points),
+            Some(_) => format!(in alloc; "{points}"),
+        }
+    }
+
+    /// What a player, or a team, has by a tie-break, as it is told.
+    pub fn value(
+        self,
+        alloc: Global,
+        criterion: Criterion,
+        value: u64,
+    ) -> Result<String, AllocError> {
+        match (self.boards, criterion) {
+            (None, _) | (Some(_), Criterion::BoardPoints) => value_text(alloc, criterion, value),
+            (Some(_), _) => format!(in alloc; "{value}"),
+        }
+    }
+
+    // A round as it stands in the crosstable, by the meetings of the round before which so many are.
+    fn met_text(
+        self,
+        alloc: Global,
+        order: &[usize],
+        at: usize,
+        place: usize,
+        round: &[Meeting],
+    ) -> Result<String, AllocError> {
+        let number = u32::try_from(at).map_or(0, |at| at.saturating_add(1));
+        let cell = cell_of(number, round);
+        let sign = char::from(cell.sign);
+        if cell.opponent == 0 {
+            return format!(in alloc; "{sign}");
+        }
+        let line = line_of(order, cell.opponent);
+        let colour = char::from(cell.colour);
+        match self.boards {
+            None => format!(in alloc; "{line}{colour}{sign}"),
+            Some(boards) => {
+                let points = boards.points_text(alloc, place, number, cell.opponent)?;
+                format!(in alloc; "{line}{colour}{sign}:{points}")
+            }
+        }
+    }
+
+    /// A player's place, from 1 on.
+    pub fn place(self, at: usize) -> u64 {
         match self.standings.places.get(at) {
             Some(place) => (*place as u64).saturating_add(1),
             None => 0,
@@ -158,10 +209,9 @@ impl Table<'_, '_> {
         cells.push(Cell::of_number(alloc, self.place(at))?)?;
         cells.push(Cell::of_number(alloc, (at as u64).saturating_add(1))?)?;
         cells.push(Cell::of_text(alloc, name_at(self.names, at))?)?;
-        let points = points_text(alloc, number_at(self.standings.points.as_slice(), at))?;
-        cells.push(Cell::of_text(alloc, points.as_str())?)?;
+        cells.push(Cell::of_text(alloc, self.points(alloc, at)?.as_str())?)?;
         for (criterion, column) in self.criteria.iter().zip(self.standings.columns.as_slice()) {
-            let value = value_text(alloc, *criterion, number_at(column.as_slice(), at))?;
+            let value = self.value(alloc, *criterion, value_at(column.as_slice(), at))?;
             cells.push(Cell::of_text(alloc, value.as_str())?)?;
         }
         push_row(rows, alloc, cells.as_slice())
@@ -201,17 +251,17 @@ impl Table<'_, '_> {
         let mut cells = Vec::new(alloc);
         cells.push(Cell::of_number(alloc, (line as u64).saturating_add(1))?)?;
         cells.push(Cell::of_text(alloc, name_at(self.names, at))?)?;
-        for round in rounds {
-            let text = met_text(alloc, order, at, round.as_slice())?;
+        for (place, round) in rounds.iter().enumerate() {
+            let text = self.met_text(alloc, order, at, place, round.as_slice())?;
             cells.push(Cell::of_text(alloc, text.as_str())?)?;
         }
-        let points = points_text(alloc, number_at(self.standings.points.as_slice(), at))?;
-        cells.push(Cell::of_text(alloc, points.as_str())?)?;
+        cells.push(Cell::of_text(alloc, self.points(alloc, at)?.as_str())?)?;
         push_row(rows, alloc, cells.as_slice())
     }
 
-    /// The crosstable as CSV: `line,name`, a column for each round and `points`, a row for each player by the places. A
-    /// round is the opponent's line, `w` or `b`, and the sign of the result, as `3w1`; of a bye its sign.
+    /// The crosstable as CSV: `line,name`, a column for each round and `points`, a row for each player by the places.
+    /// A round is the opponent's line, `w` or `b`, and the sign of the result, as `3w1`; of a bye its sign; and of a
+    /// match the board points behind them, as `3w1:2.5`.
     pub fn crosstable_csv(
         self,
         alloc: Global,

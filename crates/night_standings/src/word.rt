@@ -1,40 +1,21 @@
-//! The word that writes the standings of a tournament.
+//! The words that write the standings and the report of a tournament.
 use crate::asked::{Form, Standing};
 use crate::json::{Board, round_json};
 use crate::places::{Standings, standings_of};
+use crate::ranked::ranked_report;
+use crate::teams::teams_text;
 use crate::texts::Table;
 use anyhow::{Result, ensure};
 use lobby_players::players_of;
-use lobby_words::{NameForm, Player, name_told};
+use lobby_words::Player;
 use night_boards::{Paired, Round, paired_of};
 use night_games::roster_in;
-use night_outcomes::{Met, check_fault, entrants_of, met_in, noted_game};
-use night_report::{Meeting, Particulars};
+use night_outcomes::{Met, check_fault, entrants_of, met_in, noted_game, shown_names};
+use night_report::{Meeting, Particulars, teams_of};
 use std::alloc::{AllocError, Global};
 use std::io::{self, Write};
 use std::net::{Net, TcpStream};
 use std::rt::Files;
-
-// The full names of players, as they are told.
-fn shown_names(
-    alloc: Global,
-    players: &[Particulars<'_>],
-    form: NameForm,
-) -> Result<Vec<String>, AllocError> {
-    let mut names = Vec::new(alloc);
-    for player in players {
-        names.push(name_told(alloc, form, player.full_name)?)?;
-    }
-    Ok(names)
-}
-
-fn texts_of<'a>(alloc: Global, names: &'a [String]) -> Result<Vec<&'a str>, AllocError> {
-    let mut texts = Vec::new(alloc);
-    for name in names {
-        texts.push(name.as_str())?;
-    }
-    Ok(texts)
-}
 
 // The boards of a round.
 fn boards_of(
@@ -67,7 +48,7 @@ fn all_boards<R: Files + AllocGlobal + Eprint>(
     Ok(all)
 }
 
-// The text of standings, of players with these names.
+// The text of standings of players, in the form that is asked for.
 fn text_of<'a, R: Files + AllocGlobal + Eprint>(
     rt: &R,
     asked: &'a Standing<'_>,
@@ -77,39 +58,77 @@ fn text_of<'a, R: Files + AllocGlobal + Eprint>(
 ) -> Result<Vec<u8>> {
     let alloc = rt.alloc();
     let shown = shown_names(alloc, players, asked.names)?;
-    let names = texts_of(alloc, shown.as_slice())?;
+    let names: Vec<&str> = shown.iter().map(|name| name.as_str()).collect(alloc)?;
     let table = Table {
         names: names.as_slice(),
         criteria: asked.criteria.as_slice(),
         standings,
+        boards: None,
     };
     match asked.form {
-        Form::Rows => Ok(table.standings_csv(alloc)?),
         Form::Crosstable => Ok(table.crosstable_csv(alloc, rounds)?),
         Form::Json => {
             let boards = all_boards(rt, asked.reporting.rounds.as_slice(), rounds)?;
+            let names: Vec<&str> = players.iter().map(|player| player.name).collect(alloc)?;
             let event = asked.reporting.tournament.name;
-            Ok(round_json(alloc, event, boards.as_slice(), players, table)?)
+            Ok(round_json(alloc, event, boards.as_slice(), names.as_slice(), table)?)
         }
+        Form::Report | Form::Rows => Ok(table.standings_csv(alloc)?),
     }
 }
 
-// Writes the standings of what was met. It fails behind that where something was wrong.
-fn write_met<R>(rt: &R, asked: &Standing<'_>, players: &[Particulars<'_>], met: &Met) -> Result<()>
-where
-    R: Files + AllocGlobal + Print + Eprint,
-{
-    let rounds = met.rounds.as_slice();
+// The text of standings of players.
+fn players_text<R: Files + AllocGlobal + Eprint>(
+    rt: &R,
+    asked: &Standing<'_>,
+    players: &[Particulars<'_>],
+    rounds: &[Vec<Meeting>],
+) -> Result<Vec<u8>> {
     ensure!(
         players.len() <= 9_999,
         "standings are of 9,999 players at most"
     );
     ensure!(rounds.len() <= 99, "standings are of 99 rounds at most");
     let count = players.len() as u32;
-    let standings = standings_of(rt.alloc(), rounds, count, asked.criteria.as_slice())?;
-    let text = text_of(rt, asked, players, rounds, &standings)?;
+    let standings = standings_of(rt.alloc(), rounds, &[], count, asked.criteria.as_slice())?;
+    text_of(rt, asked, players, rounds, &standings)
+}
+
+// The report.
+fn report_text(
+    alloc: Global,
+    asked: &Standing<'_>,
+    players: &[Particulars<'_>],
+    rounds: &[Vec<Meeting>],
+) -> Result<Vec<u8>> {
+    let teams = teams_of(alloc, players)?;
+    Ok(ranked_report(
+        alloc,
+        &asked.reporting.tournament,
+        asked.reporting.days.as_slice(),
+        players,
+        teams.as_slice(),
+        rounds,
+        asked.criteria.as_slice(),
+    )?)
+}
+
+// Writes what is asked of what was met. It fails behind that where something was wrong.
+fn write_met<R>(rt: &R, asked: &Standing<'_>, players: &[Particulars<'_>], met: &Met) -> Result<()>
+where
+    R: Files + AllocGlobal + Print + Eprint,
+{
+    let rounds = met.rounds.as_slice();
+    let (text, fault) = match asked.form {
+        Form::Report => (
+            report_text(rt.alloc(), asked, players, rounds)?,
+            met.fault.or(met.waits),
+        ),
+        _ if asked.of_teams => (teams_text(rt.alloc(), asked, players, rounds)?, met.fault),
+        _ => (players_text(rt, asked, players, rounds)?, met.fault),
+    };
     io::writer(rt).write_all(text.as_slice())?;
-    check_fault(met.fault)
+    check_fault(fault)
 }
 
 // The same of these players, of whom this is known.
@@ -127,9 +146,10 @@ where
     write_met(rt, asked, players.as_slice(), &met)
 }
 
-/// Writes the standings of a tournament, its crosstable, or both with its rounds for the page; none where a board's
-/// game is of others than its players. It fails behind that where a board has the result of a game that was played on
-/// as another, where a line of the archive was left out, or the server is away.
+/// Writes the standings of a tournament or of its teams, the crosstable, or both with the rounds for the page, or the
+/// report; none where a board's game is of others than its players, or a board of teams is of no match. It fails behind
+/// that where a board has the result of a game that was played on as another, where a line of the archive was left out,
+/// or the server is away; and of a report where a board has no result.
 pub fn write_standings<R>(rt: &R, asked: &Standing<'_>) -> Result<()>
 where
     R: Files + Net<Stream = TcpStream> + AllocGlobal + Print + Eprint,

@@ -46,7 +46,7 @@ fn fault_of(rt: &impl Abort, alloc: Global, players: usize, count: u32) -> Optio
     for _ in 0..count {
         rounds.push(Vec::new(alloc)).expect(rt, "memory");
     }
-    report(alloc, &EVENT, &[], &entrants, &[], &rounds).err()
+    report(alloc, &EVENT, &[], &entrants, &[], &[], &rounds).err()
 }
 
 #[test]
@@ -58,6 +58,51 @@ fn there_is_room(rt: HostRuntime) {
         (1, 100, Some(Fault::TooManyRounds)),
     ] {
         assert!(rt; fault_of(&rt, rt.alloc(), players, count) == wanted);
+    }
+}
+
+// Why there is no report of so many rounds to be and days of one round, in which the first of two players, who has this
+// rating, meets this number.
+fn fault_with(
+    rt: &impl Abort,
+    alloc: Global,
+    all_rounds: Option<u32>,
+    days: &[&str],
+    rating: &'static str,
+    number: u32,
+) -> Option<Fault> {
+    let event = Tournament {
+        rounds: all_rounds,
+        ..EVENT
+    };
+    let player = Particulars {
+        rating,
+        ..named("Ann")
+    };
+    let meeting = Meeting {
+        black: Opponent::Player(number),
+        ..SHORT
+    };
+    let round = Vec::from_array(alloc, [meeting]).expect(rt, "memory");
+    let players = [player, named("Bob")];
+    report(alloc, &event, days, &players, &[], &[], &[round]).err()
+}
+
+#[test]
+fn what_has_no_room_is_refused(rt: HostRuntime) {
+    let days = ["2026/11/27", "2026/12/04"];
+    for (all_rounds, days, rating, number, wanted) in [
+        (None, &days[..1], "2400", 2, None),
+        (Some(2), &days[..2], "2400", 2, None),
+        (None, &days[..2], "2400", 2, Some(Fault::TooFewRounds)),
+        (Some(0), &days[..0], "2400", 2, Some(Fault::TooFewRounds)),
+        (Some(100), &days[..0], "2400", 2, Some(Fault::TooManyRounds)),
+        (None, &days[..0], "12400", 2, Some(Fault::TooWide)),
+        (None, &days[..0], "2\u{b2}", 2, Some(Fault::TooWide)),
+        (None, &days[..0], "2400", 3, Some(Fault::NoPlayer)),
+    ] {
+        let fault = fault_with(&rt, rt.alloc(), all_rounds, days, rating, number);
+        assert!(rt; fault == wanted);
     }
 }
 
@@ -87,12 +132,19 @@ const BYE: Meeting = Meeting {
     ..SHORT
 };
 
+// Half a point for White alone, told as a forfeit: of such a game a report has no sign.
+const LOPSIDED: Meeting = Meeting {
+    play: Play::Forfeit,
+    ..HALF
+};
+
 // The end of Bob's line, where he and Ann met so in the one round.
-const ENDS: [(Meeting, &[u8]); 4] = [
-    (SHORT, b" 0.5    1     1 b D\n"),
+const ENDS: [(Meeting, &[u8]); 5] = [
+    (SHORT, b" 0.5    2     1 b D\n"),
     (HALF, b" 0.0    2     1 b 0\n"),
-    (NOBODY, b" 0.0    1     1 b -\n"),
+    (NOBODY, b" 0.0    2     1 b -\n"),
     (BYE, b" 0.0    2  0000 - Z\n"),
+    (LOPSIDED, b" 0.0    2     1 b 0\n"),
 ];
 
 #[test]
@@ -104,6 +156,7 @@ fn ends_of_a_report(rt: HostRuntime) {
             &EVENT,
             &[],
             &[named("Ann"), named("Bob")],
+            &[0, 1],
             &[],
             &[round],
         )
@@ -115,7 +168,7 @@ fn ends_of_a_report(rt: HostRuntime) {
 // Particulars: the columns in an order of their own, two teams, and names that are not ASCII.
 const ROSTER: &[u8] = b"rating,name,full_name,title,sex,federation,fide_number,born,team,board\r\n\
     2400,ann,\"Lee, Ann\",WGM,w,ENG,1234567,2001/02/03,Leeds,2\r\n\
-    2400,bob,\"\xc3\x96z, Bob\",FM,m,TUR,,,York,1\r\n\
+    2400,bob,\"\xc3\x96z, Bob\",FM,m,TUR,,,\xc3\x96lands Schachfreunde von 1890 e.V.,1\r\n\
     ,cid,\"Ash, Cid\",,,,,,Leeds,1\r\n\
     987,dee,,,w,,,,,\r\n";
 
@@ -125,9 +178,9 @@ const WHOLE: &str = "012 \n022 \n032 \n042 \n052 \n062 4\n072 3\n082 2\n092 \n10
 001    1 wWGM Lee, Ann                          2400 ENG     1234567 2001/02/03  0.0    1  0000 - Z  0000 - Z\n\
 001    2 m FM \u{d6}z, Bob                           2400 TUR                         0.0    1  0000 - Z  0000 - Z\n\
 001    3 w                                       987                             0.0    1  0000 - Z  0000 - Z\n\
-001    4      Ash, Cid                                                           0.0    1  0000 - Z  0000 - Z\n\
+001    4      Ash, Cid                                                           0.0    4  0000 - Z  0000 - Z\n\
 013 Leeds                              4    1\n\
-013 York                               2\n";
+013 \u{d6}lands Schachfreunde von 1890 e.   2\n";
 
 #[test]
 fn a_whole_report(rt: HostRuntime) {
@@ -138,7 +191,9 @@ fn a_whole_report(rt: HostRuntime) {
     let teams = teams_of(alloc, &players).expect(&rt, "memory");
     let rounds = Vec::from_array(alloc, [Vec::new(alloc), Vec::new(alloc)]).expect(&rt, "memory");
     let days = ["2026/11/27", "2026/12/04"];
-    let text = report(alloc, &EVENT, &days, &players, &teams, &rounds).expect(&rt, "a report");
+    let places = [0, 0, 0, 3];
+    let text = report(alloc, &EVENT, &days, &players, &places, &teams, &rounds);
+    let text = text.expect(&rt, "a report");
     assert!(rt; text.as_slice() == WHOLE.as_bytes());
 }
 

@@ -1,6 +1,6 @@
 //! The sums that a log's lines tell: what is changed, taken out or put in is found.
 use crate::acts::{SEALED, WHOLE};
-use night_log::verify_lines;
+use night_log::{Fault, verify_lines};
 use std::alloc::Global;
 use std::process::Abort;
 
@@ -93,4 +93,19 @@ fn finds_a_line_of_before_behind_one_with_a_sum(rt: HostRuntime) {
     log.extend_from_slice(SEALED).expect(&rt, "memory");
     log.extend_from_slice(WHOLE).expect(&rt, "memory");
     check(&rt, rt.alloc(), &log, (16, Some(9), Some(1)), "");
+}
+
+// What stands behind whole lines is left out where a stop may have left it there, and is told where it hides lines.
+#[test]
+fn looks_behind_the_lines(rt: HostRuntime) {
+    let alloc = rt.alloc();
+    let first = SEALED.iter().position(|byte| *byte == b'\n').unwrap_or(0);
+    let hiding = with_byte(&rt, alloc, SEALED, first.saturating_add(50), 0);
+    assert!(rt; matches!(verify_lines(alloc, &hiding), Err(Fault::ZeroInLine(2))));
+    let torn = with_byte(&rt, alloc, SEALED, SEALED.len().saturating_sub(20), 0);
+    check(&rt, alloc, &torn, (7, None, Some(1)), "");
+    let mut other = Vec::new(alloc);
+    other.extend_from_slice(SEALED).expect(&rt, "memory");
+    other.extend_from_slice(b"ELF").expect(&rt, "memory");
+    assert!(rt; matches!(verify_lines(alloc, &other), Err(Fault::NotAFront(8))));
 }

@@ -114,13 +114,18 @@ fn said_by(alloc: Global, word: &Word<'_>) -> Result<String, AllocError> {
             );
             format!(in alloc; "decide {file} {board} {result}")
         }
-        Word::Report(reporting) => report_said(alloc, reporting),
-        Word::Standings(standing) => {
-            let (players, rounds) = (standing.reporting.players, standing.reporting.rounds.len());
-            let breaks = standing.criteria.len();
-            let is_json = matches!(standing.form, night_standings::Form::Json);
-            format!(in alloc; "standings {players} {rounds} {breaks} {is_json}")
-        }
+        Word::Standings(standing) => match standing.form {
+            night_standings::Form::Report => report_said(alloc, &standing.reporting),
+            form => {
+                let (players, rounds) = (
+                    standing.reporting.players,
+                    standing.reporting.rounds.len(),
+                );
+                let (breaks, of_teams) = (standing.criteria.len(), standing.of_teams);
+                let is_json = matches!(form, night_standings::Form::Json);
+                format!(in alloc; "standings {players} {rounds} {breaks} {is_json} {of_teams}")
+            }
+        },
     }
 }
 
@@ -220,11 +225,15 @@ static LINES: [(&str, Result<&str, ErrorKind>); 46] = [
     ),
     (
         "chess-club standings --players p --archive a --rounds a,b",
-        Ok("standings p 1 5 false"),
+        Ok("standings p 1 5 false false"),
     ),
     (
         "chess-club standings --players p --archive a --rounds a,b --by SB,DE --form json",
-        Ok("standings p 1 2 true"),
+        Ok("standings p 1 2 true false"),
+    ),
+    (
+        "chess-club standings --teams --players p --archive a --rounds a,b",
+        Ok("standings p 1 6 false true"),
     ),
     (
         "chess-club standings --players p --archive a --rounds a,b --by SB,,DE",

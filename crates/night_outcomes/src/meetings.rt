@@ -1,18 +1,14 @@
-//! The word that writes the report of a tournament.
+//! What was met in the rounds of a tournament, as its report and its standings tell it.
 use crate::asked::Reporting;
 use crate::decisions::decisions_of;
-use crate::entrants::entrants_of;
-use crate::outcomes::{Boards, Ended, Outcomes, check_fault};
+use crate::outcomes::{Boards, Ended, Outcomes};
 use anyhow::{Context, Result};
-use lobby_players::players_of;
 use lobby_words::Player;
 use night_boards::{Round, paired_of};
-use night_games::roster_in;
-use night_report::{Meeting, Opponent, Particulars, Play, Score, report, teams_of};
+use night_report::{Meeting, Opponent, Particulars, Play, Score};
 use night_rounds::{Against, Pairing, Scored, counted};
 use player_name::Name;
 use std::alloc::Global;
-use std::io::{self, Write};
 use std::net::{Net, TcpStream};
 use std::rt::Files;
 
@@ -166,7 +162,7 @@ fn goes_on(round: &[Meeting]) -> bool {
     ))
 }
 
-// What is wrong with a report of these rounds where nothing else is: that it has to wait.
+// That a report of these rounds has to wait, where it has.
 fn waits_for(rounds: &[Vec<Meeting>]) -> Option<&'static str> {
     if rounds.iter().any(|round| goes_on(round.as_slice())) {
         Some("the report has to wait: a board of it has no result")
@@ -180,6 +176,8 @@ fn waits_for(rounds: &[Vec<Meeting>]) -> Option<&'static str> {
 pub struct Met {
     pub rounds: Vec<Vec<Meeting>>,
     pub fault: Option<&'static str>,
+    /// That a report of it has to wait, where it has.
+    pub waits: Option<&'static str>,
 }
 
 // What was met in the rounds, by what came of their games; it is told what is to be told of boards. It fails where a
@@ -197,8 +195,9 @@ where
     outcomes.tell(rt)?;
     outcomes.check_names()?;
     Ok(Met {
-        rounds,
         fault: outcomes.fault(),
+        waits: waits_for(rounds.as_slice()),
+        rounds,
     })
 }
 
@@ -215,55 +214,4 @@ where
 {
     let mut outcomes = Outcomes::open(rt, reporting.source, all)?;
     met_by(rt, reporting, players, &mut outcomes)
-}
-
-// Writes the report of what was met. It fails behind that where something was wrong.
-fn write_met<R>(
-    rt: &R,
-    reporting: &Reporting<'_>,
-    players: &[Particulars<'_>],
-    met: &Met,
-) -> Result<()>
-where
-    R: AllocGlobal + Print,
-{
-    let teams = teams_of(rt.alloc(), players)?;
-    let text = report(
-        rt.alloc(),
-        &reporting.tournament,
-        reporting.days.as_slice(),
-        players,
-        teams.as_slice(),
-        met.rounds.as_slice(),
-    )?;
-    io::writer(rt).write_all(text.as_slice())?;
-    check_fault(met.fault.or(waits_for(met.rounds.as_slice())))
-}
-
-// Writes the report of a tournament of these players, of whom this is known.
-fn write_report_of<R>(
-    rt: &R,
-    reporting: &Reporting<'_>,
-    all: &[Player],
-    known: &[Particulars<'_>],
-) -> Result<()>
-where
-    R: Files + Net<Stream = TcpStream> + AllocGlobal + Print + Eprint,
-{
-    let players = entrants_of(rt.alloc(), all, known)?;
-    let met = met_in(rt, reporting, all, players.as_slice())?;
-    write_met(rt, reporting, players.as_slice(), &met)
-}
-
-/// Writes the report of a tournament; none where a board's game is of others than its players, since it would lack
-/// points. It fails behind that where a board has no result, or that of a game that was played on as another, where a
-/// line of the archive was left out, or the server is away.
-pub fn write_report<R>(rt: &R, reporting: &Reporting<'_>) -> Result<()>
-where
-    R: Files + Net<Stream = TcpStream> + AllocGlobal + Print + Eprint,
-{
-    let all = players_of(rt, reporting.players)?;
-    let roster = roster_in(rt, reporting.particulars)?;
-    let known = roster.particulars(rt.alloc())?;
-    write_report_of(rt, reporting, all.as_slice(), known.as_slice())
 }

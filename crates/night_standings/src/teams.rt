@@ -1,0 +1,179 @@
+//! The standings of teams, by their matches.
+use crate::asked::{Form, Standing};
+use crate::json::{Board, round_json};
+use crate::places::{Standings, standings_of};
+use crate::texts::{Boards, Table};
+use anyhow::{Result, bail, ensure};
+use night_report::{
+    Meeting, Opponent, Particulars, Team, all_board_points, all_matches, alternates, is_matched,
+    sides_of, teams_of,
+};
+use std::alloc::{AllocError, Global};
+
+// Fails where a board of a round is of no match, or the colours of a match do not alternate.
+fn check_round(
+    players: &[Particulars<'_>],
+    teams: &[Team<'_>],
+    sides: &[u32],
+    number: usize,
+    round: &[Meeting],
+    matches: &[Meeting],
+) -> Result<()> {
+    for meeting in round {
+        if !is_matched(sides, round, *meeting) {
+            let white = meeting.white as usize;
+            let name = players
+                .get(white.saturating_sub(1))
+                .map_or("", |player| player.name);
+            bail!(
+                "round {number}: the board of {name} is of no match: a player there has no team, both are of one, or a \
+                team meets two"
+            );
+        }
+    }
+    for meeting in matches {
+        if let Opponent::Player(black) = meeting.black
+            && !alternates(sides, meeting.white, black, round)
+        {
+            let white = meeting.white as usize;
+            let name = teams
+                .get(white.saturating_sub(1))
+                .map_or("", |team| team.name);
+            bail!(
+                "round {number}: colours do not alternate from board to board in the match of {name}"
+            );
+        }
+    }
+    Ok(())
+}
+
+// Fails where it does so in a round.
+fn check_rounds(
+    players: &[Particulars<'_>],
+    teams: &[Team<'_>],
+    sides: &[u32],
+    rounds: &[Vec<Meeting>],
+    matches: &[Vec<Meeting>],
+) -> Result<()> {
+    let mut number: usize = 0;
+    for (round, matches) in rounds.iter().zip(matches) {
+        number = number.saturating_add(1);
+        check_round(
+            players,
+            teams,
+            sides,
+            number,
+            round.as_slice(),
+            matches.as_slice(),
+        )?;
+    }
+    Ok(())
+}
+
+// The matches of a round, numbered from 1 on.
+fn numbered(alloc: Global, matches: &[Meeting]) -> Result<Vec<Board>, AllocError> {
+    let mut boards = Vec::new(alloc);
+    let mut number: u32 = 0;
+    for meeting in matches {
+        number = number.saturating_add(1);
+        boards.push(Board {
+            number,
+            game: None,
+            meeting: *meeting,
+        })?;
+    }
+    Ok(boards)
+}
+
+// The text of standings of teams, of which the matches are these, in the form that is asked for.
+fn text_of<'a>(
+    alloc: Global,
+    asked: &'a Standing<'_>,
+    names: &[&str],
+    sides: &'a [u32],
+    rounds: &'a [Vec<Meeting>],
+    matches: &[Vec<Meeting>],
+    standings: &'a Standings,
+) -> Result<Vec<u8>, AllocError> {
+    let table = Table {
+        names,
+        criteria: asked.criteria.as_slice(),
+        standings,
+        boards: Some(Boards { sides, rounds }),
+    };
+    match asked.form {
+        Form::Crosstable => table.crosstable_csv(alloc, matches),
+        Form::Json => {
+            let mut boards = Vec::new(alloc);
+            for round in matches {
+                boards.push(numbered(alloc, round.as_slice())?)?;
+            }
+            let event = asked.reporting.tournament.name;
+            round_json(alloc, event, boards.as_slice(), names, table)
+        }
+        Form::Report | Form::Rows => table.standings_csv(alloc),
+    }
+}
+
+// The same, where matches and standings are still to be found.
+fn text_by(
+    alloc: Global,
+    asked: &Standing<'_>,
+    players: &[Particulars<'_>],
+    teams: &[Team<'_>],
+    sides: &[u32],
+    rounds: &[Vec<Meeting>],
+) -> Result<Vec<u8>> {
+    ensure!(rounds.len() <= 99, "standings are of 99 rounds at most");
+    ensure!(teams.len() <= 9_999, "standings are of 9,999 teams at most");
+    let count = teams.len() as u32;
+    let matches = all_matches(alloc, sides, rounds, count)?;
+    check_rounds(players, teams, sides, rounds, matches.as_slice())?;
+    let points = all_board_points(alloc, sides, rounds, count)?;
+    let standings = standings_of(
+        alloc,
+        matches.as_slice(),
+        points.as_slice(),
+        count,
+        asked.criteria.as_slice(),
+    )?;
+    let names: Vec<&str> = teams.iter().map(|team| team.name).collect(alloc)?;
+    Ok(text_of(
+        alloc,
+        asked,
+        names.as_slice(),
+        sides,
+        rounds,
+        matches.as_slice(),
+        &standings,
+    )?)
+}
+
+/// The text of the standings of the players' teams, by match points, and among those who are tied by one tie-break
+/// after another. It fails where no player has a team, where a board is of no match, and where colours do not alternate
+/// in a match.
+pub fn teams_text(
+    alloc: Global,
+    asked: &Standing<'_>,
+    players: &[Particulars<'_>],
+    rounds: &[Vec<Meeting>],
+) -> Result<Vec<u8>> {
+    let teams = teams_of(alloc, players)?;
+    ensure!(
+        !teams.is_empty(),
+        "no player has a team: --particulars has a column for it"
+    );
+    ensure!(
+        players.len() <= 9_999 && teams.len() <= 9_999,
+        "standings are of 9,999 players at most"
+    );
+    let sides = sides_of(alloc, teams.as_slice(), players.len() as u32)?;
+    text_by(
+        alloc,
+        asked,
+        players,
+        teams.as_slice(),
+        sides.as_slice(),
+        rounds,
+    )
+}
