@@ -8,6 +8,7 @@ use Rattle.std.proofs.lemmas.Bool.Decides.{nat_tests}
 use Rattle.std.proofs.lemmas.List.{length-drop}
 use Rattle.std.proofs.lemmas.List.Folds.{list_all-append}
 use Rattle.std.proofs.lemmas.Slice.Eq.{bytes_eq-Decides}
+use Rattle.lobby_words.specs.declared.words.Call.TheVariants as calls
 use Rattle.lobby_words.specs.declared.words.Sort.{Sort}
 use Rattle.lobby_words.specs.declared.words.Sort.TheVariants as sorts
 use Rattle.lobby_words.specs.Words.{word_of, rest_of, as_name, as_line, black_name, pair_times, pair_line, is_as_word, is_act_sort, is_message, is_message_byte, is_play_word, is_question, is_read, is_show_word, is_act_word, as_sort, own_sort, whole_sort, is_stop, sort_of, is_as_sort, is_pair_sort}
@@ -18,41 +19,44 @@ use Rattle.lobby_desk.proofs.Lines.{message}
 abbrev may_pair : List ℕ → Bool
 may_pair text = not (bytes_eq (as_name text) (black_name text)) && nat_le 1 (length (pair_times text)) && nat_le (length (pair_times text)) 244
 
-whole_none : (z a b o c d e f g h : Bool) →
+whole_none : (z a b o c d e f g h i : Bool) →
     is_as_sort (if z then sorts.Unpair else (if a then sorts.Players else (if b then sorts.Who else (if o then sorts.Offers else (if c then sorts.Pause else (if d then sorts.Resume
-    else (if e then sorts.Lobby else (if f then sorts.LeaveLobby else (if g then sorts.Clocks true else (if h then sorts.Clocks false else sorts.Nothing)))))))))) ≡ false
-whole_none true a b o c d e f g h = refl
-whole_none false true b o c d e f g h = refl
-whole_none false false true o c d e f g h = refl
-whole_none false false false true c d e f g h = refl
-whole_none false false false false true d e f g h = refl
-whole_none false false false false false true e f g h = refl
-whole_none false false false false false false true f g h = refl
-whole_none false false false false false false false true g h = refl
-whole_none false false false false false false false false true h = refl
-whole_none false false false false false false false false false true = refl
-whole_none false false false false false false false false false false = refl
+    else (if e then sorts.Lobby else (if f then sorts.LeaveLobby else (if g then sorts.Call calls.StopClocks else (if h then sorts.Call calls.StartClocks else (if i then sorts.Call calls.Announce else sorts.Nothing))))))))))) ≡ false
+whole_none true a b o c d e f g h i = refl
+whole_none false true b o c d e f g h i = refl
+whole_none false false true o c d e f g h i = refl
+whole_none false false false true c d e f g h i = refl
+whole_none false false false false true d e f g h i = refl
+whole_none false false false false false true e f g h i = refl
+whole_none false false false false false false true f g h i = refl
+whole_none false false false false false false false true g h i = refl
+whole_none false false false false false false false false true h i = refl
+whole_none false false false false false false false false false true i = refl
+whole_none false false false false false false false false false false true = refl
+whole_none false false false false false false false false false false false = refl
 
-own_none : (a b c d e f g p : Bool) (last : Sort) → is_as_sort last ≡ false →
-    is_as_sort (if a then sorts.Login else (if b then sorts.Watch else (if c then sorts.Line else (if d then sorts.Leave
-    else (if e then sorts.Link else (if f then sorts.Close else (if g then (if p then sorts.Pair else sorts.Nothing) else last))))))) ≡ false
-own_none true b c d e f g p last h = refl
-own_none false true c d e f g p last h = refl
-own_none false false true d e f g p last h = refl
-own_none false false false true e f g p last h = refl
-own_none false false false false true f g p last h = refl
-own_none false false false false false true g p last h = refl
-own_none false false false false false false true true last h = refl
-own_none false false false false false false true false last h = refl
-own_none false false false false false false false p last h = h
+own_none : (a b c r m d e f g p : Bool) (last : Sort) → is_as_sort last ≡ false →
+    is_as_sort (if a then sorts.Login else (if b then sorts.Watch else (if c then sorts.Line else (if r then sorts.Room else (if m then sorts.Moves else (if d then sorts.Leave
+    else (if e then sorts.Link else (if f then sorts.Close else (if g then (if p then sorts.Pair else sorts.Nothing) else last))))))))) ≡ false
+own_none true b c r m d e f g p last h = refl
+own_none false true c r m d e f g p last h = refl
+own_none false false true r m d e f g p last h = refl
+own_none false false false true m d e f g p last h = refl
+own_none false false false false true d e f g p last h = refl
+own_none false false false false false true e f g p last h = refl
+own_none false false false false false false true f g p last h = refl
+own_none false false false false false false false true g p last h = refl
+own_none false false false false false false false false true true last h = refl
+own_none false false false false false false false false true false last h = refl
+own_none false false false false false false false false false p last h = h
 
 own_not_as : (w text : List ℕ) → is_as_sort (own_sort w text) ≡ false
 own_not_as w text =
     own_none (bytes_eq w (codes "login")) (bytes_eq w (codes "watch")) (bytes_eq w (codes "line"))
-    (bytes_eq w (codes "leave") && not (bytes_eq text (codes "leave lobby"))) (bytes_eq w (codes "link")) (bytes_eq w (codes "close"))
+    (bytes_eq w (codes "room")) (bytes_eq w (codes "moves")) (bytes_eq w (codes "leave") && not (bytes_eq text (codes "leave lobby"))) (bytes_eq w (codes "link")) (bytes_eq w (codes "close"))
     (bytes_eq w (codes "pair")) (may_pair text) (if bytes_eq w (codes "unpair") then sorts.Unpair else whole_sort text)
     (whole_none (bytes_eq w (codes "unpair")) (bytes_eq text (codes "players")) (bytes_eq text (codes "who")) (bytes_eq text (codes "offers")) (bytes_eq text (codes "pause entries"))
-    (bytes_eq text (codes "resume entries")) (bytes_eq text (codes "lobby")) (bytes_eq text (codes "leave lobby")) (is_stop text) (bytes_eq text (codes "start clocks")))
+    (bytes_eq text (codes "resume entries")) (bytes_eq text (codes "lobby")) (bytes_eq text (codes "leave lobby")) (is_stop text) (bytes_eq text (codes "start clocks")) (bytes_eq (word_of text) (codes "announce")))
 
 plays_if : (a b c d e p : Bool) (last : Sort) → is_as_sort last ≡ false →
     is_as_sort (if a then sorts.Name else (if b then sorts.Read else (if c then sorts.Act else (if d then sorts.Drop
@@ -255,33 +259,36 @@ pair_if false false false true e other last none h = absurd (false≢true h)
 pair_if false false false false true other last none h = absurd (false≢true (sym none ∙ h))
 pair_if false false false false false other last none h = h
 
-own_pair : (a b c d e f g p : Bool) (last : Sort) → is_pair_sort last ≡ false →
-    is_pair_sort (if a then sorts.Login else (if b then sorts.Watch else (if c then sorts.Line else (if d then sorts.Leave
-    else (if e then sorts.Link else (if f then sorts.Close else (if g then (if p then sorts.Pair else sorts.Nothing) else last))))))) ≡ true → p ≡ true
-own_pair true b c d e f g p last none h = absurd (false≢true h)
-own_pair false true c d e f g p last none h = absurd (false≢true h)
-own_pair false false true d e f g p last none h = absurd (false≢true h)
-own_pair false false false true e f g p last none h = absurd (false≢true h)
-own_pair false false false false true f g p last none h = absurd (false≢true h)
-own_pair false false false false false true g p last none h = absurd (false≢true h)
-own_pair false false false false false false true true last none h = refl
-own_pair false false false false false false true false last none h = absurd (false≢true h)
-own_pair false false false false false false false p last none h = absurd (false≢true (sym none ∙ h))
+own_pair : (a b c r m d e f g p : Bool) (last : Sort) → is_pair_sort last ≡ false →
+    is_pair_sort (if a then sorts.Login else (if b then sorts.Watch else (if c then sorts.Line else (if r then sorts.Room else (if m then sorts.Moves else (if d then sorts.Leave
+    else (if e then sorts.Link else (if f then sorts.Close else (if g then (if p then sorts.Pair else sorts.Nothing) else last))))))))) ≡ true → p ≡ true
+own_pair true b c r m d e f g p last none h = absurd (false≢true h)
+own_pair false true c r m d e f g p last none h = absurd (false≢true h)
+own_pair false false true r m d e f g p last none h = absurd (false≢true h)
+own_pair false false false true m d e f g p last none h = absurd (false≢true h)
+own_pair false false false false true d e f g p last none h = absurd (false≢true h)
+own_pair false false false false false true e f g p last none h = absurd (false≢true h)
+own_pair false false false false false false true f g p last none h = absurd (false≢true h)
+own_pair false false false false false false false true g p last none h = absurd (false≢true h)
+own_pair false false false false false false false false true true last none h = refl
+own_pair false false false false false false false false true false last none h = absurd (false≢true h)
+own_pair false false false false false false false false false p last none h = absurd (false≢true (sym none ∙ h))
 
-whole_no_pair : (z a b o c d e f g h : Bool) →
+whole_no_pair : (z a b o c d e f g h i : Bool) →
     is_pair_sort (if z then sorts.Unpair else (if a then sorts.Players else (if b then sorts.Who else (if o then sorts.Offers else (if c then sorts.Pause else (if d then sorts.Resume
-    else (if e then sorts.Lobby else (if f then sorts.LeaveLobby else (if g then sorts.Clocks true else (if h then sorts.Clocks false else sorts.Nothing)))))))))) ≡ false
-whole_no_pair true a b o c d e f g h = refl
-whole_no_pair false true b o c d e f g h = refl
-whole_no_pair false false true o c d e f g h = refl
-whole_no_pair false false false true c d e f g h = refl
-whole_no_pair false false false false true d e f g h = refl
-whole_no_pair false false false false false true e f g h = refl
-whole_no_pair false false false false false false true f g h = refl
-whole_no_pair false false false false false false false true g h = refl
-whole_no_pair false false false false false false false false true h = refl
-whole_no_pair false false false false false false false false false true = refl
-whole_no_pair false false false false false false false false false false = refl
+    else (if e then sorts.Lobby else (if f then sorts.LeaveLobby else (if g then sorts.Call calls.StopClocks else (if h then sorts.Call calls.StartClocks else (if i then sorts.Call calls.Announce else sorts.Nothing))))))))))) ≡ false
+whole_no_pair true a b o c d e f g h i = refl
+whole_no_pair false true b o c d e f g h i = refl
+whole_no_pair false false true o c d e f g h i = refl
+whole_no_pair false false false true c d e f g h i = refl
+whole_no_pair false false false false true d e f g h i = refl
+whole_no_pair false false false false false true e f g h i = refl
+whole_no_pair false false false false false false true f g h i = refl
+whole_no_pair false false false false false false false true g h i = refl
+whole_no_pair false false false false false false false false true h i = refl
+whole_no_pair false false false false false false false false false true i = refl
+whole_no_pair false false false false false false false false false false true = refl
+whole_no_pair false false false false false false false false false false false = refl
 
 as_no_pair : (p : Bool) → is_pair_sort (if p then sorts.As else sorts.Nothing) ≡ false
 as_no_pair true = refl
@@ -292,10 +299,10 @@ unfolding sort_of
 pairs_so text is =
     let w = word_of text in
     own_pair (bytes_eq w (codes "login")) (bytes_eq w (codes "watch")) (bytes_eq w (codes "line"))
-    (bytes_eq w (codes "leave") && not (bytes_eq text (codes "leave lobby"))) (bytes_eq w (codes "link")) (bytes_eq w (codes "close"))
+    (bytes_eq w (codes "room")) (bytes_eq w (codes "moves")) (bytes_eq w (codes "leave") && not (bytes_eq text (codes "leave lobby"))) (bytes_eq w (codes "link")) (bytes_eq w (codes "close"))
     (bytes_eq w (codes "pair")) (may_pair text) (if bytes_eq w (codes "unpair") then sorts.Unpair else whole_sort text)
     (whole_no_pair (bytes_eq w (codes "unpair")) (bytes_eq text (codes "players")) (bytes_eq text (codes "who")) (bytes_eq text (codes "offers")) (bytes_eq text (codes "pause entries"))
-    (bytes_eq text (codes "resume entries")) (bytes_eq text (codes "lobby")) (bytes_eq text (codes "leave lobby")) (is_stop text) (bytes_eq text (codes "start clocks")))
+    (bytes_eq text (codes "resume entries")) (bytes_eq text (codes "lobby")) (bytes_eq text (codes "leave lobby")) (is_stop text) (bytes_eq text (codes "start clocks")) (bytes_eq (word_of text) (codes "announce")))
     (pair_if (bytes_eq w (codes "name")) (is_read text) (is_act_word w) (bytes_eq w (codes "drop")) (bytes_eq w (codes "as"))
     (as_sort text) (own_sort w text) (as_no_pair (is_act_word (word_of (as_line text)))) (ap is_pair_sort is))
 

@@ -17,7 +17,7 @@ use Rattle.lobby_words.specs.declared.planning.Identity.{Identity}
 use Rattle.lobby_words.specs.declared.players.Player.{Player}
 use Rattle.lobby_table.specs.declared.watching.Watch.{Watch}
 use Rattle.lobby_words.specs.Words.{rest_of, as_name, as_line, black_name, pair_line, is_message, sort_of, is_pair_sort, is_unpair_sort, is_link_sort, is_close_sort, is_leave_sort, is_leave_lobby_sort, or_0}
-use Rattle.lobby_words.specs.Plans.{asked, barred, entered_plan, act_plan, named_plan, as_plan, black_plan, white_plan, agreed_plan, offered_plan, pair_plan, offers_plan, drop_plan, arbiter_plan, players_plan, order_plan, login_plan, order_of, numbered_plan, plan_of}
+use Rattle.lobby_words.specs.Plans.{asked, barred, entered_plan, act_plan, named_plan, as_plan, black_plan, white_plan, agreed_plan, offered_plan, pair_plan, offers_plan, drop_plan, token_plan, arbiter_plan, players_plan, order_plan, login_plan, order_of, numbered_plan, plan_of}
 use Rattle.lobby_desk.specs.Lines.{lines_of, is_said}
 use Rattle.lobby_table.specs.Sending.{act_lines, name_line, notice_lines}
 use Rattle.lobby_table.specs.Refusals.{game_named}
@@ -26,7 +26,7 @@ use Rattle.lobby_table.specs.Owed.{ForItself, ForPositions, ForTable, ForGame, F
 use Rattle.lobby_table.specs.Owed.{owed_lines}
 use Rattle.lobby_table.specs.Watching.{risen}
 use Rattle.lobby_desk.specs.Tellings.{left_game, IsToldOrSent}
-use Rattle.lobby_offers.specs.Offers.{Offered, is_party, other_party, is_agreed, may_offer, accord_by, parted, accord_noted, ends_offers, offers_said}
+use Rattle.lobby_offers.specs.Offers.{Offered, is_party, other_party, is_agreed, may_offer, accord_by, but_by, parted, accord_noted, ends_offers, pairs_at_once, offers_said}
 use Rattle.lobby_desk.specs.Who.{View, name_of, plan_watches, plan_table, IsAnswered, offers_now}
 use Rattle.lobby_words.specs.Players.{known_name}
 use Rattle.lobby_desk.specs.History.{IsArbiter}
@@ -121,6 +121,11 @@ drop_last : (s : Standing) (who : Option Identity) (game : ℕ) (said : Option (
 drop_last s None game said text c = refl
 drop_last s (Some who) game said text c = asked_last s (plans.Drop who game) said text c (Dropper c who.name text) refl
 
+token_last : (who : Option Identity) (plan : Plan) (said : Option (List ℕ)) (text : List ℕ) (c : ℕ) → LastIs plan said text c (Asker c ForItself) →
+    LastIs (token_plan who plan) said text c (Asker c ForItself)
+token_last None plan said text c h = refl
+token_last (Some who) plan said text c h = h
+
 arbiter_last : (who : Option Identity) (plan : Plan) (said : Option (List ℕ)) (text : List ℕ) (c : ℕ) → LastIs plan said text c (Asker c ForItself) →
     LastIs (arbiter_plan who plan) said text c (Asker c ForItself)
 arbiter_last None plan said text c h = refl
@@ -160,6 +165,11 @@ leave_last : (s : Standing) (game : Option ℕ) (said : Option (List ℕ)) (text
 leave_last s None said text c = refl
 leave_last s (Some game) said text c = refl
 
+room_last : (s : Standing) (game : Option ℕ) (said : Option (List ℕ)) (text : List ℕ) (c : ℕ) →
+    LastIs (numbered_plan sorts.Room s game) said text c (Asker c ForItself)
+room_last s None said text c = refl
+room_last s (Some game) said text c = refl
+
 line_last : (s : Standing) (game : Option ℕ) (said : Option (List ℕ)) (text : List ℕ) (c : ℕ) →
     LastIs (numbered_plan sorts.Line s game) said text c (Asker c ForPositions)
 line_last s None said text c = refl
@@ -180,9 +190,9 @@ planned_last players true sorts.Players s game said text c same = players_last s
 planned_last players true sorts.Who s game said text c same = arbiter_last s.who plans.Who said text c refl
 planned_last players true sorts.Pause s game said text c same = arbiter_last s.who plans.Pause said text c refl
 planned_last players true sorts.Resume s game said text c same = arbiter_last s.who plans.Resume said text c refl
-planned_last players true (sorts.Clocks stops) s game said text c same =
-    arbiter_last s.who (barred s.bar (plans.Clocks stops)) said text c
-    (barred_last s.bar (plans.Clocks stops) said text c (Asker c ForItself) refl)
+planned_last players true (sorts.Call call) s game said text c same =
+    arbiter_last s.who (barred s.bar (plans.Call call)) said text c
+    (barred_last s.bar (plans.Call call) said text c (Asker c ForItself) refl)
 planned_last players true sorts.Link s game said text c same =
     arbiter_last s.who (order_plan false s.linked) said text c (order_last false s.linked said text c)
 planned_last players true sorts.Close s game said text c same =
@@ -192,6 +202,8 @@ planned_last players true sorts.LeaveLobby s game said text c same = refl
 planned_last players true sorts.Watch s game said text c same = watch_last s game said text c
 planned_last players true sorts.Leave s game said text c same = leave_last s game said text c
 planned_last players true sorts.Line s game said text c same = line_last s game said text c
+planned_last players true sorts.Room s game said text c same = room_last s game said text c
+planned_last players true sorts.Moves s game said text c same = token_last s.who plans.Moves said text c refl
 planned_last players true sorts.Name s game said text c same = refl
 planned_last players true sorts.Nothing s game said text c same = refl
 
@@ -278,6 +290,10 @@ pub dropped_does : (P : Plan → Type 0) (s : Standing) (game : Option ℕ) → 
 dropped_does P s None none h = none refusals.BadLine
 dropped_does P s (Some game) none h = drop_does P s s.who game none (λ one. h one game)
 
+pub token_does : (P : Plan → Type 0) (who : Option Identity) (plan : Plan) → ((r : Refusal) → P (plans.Refuse r)) → P plan → P (token_plan who plan)
+token_does P None plan none h = none refusals.NoToken
+token_does P (Some who) plan none h = h
+
 pub arbiter_does : (P : Plan → Type 0) (who : Option Identity) (plan : Plan) → ((r : Refusal) → P (plans.Refuse r)) → P plan → P (arbiter_plan who plan)
 arbiter_does P None plan none h = none refusals.NoToken
 arbiter_does P (Some who) plan none h =
@@ -309,6 +325,11 @@ watch_does P s (Some game) none h =
       | true ↦ asked_does P s (plans.Refuse refusals.TooManyWatched) (none refusals.NoServer) (none refusals.TooManyWatched)
       | false ↦ asked_does P s (plans.Watch game) (none refusals.NoServer) (h game)
     ]
+
+pub room_does : (P : Plan → Type 0) (s : Standing) (game : Option ℕ) → ((r : Refusal) → P (plans.Refuse r)) → ((g : ℕ) → P (plans.Room g s.at)) →
+    P (numbered_plan sorts.Room s game)
+room_does P s None none h = none refusals.BadLine
+room_does P s (Some game) none h = h game
 
 pub line_does : (P : Plan → Type 0) (s : Standing) (game : Option ℕ) → ((r : Refusal) → P (plans.Refuse r)) → ((g : ℕ) → P (plans.Line g)) →
     P (numbered_plan sorts.Line s game)
@@ -347,9 +368,9 @@ planned true sorts.Players s game c watches table = players_does (Stays c watche
 planned true sorts.Who s game c watches table = arbiter_does (Stays c watches table) s.who plans.Who (λ _. (refl, refl)) (refl, refl)
 planned true sorts.Pause s game c watches table = arbiter_does (Stays c watches table) s.who plans.Pause (λ _. (refl, refl)) (refl, refl)
 planned true sorts.Resume s game c watches table = arbiter_does (Stays c watches table) s.who plans.Resume (λ _. (refl, refl)) (refl, refl)
-planned true (sorts.Clocks stops) s game c watches table =
-    arbiter_does (Stays c watches table) s.who (barred s.bar (plans.Clocks stops)) (λ _. (refl, refl))
-    (barred_does (Stays c watches table) s.bar (plans.Clocks stops) (λ _. (refl, refl)) (refl, refl))
+planned true (sorts.Call call) s game c watches table =
+    arbiter_does (Stays c watches table) s.who (barred s.bar (plans.Call call)) (λ _. (refl, refl))
+    (barred_does (Stays c watches table) s.bar (plans.Call call) (λ _. (refl, refl)) (refl, refl))
 planned true sorts.Link s game c watches table =
     link_does (Stays c watches table) s.who false s.linked (λ _. (refl, refl)) (λ _. (refl, refl))
 planned true sorts.Close s game c watches table =
@@ -359,6 +380,8 @@ planned true sorts.LeaveLobby s game c watches table = (refl, refl)
 planned true sorts.Watch s game c watches table = watch_does (Stays c watches table) s game (λ _. (refl, refl)) (λ _. (refl, refl))
 planned true sorts.Leave s game c watches table = (leave_watches s game c watches, leave_table s game c table)
 planned true sorts.Line s game c watches table = line_does (Stays c watches table) s game (λ _. (refl, refl)) (λ _. (refl, refl))
+planned true sorts.Room s game c watches table = room_does (Stays c watches table) s game (λ _. (refl, refl)) (λ _. (refl, refl))
+planned true sorts.Moves s game c watches table = token_does (Stays c watches table) s.who plans.Moves (λ _. (refl, refl)) (refl, refl)
 planned true sorts.Name s game c watches table = (refl, refl)
 planned true sorts.Nothing s game c watches table = (refl, refl)
 
@@ -383,8 +406,8 @@ pub answered_or_sent : (players : List Player) (v : View) (plan : Plan) (said : 
 answered_or_sent players v (plans.Refuse refusal) said text c tells h = inl (h.0, h.2)
 answered_or_sent players v (plans.Offer who) said text c tells h = inr (inl (h.0, h.2))
 answered_or_sent players v (plans.Unpair who) said text c tells h = inr (inl (h.0, h.2))
-answered_or_sent players v (plans.Clocks stops) said text c tells h =
-    inr (inr (record { by = name_of (v.who c); said = text; stops = stops; text = h.0; told = h.2 }))
+answered_or_sent players v (plans.Call call) said text c tells h =
+    inr (inr (inl (record { by = name_of (v.who c); said = text; call = call; text = h.0; told = h.2 })))
 answered_or_sent players v (plans.Offers who at) said text c tells h = inl (h.0, h.2)
 answered_or_sent players v plans.Read said text c tells h = h
 answered_or_sent players v (plans.Act who) said text c tells h = act_sent v.is_open v.known.table (is_said said who.name) who.name text (notice_lines (game_named text)) c tells h
@@ -403,6 +426,8 @@ answered_or_sent players v plans.LeaveLobby said text c tells h = inl (h.0, h.2)
 answered_or_sent players v (plans.Watch game) said text c tells h = h
 answered_or_sent players v (plans.Leave game) said text c tells h = inl (h.0, h.2)
 answered_or_sent players v (plans.Line game) said text c tells h = h
+answered_or_sent players v (plans.Room game at) said text c tells h = inl (h.0, h.2)
+answered_or_sent players v plans.Moves said text c tells h = inr (inr (inr (text, h.2)))
 
 -- ---- who orders
 
@@ -454,9 +479,9 @@ planned_orders true sorts.Players s game = players_does (OfOrder (Orders true so
 planned_orders true sorts.Who s game = arbiter_does (OfOrder (Orders true sorts.Who s)) s.who plans.Who (λ _. tt) tt
 planned_orders true sorts.Pause s game = arbiter_does (OfOrder (Orders true sorts.Pause s)) s.who plans.Pause (λ _. tt) tt
 planned_orders true sorts.Resume s game = arbiter_does (OfOrder (Orders true sorts.Resume s)) s.who plans.Resume (λ _. tt) tt
-planned_orders true (sorts.Clocks stops) s game =
-    arbiter_does (OfOrder (Orders true (sorts.Clocks stops) s)) s.who (barred s.bar (plans.Clocks stops)) (λ _. tt)
-    (barred_does (OfOrder (Orders true (sorts.Clocks stops) s)) s.bar (plans.Clocks stops) (λ _. tt) tt)
+planned_orders true (sorts.Call call) s game =
+    arbiter_does (OfOrder (Orders true (sorts.Call call) s)) s.who (barred s.bar (plans.Call call)) (λ _. tt)
+    (barred_does (OfOrder (Orders true (sorts.Call call) s)) s.bar (plans.Call call) (λ _. tt) tt)
 planned_orders true sorts.Link s game = arbiter_at false sorts.Link s s.who refl refl refl
 planned_orders true sorts.Close s game = arbiter_at true sorts.Close s s.who refl refl refl
 planned_orders true sorts.Lobby s game = asked_does (OfOrder (Orders true sorts.Lobby s)) s plans.Lobby tt tt
@@ -464,6 +489,8 @@ planned_orders true sorts.LeaveLobby s game = tt
 planned_orders true sorts.Watch s game = watch_does (OfOrder (Orders true sorts.Watch s)) s game (λ _. tt) (λ _. tt)
 planned_orders true sorts.Leave s game = leave_orders s game
 planned_orders true sorts.Line s game = line_does (OfOrder (Orders true sorts.Line s)) s game (λ _. tt) (λ _. tt)
+planned_orders true sorts.Room s game = room_does (OfOrder (Orders true sorts.Room s)) s game (λ _. tt) (λ _. tt)
+planned_orders true sorts.Moves s game = token_does (OfOrder (Orders true sorts.Moves s)) s.who plans.Moves (λ _. tt) tt
 planned_orders true sorts.Name s game = tt
 planned_orders true sorts.Nothing s game = tt
 
@@ -491,9 +518,14 @@ link_none players acts_for (Some who) c text at offers link =
     let may : may_offer players who text ≡ false =
     ap (λ (b : Bool). b && not who.is_arbiter && is_party who.name text && is_some (known_name players one) && is_some (known_name players other))
     (and_none (is_message text) (is_pair_sort (sort_of text)) (link_no_pair (sort_of text) link)) in
-    sym (ap (λ (b : Bool). if b then parted who.name (rest_of text) offers else accord_noted accord who.name c text at offers) ends
+    let at_once : pairs_at_once who text ≡ false =
+    ap (λ (b : Bool). b && who.is_arbiter) (and_none (is_message text) (is_pair_sort (sort_of text)) (link_no_pair (sort_of text) link)) in
+    let both = but_by one (but_by other offers) in
+    sym (ap (λ (b : Bool). if b then parted who.name (rest_of text) offers
+    else (if pairs_at_once who text then both else accord_noted accord who.name c text at offers)) ends
+    ∙ (ap (λ (b : Bool). if b then both else accord_noted accord who.name c text at offers) at_once
     ∙ ap (λ (b : Bool). accord_noted (if b then (if is_agreed acts_for (other_party who.name text) text at offers then accords.Agreed else accords.Offered)
-    else accords.Nothing) who.name c text at offers) may)
+    else accords.Nothing) who.name c text at offers) may))
 
 pub link_offers : (players : List Player) (acts_for : ℕ → Option Identity) (c : ℕ) (text : List ℕ) (at : ℕ) (offers : List Offered) →
     is_link_sort (sort_of text) ≡ true → offers ≡ offers_now players acts_for (Said c text at) offers
@@ -521,12 +553,14 @@ is_order (plans.Seated form) order is = absurd (false≢true (ap is_some is))
 is_order plans.Who order is = absurd (false≢true (ap is_some is))
 is_order plans.Pause order is = absurd (false≢true (ap is_some is))
 is_order plans.Resume order is = absurd (false≢true (ap is_some is))
-is_order (plans.Clocks stops) order is = absurd (false≢true (ap is_some is))
+is_order (plans.Call call) order is = absurd (false≢true (ap is_some is))
 is_order plans.Lobby order is = absurd (false≢true (ap is_some is))
 is_order plans.LeaveLobby order is = absurd (false≢true (ap is_some is))
 is_order (plans.Watch game) order is = absurd (false≢true (ap is_some is))
 is_order (plans.Leave game) order is = absurd (false≢true (ap is_some is))
 is_order (plans.Line game) order is = absurd (false≢true (ap is_some is))
+is_order (plans.Room game at) order is = absurd (false≢true (ap is_some is))
+is_order plans.Moves order is = absurd (false≢true (ap is_some is))
 
 -- the plan for a message that asks for no link has no order done
 none_ordered : (m : Bool) (sort : Sort) (s : Standing) → is_link_sort sort ≡ false → (plan : Plan) → OfOrder (Orders m sort s) plan →

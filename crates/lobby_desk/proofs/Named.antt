@@ -33,7 +33,7 @@ use Rattle.lobby_desk.specs.History.{Step, player_in, players_in, says_name, is_
 use Rattle.lobby_table.proofs.Sent.{is_said_same}
 use Rattle.lobby_desk.proofs.Lines.{join_line_acts, list_reads, name_names}
 use Rattle.lobby_desk.proofs.As.{as_acts, as_word, plain_word, pair_acts}
-use Rattle.lobby_desk.proofs.Carry.{asked_does, entered_does, dropped_does, arbiter_does, barred_does, players_does, link_does, login_does, watch_does, line_does}
+use Rattle.lobby_desk.proofs.Carry.{asked_does, entered_does, dropped_does, token_does, room_does, arbiter_does, barred_does, players_does, link_does, login_does, watch_does, line_does}
 use Rattle.lobby_desk.proofs.Runs.{AreAsked, IsAsked, Agrees, was_asked, run_good}
 
 -- ---- each line that waits, and for whom its answer is
@@ -302,9 +302,9 @@ planned_fits players true sorts.Players s game said text c is other = players_do
 planned_fits players true sorts.Who s game said text c is other = arbiter_does (FitsPlan said text (Asker c ForItself)) s.who plans.Who (λ _. tt) tt
 planned_fits players true sorts.Pause s game said text c is other = arbiter_does (FitsPlan said text (Asker c ForItself)) s.who plans.Pause (λ _. tt) tt
 planned_fits players true sorts.Resume s game said text c is other = arbiter_does (FitsPlan said text (Asker c ForItself)) s.who plans.Resume (λ _. tt) tt
-planned_fits players true (sorts.Clocks stops) s game said text c is other =
-    arbiter_does (FitsPlan said text (Asker c ForItself)) s.who (barred s.bar (plans.Clocks stops)) (λ _. tt)
-    (barred_does (FitsPlan said text (Asker c ForItself)) s.bar (plans.Clocks stops) (λ _. tt) tt)
+planned_fits players true (sorts.Call call) s game said text c is other =
+    arbiter_does (FitsPlan said text (Asker c ForItself)) s.who (barred s.bar (plans.Call call)) (λ _. tt)
+    (barred_does (FitsPlan said text (Asker c ForItself)) s.bar (plans.Call call) (λ _. tt) tt)
 planned_fits players true sorts.Link s game said text c is other =
     link_does (FitsPlan said text (Asker c ForItself)) s.who false s.linked (λ _. tt) (λ _. tt)
 planned_fits players true sorts.Close s game said text c is other =
@@ -318,6 +318,10 @@ planned_fits players true sorts.Watch s game said text c is other =
 planned_fits players true sorts.Leave s game said text c is other = leave_fits s game said text (Asker c ForItself)
 planned_fits players true sorts.Line s game said text c is other =
     line_does (FitsPlan said text (Asker c ForPositions)) s game (λ _. tt) (λ g. (pgn_silent g, tt))
+planned_fits players true sorts.Room s game said text c is other =
+    room_does (FitsPlan said text (Asker c ForItself)) s game (λ _. tt) (λ _. tt)
+planned_fits players true sorts.Moves s game said text c is other =
+    token_does (FitsPlan said text (Asker c ForItself)) s.who plans.Moves (λ _. tt) tt
 planned_fits players true sorts.Name s game said text c is other = tt
 planned_fits players true sorts.Nothing s game said text c is other = tt
 

@@ -43,7 +43,7 @@ use Rattle.lobby_words.proofs.ByName.{named_is}
 use Rattle.lobby_table.proofs.Sent.{is_said_same}
 use Rattle.server_answers.specs.Entered.{Entered, entered_in}
 use Rattle.server_answers.proofs.DoneActs.{entered_only}
-use Rattle.lobby_desk.proofs.Carry.{act_does, as_does, pair_does, offers_does, arbiter_does, barred_does, players_does, link_does, OfOrder, Orders, planned_orders}
+use Rattle.lobby_desk.proofs.Carry.{act_does, as_does, pair_does, offers_does, token_does, room_does, arbiter_does, barred_does, players_does, link_does, OfOrder, Orders, planned_orders}
 use Rattle.lobby_desk.proofs.As.{as_whole, as_acts, pair_whole, pair_acts}
 use Rattle.lobby_desk.proofs.Lines.{show_whole, fen_whole, pgn_whole, join_whole, join_line_acts, list_whole, name_whole, show_reads, fen_reads, pgn_reads, list_reads, name_names}
 
@@ -104,9 +104,9 @@ planned_who true sorts.Players s game before = players_does (λ plan. who_noted 
 planned_who true sorts.Who s game before = arbiter_does (λ plan. who_noted plan before ≡ before) s.who plans.Who (λ _. refl) refl
 planned_who true sorts.Pause s game before = arbiter_does (λ plan. who_noted plan before ≡ before) s.who plans.Pause (λ _. refl) refl
 planned_who true sorts.Resume s game before = arbiter_does (λ plan. who_noted plan before ≡ before) s.who plans.Resume (λ _. refl) refl
-planned_who true (sorts.Clocks stops) s game before =
-    arbiter_does (λ plan. who_noted plan before ≡ before) s.who (barred s.bar (plans.Clocks stops)) (λ _. refl)
-    (barred_does (λ plan. who_noted plan before ≡ before) s.bar (plans.Clocks stops) (λ _. refl) refl)
+planned_who true (sorts.Call call) s game before =
+    arbiter_does (λ plan. who_noted plan before ≡ before) s.who (barred s.bar (plans.Call call)) (λ _. refl)
+    (barred_does (λ plan. who_noted plan before ≡ before) s.bar (plans.Call call) (λ _. refl) refl)
 planned_who true sorts.Link s game before = link_does (λ plan. who_noted plan before ≡ before) s.who false s.linked (λ _. refl) (λ _. refl)
 planned_who true sorts.Close s game before = link_does (λ plan. who_noted plan before ≡ before) s.who true s.linked (λ _. refl) (λ _. refl)
 planned_who true sorts.Lobby s game before = asked_who s plans.Lobby before refl
@@ -114,6 +114,8 @@ planned_who true sorts.LeaveLobby s game before = refl
 planned_who true sorts.Watch s game before = watch_who s game before
 planned_who true sorts.Leave s game before = leave_who s game before
 planned_who true sorts.Line s game before = line_who s game before
+planned_who true sorts.Room s game before = room_does (λ plan. who_noted plan before ≡ before) s game (λ _. refl) (λ _. refl)
+planned_who true sorts.Moves s game before = token_does (λ plan. who_noted plan before ≡ before) s.who plans.Moves (λ _. refl) refl
 planned_who true sorts.Name s game before = refl
 planned_who true sorts.Nothing s game before = refl
 
@@ -485,10 +487,10 @@ plan_good players text s said game true sorts.Pause other message is small named
     silent_good text s.who (name_for players (is_agreement s.accord) s.who text) said plans.Pause (none_good [] (name_for players (is_agreement s.accord) s.who text) said)
 plan_good players text s said game true sorts.Resume other message is small named =
     silent_good text s.who (name_for players (is_agreement s.accord) s.who text) said plans.Resume (none_good [] (name_for players (is_agreement s.accord) s.who text) said)
-plan_good players text s said game true (sorts.Clocks stops) other message is small named =
+plan_good players text s said game true (sorts.Call call) other message is small named =
     let under = name_for players (is_agreement s.accord) s.who text in
-    silent_good text s.who under said (barred s.bar (plans.Clocks stops))
-    (barred_does (λ p. Good [] under said (lines_of p said text) (said_after p said)) s.bar (plans.Clocks stops)
+    silent_good text s.who under said (barred s.bar (plans.Call call))
+    (barred_does (λ p. Good [] under said (lines_of p said text) (said_after p said)) s.bar (plans.Call call)
     (λ _. none_good [] under said) (none_good [] under said))
 plan_good players text s said game true sorts.Link other message is small named = order_good text s (name_for players (is_agreement s.accord) s.who text) said false
 plan_good players text s said game true sorts.Close other message is small named = order_good text s (name_for players (is_agreement s.accord) s.who text) said true
@@ -499,6 +501,12 @@ plan_good players text s said game true sorts.LeaveLobby other message is small 
 plan_good players text s said game true sorts.Watch other message is small named = watch_good text s (name_for players (is_agreement s.accord) s.who text) said game small named
 plan_good players text s said game true sorts.Leave other message is small named = leave_good text s (name_for players (is_agreement s.accord) s.who text) said game
 plan_good players text s said game true sorts.Line other message is small named = line_good text s (name_for players (is_agreement s.accord) s.who text) said game small named
+plan_good players text s said game true sorts.Room other message is small named =
+    let under = name_for players (is_agreement s.accord) s.who text in
+    room_does (λ p. Good [] under said (lines_of p said text) (said_after p said)) s game (λ _. none_good [] under said) (λ _. none_good [] under said)
+plan_good players text s said game true sorts.Moves other message is small named =
+    let under = name_for players (is_agreement s.accord) s.who text in
+    token_does (λ p. Good [] under said (lines_of p said text) (said_after p said)) s.who plans.Moves (λ _. none_good [] under said) (none_good [] under said)
 plan_good players text s said game true sorts.Name other message is small named = none_good [] (name_for players (is_agreement s.accord) s.who text) said
 plan_good players text s said game true sorts.Nothing other message is small named = none_good [] (name_for players (is_agreement s.accord) s.who text) said
 
@@ -641,13 +649,16 @@ said_alike f g same table [] c tells h =
       | inl one ↦ inl one
       | inr more ↦ elim more [
         | inl two ↦ inr (inl two)
-        | inr some ↦ inr (inr (record {
-          by = some.by;
-          said = some.said;
-          stops = some.stops;
-          text = some.text;
-          told = record { to = some.told.to; all = λ d. some.told.all d ∙ same d; told = some.told.told };
-        }))
+        | inr rest ↦ elim rest [
+          | inl some ↦ inr (inr (inl (record {
+            by = some.by;
+            said = some.said;
+            call = some.call;
+            text = some.text;
+            told = record { to = some.told.to; all = λ d. some.told.all d ∙ same d; told = some.told.told };
+          })))
+          | inr moves ↦ inr (inr (inr moves))
+        ]
       ]
     ]
 said_alike f g same table (line ∷ lines) c tells h = h
@@ -789,7 +800,7 @@ asks_at true sorts.Players s game said text = tt
 asks_at true sorts.Who s game said text = tt
 asks_at true sorts.Pause s game said text = tt
 asks_at true sorts.Resume s game said text = tt
-asks_at true (sorts.Clocks stops) s game said text = tt
+asks_at true (sorts.Call call) s game said text = tt
 asks_at true sorts.Link s game said text = tt
 asks_at true sorts.Close s game said text = tt
 asks_at true sorts.Lobby s game said text = tt
@@ -797,6 +808,8 @@ asks_at true sorts.LeaveLobby s game said text = tt
 asks_at true sorts.Watch s game said text = tt
 asks_at true sorts.Leave s game said text = tt
 asks_at true sorts.Line s game said text = tt
+asks_at true sorts.Room s game said text = tt
+asks_at true sorts.Moves s game said text = tt
 asks_at true sorts.Name s game said text = tt
 asks_at true sorts.Nothing s game said text = tt
 
@@ -886,7 +899,7 @@ pairs_at players true sorts.Players s game said text same = tt
 pairs_at players true sorts.Who s game said text same = tt
 pairs_at players true sorts.Pause s game said text same = tt
 pairs_at players true sorts.Resume s game said text same = tt
-pairs_at players true (sorts.Clocks stops) s game said text same = tt
+pairs_at players true (sorts.Call call) s game said text same = tt
 pairs_at players true sorts.Link s game said text same = tt
 pairs_at players true sorts.Close s game said text same = tt
 pairs_at players true sorts.Lobby s game said text same = tt
@@ -894,6 +907,8 @@ pairs_at players true sorts.LeaveLobby s game said text same = tt
 pairs_at players true sorts.Watch s game said text same = tt
 pairs_at players true sorts.Leave s game said text same = tt
 pairs_at players true sorts.Line s game said text same = tt
+pairs_at players true sorts.Room s game said text same = tt
+pairs_at players true sorts.Moves s game said text same = tt
 pairs_at players true sorts.Name s game said text same = tt
 pairs_at players true sorts.Nothing s game said text same = tt
 
@@ -924,7 +939,7 @@ asked_if_drop players past c by text sorts.Players game h k = tt
 asked_if_drop players past c by text sorts.Who game h k = tt
 asked_if_drop players past c by text sorts.Pause game h k = tt
 asked_if_drop players past c by text sorts.Resume game h k = tt
-asked_if_drop players past c by text (sorts.Clocks stops) game h k = tt
+asked_if_drop players past c by text (sorts.Call call) game h k = tt
 asked_if_drop players past c by text sorts.Link game h k = tt
 asked_if_drop players past c by text sorts.Close game h k = tt
 asked_if_drop players past c by text sorts.Lobby game h k = tt
@@ -932,6 +947,8 @@ asked_if_drop players past c by text sorts.LeaveLobby game h k = tt
 asked_if_drop players past c by text sorts.Watch game h k = tt
 asked_if_drop players past c by text sorts.Leave game h k = tt
 asked_if_drop players past c by text sorts.Line game h k = tt
+asked_if_drop players past c by text sorts.Room game h k = tt
+asked_if_drop players past c by text sorts.Moves game h k = tt
 asked_if_drop players past c by text sorts.Name game h k = tt
 asked_if_drop players past c by text sorts.Nothing game h k = tt
 
@@ -1057,7 +1074,7 @@ drop_names_none sorts.Players h = absurd (false≢true h)
 drop_names_none sorts.Who h = absurd (false≢true h)
 drop_names_none sorts.Pause h = absurd (false≢true h)
 drop_names_none sorts.Resume h = absurd (false≢true h)
-drop_names_none (sorts.Clocks stops) h = absurd (false≢true h)
+drop_names_none (sorts.Call call) h = absurd (false≢true h)
 drop_names_none sorts.Link h = absurd (false≢true h)
 drop_names_none sorts.Close h = absurd (false≢true h)
 drop_names_none sorts.Lobby h = absurd (false≢true h)
@@ -1065,6 +1082,8 @@ drop_names_none sorts.LeaveLobby h = absurd (false≢true h)
 drop_names_none sorts.Watch h = absurd (false≢true h)
 drop_names_none sorts.Leave h = absurd (false≢true h)
 drop_names_none sorts.Line h = absurd (false≢true h)
+drop_names_none sorts.Room h = absurd (false≢true h)
+drop_names_none sorts.Moves h = absurd (false≢true h)
 drop_names_none sorts.Name h = absurd (false≢true h)
 drop_names_none sorts.Nothing h = absurd (false≢true h)
 

@@ -1,4 +1,4 @@
--- What an arbiter has halted: entries, and all clocks.
+-- What an arbiter has halted, entries and all clocks, and what he announces.
 use Rattle.std.specs.Prelude.{ℕ, Bool, true, false, not, ◌&&◌, nat_le, List, [], ◌++◌, length, codes, Option, None, Some}
 use Rattle.std.specs.Prelude.{if◌then◌else◌}
 use Rattle.std.specs.String.{string_bytes}
@@ -6,20 +6,24 @@ use Rattle.lobby_words.specs.declared.planning.Plan.{Plan}
 use Rattle.lobby_words.specs.declared.planning.Plan.TheVariants as plans
 use Rattle.lobby_words.specs.declared.refusals.Refusal.{Refusal}
 use Rattle.lobby_words.specs.declared.refusals.Refusal.TheVariants as refusals
-use Rattle.lobby_words.specs.Words.{as_line, is_of_clocks}
+use Rattle.lobby_words.specs.declared.words.Call.TheVariants as calls
+use Rattle.lobby_words.specs.Words.{rest_of, as_line, is_of_clocks}
 use Rattle.lobby_desk.specs.declared.halts.Halts.{Halts}
 
--- whether entries are paused, whether clocks can be stopped, and the reason for which all are: none where they run
+-- whether entries are paused, whether clocks can be stopped, and the reason for which all are: none where they run; and
+-- what is announced, if anything is
 pub record Halted : Type 0 where
   pub paused : Bool
   pub can_stop : Bool
   pub reason : List ℕ
+  pub announced : List ℕ
 
 abbrev pub halted : Halts → Halted
 halted halts = record {
   paused = halts.is_paused;
   can_stop = halts.can_stop;
   reason = string_bytes halts.reason;
+  announced = string_bytes halts.announced;
 }
 
 abbrev pub is_stopped : Halted → Bool
@@ -32,14 +36,20 @@ paused_after plans.Resume before = false
 paused_after _ before = before
 
 abbrev pub reason_after : Plan → List ℕ → List ℕ → List ℕ
-reason_after (plans.Clocks stops) text before = if stops then as_line text else []
+reason_after (plans.Call calls.StopClocks) text before = as_line text
+reason_after (plans.Call calls.StartClocks) text before = []
 reason_after _ text before = before
+
+abbrev pub announced_after : Plan → List ℕ → List ℕ → List ℕ
+announced_after (plans.Call calls.Announce) text before = rest_of text
+announced_after _ text before = before
 
 abbrev pub halted_after : Plan → List ℕ → Halted → Halted
 halted_after plan text before = record {
   paused = paused_after plan before.paused;
   can_stop = before.can_stop;
   reason = reason_after plan text before.reason;
+  announced = announced_after plan text before.announced;
 }
 
 -- While all clocks are stopped nobody acts but an arbiter.
@@ -52,6 +62,16 @@ halts_bar halts is_arbiter text =
     if is_of_clocks text && not halts.can_stop then Some refusals.NoClocks else stop_bar halts is_arbiter
 
 -- the line that tells that all clocks are stopped, and why; none where they run
+abbrev pub line_if : List ℕ → List ℕ → List ℕ
+line_if front what = if nat_le 1 (length what) then front ++ what ++ codes "\n" else []
+
 abbrev pub stopped_line : Halted → List ℕ
-stopped_line halts =
-    if is_stopped halts then codes "clocks stopped " ++ halts.reason ++ codes "\n" else []
+stopped_line halts = line_if (codes "clocks stopped ") halts.reason
+
+-- the line that tells what is announced; none where nothing is
+abbrev pub announced_line : Halted → List ℕ
+announced_line halts = line_if (codes "announced ") halts.announced
+
+-- what who comes is told of both, behind a text
+abbrev pub told_behind : List ℕ → Halted → List ℕ
+told_behind text halts = (text ++ stopped_line halts) ++ announced_line halts

@@ -439,8 +439,8 @@ entries_now acts (Heard line) k =
     if is_counted k line then entries_next acts k.last k.follows k.owed (answer k.begun line) else []
 entries_now acts _ k = []
 
--- What the log is told for a message that asks for nothing of the server, which is none of an act: that all clocks were
--- stopped, or run again, where the plan for the message is that.
+-- What the log is told for a message that asks for nothing of the server, which is none of an act: what everybody is told
+-- of an arbiter's, where the plan for the message is that.
 abbrev pub said_entries : DeskInput → List MessageValue → List (List ℕ)
 said_entries (Said c text at) tells = log_texts tells
 said_entries _ tells = []

@@ -1,6 +1,6 @@
 -- What connections are told.
 use Rattle.std.specs.Prelude.{ℕ, ◌≡◌, ◌⊎◌, Bool, true, false, ◌&&◌, ◌||◌, ◌==◌, not, List, [], ◌∷◌, ◌++◌, codes, decimal}
-use Rattle.std.specs.Prelude.{Option, None, Some, is_some, if◌then◌else◌}
+use Rattle.std.specs.Prelude.{Option, None, Some, is_some, length, nat_le, if◌then◌else◌}
 use Rattle.std.specs.List.{list_any}
 use Rattle.lobby_words.specs.declared.listing.Seat.{Seat}
 use Rattle.lobby_table.specs.declared.watching.Watch.{Watch}
@@ -8,6 +8,8 @@ use Rattle.lobby_table.specs.declared.refusals.RefusedActs.{RefusedActs}
 use Rattle.lobby_table.specs.declared.pairings.Pairing.{Pairing}
 use Rattle.lobby_desk.specs.declared.telling.Kind.{Kind}
 use Rattle.lobby_desk.specs.declared.telling.Kind.TheVariants as kinds
+use Rattle.lobby_words.specs.declared.words.Call.{Call}
+use Rattle.lobby_words.specs.declared.words.Call.TheVariants as calls
 use Rattle.lobby_words.specs.Words.{rest_of, is_pair, is_message, sort_of, is_close_sort, is_leave_sort}
 use Rattle.lobby_words.specs.Words.{is_leave_lobby_sort, u32_in, as_line}
 use Rattle.lobby_words.specs.declared.refusals.Refusal.TheVariants as refusals
@@ -236,38 +238,57 @@ offers_notice table = record { to = table; kind = kinds.Whole; text = codes "off
 abbrev pub AreToldOffers : List ℕ → ℕ → List MessageValue → Type 0
 AreToldOffers table c tells = (text : List ℕ) × (tells ≡ to_one c text ∷ offers_notice table ∷ [])
 
--- What the log is told where all clocks are stopped, or run again: who said so, and the message. It is none of an act.
-abbrev pub clocks_said : List ℕ → List ℕ → List ℕ
-clocks_said by text = codes "clocks by " ++ by ++ codes " " ++ text ++ codes "\n"
+-- What the log is told where everybody is told something of an arbiter's: who said it, and the message. It is none of an
+-- act.
+abbrev pub call_front : Call → List ℕ
+call_front calls.Announce = codes "told by "
+call_front _ = codes "clocks by "
 
-abbrev pub clocks_logged : List ℕ → List ℕ → MessageValue
-clocks_logged by text = to_log (clocks_said by text)
+abbrev pub call_said : Call → List ℕ → List ℕ → List ℕ
+call_said call by text = call_front call ++ by ++ codes " " ++ text ++ codes "\n"
 
--- what these are told then: that all clocks are stopped, and the reason that the message names, or that they run
-abbrev pub clocks_line : Bool → List ℕ → List ℕ
-clocks_line true text = codes "clocks stopped " ++ as_line text ++ codes "\n"
-clocks_line false text = codes "clocks run\n"
+abbrev pub call_logged : Call → List ℕ → List ℕ → MessageValue
+call_logged call by text = to_log (call_said call by text)
 
-abbrev pub clocks_notice : List ℕ → Bool → List ℕ → MessageValue
-clocks_notice to stops text = record { to = to; kind = kinds.Whole; text = clocks_line stops text }
+-- What everybody is told then: that all clocks are stopped, and the reason that the message names, or that they run; or
+-- what is announced, which is nothing where nothing stands behind the word.
+abbrev pub announcement : List ℕ → List ℕ
+announcement text =
+    if nat_le 1 (length text) then codes "announced " ++ text ++ codes "\n" else codes "announced\n"
+
+abbrev pub call_line : Call → List ℕ → List ℕ
+call_line calls.StopClocks text = codes "clocks stopped " ++ as_line text ++ codes "\n"
+call_line calls.StartClocks text = codes "clocks run\n"
+call_line calls.Announce text = announcement (rest_of text)
+
+abbrev pub call_notice : List ℕ → Call → List ℕ → MessageValue
+call_notice to call text = record { to = to; kind = kinds.Whole; text = call_line call text }
 
 -- The log is told first who said so, then he is answered, and then every connection that is open is told.
-pub record AreToldClocks (is_open : ℕ → Bool) (by said : List ℕ) (stops : Bool) (own : MessageValue)
+pub record AreToldCall (is_open : ℕ → Bool) (by said : List ℕ) (call : Call) (own : MessageValue)
     (tells : List MessageValue) : Type 0 where
   pub to : List ℕ
   pub all : (c : ℕ) → at_table to c ≡ is_open c
-  pub told : tells ≡ clocks_logged by said ∷ own ∷ clocks_notice to stops said ∷ []
+  pub told : tells ≡ call_logged call by said ∷ own ∷ call_notice to call said ∷ []
 
 pub record AreToldSome (is_open : ℕ → Bool) (c : ℕ) (tells : List MessageValue) : Type 0 where
   pub by : List ℕ
   pub said : List ℕ
-  pub stops : Bool
+  pub call : Call
   pub text : List ℕ
-  pub told : AreToldClocks is_open by said stops (to_one c text) tells
+  pub told : AreToldCall is_open by said call (to_one c text) tells
+
+-- the answer to `moves FEN`, which is made of the message as it goes out
+abbrev pub moves_told : ℕ → List ℕ → MessageValue
+moves_told c said = to_one_as c kinds.Moves said
+
+abbrev pub AreToldMoves : ℕ → List MessageValue → Type 0
+AreToldMoves c tells = (said : List ℕ) × (tells ≡ moves_told c said ∷ [])
 
 -- A message is answered at once where nothing goes to the server for it.
 abbrev pub IsToldOrSent : (ℕ → Bool) → List ℕ → List (List ℕ) → ℕ → List MessageValue → Type 0
-IsToldOrSent is_open table [] c tells = IsToldOne c tells ⊎ AreToldOffers table c tells ⊎ AreToldSome is_open c tells
+IsToldOrSent is_open table [] c tells =
+    IsToldOne c tells ⊎ AreToldOffers table c tells ⊎ AreToldSome is_open c tells ⊎ AreToldMoves c tells
 IsToldOrSent is_open table (line ∷ lines) c tells = tells ≡ []
 
 -- The answer to an act is the server's; but that to a pairing, once its game is joined, tells the game.

@@ -6,6 +6,8 @@ use Rattle.std.specs.Ordering.{nat_cmp}
 use Rattle.std.specs.Str.{bytes_eq}
 use Rattle.std.specs.String.{string_bytes}
 use Rattle.player_name.specs.Name.{IsName}
+use Rattle.lobby_words.specs.declared.words.Call.{Call}
+use Rattle.lobby_words.specs.declared.words.Call.TheVariants as calls
 use Rattle.lobby_words.specs.declared.planning.Plan.{Plan}
 use Rattle.lobby_words.specs.declared.planning.Plan.TheVariants as plans
 use Rattle.lobby_words.specs.declared.refusals.Refusal.{Refusal}
@@ -19,7 +21,7 @@ use Rattle.lobby_words.specs.declared.players.Player.{Player}
 use Rattle.lobby_table.specs.declared.visitors.Visitor.{Visitor}
 use Rattle.lobby_table.specs.declared.watching.Watch.{Watch}
 use Rattle.lobby_desk.specs.declared.desk.Desk.{Desk}
-use Rattle.lobby_desk.specs.Halts.{Halted, halted, halted_after, halts_bar, stop_bar, stopped_line}
+use Rattle.lobby_desk.specs.Halts.{Halted, halted, halted_after, halts_bar, stop_bar, told_behind}
 use Rattle.lobby_words.specs.Words.{rest_of, as_name, black_name, is_pair, actor, is_message, sort_of, u32_in}
 use Rattle.lobby_words.specs.Words.{is_login_sort}
 use Rattle.lobby_words.specs.Waiting.{opens_game, joins_game}
@@ -46,7 +48,9 @@ use Rattle.lobby_desk.specs.Tellings.{pairings_next, pairings_now, refused_heard
 use Rattle.lobby_desk.specs.Tellings.{follows_next, follows_now, misnamed_heard, misnamed_next, misnamed_now, owed_now}
 use Rattle.lobby_desk.specs.Tellings.{left_now, begun_now, last_now, owed_answered, presence, IsTold, IsToldFor}
 use Rattle.lobby_table.specs.Owed.{owes}
-use Rattle.lobby_desk.specs.Tellings.{IsToldNext, offers_notice, AreToldClocks}
+use Rattle.lobby_desk.specs.Tellings.{IsToldNext, offers_notice, AreToldCall, moves_told}
+use Rattle.lobby_table.specs.declared.rooms.Attendance.{Attendance}
+use Rattle.lobby_table.specs.Rooms.{Gathering, IsRoom, attended, gone}
 use Rattle.lobby_offers.specs.Offers.{Offered, offered, accord_of, offers_said, offers_text}
 use Rattle.lobby_table.specs.Visitors.{who_in, until_in, open_in_map, IsPresence}
 
@@ -113,28 +117,43 @@ is_own (plans.Seated form) = true
 is_own plans.Who = true
 is_own plans.Pause = true
 is_own plans.Resume = true
-is_own (plans.Clocks stops) = true
+is_own (plans.Call call) = true
 is_own (plans.Order order) = true
 is_own plans.LeaveLobby = true
 is_own (plans.Leave game) = true
+is_own (plans.Room game at) = true
+is_own plans.Moves = true
 is_own _ = false
 
--- the answer to a message by which all clocks stand still, or run again
-abbrev pub clocks_answer : Bool → List ℕ
-clocks_answer true = codes "ok stop clocks\n"
-clocks_answer false = codes "ok start clocks\n"
+-- the answer to a message by which everybody is told something
+abbrev pub call_answer : Call → List ℕ
+call_answer calls.StopClocks = codes "ok stop clocks\n"
+call_answer calls.StartClocks = codes "ok start clocks\n"
+call_answer calls.Announce = codes "ok announce\n"
 
--- what such an answer rests on: whether entries are paused, who has a seat in which game, what is offered, which
--- connections are open, and for whom each acts
+-- what such an answer rests on: whether entries are paused, who has a seat in which game, what is offered, who watches
+-- which game, who was there when, which connections are open, and for whom each acts
 pub record Seen : Type 0 where
   pub paused : Bool
   pub seats : List Seat
   pub offers : List Offered
+  pub watches : List Watch
+  pub attendances : List Attendance
   pub is_open : ℕ → Bool
   pub acts_for : ℕ → Option Identity
 
+abbrev pub gathering : Seen → Gathering
+gathering seen = record {
+  seats = seen.seats;
+  watches = seen.watches;
+  attendances = seen.attendances;
+  is_open = seen.is_open;
+  acts_for = seen.acts_for;
+}
+
 -- Such an answer: a refusal says why; the player is told, or all players are, or those who have a seat, or are there, or
--- what is offered to him and by him; what is left is named. An order is not carried out here.
+-- what is offered to him and by him, or who of a game is there; what is left is named. An order is not carried out here,
+-- and the answer to `moves` is not made here.
 abbrev pub IsOwnText : Seen → List Player → Plan → List ℕ → Type 0
 IsOwnText seen players (plans.Refuse refusal) text = text ≡ refusal_text refusal
 IsOwnText seen players (plans.Offer who) text = text ≡ codes "ok offered\n"
@@ -146,10 +165,11 @@ IsOwnText seen players (plans.Seated form) text = text ≡ seated_text form seen
 IsOwnText seen players plans.Who text = IsPresence seen.paused players seen.is_open seen.acts_for text
 IsOwnText seen players plans.Pause text = text ≡ codes "ok pause entries\n"
 IsOwnText seen players plans.Resume text = text ≡ codes "ok resume entries\n"
-IsOwnText seen players (plans.Clocks stops) text = text ≡ clocks_answer stops
+IsOwnText seen players (plans.Call call) text = text ≡ call_answer call
 IsOwnText seen players (plans.Order order) text = text ≡ refusal_text refusals.NotWritten
 IsOwnText seen players plans.LeaveLobby text = text ≡ codes "ok leave lobby\n"
 IsOwnText seen players (plans.Leave game) text = text ≡ codes "ok leave " ++ decimal game ++ codes "\n"
+IsOwnText seen players (plans.Room game at) text = IsRoom (gathering seen) game at text
 IsOwnText seen players _ text = Unit {0}
 
 abbrev pub known : Desk → Known
@@ -173,7 +193,7 @@ IsReady desk c = (open_of desk c ≡ true) × (owes (known desk).owed c ≡ fals
 
 -- what is seen of a desk: the number of the connection that comes next, which are open, for whom each acts, the name
 -- that was said last to the server, whether that is there, what an arbiter has halted, how many games may be, what is
--- offered, and what is known
+-- offered, who was there when, and what is known
 pub record View : Type 0 where
   pub next : ℕ
   pub is_open : ℕ → Bool
@@ -183,6 +203,7 @@ pub record View : Type 0 where
   pub halts : Halted
   pub limits : Limits
   pub offers : List Offered
+  pub attendances : List Attendance
   pub known : Known
 
 abbrev pub view : Desk → View
@@ -196,6 +217,7 @@ view desk =
       halts = halted desk.halts;
       limits = desk.limits;
       offers = map offered desk.offers.items;
+      attendances = desk.attendances.items;
       known = known desk;
     }
 
@@ -204,16 +226,20 @@ seen v = record {
   paused = v.halts.paused;
   seats = v.known.seats;
   offers = v.offers;
+  watches = v.known.watches;
+  attendances = v.attendances;
   is_open = v.is_open;
   acts_for = v.who;
 }
 
--- Behind the answer those who are told of the table are told where the message changed what is offered; and where it
--- stopped all clocks, or had them run, first the log is told who said it, and then, behind the answer, everybody.
+-- Behind the answer those who are told of the table are told where the message changed what is offered; and where it has
+-- everybody told something, first the log is told who said it, and then, behind the answer, everybody. The answer to
+-- `moves` is the message itself, of which it is made as it goes out.
 abbrev pub IsToldBehind : View → List ℕ → ℕ → Plan → MessageValue → List MessageValue → Type 0
 IsToldBehind v said c (plans.Offer who) own tells = tells ≡ own ∷ offers_notice v.known.table ∷ []
 IsToldBehind v said c (plans.Unpair who) own tells = tells ≡ own ∷ offers_notice v.known.table ∷ []
-IsToldBehind v said c (plans.Clocks stops) own tells = AreToldClocks v.is_open (name_of (v.who c)) said stops own tells
+IsToldBehind v said c (plans.Call call) own tells = AreToldCall v.is_open (name_of (v.who c)) said call own tells
+IsToldBehind v said c plans.Moves own tells = tells ≡ moves_told c said ∷ []
 IsToldBehind v said c _ own tells = tells ≡ own ∷ []
 
 -- What a connection is told by the plan for its message: such an answer, where nothing goes out; else nothing yet.
@@ -234,6 +260,7 @@ pub record BeginsView (is_paused : Bool) (now : View) : Type 0 where
   pub said : now.said ≡ None
   pub paused : now.halts.paused ≡ is_paused
   pub offers : now.offers ≡ []
+  pub attendances : now.attendances ≡ []
   pub owed : now.known.owed ≡ []
   pub left : now.known.left ≡ 0
   pub begun : now.known.begun ≡ []
@@ -428,9 +455,9 @@ pub record IsMoved (old : View) (c : ℕ) (lines : List (List ℕ)) (new : View)
   pub who_is : (d : ℕ) → new.who d ≡ (if c == d then None else old.who d)
 
 -- A connection came: it has the number that comes next, which none had before, and is told whether the server is there,
--- and in one message with it why all clocks are stopped, where they are.
+-- and in one message with it why all clocks are stopped, where they are, and what is announced.
 pub record IsOpened (old : View) (c : ℕ) (lines : List (List ℕ)) (tells : List MessageValue) (new : View) : Type 0 where
-  pub told : tells ≡ to_one c (presence old.here ++ stopped_line old.halts) ∷ []
+  pub told : tells ≡ to_one c (told_behind (presence old.here) old.halts) ∷ []
   pub moved : IsMoved old c lines new
   pub number : c ≡ old.next
   pub next_is : new.next ≡ c + 1
@@ -515,6 +542,13 @@ offers_now players who (Said c text at) offers =
     offers_said (accord_of players who c text at offers) (who c) c text at offers
 offers_now players who _ offers = offers
 
+-- Who was there when, after an event: who acts for a player and says something is known from then on, and at each message
+-- all that was closed before it counts as closed.
+abbrev pub attendances_now : (ℕ → Option Identity) → DeskInput → List Attendance → List Attendance
+attendances_now who (Said c text at) all = attended (who c) at all
+attendances_now who (Closed c) all = gone (who c) all
+attendances_now who _ all = all
+
 -- a step: what comes in, the lines that go to the server, and what connections are told; the limits stay
 pub record IsStep (players : List Player) (old : View) (event : DeskInput) (lines : List (List ℕ))
     (tells : List MessageValue) (new : View) : Type 0 where
@@ -522,6 +556,7 @@ pub record IsStep (players : List Player) (old : View) (event : DeskInput) (line
   pub opens : (c : ℕ) → new.is_open c ≡ open_now event c (old.is_open c)
   pub limits : new.limits ≡ old.limits
   pub offers : new.offers ≡ offers_now players old.who event old.offers
+  pub attendances : new.attendances ≡ attendances_now old.who event old.attendances
   pub known : IsKnown event (speaker old.who event) lines old.is_open old.known new.known
   pub told : IsTold event lines tells old.is_open old.known
 
@@ -572,6 +607,7 @@ pub record Carried (message : Planned) (old : Desk) (before after : Outgoing) (n
   pub players : new.players ≡ old.players
   pub next : new.next ≡ old.next
   pub offers : new.offers ≡ old.offers
+  pub attendances : new.attendances ≡ old.attendances
 
 -- No answer of the server changes this.
 pub record IsElseSame (old new : Desk) : Type 0 where
@@ -584,6 +620,7 @@ pub record IsElseSame (old new : Desk) : Type 0 where
   pub players : new.players ≡ old.players
   pub next : new.next ≡ old.next
   pub offers : new.offers ≡ old.offers
+  pub attendances : new.attendances ≡ old.attendances
 
 -- An answer of the server is taken, by whose it is; the first that was owed is taken off before.
 pub record AnswersTo (o : Owed) (now : List ℕ) (old : Desk) (before after : Outgoing) (new : Desk) : Type 0 where

@@ -9,16 +9,16 @@ ghost use Rattle.lobby_table.specs.Owed.{owed_of, owed_lines};
 ghost use Rattle.lobby_desk.specs.Tellings.{token_told};
 ghost use Rattle.lobby_table.specs.Visitors.{who_in, open_in_map, until_in};
 ghost use Rattle.lobby_desk.specs.Who.{who_noted, plan_watches, plan_table};
-ghost use Rattle.lobby_desk.specs.Who.{is_own, IsOwnText};
-ghost use Rattle.lobby_offers.specs.Offers.{offered};
+ghost use Rattle.lobby_desk.specs.Who.{is_own, seen, view, IsOwnText};
 
-use lobby_offers::{Offer, offers_text};
+use crate::desk::Desk;
+use lobby_offers::offers_text;
 use lobby_table::{
-    Due, ServerLine, Visitor, Watch, present_rows, put, rise, unwatch, waiting_act, who_acts,
+    Due, ServerLine, Visitor, Watch, present_rows, put, rise, room_text, unwatch, waiting_act,
+    who_acts,
 };
 use lobby_words::{
-    Identity, Order, Plan, Player, Refusal, Seat, as_line, headed, login_line, player_rows,
-    seated_rows,
+    Call, Identity, Order, Plan, Refusal, as_line, headed, login_line, player_rows, seated_rows,
 };
 use std::alloc::{AllocError, Global};
 use std::collections::BTreeMap;
@@ -35,44 +35,52 @@ pub fn forget(watches: &mut Vec<Watch>, table: &mut Vec<u64>, from: u64, plan: &
     }
 }
 
-/// The line that a connection is answered for a plan by which nothing is sent.
-pub fn own_answer(
-    alloc: Global,
-    is_paused: bool,
-    plan: &Plan,
-    players: &[Player],
-    seats: &[Seat],
-    offers: &[Offer],
-    visitors: &BTreeMap<u64, Visitor>,
-) -> Result<Option<String>, AllocError>
-    ensures own { IfOk result (λ answer. is_some answer ≡ is_own plan.now) }
-    ensures text { IfOk result (λ answer. IfSome answer (λ text.
-        IsOwnText (record {
-          paused = is_paused;
-          seats = seats.now;
-          offers = map offered offers.now;
-          is_open = open_in_map visitors.now;
-          acts_for = who_in visitors.now;
-        }) players.now plan.now
-        (string_bytes text))) }
-{
-    match plan {
-        Plan::Refuse(refusal) => Ok(Some(String::from_str(alloc, refusal.line())?)),
-        Plan::Offer(_) => Ok(Some(String::from_str(alloc, "ok offered\n")?)),
-        Plan::Unpair(_) => Ok(Some(String::from_str(alloc, "ok unpair\n")?)),
-        Plan::Offers(who, at) => Ok(Some(offers_text(alloc, offers, visitors, who, *at)?)),
-        Plan::Login(who) => Ok(Some(login_line(alloc, who, players)?)),
-        Plan::Players => Ok(Some(player_rows(alloc, players)?)),
-        Plan::Seated(form) => Ok(Some(seated_rows(alloc, *form, players, seats)?)),
-        Plan::Who => Ok(Some(present_rows(alloc, is_paused, players, visitors)?)),
-        Plan::Pause => Ok(Some(String::from_str(alloc, "ok pause entries\n")?)),
-        Plan::Resume => Ok(Some(String::from_str(alloc, "ok resume entries\n")?)),
-        Plan::Clocks(true) => Ok(Some(String::from_str(alloc, "ok stop clocks\n")?)),
-        Plan::Clocks(false) => Ok(Some(String::from_str(alloc, "ok start clocks\n")?)),
-        Plan::Order(_) => Ok(Some(String::from_str(alloc, Refusal::NotWritten.line())?)),
-        Plan::LeaveLobby => Ok(Some(String::from_str(alloc, "ok leave lobby\n")?)),
-        Plan::Leave(game) => Ok(Some(headed(alloc, "ok leave ", u64::from(*game))?)),
-        _ => Ok(None),
+impl Desk {
+    /// The line that a connection is answered for a plan by which nothing is sent; of `moves`, which is made as it goes
+    /// out, none.
+    pub(crate) fn own_answer(&self, plan: &Plan) -> Result<Option<String>, AllocError>
+        ensures own { IfOk result (λ answer. is_some answer ≡ is_own plan.now) }
+        ensures text { IfOk result (λ answer. IfSome answer (λ text.
+            IsOwnText (seen (view self.now)) self.now.players.items plan.now (string_bytes text))) }
+    {
+        let alloc = self.alloc;
+        let players = self.players.as_slice();
+        let seats = self.line.seats.as_slice();
+        let visitors = &self.visitors;
+        match plan {
+            Plan::Refuse(refusal) => Ok(Some(String::from_str(alloc, refusal.line())?)),
+            Plan::Offer(_) => Ok(Some(String::from_str(alloc, "ok offered\n")?)),
+            Plan::Unpair(_) => Ok(Some(String::from_str(alloc, "ok unpair\n")?)),
+            Plan::Offers(who, at) => {
+                let offers = self.offers.as_slice();
+                Ok(Some(offers_text(alloc, offers, visitors, who, *at)?))
+            }
+            Plan::Login(who) => Ok(Some(login_line(alloc, who, players)?)),
+            Plan::Players => Ok(Some(player_rows(alloc, players)?)),
+            Plan::Seated(form) => Ok(Some(seated_rows(alloc, *form, players, seats)?)),
+            Plan::Who => {
+                let is_paused = self.halts.is_paused;
+                Ok(Some(present_rows(alloc, is_paused, players, visitors)?))
+            }
+            Plan::Pause => Ok(Some(String::from_str(alloc, "ok pause entries\n")?)),
+            Plan::Resume => Ok(Some(String::from_str(alloc, "ok resume entries\n")?)),
+            Plan::Call(Call::StopClocks) => Ok(Some(String::from_str(alloc, "ok stop clocks\n")?)),
+            Plan::Call(Call::StartClocks) => {
+                Ok(Some(String::from_str(alloc, "ok start clocks\n")?))
+            }
+            Plan::Call(Call::Announce) => Ok(Some(String::from_str(alloc, "ok announce\n")?)),
+            Plan::Order(_) => Ok(Some(String::from_str(alloc, Refusal::NotWritten.line())?)),
+            Plan::LeaveLobby => Ok(Some(String::from_str(alloc, "ok leave lobby\n")?)),
+            Plan::Leave(game) => Ok(Some(headed(alloc, "ok leave ", u64::from(*game))?)),
+            Plan::Room(game, at) => {
+                let watches = self.watches.as_slice();
+                let attendances = self.attendances.as_slice();
+                let text = room_text(alloc, *game, *at, seats, watches, attendances, visitors)?;
+                Ok(Some(text))
+            }
+            Plan::Moves => Ok(Some(String::new(alloc))),
+            _ => Ok(None),
+        }
     }
 }
 

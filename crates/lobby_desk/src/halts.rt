@@ -1,12 +1,12 @@
-//! What an arbiter has halted: entries, and all clocks.
-ghost use Rattle.std.specs.Prelude.{◌≡◌, ◌++◌, codes, IfOk, OnOk};
+//! What an arbiter has halted, entries and all clocks, and what he announces.
+ghost use Rattle.std.specs.Prelude.{◌≡◌, ◌++◌, IfOk, OnOk};
 ghost use Rattle.std.specs.String.{string_bytes};
 ghost use Rattle.lobby_desk.specs.Halts as spec;
 
-use lobby_words::{Plan, Refusal, as_line, is_of_clocks};
+use lobby_words::{Call, Plan, Refusal, as_line, cut_word, is_of_clocks};
 use std::alloc::{AllocError, Global};
 
-/// What an arbiter has halted.
+/// What an arbiter has halted, and what he announces.
 #[derive(Drop)]
 pub struct Halts {
     /// Whether no games are opened, but by an arbiter.
@@ -15,6 +15,8 @@ pub struct Halts {
     pub can_stop: bool,
     /// Why all clocks are stopped; empty where they run.
     pub reason: String,
+    /// What is announced; empty where nothing is.
+    pub announced: String,
 }
 
 // Whether entries are paused after a plan.
@@ -28,26 +30,45 @@ fn paused_after(before: bool, plan: &Plan) -> bool
     }
 }
 
+// Puts a line behind a text that tells this, if it is something.
+fn push_line_if(text: &mut String, front: &str, what: &str) -> Result<(), AllocError>
+    ensures { OnOk result (string_bytes text.new ≡ string_bytes text.old ++ spec.line_if front.now what.now) }
+{
+    if what.is_empty() {
+        return Ok(());
+    }
+    text.push_str(front)?;
+    text.push_str(what)?;
+    text.push('\n')
+}
+
 impl Halts {
-    // The reason for which all clocks are stopped, if a plan for a message changes it.
-    fn note_reason(&mut self, alloc: Global, plan: &Plan, text: &str) -> Result<(), AllocError>
+    // What everybody is told by a message, by the plan for it: why all clocks are stopped, or what is announced.
+    fn note_call(&mut self, alloc: Global, plan: &Plan, text: &str) -> Result<(), AllocError>
         ensures reason { OnOk result (string_bytes self.new.reason
             ≡ spec.reason_after plan.now text.now (string_bytes self.old.reason)) }
+        ensures announced { OnOk result (string_bytes self.new.announced
+            ≡ spec.announced_after plan.now text.now (string_bytes self.old.announced)) }
         ensures paused { OnOk result (self.new.is_paused ≡ self.old.is_paused) }
         ensures can { OnOk result (self.new.can_stop ≡ self.old.can_stop) }
     {
-        if let Plan::Clocks(stops) = plan {
-            let reason = if *stops { as_line(text) } else { "" };
-            self.reason = String::from_str(alloc, reason)?;
+        match plan {
+            Plan::Call(Call::StopClocks) => self.reason = String::from_str(alloc, as_line(text))?,
+            Plan::Call(Call::StartClocks) => self.reason = String::new(alloc),
+            Plan::Call(Call::Announce) => {
+                let (_, announced) = cut_word(text);
+                self.announced = String::from_str(alloc, announced)?;
+            }
+            _ => {}
         }
         Ok(())
     }
 
-    /// Notes what a plan for a message halts, or has go on.
+    /// Notes what a plan for a message halts, has go on or announces.
     pub fn note(&mut self, alloc: Global, plan: &Plan, text: &str) -> Result<(), AllocError>
         ensures { OnOk result (spec.halted self.new ≡ spec.halted_after plan.now text.now (spec.halted self.old)) }
     {
-        self.note_reason(alloc, plan, text)?;
+        self.note_call(alloc, plan, text)?;
         self.is_paused = paused_after(self.is_paused, plan);
         Ok(())
     }
@@ -74,27 +95,13 @@ impl Halts {
         }
     }
 
-    // The line that tells that all clocks are stopped, and why; none where they run.
-    fn stopped_line(&self, alloc: Global) -> Result<String, AllocError>
-        ensures { IfOk result (λ line. string_bytes line ≡ spec.stopped_line (spec.halted self.now)) }
-    {
-        if !self.reason.is_empty() {
-            let mut line = String::from_str(alloc, "clocks stopped ")?;
-            line.push_str(self.reason.as_str())?;
-            line.push('\n')?;
-            Ok(line)
-        } else {
-            Ok(String::new(alloc))
-        }
-    }
-
-    /// A text, and behind it that line.
+    /// A text, and behind it the lines that tell why all clocks are stopped, and what is announced, where that is so.
     pub fn told_behind(&self, alloc: Global, text: &str) -> Result<String, AllocError>
-        ensures { IfOk result (λ told. string_bytes told ≡ text.now ++ spec.stopped_line (spec.halted self.now)) }
+        ensures { IfOk result (λ told. string_bytes told ≡ spec.told_behind text.now (spec.halted self.now)) }
     {
-        let line = self.stopped_line(alloc)?;
         let mut told = String::from_str(alloc, text)?;
-        told.push_str(line.as_str())?;
+        push_line_if(&mut told, "clocks stopped ", self.reason.as_str())?;
+        push_line_if(&mut told, "announced ", self.announced.as_str())?;
         Ok(told)
     }
 }

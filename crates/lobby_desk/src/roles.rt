@@ -1,16 +1,8 @@
 //! What a connection is to the lobby.
 ghost use Rattle.std.specs.Prelude.{◌≡◌};
-ghost use Rattle.lobby_table.specs.Watching.{watches_any};
 
 use crate::desk::Desk;
-use lobby_table::{Watch, is_at_table};
-
-// Whether a connection watches a game.
-fn watches_any(watches: &[Watch], by: u64) -> bool
-    ensures { result ≡ watches_any watches.now by }
-{
-    watches.iter().any(|watch| watch.by == by)
-}
+use lobby_table::{is_at_table, watches_any};
 
 impl Desk {
     ghost use Rattle.lobby_desk.specs.Roles.{is_watcher};

@@ -2,7 +2,7 @@
 use Rattle.std.specs.Prelude.{ℕ, ◌≡◌, Bool, true, false, not, List, [], ◌∷◌, Option, None, Some}
 use Rattle.std.specs.String.{string_bytes}
 use Rattle.lobby_desk.specs.declared.telling.Kind.{Kind}
-use Rattle.lobby_desk.specs.declared.telling.Kind.TheVariants.{Whole, Position, Line, Log}
+use Rattle.lobby_desk.specs.declared.telling.Kind.TheVariants.{Whole, Position, Line, Moves, Log}
 use Rattle.lobby_desk.specs.declared.telling.Message.{Message}
 use Rattle.lobby_talk.specs.Making.{IsOfLine}
 use Rattle.lobby_guests.specs.declared.waiting.Waiting.{Waiting}
@@ -11,6 +11,7 @@ use Rattle.lobby_guests.specs.declared.waiting.Waiting.{Waiting}
 abbrev pub is_line : Kind → Bool
 is_line Whole = false
 is_line Position = false
+is_line Moves = false
 is_line Line = true
 is_line Log = false
 

@@ -39,6 +39,6 @@ pub fn is_line(kind: Kind) -> bool
 {
     match kind {
         Kind::Line => true,
-        Kind::Whole | Kind::Position | Kind::Log => false,
+        Kind::Whole | Kind::Position | Kind::Moves | Kind::Log => false,
     }
 }

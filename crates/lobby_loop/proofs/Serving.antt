@@ -16,7 +16,7 @@ use Rattle.lobby_web.specs.declared.socket.Heard.TheVariants as heards
 use Rattle.lobby_web.specs.Browsing.{pending}
 use Rattle.lobby_guests.specs.declared.guest.Guest.{Guest}
 use Rattle.lobby_desk.specs.declared.telling.Kind.{Kind}
-use Rattle.lobby_desk.specs.declared.telling.Kind.TheVariants.{Whole, Position as AtPosition, Line, Log}
+use Rattle.lobby_desk.specs.declared.telling.Kind.TheVariants.{Whole, Position as AtPosition, Line, Moves, Log}
 use Rattle.lobby_talk.specs.Making.{IsOfLine, IsFinished, IsMade}
 use Rattle.lobby_talk.specs.Keeping.{IsMadeOf}
 use Rattle.lobby_talk.specs.declared.kept_answer.KeptAnswer.{KeptAnswer}
@@ -192,6 +192,7 @@ is_whole (one ∷ ones) kind of text new is made = absurd (false≢true (sym is)
 is_whole [] Whole of text new is made = made
 is_whole [] AtPosition of text new is made = made
 is_whole [] Line of text new is made = absurd (false≢true (sym is))
+is_whole [] Moves of text new is made = made
 is_whole [] Log of text new is made = made
 
 -- one message more went out, which is not for the connection
@@ -253,6 +254,7 @@ told_as of Whole text was new made told = subst (λ (l : List ℕ). IsFinished o
 told_as of AtPosition text was new made told = subst (λ (l : List ℕ). IsFinished of text l) (sym told) made
 told_as of Line text was new (is, same) told =
     subst (λ (k : Kind). IsFinished k text new) (sym is) (subst (λ (l : List ℕ). ∥ IsOfLine l new ∥₁) same told)
+told_as of Moves text was new made told = subst (λ (l : List ℕ). IsFinished of text l) (sym told) made
 told_as of Log text was new made told = subst (λ (l : List ℕ). IsFinished of text l) (sym told) made
 
 -- the first that waits is told

@@ -81,11 +81,17 @@ accord_noted accords.Agreed by c text at offers = but_by (as_name text) (but_by 
 abbrev pub ends_offers : List ℕ → Bool
 ends_offers text = is_message text && is_unpair_sort (sort_of text)
 
+-- An arbiter's pairing ends what its two players offer, whatever comes of it.
+abbrev pub pairs_at_once : Identity → List ℕ → Bool
+pairs_at_once who text = is_message text && is_pairing text && who.is_arbiter
+
 -- the offers after a message of a connection that acts for this player, which is this between him and another
 abbrev pub offers_said : Accord → Option Identity → ℕ → List ℕ → ℕ → List Offered → List Offered
 offers_said accord None c text at offers = offers
 offers_said accord (Some who) c text at offers =
-    if ends_offers text then parted who.name (rest_of text) offers else accord_noted accord who.name c text at offers
+    if ends_offers text then parted who.name (rest_of text) offers
+    else (if pairs_at_once who text then but_by (as_name text) (but_by (black_name text) offers)
+    else accord_noted accord who.name c text at offers)
 
 -- The answer to `offers`: those that stand in which the player is one of the two, the oldest first, each with who
 -- offers it and what stands behind `pair`.

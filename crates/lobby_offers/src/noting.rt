@@ -1,5 +1,6 @@
 //! Which offers there are after a message.
 ghost use Rattle.std.specs.Prelude.{◌≡◌, ◌++◌, ◌∷◌, [], map, IfOk, OnOk};
+ghost use Rattle.lobby_words.specs.Words as words;
 ghost use Rattle.lobby_offers.specs.Offers as spec;
 
 use crate::offer::{Offer, is_party};
@@ -59,6 +60,22 @@ fn ends_offers(text: &str) -> bool
     is_message(text) && matches!(sort_of(text), Sort::Unpair)
 }
 
+// Whether a message is a pairing that is made at once.
+fn pairs_at_once(who: &Identity, text: &str) -> bool
+    ensures { result ≡ spec.pairs_at_once who.now text.now }
+{
+    is_message(text) && matches!(sort_of(text), Sort::Pair) && who.is_arbiter
+}
+
+// Neither of the two in a pairing has an offer any more.
+fn take_both(offers: &mut Vec<Offer>, text: &str)
+    ensures { map spec.offered offers.new.items ≡ spec.but_by (words.as_name text.now)
+        (spec.but_by (words.black_name text.now) (map spec.offered offers.old.items)) }
+{
+    take_off(offers, black_name(text));
+    take_off(offers, as_name(text));
+}
+
 // Notes what a message of a player is between him and another.
 fn note_accord(
     offers: &mut Vec<Offer>,
@@ -79,8 +96,7 @@ fn note_accord(
             put(offers, offer)
         }
         Accord::Agreed => {
-            take_off(offers, black_name(text));
-            take_off(offers, as_name(text));
+            take_both(offers, text);
             Ok(())
         }
     }
@@ -105,6 +121,9 @@ pub fn note_offers(
             if ends_offers(text) {
                 let (_, other) = cut_word(text);
                 part(offers, who.name.as_str(), other);
+                Ok(())
+            } else if pairs_at_once(who, text) {
+                take_both(offers, text);
                 Ok(())
             } else {
                 note_accord(offers, alloc, accord, who.name, from, text, at)

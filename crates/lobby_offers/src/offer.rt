@@ -1,11 +1,10 @@
 //! One offer.
 ghost use Rattle.std.specs.Prelude.{◌≡◌};
-ghost use Rattle.lobby_words.specs.Players.{is_named};
 ghost use Rattle.lobby_table.specs.Visitors.{who_in};
 ghost use Rattle.lobby_offers.specs.Offers as spec;
 
-use lobby_table::{Visitor, who_acts};
-use lobby_words::{Identity, as_name, black_name};
+use lobby_table::{Visitor, is_named, who_acts};
+use lobby_words::{as_name, black_name};
 use player_name::Name;
 use std::collections::BTreeMap;
 
@@ -22,16 +21,6 @@ pub struct Offer {
     pub text: String,
     /// When he said it.
     pub at: u64,
-}
-
-// Whether it is the player of this name.
-fn is_named(who: &Option<Identity>, name: &str) -> bool
-    ensures { result ≡ is_named who.now name.now }
-{
-    match who {
-        None => false,
-        Some(who) => who.name.as_str() == name,
-    }
 }
 
 /// Whether a player is one of the two in a pairing.

@@ -50,6 +50,7 @@ impl<'a, R: Files<File = File> + AllocGlobal + RandomSource + Eprint> FileLinks<
             is_paused: self.entries.is_paused(),
             can_stop: self.clocks.is_some(),
             reason: String::from_str(self.rt.alloc(), reason)?,
+            announced: String::new(self.rt.alloc()),
         })
     }
 

@@ -4,3 +4,4 @@ pub mod PresentNames
 pub mod Watched
 pub mod Others
 pub mod Opened
+pub mod Rows

@@ -5,3 +5,4 @@ pub mod Visitors
 pub mod Waiting
 pub mod Pairings
 pub mod Refusals
+pub mod Rooms

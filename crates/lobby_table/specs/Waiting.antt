@@ -1,6 +1,6 @@
 -- The seats of players in the games on the server's table, as far as its answers have told, and who may open or join
 -- one more.
-use Rattle.std.specs.Prelude.{ℕ, Bool, true, false, ◌&&◌, ◌==◌, ◌+◌, ◌-◌, ◌*◌, ◌/◌, not, nat_le, List, [], ◌∷◌, ◌++◌}
+use Rattle.std.specs.Prelude.{ℕ, Bool, true, false, ◌&&◌, ◌||◌, ◌==◌, ◌+◌, ◌-◌, ◌*◌, ◌/◌, not, nat_le, List, [], ◌∷◌, ◌++◌}
 use Rattle.std.specs.Prelude.{length, map, filter, Option, None, Some, if◌then◌else◌}
 use Rattle.std.specs.List.{count_by}
 use Rattle.std.specs.Str.{bytes_eq}
@@ -67,7 +67,8 @@ abbrev pub is_seat : Stage → List ℕ → Seat → Bool
 is_seat stage name s = is_stage s.stage stage && bytes_eq s.by name
 
 -- Whether an answer is owed to an act for this player by which one more of his games stands so: to an `open`, by which
--- one waits, or to a `join`, by which one goes on.
+-- one waits, or to a `join`, by which one goes on. A pairing has one of White's wait until Black has joined it, and one
+-- more of both goes on then: so it counts for both from its opening until the join is answered.
 abbrev pub enters : Stage → List ℕ → Bool
 enters stages.Waits text = opens_game text
 enters stages.Plays text = joins_game text
@@ -76,11 +77,15 @@ enters stages.Over text = false
 abbrev pub enters_by : Stage → List ℕ → List ℕ → List ℕ → Bool
 enters_by stage name by text = bytes_eq (actor by text) name && enters stage text
 
+abbrev pub plays_by : Stage → List ℕ → List ℕ → Bool
+plays_by stage name text =
+    is_stage stage stages.Plays && (bytes_eq (as_name text) name || bytes_eq (black_name text) name)
+
 abbrev pub pairs_by : Stage → List ℕ → List ℕ → Bool
-pairs_by stage name text = is_stage stage stages.Waits && bytes_eq (as_name text) name
+pairs_by stage name text = is_stage stage stages.Waits && bytes_eq (as_name text) name || plays_by stage name text
 
 abbrev pub is_entry : Stage → List ℕ → Owed → Bool
-is_entry stage name (Asker c (ForAct by text)) = enters_by stage name by text
+is_entry stage name (Asker c (ForAct by text)) = enters_by stage name by text || is_pair text && plays_by stage name text
 is_entry stage name (Pairer c by black text) = pairs_by stage name text
 is_entry stage name _ = false
 

@@ -4,7 +4,8 @@
 //! Modules: `server_line` is the line to the server, and `owing` tells for whom its answers are. By these are known who
 //! has a seat in which game (`waiting`), which games are kept for one player (`pairings`), and how many acts were
 //! refused (`refusals`). `visitors` tells who is connected, `present` which players that are, `renewing` for whom they
-//! act when the players are others, and `watching` who is told of what. `adding` adds.
+//! act when the players are others, `watching` who is told of what, and `rooms` who of a game's players is there. `adding`
+//! adds.
 #![tactic(auto)]
 
 mod adding;
@@ -13,6 +14,7 @@ mod pairings;
 mod present;
 mod refusals;
 mod renewing;
+mod rooms;
 mod server_line;
 mod visitors;
 mod waiting;
@@ -24,10 +26,11 @@ pub use pairings::{Pairing, game_bar, join_bar, keep, note_pairing, open_bar};
 pub use present::present_rows;
 pub use refusals::{RefusedActs, count_of, game_named, note_refused};
 pub use renewing::renew_all;
+pub use rooms::{Attendance, Left, attend, note_gone, room_text};
 pub use server_line::{Acting, Due, Notice, ServerLine, waiting_act};
-pub use visitors::{Visitor, open_ones, put, who_acts};
+pub use visitors::{Visitor, is_named, open_ones, put, who_acts};
 pub use waiting::{note_act, note_list, note_opened};
 pub use watching::{
     Watch, add_watch, followers, games_of, is_at_table, is_full, is_watched, rise, sit, unwatch,
-    unwatch_all,
+    unwatch_all, watches_any,
 };

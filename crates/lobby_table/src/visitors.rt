@@ -1,5 +1,6 @@
 //! Who is connected.
 ghost use Rattle.std.specs.Prelude.{ℕ, ◌≡◌, ◌==◌, ◌||◌, IfOk, OnOk, if◌then◌else◌};
+ghost use Rattle.lobby_words.specs.Players.{is_named};
 ghost use Rattle.lobby_table.specs.Visitors.{who_in, open_in_map, until_in};
 ghost use Rattle.lobby_table.specs.Watching.{at_table};
 
@@ -23,6 +24,16 @@ pub fn who_acts(visitors: &BTreeMap<u64, Visitor>, connection: u64) -> Option<Id
     match visitors.get(&connection) {
         Some(visitor) => visitor.who,
         None => None,
+    }
+}
+
+/// Whether it is the player of this name.
+pub fn is_named(who: &Option<Identity>, name: &str) -> bool
+    ensures { result ≡ is_named who.now name.now }
+{
+    match who {
+        None => false,
+        Some(who) => who.name.as_str() == name,
     }
 }
 

@@ -1,10 +1,11 @@
 //! The seats of players in the games on the server's table, as far as its answers have told.
-ghost use Rattle.std.specs.Prelude.{◌≡◌, ◌==◌, ◌+◌, ◌-◌, ◌*◌, ◌/◌, true, false, not, nat_le, map, OnOk};
+ghost use Rattle.std.specs.Prelude.{◌≡◌, ◌==◌, ◌&&◌, ◌||◌, ◌+◌, ◌-◌, ◌*◌, ◌/◌, true, false, not, nat_le, map, OnOk};
 ghost use Rattle.std.specs.List.{count_by};
 ghost use Rattle.std.specs.String.{string_bytes};
 ghost use Rattle.lobby_table.specs.Owed.{owed_of};
 ghost use Rattle.lobby_table.specs.Waiting as spec;
 ghost use Rattle.lobby_words.specs.Answers.{tells_end};
+ghost use Rattle.lobby_words.specs.Words.{is_pair};
 
 use crate::server_line::{Acting, Due, ServerLine};
 use lobby_words::{
@@ -52,11 +53,27 @@ fn enters_by(act: &Acting, stage: Stage, name: &str) -> bool
     actor(act.who.as_str(), act.text.as_str()) == name && enters(act.text.as_str(), stage)
 }
 
-// Whether the message of a pairing has this player as White.
-fn pairs_by(act: &Acting, stage: Stage, name: &str) -> bool
-    ensures { result ≡ spec.pairs_by stage name.now (string_bytes act.now.text) }
+// Whether the message of a pairing has one more game of this player go on, once it is joined.
+fn plays_by(text: &str, stage: Stage, name: &str) -> bool
+    ensures { result ≡ spec.plays_by stage name.now text.now }
 {
-    is_stage(stage, Stage::Waits) && as_name(act.text.as_str()) == name
+    is_stage(stage, Stage::Plays) && (as_name(text) == name || black_name(text) == name)
+}
+
+// Whether it has one more game of this player stand so, where that is opened.
+fn pairs_by(text: &str, stage: Stage, name: &str) -> bool
+    ensures { result ≡ spec.pairs_by stage name.now text.now }
+{
+    is_stage(stage, Stage::Waits) && as_name(text) == name || plays_by(text, stage, name)
+}
+
+// Whether an act is one by which one more game of this player stands so, the join of a pairing too.
+fn acts_by(act: &Acting, stage: Stage, name: &str) -> bool
+    ensures { result ≡ (spec.enters_by stage name.now act.now.who (string_bytes act.now.text)
+        || is_pair (string_bytes act.now.text) && spec.plays_by stage name.now (string_bytes act.now.text)) }
+{
+    let text = act.text.as_str();
+    enters_by(act, stage, name) || is_pair(text) && plays_by(text, stage, name)
 }
 
 // Whether the answer to such an act for this player is due.
@@ -64,8 +81,8 @@ fn is_entry(due: &Due, stage: Stage, name: &str) -> bool
     ensures { result ≡ spec.is_entry stage name.now (owed_of due.now) }
 {
     match due {
-        Due::Act(act) => enters_by(act, stage, name),
-        Due::Pair(act, _) => pairs_by(act, stage, name),
+        Due::Act(act) => acts_by(act, stage, name),
+        Due::Pair(act, _) => pairs_by(act.text.as_str(), stage, name),
         _ => false,
     }
 }

@@ -4,7 +4,7 @@ use Rattle.std.specs.List.{sum_by}
 use Rattle.std.specs.String.{string_bytes}
 use Rattle.lobby_talk.specs.declared.kept_answer.KeptAnswer.{KeptAnswer}
 use Rattle.lobby_desk.specs.declared.telling.Kind.{Kind}
-use Rattle.lobby_desk.specs.declared.telling.Kind.TheVariants.{Whole, Position as AtPosition, Line, Log}
+use Rattle.lobby_desk.specs.declared.telling.Kind.TheVariants.{Whole, Position as AtPosition, Line, Moves, Log}
 use Rattle.lobby_desk.specs.declared.telling.Message.{Message}
 use Rattle.lobby_talk.specs.Making.{IsOfLine, IsMade}
 
@@ -43,9 +43,11 @@ abbrev pub IsOfKept : List KeptAnswer → Kind → List ℕ → Kind → List �
 IsOfKept kept Line text Line new = Unit {0}
 IsOfKept kept Line text Whole new = HasKept kept text new
 IsOfKept kept Line text AtPosition new = HasKept kept text new
+IsOfKept kept Line text Moves new = HasKept kept text new
 IsOfKept kept Line text Log new = HasKept kept text new
 IsOfKept kept Whole text other new = Unit {0}
 IsOfKept kept AtPosition text other new = Unit {0}
+IsOfKept kept Moves text other new = Unit {0}
 IsOfKept kept Log text other new = Unit {0}
 
 -- A message, as it goes out, or as it waits for its answer: to the same connections, and where it is an answer to

@@ -7,11 +7,13 @@ use Rattle.chess_board.specs.Position.{Position, IsValid}
 use Rattle.chess_notation.specs.Fen.{IsFenOf}
 use Rattle.text_lines.specs.Lines.{is_feed}
 use Rattle.lobby_words.specs.Words.{word_of, rest_of}
+use Rattle.lobby_words.specs.Plans.{refusal_text}
+use Rattle.lobby_words.specs.declared.refusals.Refusal.TheVariants.{BadLine}
 use Rattle.text_pgn.specs.Telling.{TellsMoves}
 use Rattle.text_pgn.specs.Game.{TellsGame}
 use Rattle.text_pgn.specs.Answer.{IsLineAnswer}
 use Rattle.lobby_desk.specs.declared.telling.Kind.{Kind}
-use Rattle.lobby_desk.specs.declared.telling.Kind.TheVariants.{Whole, Position as AtPosition, Line, Log}
+use Rattle.lobby_desk.specs.declared.telling.Kind.TheVariants.{Whole, Position as AtPosition, Line, Moves, Log}
 
 -- what stands behind the first line of a text
 abbrev pub lines_behind : List ℕ → List ℕ
@@ -36,6 +38,13 @@ pub record IsWithMoves (text new : List ℕ) : Type 0 where
       (moves : List ℕ) × TellsMoves moves p × (new ≡ text ++ moves ++ 10 ∷ [])
   pub none : ((p : Position) → IsValid p → IsFenOf (fen_in text) p → ⊥) → new ≡ text
 
+-- The text is `moves FEN`: instead of it the legal moves of the position of this FEN, in the line that tells them, behind
+-- `ok`; and where the FEN is none, that the message has no form.
+pub record IsOfMoves (text new : List ℕ) : Type 0 where
+  pub told : (p : Position) → IsValid p → IsFenOf (rest_of text) p →
+      (moves : List ℕ) × TellsMoves moves p × (new ≡ codes "ok " ++ moves ++ 10 ∷ [])
+  pub none : ((p : Position) → IsValid p → IsFenOf (rest_of text) p → ⊥) → new ≡ refusal_text BadLine
+
 -- The text is `ok pgn G K` and the lines of a PGN: instead of it the positions of the game that this tells, or `lost`
 -- where it tells none.
 pub record IsOfLine (text new : List ℕ) : Type 0 where
@@ -50,6 +59,7 @@ abbrev pub IsFinished : Kind → List ℕ → List ℕ → Type 0
 IsFinished Whole text new = new ≡ text
 IsFinished AtPosition text new = IsWithMoves text new
 IsFinished Line text new = ∥ IsOfLine text new ∥₁
+IsFinished Moves text new = IsOfMoves text new
 IsFinished Log text new = new ≡ text
 
 -- A text of this kind, as far as it is made: the answer to `line G` may not be there yet, and then the text is as it
@@ -58,4 +68,5 @@ abbrev pub IsMade : Kind → List ℕ → Kind → List ℕ → Type 0
 IsMade kind text Line new = (kind ≡ Line) × (new ≡ text)
 IsMade kind text Whole new = IsFinished kind text new
 IsMade kind text AtPosition new = IsFinished kind text new
+IsMade kind text Moves new = IsFinished kind text new
 IsMade kind text Log new = IsFinished kind text new

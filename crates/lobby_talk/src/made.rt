@@ -1,9 +1,9 @@
 //! Messages as browsers get them: what the desk told, with what the positions say.
-ghost use Rattle.std.specs.Prelude.{◌≡◌, ◌++◌, ◌∷◌, [], OnOk};
+ghost use Rattle.std.specs.Prelude.{◌≡◌, ◌++◌, ◌∷◌, [], codes, OnOk};
 ghost use Rattle.std.specs.List.{AllZip};
 ghost use Rattle.std.specs.String.{string_bytes};
 ghost use Rattle.lobby_words.specs.Words.{rest_of};
-ghost use Rattle.lobby_talk.specs.Making.{IsWithMoves};
+ghost use Rattle.lobby_talk.specs.Making.{IsWithMoves, IsOfMoves};
 ghost use Rattle.lobby_talk.specs.Keeping.{IsMadeOf};
 ghost use Rattle.lobby_desk.specs.declared.telling.Kind.TheVariants.{Line};
 ghost use Rattle.lobby_talk.specs.Replays.{IsNumberIn};
@@ -11,6 +11,7 @@ ghost use Rattle.lobby_talk.specs.Making as making;
 
 use crate::kept::KeptAnswers;
 use lobby_desk::{Kind, Message};
+use lobby_words::Refusal;
 use std::alloc::{AllocError, Global};
 use text_parts::{before, behind};
 use text_pgn::moves_line;
@@ -64,6 +65,34 @@ fn add_moves(alloc: Global, text: &mut String) -> Result<(), AllocError>
     }
 }
 
+// A text takes the place of another.
+fn put(alloc: Global, text: &mut String, new: &str) -> Result<(), AllocError>
+    ensures { OnOk result (string_bytes text.new ≡ new.now) }
+{
+    *text = String::from_str(alloc, new)?;
+    Ok(())
+}
+
+// The line of the legal moves, behind `ok`, takes its place.
+fn put_moves(alloc: Global, text: &mut String, line: &str) -> Result<(), AllocError>
+    ensures { OnOk result (string_bytes text.new ≡ codes "ok " ++ line.now ++ 10 ∷ []) }
+{
+    put(alloc, text, "ok ")?;
+    push_line(text, line)
+}
+
+// The legal moves of the position that a message `moves FEN` names take its place; where it names none, that it has no
+// form.
+fn tell_moves(alloc: Global, text: &mut String) -> Result<(), AllocError>
+    ensures { OnOk result (IsOfMoves (string_bytes text.old) (string_bytes text.new)) }
+{
+    let line = moves_line(alloc, rest_of(text.as_str()))?;
+    match line {
+        None => put(alloc, text, Refusal::BadLine.line()),
+        Some(line) => put_moves(alloc, text, line.as_str()),
+    }
+}
+
 // The number of the game in `ok pgn G K`; 0 where there is none.
 pub(crate) fn game_in(text: &str) -> u32
     ensures { IsNumberIn text.now result }
@@ -97,6 +126,7 @@ fn finish(alloc: Global, one: &mut Message, kept: &KeptAnswers) -> Result<(), Al
     match one.kind {
         Kind::Whole | Kind::Log => Ok(()),
         Kind::Position => add_moves(alloc, &mut one.text),
+        Kind::Moves => tell_moves(alloc, &mut one.text),
         Kind::Line => finish_line(alloc, one, kept),
     }
 }

@@ -95,6 +95,11 @@ abbrev pub drop_plan : Standing → Option Identity → ℕ → Plan
 drop_plan s None game = plans.Refuse refusals.NoToken
 drop_plan s (Some who) game = asked s (plans.Drop who game)
 
+-- what all may ask for who have shown a token
+abbrev pub token_plan : Option Identity → Plan → Plan
+token_plan None plan = plans.Refuse refusals.NoToken
+token_plan (Some who) plan = plan
+
 -- what an arbiter alone may ask for
 abbrev pub arbiter_plan : Option Identity → Plan → Plan
 arbiter_plan None plan = plans.Refuse refusals.NoToken
@@ -126,6 +131,7 @@ game_plan sorts.Watch s game =
     if s.is_full then asked s (plans.Refuse refusals.TooManyWatched) else asked s (plans.Watch game)
 game_plan sorts.Line s game = asked s (plans.Line game)
 game_plan sorts.Drop s game = drop_plan s s.who game
+game_plan sorts.Room s game = plans.Room game s.at
 game_plan _ s game = plans.Leave game
 
 abbrev pub numbered_plan : Sort → Standing → Option ℕ → Plan
@@ -146,7 +152,7 @@ sort_plan sorts.Players s game = players_plan s s.who
 sort_plan sorts.Who s game = arbiter_plan s.who plans.Who
 sort_plan sorts.Pause s game = arbiter_plan s.who plans.Pause
 sort_plan sorts.Resume s game = arbiter_plan s.who plans.Resume
-sort_plan (sorts.Clocks stops) s game = arbiter_plan s.who (barred s.bar (plans.Clocks stops))
+sort_plan (sorts.Call call) s game = arbiter_plan s.who (barred s.bar (plans.Call call))
 sort_plan sorts.Link s game = arbiter_plan s.who (order_plan false s.linked)
 sort_plan sorts.Close s game = arbiter_plan s.who (order_plan true s.linked)
 sort_plan sorts.Lobby s game = asked s plans.Lobby
@@ -156,6 +162,8 @@ sort_plan sorts.Nothing s game = plans.Refuse refusals.BadLine
 sort_plan sorts.Watch s game = numbered_plan sorts.Watch s game
 sort_plan sorts.Leave s game = numbered_plan sorts.Leave s game
 sort_plan sorts.Line s game = numbered_plan sorts.Line s game
+sort_plan sorts.Room s game = numbered_plan sorts.Room s game
+sort_plan sorts.Moves s game = token_plan s.who plans.Moves
 
 -- a message, and whether it may be a line
 abbrev pub plan_of : Bool → Sort → Standing → Option ℕ → Plan

@@ -4,6 +4,7 @@ use Rattle.std.specs.Prelude.{Option, None, Some, if◌then◌else◌}
 use Rattle.std.specs.List.{before_first, after_first, list_all}
 use Rattle.std.specs.Str.{bytes_eq}
 use Rattle.text_parts.specs.Numbers.{number_below}
+use Rattle.lobby_words.specs.declared.words.Call.TheVariants as calls
 use Rattle.lobby_words.specs.declared.words.Sort.{Sort}
 use Rattle.lobby_words.specs.declared.words.Sort.TheVariants as sorts
 
@@ -96,18 +97,19 @@ line_said text = if is_as_word (word_of text) then as_line text else text
 abbrev pub actor : List ℕ → List ℕ → List ℕ
 actor by text = if is_as_word (word_of text) then as_name text else by
 
--- What an arbiter says of all clocks: `stop clocks REASON`, where REASON has one byte at least and stands where LINE does
--- in `as NAME LINE`, and `start clocks`.
+-- What an arbiter has everybody told: `stop clocks REASON`, where REASON has one byte at least and stands where LINE does
+-- in `as NAME LINE`; `start clocks`; and `announce TEXT`, or `announce` alone.
 abbrev pub is_stop : List ℕ → Bool
 is_stop text =
     bytes_eq (word_of text) (codes "stop") && bytes_eq (as_name text) (codes "clocks") && nat_le 1 (length (as_line text))
 
-abbrev pub clocks_sort : List ℕ → Sort
-clocks_sort text =
-    if is_stop text then sorts.Clocks true
-    else (if bytes_eq text (codes "start clocks") then sorts.Clocks false else sorts.Nothing)
+abbrev pub call_sort : List ℕ → Sort
+call_sort text =
+    if is_stop text then sorts.Call calls.StopClocks
+    else (if bytes_eq text (codes "start clocks") then sorts.Call calls.StartClocks
+    else (if bytes_eq (word_of text) (codes "announce") then sorts.Call calls.Announce else sorts.Nothing))
 
--- whether a message is one of the two, by its word
+-- whether a message is of the clocks, by its word
 abbrev pub is_of_clocks : List ℕ → Bool
 is_of_clocks text = bytes_eq (word_of text) (codes "stop") || bytes_eq (word_of text) (codes "start")
 
@@ -120,7 +122,7 @@ whole_sort text =
     else (if bytes_eq text (codes "resume entries") then sorts.Resume
     else (if bytes_eq text (codes "lobby") then sorts.Lobby
     else (if bytes_eq text (codes "leave lobby") then sorts.LeaveLobby
-    else clocks_sort text))))))
+    else call_sort text))))))
 
 abbrev pub arbiter_sort : List ℕ → List ℕ → Sort
 arbiter_sort w text =
@@ -135,8 +137,10 @@ own_sort w text =
     if bytes_eq w (codes "login") then sorts.Login
     else (if bytes_eq w (codes "watch") then sorts.Watch
     else (if bytes_eq w (codes "line") then sorts.Line
+    else (if bytes_eq w (codes "room") then sorts.Room
+    else (if bytes_eq w (codes "moves") then sorts.Moves
     else (if bytes_eq w (codes "leave") && not (bytes_eq text (codes "leave lobby")) then sorts.Leave
-    else arbiter_sort w text)))
+    else arbiter_sort w text)))))
 
 -- what a message asks for
 unfoldable pub sort_of : List ℕ → Sort

@@ -66,20 +66,13 @@ fn has_ended(shown: Option<Shown>) -> bool
     }
 }
 
-// Whether it is refused since there is no such game.
-fn is_gone(refusal: Option<Refusal>) -> bool
-    ensures { result ≡ spec.is_gone refusal }
-{
-    matches!(refusal, Some(Refusal::NoGame))
-}
-
 /// Whether a game goes on no more, as the answer to `show` says: it has ended, or there is no such game. Another
 /// refusal says nothing of it.
 pub fn is_over(answer: &str) -> bool
     ensures { result ≡ spec.is_over answer.now }
 {
     let line = first_line(answer);
-    has_ended(shown_of(line)) || is_gone(refusal_of(line))
+    has_ended(shown_of(line)) || matches!(refusal_of(line), Some(Refusal::NoGame))
 }
 
 // Who has one of two seats, where the other is empty.

@@ -5,7 +5,7 @@ ghost use Rattle.lobby_words.specs.Plans as plans;
 
 use crate::initials::NameForm;
 use crate::refusals::Refusal;
-use crate::words::{Sort, cut_word, is_message, number_named, sort_of};
+use crate::words::{Call, Sort, cut_word, is_message, number_named, sort_of};
 use player_name::Name;
 
 /// For whom a connection acts.
@@ -64,8 +64,8 @@ pub enum Plan {
     /// No games are opened from now on, and games are again.
     Pause,
     Resume,
-    /// All clocks stand still from now on, for the reason that the message says, or run again.
-    Clocks(bool),
+    /// Everybody is told something.
+    Call(Call),
     /// A player's link is changed in the players' file.
     Order(Order),
     Lobby,
@@ -73,6 +73,10 @@ pub enum Plan {
     Watch(u32),
     Leave(u32),
     Line(u32),
+    /// Which players of a game are there at this moment, and how many watch it.
+    Room(u32, u64),
+    /// The legal moves of the position that the message says.
+    Moves,
 }
 
 /// What a plan rests on.
@@ -274,6 +278,16 @@ fn drop_plan(standing: &Standing, game: u32) -> Plan
     }
 }
 
+// What all may ask for who have shown a token.
+fn token_plan(standing: &Standing, plan: Plan) -> Plan
+    ensures { result ≡ plans.token_plan standing.now.who plan }
+{
+    match standing.who {
+        None => Plan::Refuse(Refusal::NoToken),
+        Some(_) => plan,
+    }
+}
+
 // What an arbiter alone may ask for.
 fn arbiter_plan(standing: &Standing, plan: Plan) -> Plan
     ensures { result ≡ plans.arbiter_plan standing.now.who plan }
@@ -344,6 +358,7 @@ fn game_plan(sort: Sort, standing: &Standing, game: u32) -> Plan
         }
         Sort::Line => asked(standing, Plan::Line(game)),
         Sort::Drop => drop_plan(standing, game),
+        Sort::Room => Plan::Room(game, standing.at),
         _ => Plan::Leave(game),
     }
 }
@@ -364,13 +379,14 @@ fn sort_plan(sort: Sort, standing: &Standing, game: Option<u32>) -> Plan
         Sort::Who => arbiter_plan(standing, Plan::Who),
         Sort::Pause => arbiter_plan(standing, Plan::Pause),
         Sort::Resume => arbiter_plan(standing, Plan::Resume),
-        Sort::Clocks(stops) => arbiter_plan(standing, barred(standing.bar, Plan::Clocks(stops))),
+        Sort::Call(call) => arbiter_plan(standing, barred(standing.bar, Plan::Call(call))),
         Sort::Link => arbiter_plan(standing, order_plan(false, standing.linked)),
         Sort::Close => arbiter_plan(standing, order_plan(true, standing.linked)),
         Sort::Lobby => asked(standing, Plan::Lobby),
         Sort::LeaveLobby => Plan::LeaveLobby,
+        Sort::Moves => token_plan(standing, Plan::Moves),
         Sort::Name | Sort::Nothing => Plan::Refuse(Refusal::BadLine),
-        Sort::Watch | Sort::Leave | Sort::Line | Sort::Drop => match game {
+        Sort::Watch | Sort::Leave | Sort::Line | Sort::Room | Sort::Drop => match game {
             None => Plan::Refuse(Refusal::BadLine),
             Some(game) => game_plan(sort, standing, game),
         },

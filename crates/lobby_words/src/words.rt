@@ -3,6 +3,17 @@ ghost use Rattle.std.specs.Prelude.{◌≡◌};
 ghost use Rattle.std.specs.List.{list_all};
 ghost use Rattle.lobby_words.specs.Words as words;
 
+/// What an arbiter has everybody told.
+#[derive(Clone, Copy)]
+pub enum Call {
+    /// All clocks stand still from now on.
+    StopClocks,
+    /// They run again.
+    StartClocks,
+    /// What he announces, or that he announces nothing any more.
+    Announce,
+}
+
 /// What a message asks for.
 #[derive(Clone, Copy)]
 pub enum Sort {
@@ -26,8 +37,8 @@ pub enum Sort {
     /// No games are opened from now on, and games are again.
     Pause,
     Resume,
-    /// All clocks stand still from now on, or run again.
-    Clocks(bool),
+    /// Everybody is told something.
+    Call(Call),
     /// A player has a new link from now on, or none.
     Link,
     Close,
@@ -36,6 +47,10 @@ pub enum Sort {
     Watch,
     Leave,
     Line,
+    /// Which players of a game are there, and how many watch it.
+    Room,
+    /// The legal moves of a position.
+    Moves,
     /// The server's `name`, which no connection says.
     Name,
     /// Nothing that is known here.
@@ -222,19 +237,21 @@ fn whole_sort(text: &str) -> Sort
     } else if text == "leave lobby" {
         Sort::LeaveLobby
     } else {
-        clocks_sort(text)
+        call_sort(text)
     }
 }
 
-// What a message of an arbiter's asks for that is of the clocks.
-fn clocks_sort(text: &str) -> Sort
-    ensures { result ≡ words.clocks_sort text.now }
+// What a message of an arbiter's asks for by which everybody is told something.
+fn call_sort(text: &str) -> Sort
+    ensures { result ≡ words.call_sort text.now }
 {
     let (word, _) = cut_word(text);
     if word == "stop" && as_name(text) == "clocks" && !as_line(text).is_empty() {
-        Sort::Clocks(true)
+        Sort::Call(Call::StopClocks)
     } else if text == "start clocks" {
-        Sort::Clocks(false)
+        Sort::Call(Call::StartClocks)
+    } else if word == "announce" {
+        Sort::Call(Call::Announce)
     } else {
         Sort::Nothing
     }
@@ -258,6 +275,10 @@ fn own_sort(word: &str, text: &str) -> Sort
         Sort::Watch
     } else if word == "line" {
         Sort::Line
+    } else if word == "room" {
+        Sort::Room
+    } else if word == "moves" {
+        Sort::Moves
     } else if word == "leave" && text != "leave lobby" {
         Sort::Leave
     } else {

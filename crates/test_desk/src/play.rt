@@ -82,6 +82,7 @@ fn running(alloc: Global) -> Halts {
         is_paused: false,
         can_stop: true,
         reason: String::new(alloc),
+        announced: String::new(alloc),
     }
 }
 

@@ -118,6 +118,7 @@ fn hall_of(rt: &impl Abort, alloc: Global, keys: RandomState, is_paused: bool) -
         is_paused,
         can_stop: false,
         reason: String::new(alloc),
+        announced: String::new(alloc),
     };
     Hall::new(alloc, keys, site, players, halts, limits, None)
 }

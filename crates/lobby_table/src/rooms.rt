@@ -1,0 +1,250 @@
+//! Who of a game's players is there, how many watch it, and since when a player is away.
+ghost use Rattle.std.specs.Prelude.{ℕ, ◌≡◌, ◌==◌, ◌-◌, ◌/◌, ◌++◌, ◌∷◌, [], codes, decimal, map, IfOk, OnOk};
+ghost use Rattle.std.specs.Prelude.{if◌then◌else◌};
+ghost use Rattle.std.specs.Option.{option_copied};
+ghost use Rattle.std.specs.String.{string_bytes};
+ghost use Rattle.lobby_words.specs.Players.{is_present};
+ghost use Rattle.lobby_table.specs.Visitors.{who_in, open_in_map};
+ghost use Rattle.lobby_table.specs.Rooms as spec;
+
+use crate::visitors::{Visitor, is_named, open_ones, who_acts};
+use crate::watching::Watch;
+use itoa::Buffer;
+use lobby_words::{Identity, Seat};
+use player_name::Name;
+use std::alloc::{AllocError, Global};
+use std::collections::BTreeMap;
+
+/// What is known of the last connection of a player's that was closed.
+#[derive(Clone, Copy)]
+pub enum Left {
+    /// None was.
+    Never,
+    /// It was, and nobody has said anything since.
+    Lately,
+    /// The first message after that came at this moment, in milliseconds.
+    At(u64),
+}
+
+/// A player who has said something.
+#[derive(Clone, Copy)]
+pub struct Attendance {
+    pub name: Name,
+    pub left: Left,
+}
+
+// What is known of a player.
+fn attendance_of<'a>(all: &'a [Attendance], name: &str) -> Option<&'a Attendance>
+    ensures { option_copied result ≡ spec.attendance_of name.now all.now }
+{
+    all.iter().find(|one| one.name.as_str() == name)
+}
+
+// Whether a player is known.
+fn is_met(all: &[Attendance], name: &str) -> bool
+    ensures { result ≡ spec.is_met name.now all.now }
+{
+    all.iter().any(|one| one.name.as_str() == name)
+}
+
+// A player is known from now on.
+fn meet(all: &mut Vec<Attendance>, who: &Option<Identity>) -> Result<(), AllocError>
+    ensures { OnOk result (all.new.items ≡ spec.met who.now all.old.items) }
+{
+    match who {
+        None => Ok(()),
+        Some(who) => {
+            if !is_met(all.as_slice(), who.name.as_str()) {
+                all.push(Attendance {
+                    name: who.name,
+                    left: Left::Never,
+                })?;
+            }
+            Ok(())
+        }
+    }
+}
+
+// A player, one of whose connections is closed, if he has this name.
+fn gone_if(one: &Attendance, name: &str) -> Attendance
+    ensures { result ≡ spec.gone_if name.now one.now }
+{
+    if one.name.as_str() == name {
+        Attendance {
+            name: one.name,
+            left: Left::Lately,
+        }
+    } else {
+        *one
+    }
+}
+
+// A connection of the player of this name is closed.
+fn mark_gone(all: &mut [Attendance], name: &str)
+    ensures { all.new ≡ map (spec.gone_if name.now) all.old }
+{
+    for one in all.iter_mut() {
+        *one = gone_if(one, name);
+    }
+}
+
+/// Notes that a connection is closed that acted so.
+pub fn note_gone(all: &mut Vec<Attendance>, who: &Option<Identity>)
+    ensures { all.new.items ≡ spec.gone who.now all.old.items }
+{
+    if let Some(who) = who {
+        mark_gone(all.as_mut_slice(), who.name.as_str());
+    }
+}
+
+// What is known of a player at the moment of a message: a connection that was closed before it counts as closed.
+fn dated_of(one: &Attendance, at: u64) -> Attendance
+    ensures { result ≡ spec.dated_of at one.now }
+{
+    let left = match one.left {
+        Left::Lately => Left::At(at),
+        Left::Never | Left::At(_) => one.left,
+    };
+    Attendance {
+        name: one.name,
+        left,
+    }
+}
+
+// The same of all.
+fn date_all(all: &mut [Attendance], at: u64)
+    ensures { all.new ≡ map (spec.dated_of at) all.old }
+{
+    for one in all.iter_mut() {
+        *one = dated_of(one, at);
+    }
+}
+
+/// Notes that a connection says something at a moment that acts so: its player is known from then on, and what was
+/// closed before counts as closed.
+pub fn attend(all: &mut Vec<Attendance>, who: &Option<Identity>, at: u64) -> Result<(), AllocError>
+    ensures { OnOk result (all.new.items ≡ spec.attended who.now at all.old.items) }
+{
+    meet(all, who)?;
+    date_all(all.as_mut_slice(), at);
+    Ok(())
+}
+
+// What is known of the last connection of his that was closed.
+fn left_of(all: &[Attendance], name: &str) -> Left
+    ensures { result ≡ spec.left_of name.now all.now }
+{
+    match attendance_of(all, name) {
+        None => Left::Never,
+        Some(one) => one.left,
+    }
+}
+
+// Puts the digits of a number behind a text.
+fn push_number(text: &mut String, number: u64) -> Result<(), AllocError>
+    ensures { OnOk result (string_bytes text.new ≡ string_bytes text.old ++ decimal number) }
+{
+    let mut buffer = Buffer::new();
+    text.push_str(buffer.format(number))
+}
+
+// Puts behind a name that its player is not there, and for how long.
+fn push_away(text: &mut String, left: Left, at: u64) -> Result<(), AllocError>
+    ensures { OnOk result (string_bytes text.new ≡ string_bytes text.old ++ spec.away_text left at) }
+{
+    match left {
+        Left::Never => text.push_str(" away -\n"),
+        Left::Lately => text.push_str(" away 0\n"),
+        Left::At(since) => {
+            text.push_str(" away ")?;
+            push_number(text, at.saturating_sub(since) / 1000)?;
+            text.push('\n')
+        }
+    }
+}
+
+// Whether one of these connections acts for the player of this name.
+fn is_present(visitors: &BTreeMap<u64, Visitor>, connections: &[u64], name: &str) -> bool
+    ensures { result ≡ is_present (who_in visitors.now) connections.now name.now }
+{
+    connections.iter().any(|connection| is_named(&who_acts(visitors, *connection), name))
+}
+
+// Puts the row of a seat behind a text, if it is one in this game.
+fn push_row(
+    text: &mut String,
+    game: u32,
+    at: u64,
+    seat: &Seat,
+    attendances: &[Attendance],
+    visitors: &BTreeMap<u64, Visitor>,
+    connections: &[u64],
+) -> Result<(), AllocError>
+    ensures { OnOk result (string_bytes text.new ≡ string_bytes text.old
+        ++ spec.seat_row (who_in visitors.now) connections.now attendances.now game at seat.now) }
+{
+    if seat.game != game {
+        return Ok(());
+    }
+    let name = seat.by.as_str();
+    text.push_str(name)?;
+    if is_present(visitors, connections, name) {
+        text.push_str(" here\n")
+    } else {
+        push_away(text, left_of(attendances, name), at)
+    }
+}
+
+// How many connections watch a game.
+fn watching(watches: &[Watch], game: u32) -> usize
+    ensures { result ≡ spec.watching game watches.now }
+{
+    watches.iter().filter(|watch| watch.game == game).count()
+}
+
+// How the answer begins.
+fn room_head(alloc: Global, game: u32, count: usize) -> Result<String, AllocError>
+    ensures { IfOk result (λ text. string_bytes text ≡ spec.room_head game count) }
+{
+    let mut text = String::from_str(alloc, "ok room ")?;
+    push_number(&mut text, u64::from(game))?;
+    text.push(' ')?;
+    push_number(&mut text, count as u64)?;
+    text.push('\n')?;
+    Ok(text)
+}
+
+/// The answer to `room G` at a moment: how many connections watch game G, and of each player who has a seat there
+/// whether a connection acts for him that is open.
+pub fn room_text(
+    alloc: Global,
+    game: u32,
+    at: u64,
+    seats: &[Seat],
+    watches: &[Watch],
+    attendances: &[Attendance],
+    visitors: &BTreeMap<u64, Visitor>,
+) -> Result<String, AllocError>
+    ensures { IfOk result (λ text. spec.IsRoom (record {
+      seats = seats.now;
+      watches = watches.now;
+      attendances = attendances.now;
+      is_open = open_in_map visitors.now;
+      acts_for = who_in visitors.now;
+    }) game at (string_bytes text)) }
+{
+    let all = open_ones(alloc, visitors)?;
+    let mut text = room_head(alloc, game, watching(watches, game))?;
+    for seat in seats {
+        push_row(
+            &mut text,
+            game,
+            at,
+            seat,
+            attendances,
+            visitors,
+            all.as_slice(),
+        )?;
+    }
+    Ok(text)
+}
