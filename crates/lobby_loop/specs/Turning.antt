@@ -210,13 +210,18 @@ IsReached {S} old new = (new ≡ old) ⊎ ((old.server ≡ None) × ((stream : S
 abbrev pub short_after : ℕ → ℕ → ℕ
 short_after short_until at = if nat_lt at short_until then short_until else min (at + 2) (2 ^ 64 - 1)
 
+-- so many milliseconds a turn may be put off at a moment: until turns are short no more, and not at all where something
+-- else may have happened than of those who act for nobody
+abbrev pub left_at : Bool → ℕ → ℕ → Option ℕ
+left_at is_awake short_until at = if is_awake || nat_le short_until at then None else Some (short_until - at)
+
 -- until when those who come may be held at the listener, once that was judged at a moment: as long as too many wait to be
 -- heard that moment stays
 abbrev pub held_after : ℕ → Bool → ℕ → ℕ
 held_after held_until crowded at = if nat_lt at held_until && crowded then held_until else min (at + 1000) (2 ^ 64 - 1)
 
--- One turn of the lobby: the server is reached or not, browsers come or are turned away, and then all who are connected
--- have one turn.
+-- One turn of the lobby: the server is reached or not, browsers come or are turned away, but none in a short turn, and
+-- then all who are connected have one turn.
 pub record IsLobbyTurn {S : Type 0} (remaining contents : S → Option (List ℕ)) (at : ℕ)
     (old new : Hall S) : Type 0 where
   pub reached : Hall S
@@ -225,6 +230,7 @@ pub record IsLobbyTurn {S : Type 0} (remaining contents : S → Option (List ℕ
   pub welcomed : Hall S
   pub welcomes : AreAdmitted streams reached welcomed
   pub turns : HasTurned remaining contents at welcomed new
+  pub shut : turns.is_short ≡ true → streams ≡ []
 
 -- of a socket's bytes nothing is known, be it of a port or a Unix socket
 abbrev pub unknown : {S : Type 0} → S → Option (List ℕ)

@@ -1,5 +1,5 @@
 //! The sockets of a lobby, and what wakes it.
-ghost use Rattle.std.specs.Prelude.{◌≡◌, ◌≤◌, ◌+◌, true, false, List, None, Some, IfOk, IfSome, OnOk, OnErr, is_some, length, nat_lt};
+ghost use Rattle.std.specs.Prelude.{◌≡◌, ◌≤◌, true, false, List, [], None, Some, IfOk, OnOk, OnErr, is_some, length, nat_lt};
 ghost use Rattle.mio.specs.declared.net.stream.TcpStream.{TcpStream};
 ghost use Rattle.mio.specs.declared.net.uds.stream.UnixStream.{UnixStream};
 ghost use Rattle.either.specs.declared.Either.{Either};
@@ -7,7 +7,7 @@ ghost use Rattle.lobby_desk.specs.Who.{watched_games};
 ghost use Rattle.lobby_guests.specs.Guests.{is_crowded};
 ghost use Rattle.either.specs.Either.{either};
 ghost use Rattle.lobby_loop.specs.Turning.{BeginsHall, AreAdmitted, IsReached, IsLobbyTurn, has_more, texts_put};
-ghost use Rattle.lobby_loop.specs.Turning.{unknown, short_after, held_after};
+ghost use Rattle.lobby_loop.specs.Turning.{unknown, short_after, left_at, held_after};
 ghost use Rattle.lobby_loop.specs.Living.{IsWoken, Files, KeepsFiles, Renews};
 ghost use Rattle.lobby_loop.specs.Logging.{Logs};
 ghost use Rattle.lobby_loop.specs.declared.lobby.Turned.TheVariants.{Worked};
@@ -259,10 +259,10 @@ impl Lobby {
         }
     }
 
-    // Accepts who waits at the listener.
+    // Accepts who waits at the listener, and nobody while turns are short.
     fn welcome(&mut self, at: u64)
-        ensures came { (streams : List (Either TcpStream UnixStream)) × AreAdmitted streams self.old.hall
-            self.new.hall }
+        ensures came { (streams : List (Either TcpStream UnixStream)) × AreAdmitted streams self.old.hall self.new.hall
+            × (nat_lt at self.old.short_until ≡ true → streams ≡ []) }
         ensures held { self.new.held_until ≡ self.old.held_until }
         ensures short { self.new.short_until ≡ self.old.short_until }
     {
@@ -396,6 +396,7 @@ impl Lobby {
         ensures woken { IsWoken self.old.hall self.new.hall }
         ensures held { self.new.held_until ≡ self.old.held_until }
         ensures short { self.new.short_until ≡ self.old.short_until }
+        ensures awake { self.old.is_awake ≡ true → self.new.is_awake ≡ true }
     {
         self.has_more |= has_listener(&self.events);
         let is_awake = wake_each(&self.events, &mut self.hall);
@@ -405,7 +406,7 @@ impl Lobby {
     /// So many milliseconds it may rest on at a moment, where turns are short and since the last one nothing happened
     /// but of those who act for nobody and at the listener. None where a turn is to be taken.
     pub fn left(&self, at: u64) -> Option<u64>
-        ensures { IfSome result (λ left. at + left ≡ self.now.short_until) }
+        ensures { result ≡ left_at self.now.is_awake self.now.short_until at }
     {
         if self.is_awake || at >= self.short_until {
             return None;
@@ -418,6 +419,7 @@ impl Lobby {
         ensures woken { OnOk result (IsWoken self.old.hall self.new.hall) }
         ensures held { OnOk result (self.new.held_until ≡ self.old.held_until) }
         ensures short { OnOk result (self.new.short_until ≡ self.old.short_until) }
+        ensures awake { OnOk result (turned ≡ Worked → self.new.is_awake ≡ true) }
     {
         self.is_awake = matches!(turned, Turned::Worked);
         let most = match turned {
