@@ -14,7 +14,7 @@ use Rattle.lobby_talk.specs.Talking.{Begins, MovesAnew}
 use Rattle.lobby_guests.specs.Origins.{IsPlain, IsFrom}
 use Rattle.lobby_guests.specs.Guests.{IsNewGuest, ComesFrom, AreAttended, AreDelivered, IsWritten, IsLookedAfter}
 use Rattle.lobby_guests.specs.Guests.{AreParted, has_waiting, earlier, first_due}
-use Rattle.lobby_guests.specs.Rests.{rested, rest_over, LeavesOthers, LeavesNewcomers}
+use Rattle.lobby_guests.specs.Rests.{rested, rest_over, LeavesOthers, LeavesNewcomers, LeavesStranger}
 use Rattle.lobby_talk.specs.Held.{TakesIn, HandsOn, IsKept}
 use Rattle.lobby_talk.specs.Replaying.{IsReplayed}
 use Rattle.lobby_loop.specs.Seating.{AreSeated}
@@ -152,9 +152,9 @@ pub record TakesAllIn {S : Type 0} (remaining : S → Option (List ℕ)) (at : �
   pub site : new.site ≡ old.site
 
 -- What is to go is handed out: what the desk told is delivered, for which of all replays the one that is under way goes
--- on by at most 16 plies, and what is to go is written, to the server and to each
--- browser; and the desk is told who is let go.
-pub record HandsAllOut {S : Type 0} (contents : S → Option (List ℕ)) (old new : Hall S) : Type 0 where
+-- on by at most 16 plies, and what is to go is written, to the server and to each browser, but in a short turn to none
+-- that acts for nobody; and the desk is told who is let go.
+pub record HandsAllOut {S : Type 0} (contents : S → Option (List ℕ)) (is_short : Bool) (old new : Hall S) : Type 0 where
   pub told : List (Guest S)
   pub delivers : AreDelivered old.talk.kept.answers.items old.talk.told.items old.guests.items told
   pub rest : Talk
@@ -168,6 +168,7 @@ pub record HandsAllOut {S : Type 0} (contents : S → Option (List ℕ)) (old ne
   pub writes_first : AllZip (IsWritten contents old.site) told first
   pub written : List (Guest S)
   pub writes : AllZip (IsWritten contents old.site) first written
+  pub strangers : is_short ≡ true → AllZip (LeavesStranger rest.desk) told written
   pub parted_from : AreParted written new.guests.items rest new.talk
   pub site : new.site ≡ old.site
   pub rests : new.rounds.rests_until ≡ old.rounds.rests_until
@@ -189,7 +190,7 @@ pub record HasTurned {S : Type 0} (remaining contents : S → Option (List ℕ))
   pub is_short : Bool
   pub between : Hall S
   pub takes : TakesAllIn remaining at is_short old between
-  pub hands : HandsAllOut contents between new
+  pub hands : HandsAllOut contents is_short between new
 
 -- the texts that the log has in a turn: those for it among all that is to go then
 abbrev pub texts_put : {S : Type 0} → {remaining contents : S → Option (List ℕ)} → {at : ℕ} → {old new : Hall S} →

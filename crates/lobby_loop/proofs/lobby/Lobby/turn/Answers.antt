@@ -7,8 +7,7 @@ use Rattle.lobby_loop.proofs.lobby.Lobby.turn.Goals as goal
 pub returns-clause-turned : goal.returns-clause-turned
 returns-clause-turned g c =
     let came = c.welcome.ensures.came in
-    let turned = c.in_ok-has_turned.ensures.turned in
-    (
+    let turned = c.in_ok-has_turned.ensures.turned in (
       record {
         reached = c.reach_server.new.self.hall;
         reaches = subst (λ h. IsReached h c.reach_server.new.self.hall) c.hold.ensures.hall c.in_ok-has_reached.ensures.reached;
