@@ -1,6 +1,6 @@
 -- One turn of all that are connected.
-use Rattle.std.specs.Prelude.{ℕ, ◌≡◌, ◌⊎◌, ◌||◌, ◌+◌, ◌-◌, ◌^◌, ◌==◌, ◌&&◌, nat_le, nat_lt, min, Bool, true, false, List, [], ◌∷◌, ◌++◌}
-use Rattle.std.specs.Prelude.{Option, None, Some, is_some, length, if◌then◌else◌}
+use Rattle.std.specs.Prelude.{ℕ, ◌≡◌, ◌⊎◌, ◌||◌, ◌&&◌, ◌+◌, ◌-◌, ◌^◌, ◌==◌, nat_le, nat_lt, min, Bool, true, false}
+use Rattle.std.specs.Prelude.{List, [], ◌∷◌, ◌++◌, Option, None, Some, is_some, length, if◌then◌else◌}
 use Rattle.std.specs.declared.net.ip_addr.IpAddr.{IpAddr}
 use Rattle.std.specs.List.{AllZip}
 use Rattle.lobby_words.specs.declared.players.Player.{Player}
@@ -130,8 +130,8 @@ HasPlaces {S} has_come at attended new =
     × AreSeated at new.away_at new.talk.desk looked new.guests.items
 
 -- What comes is taken in: the server is heard, and the desk is told where its connection is lost; then each browser is,
--- but in a short turn none of those who have no socket yet, and until their rest is over none of those who act for nobody
--- and were heard before. For all that is told then they rest on.
+-- but in a short turn none of those who have no socket yet, and until their rest is over none of those who act for
+-- nobody and were heard before. For all that is told then they rest on.
 pub record TakesAllIn {S : Type 0} (remaining : S → Option (List ℕ)) (at : ℕ) (is_short : Bool)
     (old new : Hall S) : Type 0 where
   pub server_heard : Option (Link S)
@@ -184,8 +184,8 @@ next_moment at hall =
 abbrev pub has_more : {S : Type 0} → Hall S → Bool
 has_more hall = has_waiting hall.guests.items hall.talk
 
--- A turn, a short one or not: all that comes is taken in, and then all that is to go is handed out. Between them the log
--- has its texts.
+-- A turn, a short one or not: all that comes is taken in, and then all that is to go is handed out. Between them the
+-- log has its texts.
 pub record HasTurned {S : Type 0} (remaining contents : S → Option (List ℕ)) (at : ℕ) (old new : Hall S) : Type 0 where
   pub is_short : Bool
   pub between : Hall S
@@ -216,8 +216,8 @@ short_after short_until at = if nat_lt at short_until then short_until else min 
 abbrev pub left_at : Bool → ℕ → ℕ → Option ℕ
 left_at is_awake short_until at = if is_awake || nat_le short_until at then None else Some (short_until - at)
 
--- until when those who come may be held at the listener, once that was judged at a moment: as long as too many wait to be
--- heard that moment stays
+-- until when those who come may be held at the listener, once that was judged at a moment: as long as too many wait to
+-- be heard that moment stays
 abbrev pub held_after : ℕ → Bool → ℕ → ℕ
 held_after held_until crowded at = if nat_lt at held_until && crowded then held_until else min (at + 1000) (2 ^ 64 - 1)
 
