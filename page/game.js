@@ -238,6 +238,10 @@ export class GameView {
 
   /** A notice of this game: an act was accepted. */
   notice({ by, sent, arbiter }, answer, standing) {
+    if (this.gone && standing) {       // (who watches is told of a game once it has begun)
+      this.refresh();
+      return;
+    }
     const wasOver = Boolean(this.standing && this.standing.article), ended = this.stand(standing);
     if (!standing) {
       this.wasTaken = true;
@@ -700,7 +704,8 @@ export class GameView {
     this.root.classList.toggle('empty', !standing || this.gone);
     byId('no-game').hidden = !this.gone;
     setText(byId('no-game-words'), this.isSought ? LOOKING : this.wasTaken ? TAKEN_OFF
-      : refusalWords({ number: NO_GAME }));
+      : this.app.me() ? refusalWords({ number: NO_GAME })
+        : t`Game ${this.number} is not being played. It is shown here as soon as it begins.`);
     document.body.classList.toggle('plays', !this.gone && this.isPlaying());
     if (!standing || this.gone) return;
     if (this.plan && this.myTurn()) this.back = null;

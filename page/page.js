@@ -3,6 +3,7 @@
 import { AgainView } from './again.js';
 import { announcedTold, listenToAnnounced } from './announced.js';
 import { ArbiterView } from './arbiter.js';
+import { Broadcast } from './broadcast.js';
 import { Challenges } from './challenges.js';
 import { FinishedView } from './finished.js';
 import { GameView } from './game.js';
@@ -38,15 +39,8 @@ class Page {
     this.offers = new Offers(this);    // (before the connection, which ends where the page is left)
     if (window['personalLink']) this.who.open(window['personalLink']);
     delete window['personalLink'];
-    const address = new URL('ws', location.href.split('#')[0]);
-    address.protocol = address.protocol === 'https:' ? 'wss:' : 'ws:';
-    address.search = '';
     this.view = null;
-    this.wire = new Wire(address.href, {
-      opened: (server) => this.opened(server), notice: (lines) => this.notice(lines), clocks: clocksTold,
-      announced: announcedTold, offers: () => this.challenges.look(), changed: () => this.changed(),
-      unnamed: () => this.who.unnamed(),
-    });
+    this.wire = this.connect();
     this.table = new TableView(this);
     this.game = new GameView(this);
     this.hall = new HallView(this, () => this.table.rows);
@@ -59,6 +53,32 @@ class Page {
     this.route();
     this.changed();
     setInterval(() => this.askAnew(), ASKS_ANEW);
+  }
+
+  /** Who has a personal link speaks with the lobby; who only watches reads the files that everybody may have. */
+  connect() {
+    const told = {
+      opened: (server) => this.opened(server), notice: (lines) => this.notice(lines), clocks: clocksTold,
+      announced: announcedTold, offers: () => this.challenges.look(), changed: () => this.changed(),
+      unnamed: () => this.who.unnamed(),
+      served: (isServed) => { byId('no-broadcast').hidden = isServed; },
+    };
+    if (!this.who.token) return new Broadcast(told);
+    const address = new URL('ws', location.href.split('#')[0]);
+    address.protocol = address.protocol === 'https:' ? 'wss:' : 'ws:';
+    address.search = '';
+    return new Wire(address.href, told);
+  }
+
+  /** Somebody else may be here: nothing of the old one's name is left. */
+  renew() {
+    if (this.wire instanceof Wire === Boolean(this.who.token)) {
+      this.wire.renew();
+      return;
+    }
+    this.wire.close();
+    this.wire = this.connect();
+    this.changed();
   }
 
   listen() {
@@ -190,7 +210,7 @@ class Page {
     const fragment = location.hash.slice(1);
     if (fragment && !fragment.startsWith('/')) {
       history.replaceState(null, '', location.pathname + location.search + '#/');
-      if (this.who.open(fragment)) this.wire.renew();
+      if (this.who.open(fragment)) this.renew();
     }
     const [, word, digits] = /^\/(games?|hall|again|arbiter|round)(?:\/(\d{1,10}))?$/.exec(fragment) || [];
     const isGame = Number(digits) > 0 && (word === 'game' || word === 'hall'), player = playerIn(fragment);

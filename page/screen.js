@@ -1,14 +1,13 @@
 // A page for a screen that nobody touches: `/board/G` shows one game as large as the screen allows, `/boards` all that run.
 
+import { Broadcast } from './broadcast.js';
 import { HallView } from './hall.js';
 import { t } from './language.js';
-import { isNoGame, readLine, readPlayers, readRows, readStanding, sideOf } from './lines.js';
+import { readAct, readLine, readRows, readStanding, sideOf } from './lines.js';
 import { byId, make, setText } from './make.js';
 import { clocksTold } from './stopped.js';
-import { Wire } from './wire.js';
 import { resultWords, sanShown, withReason } from './words.js';
 
-const ASKS_ANEW = 15000;             // for the table: nobody tells of games that were opened past the lobby
 const MOST_SHOWN = 6;                // so many of the last moves, of both sides together
 
 /** All running games, in pages that turn by themselves. */
@@ -69,7 +68,6 @@ class OneBoard extends HallView {
     if (sent && standing.ply && !known) this.recall(number);
     const words = resultWords(standing.result, standing.article);
     setText(card.outcome, standing.article ? withReason(words.score, words.reason) : '');
-    card.root.classList.toggle('waits', !standing.white || !standing.black);
     this.drawMoves(card);
     this.app.titled(`${this.app.nameWords(standing.white) || '…'} – ${this.app.nameWords(standing.black) || '…'}`);
   }
@@ -101,17 +99,13 @@ class OneBoard extends HallView {
 
 class Screen {
   constructor() {
-    this.players = new Map();
     this.rows = new Map();
-    this.watched = new Set();          // games that the lobby was asked to tell of
+    this.watched = new Set();          // games of which this screen is told
     const found = /^\/board\/(\d{1,10})$/.exec(location.pathname);
     this.view = found ? new OneBoard(this, Number(found[1])) : new Wall(this, () => this.rows);
-    const address = new URL('/ws', location.href);
-    address.protocol = address.protocol === 'https:' ? 'wss:' : 'ws:';
-    address.hash = '';
-    this.wire = new Wire(address.href, {
-      opened: (server) => this.opened(server), notice: (lines) => this.notice(lines), clocks: clocksTold,
-      changed: () => this.changed(),
+    this.wire = new Broadcast({
+      opened: () => this.opened(), notice: (lines) => this.notice(lines), clocks: clocksTold,
+      changed: () => this.changed(), served: (isServed) => { byId('no-broadcast').hidden = isServed; },
     });
     this.view.open();
   }
@@ -119,8 +113,7 @@ class Screen {
   // ---- what the view asks for
 
   nameWords(name) {
-    const known = this.players.get(name);
-    return known ? known.full : name;
+    return this.wire.names.get(name) || name;
   }
 
   titled(text) {
@@ -132,7 +125,7 @@ class Screen {
     return this.wire.say(`watch ${number}`);
   }
 
-  /** What is shown no more is left: a game that is watched stays on the table, and 16 at most are. */
+  /** What is shown no more is left. */
   leaveLater() {
     for (const number of this.watched) {
       if (this.view.cards.has(number)) continue;
@@ -141,50 +134,28 @@ class Screen {
     }
   }
 
-  // ---- the connection
+  // ---- what the files tell
 
-  /** The lobby has answered: who is who, and what is shown, once more. */
-  async opened(server) {
-    if (server !== 'here') return;
-    await this.askPlayers();
+  /** They are there: what is shown, once more. */
+  async opened() {
     if (!(this.view instanceof OneBoard)) {
-      await this.loadTable();
-      clearInterval(this.asking);
-      this.asking = setInterval(() => this.loadTable(), ASKS_ANEW);
+      const answer = await this.wire.say('lobby');
+      if (answer[0] === 'ok lobby') this.rows = new Map(readRows(answer.slice(2)).map((row) => [row.number, row]));
     }
     this.view.again();
   }
 
-  /** Who they are that sit in a game: without a link nobody else is told. */
-  async askPlayers() {
-    const players = await this.wire.say('players', true);
-    if (players[0].startsWith('ok players')) this.players = readPlayers(players.slice(1));
-  }
-
-  /** The table, unless the server refuses to tell it. */
-  async loadTable() {
-    const answer = await this.wire.say('lobby', true);
-    if (answer[0] !== 'ok lobby' || !(answer[1] || '').startsWith('ok list')) return;
-    this.rows = new Map(readRows(answer.slice(2)).map((row) => [row.number, row]));
-    await this.askPlayers();
-    this.view.fill();
-  }
-
   notice(lines) {
-    const number = Number(lines[0].split(' ')[1]), found = /^by (\S+) (.*)$/.exec(lines[1] || '');
-    if (!found) return;
-    const standing = readStanding(lines.slice(3));
-    if (!standing && !isNoGame(lines[3])) return;  // (its server was gone before it was asked how the game stands)
+    const number = Number(lines[0].split(' ')[1]), { sent } = readAct(lines[1]), standing = readStanding(lines.slice(3));
     if (standing) this.rows.set(number, standing);
     else this.rows.delete(number);
-    this.view.notice(number, found[2], lines[2], standing);
+    this.view.notice(number, sent, lines[2], standing);
   }
 
   changed() {
     if (!this.wire) return;
-    const { open, server, retryAt, ever } = this.wire.state;
-    byId('lost').hidden = open || !ever && !retryAt;
-    byId('no-server').hidden = !(open && server === 'gone');
+    const { open, retryAt } = this.wire.state;
+    byId('lost').hidden = open || !retryAt;
   }
 }
 

@@ -127,6 +127,7 @@ export class TableView {
     byId('own-games').hidden = groups.own.length === 0;
     byId('open-form').hidden = !me;
     byId('only-watching').hidden = Boolean(me);
+    byId('waiting-games').hidden = !me;          // (nobody else is told of them)
     byId('own-finished').hidden = !me;
     byId('own-finished').href = `#/player/${me || ''}`;
     byId('open-game').disabled = !this.app.reachable();

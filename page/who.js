@@ -16,7 +16,7 @@ const cutWords = (length) => t`This link is cut short: ${length} of its 32 last 
 const session = () => sessionStorage, local = () => localStorage;
 
 export class Who {
-  /** app: {wire, shows(), tell(text), askPlayers()}; shows() is called when another player is here, or none. */
+  /** app: {wire, renew(), shows(), tell(text), askPlayers()}; shows() is called when another player is here, or none. */
   constructor(app) {
     this.app = app;
     this.player = null;
@@ -48,7 +48,7 @@ export class Who {
       const field = byId('link-text'), text = field.value.trim().split('#').pop();
       field.value = '';
       byId('who').open = false;
-      if (this.open(text)) this.app.wire.renew();
+      if (this.open(text)) this.app.renew();
     });
     byId('other-dialog').addEventListener('close', (event) => {
       if (event.target.returnValue === 'yes' && this.asked) this.take(this.asked);
@@ -88,7 +88,7 @@ export class Who {
   /** From now on one is here by this link. */
   take(token) {
     this.hold(token);
-    this.app.wire.renew();
+    this.app.renew();
   }
 
   /** Who has this token: {player}, {refusal}, or neither where no answer came. */
@@ -234,7 +234,7 @@ export class Who {
     this.forget();
     this.app.tell('');
     byId('who').open = false;
-    this.app.wire.renew();
+    this.app.renew();
     this.render();
   }
 

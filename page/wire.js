@@ -32,7 +32,7 @@ export class Wire {
     this.sentAt = [];
     this.heardAt = 0;
     this.pump = this.pump.bind(this);
-    setInterval(() => this.watchdog(), 2000);
+    this.watching = setInterval(() => this.watchdog(), 2000);
     addEventListener('online', () => this.retry());
     addEventListener('offline', () => this.say(PROBE, true));
     document.addEventListener('visibilitychange', () => document.hidden || this.retry());
@@ -70,6 +70,14 @@ export class Wire {
     this.tries = 0;
     if (this.socket) this.ended();
     this.retry();
+  }
+
+  /** Leaves the connection for good. */
+  close() {
+    if (this.socket) this.ended();
+    clearInterval(this.watching);
+    clearTimeout(this.timer);
+    this.timer = 0;
   }
 
   connect() {

@@ -519,12 +519,14 @@ export const WORDS = {
   'The games before': 'Die Partien davor',
   'The next games': 'Die nächsten Partien',
   'eight boards': 'acht Bretter',
-  'The game server does not answer. It is tried again by itself; the clocks run on.':
-    'Der Spielserver antwortet nicht. Es wird von selbst wieder versucht; die Uhren laufen weiter.',
   'every 20 seconds': 'alle 20 Sekunden',
   'Full screen': 'Vollbild',
-  'The connection to the lobby is lost. It is tried again by itself; the clocks run on.':
-    'Die Verbindung zur Lobby ist weg. Es wird von selbst wieder versucht; die Uhren laufen weiter.',
+  'The lobby does not answer. It is asked again by itself; the clocks run on.':
+    'Die Lobby antwortet nicht. Sie wird von selbst wieder gefragt; die Uhren laufen weiter.',
+  'Games are shown here as soon as the club’s broadcast runs (“chess-club live”).':
+    'Partien sind hier zu sehen, sobald die Übertragung des Vereins läuft („chess-club live“).',
+  'Game {0} is not being played. It is shown here as soon as it begins.':
+    'Partie {0} wird nicht gespielt. Sie ist hier zu sehen, sobald sie beginnt.',
   'To the games': 'Zu den Partien',
   'Copy link': 'Link kopieren',
   'There is no game here.': 'Hier ist keine Partie.',

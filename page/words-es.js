@@ -514,12 +514,14 @@ export const WORDS = {
   'The games before': 'Las partidas anteriores',
   'The next games': 'Las partidas siguientes',
   'eight boards': 'ocho tableros',
-  'The game server does not answer. It is tried again by itself; the clocks run on.':
-    'El servidor de juego no responde. Se vuelve a intentar solo; los relojes siguen corriendo.',
   'every 20 seconds': 'cada 20 segundos',
   'Full screen': 'Pantalla completa',
-  'The connection to the lobby is lost. It is tried again by itself; the clocks run on.':
-    'Se ha perdido la conexión con el lobby. Se vuelve a intentar solo; los relojes siguen corriendo.',
+  'The lobby does not answer. It is asked again by itself; the clocks run on.':
+    'El lobby no responde. Se le vuelve a preguntar solo; los relojes siguen corriendo.',
+  'Games are shown here as soon as the club’s broadcast runs (“chess-club live”).':
+    'Las partidas se verán aquí en cuanto funcione la retransmisión del club («chess-club live»).',
+  'Game {0} is not being played. It is shown here as soon as it begins.':
+    'La partida {0} no se está jugando. Se verá aquí en cuanto empiece.',
   'To the games': 'A las partidas',
   'Copy link': 'Copiar enlace',
   'There is no game here.': 'Aquí no hay ninguna partida.',

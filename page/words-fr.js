@@ -523,12 +523,14 @@ export const WORDS = {
   'The games before': 'Les parties précédentes',
   'The next games': 'Les parties suivantes',
   'eight boards': 'huit échiquiers',
-  'The game server does not answer. It is tried again by itself; the clocks run on.':
-    'Le serveur de jeu ne répond pas. Un nouvel essai se fait tout seul ; les pendules tournent.',
   'every 20 seconds': 'toutes les 20 secondes',
   'Full screen': 'Plein écran',
-  'The connection to the lobby is lost. It is tried again by itself; the clocks run on.':
-    'La connexion au lobby est perdue. Un nouvel essai se fait tout seul ; les pendules tournent.',
+  'The lobby does not answer. It is asked again by itself; the clocks run on.':
+    'Le lobby ne répond pas. Un nouvel essai se fait tout seul ; les pendules tournent.',
+  'Games are shown here as soon as the club’s broadcast runs (“chess-club live”).':
+    'Les parties s’affichent ici dès que la retransmission du club fonctionne (« chess-club live »).',
+  'Game {0} is not being played. It is shown here as soon as it begins.':
+    'La partie {0} n’est pas en cours. Elle s’affiche ici dès qu’elle commence.',
   'To the games': 'Vers les parties',
   'Copy link': 'Copier le lien',
   'There is no game here.': 'Il n’y a pas de partie ici.',

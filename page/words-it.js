@@ -518,12 +518,14 @@ export const WORDS = {
   'The games before': 'Le partite precedenti',
   'The next games': 'Le partite successive',
   'eight boards': 'otto scacchiere',
-  'The game server does not answer. It is tried again by itself; the clocks run on.':
-    'Il server di gioco non risponde. Si riprova da soli; gli orologi corrono.',
   'every 20 seconds': 'ogni 20 secondi',
   'Full screen': 'Schermo intero',
-  'The connection to the lobby is lost. It is tried again by itself; the clocks run on.':
-    'La connessione alla lobby è persa. Si riprova da soli; gli orologi corrono.',
+  'The lobby does not answer. It is asked again by itself; the clocks run on.':
+    'La lobby non risponde. Si riprova da soli; gli orologi corrono.',
+  'Games are shown here as soon as the club’s broadcast runs (“chess-club live”).':
+    'Le partite si vedono qui appena la trasmissione del circolo è attiva («chess-club live»).',
+  'Game {0} is not being played. It is shown here as soon as it begins.':
+    'La partita {0} non è in corso. Si vede qui appena comincia.',
   'To the games': 'Alle partite',
   'Copy link': 'Copia link',
   'There is no game here.': 'Qui non c’è nessuna partita.',

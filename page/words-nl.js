@@ -518,12 +518,14 @@ export const WORDS = {
   'The games before': 'De vorige partijen',
   'The next games': 'De volgende partijen',
   'eight boards': 'acht borden',
-  'The game server does not answer. It is tried again by itself; the clocks run on.':
-    'De spelserver antwoordt niet. Er wordt vanzelf opnieuw geprobeerd; de klokken lopen door.',
   'every 20 seconds': 'elke 20 seconden',
   'Full screen': 'Volledig scherm',
-  'The connection to the lobby is lost. It is tried again by itself; the clocks run on.':
-    'De verbinding met de lobby is weg. Er wordt vanzelf opnieuw geprobeerd; de klokken lopen door.',
+  'The lobby does not answer. It is asked again by itself; the clocks run on.':
+    'De lobby antwoordt niet. Er wordt vanzelf opnieuw geprobeerd; de klokken lopen door.',
+  'Games are shown here as soon as the club’s broadcast runs (“chess-club live”).':
+    'Partijen zijn hier te zien zodra de uitzending van de club loopt (‘chess-club live’).',
+  'Game {0} is not being played. It is shown here as soon as it begins.':
+    'Partij {0} wordt niet gespeeld. Ze is hier te zien zodra ze begint.',
   'To the games': 'Naar de partijen',
   'Copy link': 'Link kopiëren',
   'There is no game here.': 'Hier is geen partij.',

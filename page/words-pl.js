@@ -513,12 +513,14 @@ export const WORDS = {
   'The games before': 'Poprzednie partie',
   'The next games': 'Następne partie',
   'eight boards': 'osiem szachownic',
-  'The game server does not answer. It is tried again by itself; the clocks run on.':
-    'Serwer gry nie odpowiada. Próby są ponawiane same; zegary idą dalej.',
   'every 20 seconds': 'co 20 sekund',
   'Full screen': 'Pełny ekran',
-  'The connection to the lobby is lost. It is tried again by itself; the clocks run on.':
-    'Utracono połączenie z lobby. Próby są ponawiane same; zegary idą dalej.',
+  'The lobby does not answer. It is asked again by itself; the clocks run on.':
+    'Lobby nie odpowiada. Próby są ponawiane same; zegary idą dalej.',
+  'Games are shown here as soon as the club’s broadcast runs (“chess-club live”).':
+    'Partie będą tu widoczne, gdy tylko ruszy transmisja klubu („chess-club live”).',
+  'Game {0} is not being played. It is shown here as soon as it begins.':
+    'Partia {0} nie jest rozgrywana. Pojawi się tu, gdy tylko się zacznie.',
   'To the games': 'Do partii',
   'Copy link': 'Kopiuj link',
   'There is no game here.': 'Nie ma tu partii.',

@@ -511,12 +511,14 @@ export const WORDS = {
   'The games before': 'As partidas anteriores',
   'The next games': 'As próximas partidas',
   'eight boards': 'oito tabuleiros',
-  'The game server does not answer. It is tried again by itself; the clocks run on.':
-    'O servidor de jogo não responde. A tentativa se repete sozinha; os relógios continuam a correr.',
   'every 20 seconds': 'a cada 20 segundos',
   'Full screen': 'Tela cheia',
-  'The connection to the lobby is lost. It is tried again by itself; the clocks run on.':
-    'A conexão com o lobby caiu. A tentativa se repete sozinha; os relógios continuam a correr.',
+  'The lobby does not answer. It is asked again by itself; the clocks run on.':
+    'O lobby não responde. A tentativa se repete sozinha; os relógios continuam a correr.',
+  'Games are shown here as soon as the club’s broadcast runs (“chess-club live”).':
+    'As partidas aparecem aqui assim que a transmissão do clube estiver no ar (“chess-club live”).',
+  'Game {0} is not being played. It is shown here as soon as it begins.':
+    'A partida {0} não está em andamento. Ela aparece aqui assim que começar.',
   'To the games': 'Às partidas',
   'Copy link': 'Copiar link',
   'There is no game here.': 'Não há partida aqui.',

@@ -70,8 +70,7 @@ def full_names(hall):
     """Who watches without a link sees full names, also of players that sat down after the page was loaded."""
     _, _, sue = hall.sit()
     number = hall.set_up()
-    hall.watch(number)
-    sue.until(lambda: hall.lobby.full['ann'] in sue.text('.facts'), 'who waits')
+    sue.goes('game/' + number).reads('#no-game-words', 'is not being played')
     hall.bob.click('[data-key="join-%s"]' % number)
     for name in ('ann', 'bob'):
         sue.until(lambda: hall.lobby.full[name] in sue.text('.facts'), 'who plays: ' + name)

@@ -21,6 +21,10 @@ window.sentLines = []; window.breaches = []; window.tries = []; window.tables = 
 window.WebSocket = class extends WebSocket {
   constructor(...words) { super(...words); tries.push(performance.now()); } };
  window.spied = WebSocket.prototype.send;
+window.fetch = ((ask) => async (...words) => {
+  const answer = await ask(...words);
+  if (String(words[0]).endsWith('/games.json')) window.tables += 1;
+  return answer; })(window.fetch);
 WebSocket.prototype.send = function (line) {
   if (window.lastSocket !== this) this.addEventListener('message', (event) => {
     if (event.data.startsWith('ok lobby')) window.tables += 1;
@@ -215,10 +219,12 @@ class Person:
         return self.run('return [...document.querySelectorAll("#moves button")].map((e) => e.textContent)')
 
     def complaints(self):
-        """What the browser's console says is wrong: a breach of the policy, an error of a script."""
+        """What the browser's console says is wrong, as a breach of the policy or an error of a script; not that who is
+        asked is away, or that a game has no file so far."""
         return [entry['message'] for entry in self.driver.get_log('browser')
                 if entry['level'] == 'SEVERE' and 'WebSocket connection to' not in entry['message']
-                and not re.search('ERR_(CONNECTION_(REFUSED|RESET)|EMPTY_RESPONSE)', entry['message'])]
+                and not re.search('ERR_(CONNECTION_(REFUSED|RESET)|EMPTY_RESPONSE)', entry['message'])
+                and not re.search(r'/games/\d+\.json - .* 404 ', entry['message'])]
 
     # ---- doing
 

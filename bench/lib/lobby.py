@@ -10,7 +10,7 @@ import threading
 import time
 
 from lib.net import Door, connect, cut
-from lib.program import PAGE, Closing, Wrong, end, path_of, put
+from lib.program import PAGE, Closing, Wrong, begin, end, path_of, put
 from lib.server import Server
 from lib.web import TEXT, taken_frame, token_of
 
@@ -155,6 +155,7 @@ class Relay:
 class Programs(Lobby):
     """Server and lobby, and a relay between the two where `has_relay`, over the players of these rows, or over the
     `club.players` that is in the folder. The lobby keeps a log, without which nobody is an arbiter, where `has_log`.
+    Where `has_live`, `chess-club live` writes the files of the games beside them, which the lobby serves to who watches.
     Words of `control` bring about what goes wrong, those of Relay and these:
 
     gone     the server is killed here     it is started again, over its journal slow MS  each answer of the server
@@ -162,7 +163,8 @@ class Programs(Lobby):
     game is opened and joined on the server, past the lobby off G    a game that is over is taken off the table there,
     as by who keeps games """
 
-    def __init__(self, folder, rows=None, *words, has_relay=False, has_log=True, games=1024, plies=600, **how):
+    def __init__(self, folder, rows=None, *words, has_relay=False, has_log=True, has_live=False, games=1024, plies=600,
+                 **how):
         self.folder, club = folder, os.path.join(folder, 'club.players')
         if rows:
             put_players(club, rows)
@@ -172,7 +174,12 @@ class Programs(Lobby):
         stops = ('--clock', 'serving') if '--stopped' in words else ()
         self.server = Server(os.path.join(folder, 'club.journal'), *stops, games=games, plies=plies)
         self.relay = Relay(self.server) if has_relay else None
+        watched = os.path.join(folder, 'games')
+        words += ('--games-files', watched) if has_live else ()
         super().__init__(club, (self.relay or self.server).port, *words, **how)
+        self.live = begin('chess_club', 'live', '--server', '127.0.0.1:%d' % self.server.port, '--file',
+                          os.path.join(folder, 'evening.pgn'), '--games', watched, '--players', club, '--log', self.log,
+                          '--every', '1') if has_live else None
 
     def control(self, word):
         word, *words = word.split()
@@ -221,6 +228,8 @@ class Programs(Lobby):
 
     def stop(self):
         self.kill()
+        if self.live:
+            end(self.live)
         if self.relay:
             self.relay.hang_up()
         self.server.kill()

@@ -59,7 +59,13 @@ With --kept it writes all games of the archive to another file, the one that was
 first, each with its number as the tag GameId: the lobby's page looks games up there. With
 --particulars and --rounds tags are as of export.
 
-With --every it goes on until it is killed, and comes back to a server that was away.
+With --games it writes a folder of files by which spectators watch: games.json tells of all
+games how they stand, and G.json of game G all moves with their positions and clocks. The
+lobby serves them by its --games-files, and a web server as they lie. Other files there that
+have a number for a name, and .json, go. It is not for --delay: it has all at once.
+
+With --every it goes on until it is killed, and comes back to a server that was away; with
+--games it looks twice a second then, and asks of the server the list and what has changed.
 
 Exit status: 0; 1 with what is wrong on standard error; 2 for words that the program does
 not know.
@@ -187,6 +193,13 @@ const KEPT: OptionText = OptionText {
     ..FILE
 };
 
+const GAMES: OptionText = OptionText {
+    name: "games",
+    value: OptionValue::Text("FOLDER"),
+    help: "A folder of files by which spectators watch: games.json, and G.json of each game",
+    is_required: false,
+};
+
 const LIVE_EVERY: OptionText = OptionText {
     help: "After how many seconds it is written again, 1 to 3600; once without it",
     ..KEEP_EVERY
@@ -237,6 +250,7 @@ pub const LIVE: WordText = WordText {
         PARTICULARS,
         ROUNDS,
         INITIALS,
+        GAMES,
         DELAY,
         LIVE_EVERY,
     ],
@@ -355,6 +369,15 @@ pub fn exporting_of<'a>(
     }))
 }
 
+// The folder of spectators, if one is named; none where a delay is asked for, since it has what is played at once.
+fn games_of<'a>(values: &ArgMatches<'a>) -> Option<Option<&'a str>> {
+    let delay: Option<u32> = values.get_one("delay");
+    match values.get_str("games") {
+        Some(_) if delay.is_some() => None,
+        games => Some(games),
+    }
+}
+
 // The file of all games of the archive, if one is named; none where there is no archive.
 fn kept_of<'a>(values: &ArgMatches<'a>) -> Option<Option<&'a str>> {
     match values.get_str("kept") {
@@ -363,16 +386,17 @@ fn kept_of<'a>(values: &ArgMatches<'a>) -> Option<Option<&'a str>> {
     }
 }
 
-/// What `live` asks for; none where the address or a round's files are none, a value cannot stand in a tag, or the
-/// games of no archive are to be written.
+/// What `live` asks for; none where the address or a round's files are none, a value cannot stand in a tag, the games of
+/// no archive are to be written, or a delay is asked for beside the folder of spectators.
 pub fn living_of<'a>(
     alloc: Global,
     values: &ArgMatches<'a>,
 ) -> Result<Option<Living<'a>>, AllocError> {
-    let (Some(source), Some(file), Some(kept), Some(besides)) = (
+    let (Some(source), Some(file), Some(kept), Some(games), Some(besides)) = (
         source_of(values),
         values.get_str("file"),
         kept_of(values),
+        games_of(values),
         besides_of(alloc, values)?,
     ) else {
         return Ok(None);
@@ -383,6 +407,7 @@ pub fn living_of<'a>(
         archive: values.get_str("archive"),
         since: values.get_str("since").or(values.get_str("date")),
         kept,
+        games,
         names: name_form(values.get_flag("initials")),
         besides,
         delay: values.get_one("delay").unwrap_or(0),

@@ -24,7 +24,8 @@ game stands behind it, before anybody is told; the file is made where there is n
 Besides the page there are /board/G for a screen that shows game G, /boards for one that
 shows all, and /health with figures as Prometheus reads them. /live.pgn is the file of
 --live, /kept.pgn that of --kept, in which the page looks up games that are over, and
-/round.json that of --round, by which it shows pairings and standings: each is read anew when
+/round.json that of --round, by which it shows pairings and standings; /games.json and
+/games/G.json, by which spectators watch, are those of --games-files: each is read anew when
 it has changed.
 
 With --stopped an arbiter stops all clocks, and has them run again: name the file beside the
@@ -185,6 +186,13 @@ const ROUND: OptionText = OptionText {
     ..LIVE
 };
 
+const GAMES_FILES: OptionText = OptionText {
+    name: "games-files",
+    value: OptionValue::Text("FOLDER"),
+    help: "The folder of chess-club live --games, served as /games.json and /games/G.json",
+    is_required: false,
+};
+
 const LOG: OptionText = OptionText {
     name: "log",
     value: OptionValue::Text("FILE"),
@@ -256,6 +264,7 @@ pub const LOBBY: WordText = WordText {
         LIVE,
         KEPT,
         ROUND,
+        GAMES_FILES,
         LOG,
         STOPPED,
         WAITING_MOST,
@@ -367,6 +376,7 @@ pub fn serving_of<'a>(
         live: values.get_str("live"),
         kept: values.get_str("kept"),
         round: values.get_str("round"),
+        games: values.get_str("games-files"),
         log: values.get_str("log"),
         stopped: values.get_str("stopped"),
         hosts,

@@ -126,8 +126,8 @@ fn fault_of(matches: &ArgMatches<'_>) -> &'static str {
             "--pgn and --csv cannot be used with one another, or a round's files are none"
         }
         Some(("live", _)) => {
-            "an address or a round's files are none, a tag's value has a control character, or --kept stands without \
-            --archive"
+            "an address or a round's files are none, a tag's value has a control character, --kept stands without \
+            --archive, or --games beside --delay"
         }
         Some(("start", _)) => "an address, a board or a game is none",
         Some(("results", _)) => { "an address is none, or neither --archive nor --server is given" }

@@ -25,4 +25,6 @@ pub struct Serving<'a> {
     pub kept: Option<&'a str>,
     /// The one that is served as `/round.json`.
     pub round: Option<&'a str>,
+    /// The folder of games that is served as `/games.json` and `/games/G.json`.
+    pub games: Option<&'a str>,
 }

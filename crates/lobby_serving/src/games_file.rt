@@ -1,43 +1,13 @@
-//! Files of games and of rounds that are served as they stand.
+//! A file of games or of rounds that is served as it stands.
 use crate::mark::{Mark, mark_in, mark_of};
 use bytes::Bytes;
 use lobby_loop::Lobby;
 use lobby_web::{File, Kind};
-use std::alloc::{AllocError, Global};
+use std::alloc::AllocError;
 use std::fs::{self, File as DiskFile, OpenFile, OpenOptions};
 use std::io;
 use std::io::{ErrorKind, Read};
 use std::rt::Files;
-
-/// What a file has, by which it is served at a path of its own.
-#[derive(Clone, Copy)]
-pub enum Contents {
-    /// The games that are played.
-    Live,
-    /// The games that were kept.
-    Kept,
-    /// A tournament's rounds and standings.
-    Round,
-}
-
-impl Contents {
-    // The path at which it is served.
-    fn path(self) -> &'static [u8] {
-        match self {
-            Contents::Live => b"/live.pgn",
-            Contents::Kept => b"/kept.pgn",
-            Contents::Round => b"/round.json",
-        }
-    }
-
-    // What it is.
-    fn kind(self) -> Kind {
-        match self {
-            Contents::Live | Contents::Kept => Kind::Pgn,
-            Contents::Round => Kind::Json,
-        }
-    }
-}
 
 /// So many milliseconds lie at least between two looks at the file.
 const REST: u64 = 1_000;
@@ -122,33 +92,29 @@ impl Reading {
     }
 }
 
-// The file that is served of what was read. Its tag is made of its mark: of the bytes it would take a pass over all of
-// them, in one turn.
-fn served_of(alloc: Global, contents: Contents, reading: Reading) -> Result<File, AllocError> {
-    let mark = reading.mark.to_bytes(alloc)?;
-    let path = contents.path().to_vec(alloc)?;
-    let bytes = Bytes::from_vec(reading.bytes)?;
-    File::marked(alloc, path, contents.kind(), bytes, mark.as_slice())
-}
-
-/// A file, and what was seen of it last.
+/// A file that is served, and what was seen of it last.
 #[derive(Drop)]
-pub struct GamesFile<'a> {
-    contents: Contents,
-    file: &'a str,
-    seen: Option<Mark>,
-    next_at: u64,
+pub struct GamesFile {
+    /// The path at which it is served.
+    pub path: String,
+    kind: Kind,
+    file: String,
+    /// How it stood when it was looked at last; none where it was not there.
+    pub seen: Option<Mark>,
+    /// From when on it is looked at again.
+    pub next_at: u64,
     // What was read of it where that is not done.
     reading: Option<Reading>,
     // Whether it was told that the file is too long.
     is_told: bool,
 }
 
-impl<'a> GamesFile<'a> {
+impl GamesFile {
     /// It was not looked at.
-    pub fn new(contents: Contents, file: &'a str) -> Self {
+    pub fn new(path: String, kind: Kind, file: String) -> Self {
         GamesFile {
-            contents,
+            path,
+            kind,
             file,
             seen: None,
             next_at: 0,
@@ -160,7 +126,7 @@ impl<'a> GamesFile<'a> {
     // That the file is too long, once until it is not.
     fn tell<R: Eprint>(&mut self, rt: &R, is_long: bool) {
         if is_long && !self.is_told {
-            let file = self.file;
+            let file = self.file.as_str();
             let _ = eprintln!(rt; "{file} has more than 64 MiB: it is not served");
         }
         self.is_told = is_long;
@@ -174,7 +140,7 @@ impl<'a> GamesFile<'a> {
         if !is_long {
             self.seen = None;
         }
-        lobby.take_off_file(self.contents.path());
+        lobby.take_off_file(self.path.as_bytes());
     }
 
     // Begins to read the file.
@@ -182,13 +148,14 @@ impl<'a> GamesFile<'a> {
     where
         R: Files<File = DiskFile> + AllocGlobal + Eprint,
     {
-        match begun(rt, self.file) {
+        match begun(rt, self.file.as_str()) {
             Ok(reading) => self.reading = Some(reading),
             Err(error) => self.fail(rt, lobby, &error),
         }
     }
 
-    // What was read is served from now on; where it was written meanwhile it is read again at the next look.
+    // What was read is served from now on; where it was written meanwhile it is read again at the next look. (Its tag is
+    // made of its mark: of the bytes it would take a pass over all of them, in one turn.)
     fn end<R: AllocGlobal + Eprint>(
         &mut self,
         rt: &R,
@@ -200,7 +167,11 @@ impl<'a> GamesFile<'a> {
             return Ok(());
         }
         self.tell(rt, false);
-        lobby.put_file(served_of(rt.alloc(), self.contents, reading)?)
+        let mark = reading.mark.to_bytes(rt.alloc())?;
+        let path = self.path.as_bytes().to_vec(rt.alloc())?;
+        let bytes = Bytes::from_vec(reading.bytes)?;
+        let file = File::marked(rt.alloc(), path, self.kind, bytes, mark.as_slice())?;
+        lobby.put_file(file)
     }
 
     // Reads on.
@@ -236,7 +207,7 @@ impl<'a> GamesFile<'a> {
             return Ok(());
         }
         self.next_at = at.saturating_add(REST);
-        let found = mark_of(rt, self.file);
+        let found = mark_of(rt, self.file.as_str());
         if found == self.seen {
             return Ok(());
         }
@@ -244,7 +215,7 @@ impl<'a> GamesFile<'a> {
         if found.is_some() {
             self.begin(rt, lobby);
         } else {
-            lobby.take_off_file(self.contents.path());
+            lobby.take_off_file(self.path.as_bytes());
         }
         Ok(())
     }

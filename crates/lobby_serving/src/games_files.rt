@@ -1,65 +1,64 @@
 //! All files of games that are served.
 use crate::asked::Serving;
-use crate::games_file::{Contents, GamesFile};
+use crate::games_file::GamesFile;
+use crate::games_folder::GamesFolder;
 use lobby_loop::Lobby;
-use std::alloc::AllocError;
+use lobby_web::Kind;
+use std::alloc::{AllocError, Global};
 use std::fs::File;
 use std::rt::Files;
 
-/// The files of games that are asked for.
+/// The files of games that are asked for, and the folder of them.
 #[derive(Drop)]
 pub struct GamesFiles<'a> {
-    live: Option<GamesFile<'a>>,
-    kept: Option<GamesFile<'a>>,
-    round: Option<GamesFile<'a>>,
+    files: Vec<GamesFile>,
+    folder: Option<GamesFolder<'a>>,
 }
 
-// A file that is asked for.
-fn games_file<'a>(contents: Contents, file: Option<&'a str>) -> Option<GamesFile<'a>> {
-    match file {
-        Some(file) => Some(GamesFile::new(contents, file)),
-        None => None,
+// Puts a file behind others, where it is asked for.
+fn push_file(
+    files: &mut Vec<GamesFile>,
+    alloc: Global,
+    path: &str,
+    kind: Kind,
+    file: Option<&str>,
+) -> Result<(), AllocError> {
+    if let Some(file) = file {
+        let path = String::from_str(alloc, path)?;
+        files.push(GamesFile::new(path, kind, String::from_str(alloc, file)?))?;
     }
-}
-
-// Looks at a file that is asked for; whether it is being read.
-fn look_at<R>(
-    file: &mut Option<GamesFile<'_>>,
-    rt: &R,
-    lobby: &mut Lobby,
-    at: u64,
-) -> Result<bool, AllocError>
-where
-    R: Files<File = File> + AllocGlobal + Eprint,
-{
-    match file {
-        Some(file) => {
-            file.look(rt, lobby, at)?;
-            Ok(file.is_reading())
-        }
-        None => Ok(false),
-    }
+    Ok(())
 }
 
 impl<'a> GamesFiles<'a> {
     /// None was looked at.
-    pub fn new(serving: &Serving<'a>) -> Self {
-        GamesFiles {
-            live: games_file(Contents::Live, serving.live),
-            kept: games_file(Contents::Kept, serving.kept),
-            round: games_file(Contents::Round, serving.round),
-        }
+    pub fn new(alloc: Global, serving: &Serving<'a>) -> Result<Self, AllocError> {
+        let mut files = Vec::new(alloc);
+        push_file(&mut files, alloc, "/live.pgn", Kind::Pgn, serving.live)?;
+        push_file(&mut files, alloc, "/kept.pgn", Kind::Pgn, serving.kept)?;
+        push_file(&mut files, alloc, "/round.json", Kind::Json, serving.round)?;
+        let folder = match serving.games {
+            Some(folder) => Some(GamesFolder::new(alloc, folder)?),
+            None => None,
+        };
+        Ok(GamesFiles { files, folder })
     }
 
     /// Looks at each of them, and reads on where one has changed. It tells after how many milliseconds they are to be
     /// looked at again, though no socket is ready; none where that is no matter.
     pub fn look<R>(&mut self, rt: &R, lobby: &mut Lobby, at: u64) -> Result<Option<u64>, AllocError>
     where
-        R: Files<File = File> + AllocGlobal + Eprint,
+        R: Files<File = File> + AllocGlobal + Clone + Drop + Eprint,
     {
-        let live = look_at(&mut self.live, rt, lobby, at)?;
-        let kept = look_at(&mut self.kept, rt, lobby, at)?;
-        let round = look_at(&mut self.round, rt, lobby, at)?;
-        Ok(if live || kept || round { Some(0) } else { None })
+        let mut is_reading = false;
+        for file in self.files.iter_mut() {
+            file.look(rt, lobby, at)?;
+            is_reading = is_reading || file.is_reading();
+        }
+        if let Some(folder) = &mut self.folder {
+            folder.look(rt, lobby, at)?;
+            is_reading = is_reading || folder.is_reading();
+        }
+        Ok(if is_reading { Some(0) } else { None })
     }
 }

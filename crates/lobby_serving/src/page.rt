@@ -97,12 +97,6 @@ fn push_hosts(
     Ok(())
 }
 
-// Whether a folder has the page.
-fn has_page<R: Files + AllocGlobal>(rt: &R, folder: &str) -> Result<bool> {
-    let page = format!(in rt.alloc(); "{folder}/index.html")?;
-    Ok(fs::exists(rt, page.as_str())?)
-}
-
 /// The site of a folder's files, which is listened for on an address. It fails where the folder has no page, or where
 /// one of those files is no regular one.
 pub fn site_of<R: Files + AllocGlobal + Clone + Drop>(
@@ -113,7 +107,11 @@ pub fn site_of<R: Files + AllocGlobal + Clone + Drop>(
 ) -> Result<Site> {
     let mut files = Vec::new(rt.alloc());
     push_files(&mut files, rt, folder)?;
-    anyhow::ensure!(has_page(rt, folder)?, "there is no index.html in {folder}");
+    let page = format!(in rt.alloc(); "{folder}/index.html")?;
+    anyhow::ensure!(
+        fs::exists(rt, page.as_str())?,
+        "there is no index.html in {folder}"
+    );
     let mut hosts = Vec::new(rt.alloc());
     push_hosts(&mut hosts, rt.alloc(), address, names)?;
     Ok(Site::new(hosts, files))

@@ -12,6 +12,7 @@ use lobby_desk::Halts;
 use lobby_loop::{ActLog, Lobby, LobbyListener, NoActLog, Turned};
 use lobby_words::Player;
 use sockets::{Moments, ServerAddress};
+use std::alloc::AllocError;
 use std::fs::File;
 use std::hash::RandomState;
 use std::net::{Net, SocketAddr};
@@ -28,15 +29,13 @@ struct ToldCount {
     next_at: u64,
 }
 
-impl ToldCount {
-    // Nothing was told.
-    fn new() -> ToldCount {
-        ToldCount {
-            count: 0,
-            next_at: 0,
-        }
-    }
+// Nothing was told.
+const UNTOLD: ToldCount = ToldCount {
+    count: 0,
+    next_at: 0,
+};
 
+impl ToldCount {
     // Whether a count is to be told now: it is another than the last one, which was told a minute ago or before.
     fn is_news(&mut self, count: u64, at: u64) -> bool {
         let is_news = count != self.count && at >= self.next_at;
@@ -117,21 +116,25 @@ where
     R: Files<File = File> + AllocGlobal + Clone + Drop + Clock + Eprint + Net + RandomSource,
 {
     // Nothing was looked at or told.
-    fn new(rt: &'a R, serving: &'a Serving<'a>, links: FileLinks<'a, R>) -> Self {
-        Beside {
+    fn new(
+        rt: &'a R,
+        serving: &'a Serving<'a>,
+        links: FileLinks<'a, R>,
+    ) -> Result<Self, AllocError> {
+        Ok(Beside {
             rt,
             telling: Telling {
                 rt,
                 server: serving.server,
                 is_here: false,
-                turned_away: ToldCount::new(),
-                logins_refused: ToldCount::new(),
+                turned_away: UNTOLD,
+                logins_refused: UNTOLD,
             },
             table: Table::new(rt.alloc(), serving.server),
             health: Health::new(rt.alloc()),
-            games: GamesFiles::new(serving),
+            games: GamesFiles::new(rt.alloc(), serving)?,
             links,
-        }
+        })
     }
 
     // Takes turns until something is at fault.
@@ -207,11 +210,6 @@ fn tell_proxy<R: Eprint>(rt: &R, serving: &Serving<'_>) -> Result<()> {
     Ok(())
 }
 
-// Listens on an address.
-fn listener_on<R: Net>(rt: &R, address: SocketAddr) -> Result<LobbyListener> {
-    LobbyListener::bind(rt, address).context(format_args!("listening on {address}"))
-}
-
 // The lobby's server, as the command line asks for it.
 #[derive(Drop)]
 struct Server<'a, R> {
@@ -273,7 +271,7 @@ where
     ) -> Result<()> {
         tell_address(self.rt, address, self.serving.hosts.as_slice())?;
         tell_proxy(self.rt, self.serving)?;
-        let mut beside = Beside::new(self.rt, self.serving, links);
+        let mut beside = Beside::new(self.rt, self.serving, links)?;
         let served = beside.take_turns(players, lobby, log);
         drop(beside);
         served
@@ -287,7 +285,10 @@ where
         log: &mut L,
     ) -> Result<()> {
         let (rt, serving) = (self.rt, self.serving);
-        let listener = listener_on(rt, serving.address)?;
+        let asked = serving.address;
+        let listener = LobbyListener::bind(rt, asked).context(format_args!(
+            "listening on {asked}"
+        ))?;
         let address = listener.address()?;
         let links = FileLinks::open(rt, serving)?;
         let mut lobby = self.lobby(listener, address, known, links.halts()?)?;

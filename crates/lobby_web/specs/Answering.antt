@@ -10,7 +10,7 @@ use Rattle.websocket.specs.Handshake.{IsValidKey, accept_key_of}
 use Rattle.lobby_web.specs.declared.site.Site.{Site}
 use Rattle.lobby_web.specs.declared.site.File.{File}
 use Rattle.lobby_web.specs.declared.site.Kind.{Kind}
-use Rattle.lobby_web.specs.declared.site.Kind.TheVariants.{Pgn}
+use Rattle.lobby_web.specs.declared.site.Kind.TheVariants.{Pgn, Games}
 use Rattle.lobby_web.specs.Media.{media_type}
 use Rattle.lobby_web.specs.Pages.{file_at}
 use Rattle.lobby_web.specs.Requests.{field, path_of, is_taken, is_from_page, asks_socket, asks_upgrade, only_reads}
@@ -41,6 +41,7 @@ IsTold status words = IsResponse status (guarded plain_text) words
 -- Pages of other hosts may read games, and nothing else.
 abbrev pub readers : Kind → List Header
 readers Pgn = (codes "access-control-allow-origin", codes "*") ∷ []
+readers Games = (codes "access-control-allow-origin", codes "*") ∷ []
 readers kind = []
 
 -- the fields of an answer of a file: its media type, who may read its kind, and its entity tag

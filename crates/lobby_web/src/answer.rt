@@ -163,7 +163,7 @@ fn media_type(kind: Kind) -> &'static str
         Kind::Script => "text/javascript; charset=utf-8",
         Kind::Svg => "image/svg+xml",
         Kind::Pgn => "application/x-chess-pgn; charset=utf-8",
-        Kind::Json => "application/json",
+        Kind::Games | Kind::Json => "application/json",
         Kind::Figures => "text/plain; version=0.0.4; charset=utf-8",
     }
 }
@@ -247,7 +247,7 @@ fn add_readers(response: &mut Response, kind: Kind) -> Result<(), AllocError>
     ensures body { response.new.body ≡ response.old.body }
 {
     match kind {
-        Kind::Pgn => add_field(response, "access-control-allow-origin", "*"),
+        Kind::Pgn | Kind::Games => add_field(response, "access-control-allow-origin", "*"),
         _ => Ok(()),
     }
 }

@@ -17,6 +17,8 @@ pub enum Kind {
     Svg,
     /// Games, which pages of other hosts read too.
     Pgn,
+    /// The same as objects of JSON.
+    Games,
     /// What a page reads of a round.
     Json,
     /// Figures, as Prometheus reads them.

@@ -65,6 +65,8 @@ pub struct Living<'a> {
     pub since: Option<&'a str>,
     /// The file of all games of the archive.
     pub kept: Option<&'a str>,
+    /// The folder of files by which spectators watch.
+    pub games: Option<&'a str>,
     /// How full names are told.
     pub names: NameForm,
     pub besides: Besides<'a>,

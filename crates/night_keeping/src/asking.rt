@@ -1,8 +1,8 @@
 //! A game's PGN as the archive has it, asked of the server.
-use anyhow::{Context, Error, Result, anyhow};
+use anyhow::{Context, Error, Result, anyhow, bail};
 use lobby_players::full_name;
 use lobby_words::Player;
-use night_links::{Answer, Link};
+use night_links::{Link, ToldGame};
 use night_log::{LogEntry, clocks};
 use server_answers::{Refusal, Row, Shown, pgn_head_of, refusal_of, seat_text, shown_of};
 use std::alloc::Global;
@@ -19,12 +19,6 @@ pub struct Knowledge<'a> {
     pub is_logged: bool,
 }
 
-// The server's answer to `pgn`.
-fn answer_of(alloc: Global, link: &mut Link, game: u32) -> Result<Answer> {
-    let line = format!(in alloc; "pgn {game}")?;
-    link.ask(line.as_str())
-}
-
 // What is wrong where the server does not do this with a game, but gives that answer.
 fn not_done(verb: &str, game: u32, first: &str) -> Error {
     anyhow!("the server does not {verb} game {game}: {first}")
@@ -32,7 +26,8 @@ fn not_done(verb: &str, game: u32, first: &str) -> Error {
 
 // The PGN of a game as the server tells it; none where the game has left the table since.
 fn told(alloc: Global, link: &mut Link, game: u32) -> Result<Option<String>> {
-    let answer = answer_of(alloc, link, game)?;
+    let line = format!(in alloc; "pgn {game}")?;
+    let answer = link.ask(line.as_str())?;
     let first = answer.first.as_str();
     if let Some(Refusal::NoGame) = refusal_of(first) {
         Ok(None)
@@ -110,4 +105,37 @@ pub fn pgn_of(
         "game {game}"
     ))?;
     Ok(Some(pgn))
+}
+
+/// The clocks after the moves of a game that the server has told, by the log, and by how it stood then.
+pub fn clocks_after(
+    alloc: Global,
+    known: &Knowledge<'_>,
+    told: &ToldGame,
+) -> Result<Vec<Option<u64>>> {
+    let Some(shown) = shown_of(told.shown.as_str()) else {
+        bail!("game {} does not stand", told.game);
+    };
+    let plies = shown.ply;
+    let asked = if known.is_logged { Some(shown) } else { None };
+    Ok(clocks(alloc, known.entries, &asked, told.game, plies)?)
+}
+
+/// The PGN of such a game as the archive has it, with these clocks.
+pub fn pgn_told(
+    alloc: Global,
+    known: &Knowledge<'_>,
+    told: &ToldGame,
+    clocks: &[Option<u64>],
+) -> Result<Vec<u8>> {
+    let game = told.game;
+    let Some(shown) = shown_of(told.shown.as_str()) else {
+        bail!("game {game} does not stand");
+    };
+    let heading = Heading {
+        white: full_name(known.players, seat_text(&shown.seats.white)),
+        black: full_name(known.players, seat_text(&shown.seats.black)),
+        ..known.heading
+    };
+    archived(alloc, &heading, told.pgn.as_str(), clocks).context(format_args!("game {game}"))
 }

@@ -8,11 +8,10 @@ use crate::asked::Keeping;
 use crate::keeper::{Counts, Done, Keeper, NOTHING, Onlookers};
 use crate::rows::{games_over, rows_of};
 use crate::sources::{Sources, link_to};
-use crate::telling::{Work, go_on};
 use anyhow::{Context, Result};
 use night_archive::{Archive, Opened, look, open_archive};
 use night_files::{DiskFile, HeldFile};
-use night_links::{Link, Watchers};
+use night_links::{Link, Pace, Watchers, Work, go_on};
 use night_log::in_order;
 use server_answers::Row;
 use std::alloc::Global;
@@ -210,7 +209,8 @@ where
     R: Files<File = File> + Net<Stream = TcpStream> + AllocGlobal + Print + Eprint + Clock,
 {
     let mut looking = Looking::new(rt, keeping)?;
-    let done = go_on(rt, &mut looking, keeping.source.every, "all is well again");
+    let pace = Pace::every(keeping.source.every);
+    let done = go_on(rt, &mut looking, pace, "all is well again");
     drop(looking);
     done
 }

@@ -1,11 +1,10 @@
 //! The games of an archive, for everybody to look up.
-use crate::file_state::FileState;
 use crate::initials::push_with;
-use crate::written::WrittenFile;
 use anyhow::Result;
 use lobby_words::NameForm;
 use night_archive::lines_of;
 use night_games::{Kept, Telling, games_kept};
+use night_links::{FileState, WrittenFile};
 use std::alloc::Global;
 use std::fs::File;
 use std::rt::Files;

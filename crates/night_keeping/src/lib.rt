@@ -1,12 +1,11 @@
 //! The words by which games are kept, exported and written live.
 //!
 //! Modules: `asked` has what is asked of them, `keeping`, `exporting` and `living` are what the three do. `keeper` does
-//! what the clerk decides, `telling` does work again and again, and tells what goes wrong once. `rows` has the games of
+//! what the clerk decides. `rows` has the games of
 //! the server's list, `asking` asks for a game's PGN, `sources` has what PGNs are made with: `players` has the players
-//! of their file, `log_reader` the log, read on as it grows; `reading` reads files; `initials` tells of players by
+//! of their file, `log_reader` the log, read on as it grows; `initials` tells of players by
 //! their initials; `besides` reads what is told of players and boards besides, `board_games` which game is which board;
-//! `kept` writes the file of all games of an archive, `written` a file anew where it has changed, of which `file_state`
-//! tells; `delay` has texts wait.
+//! `kept` writes the file of all games of an archive.
 //! `specs/Games` says which games of a list are over, `specs/Names` how a tag tells of a player.
 #![tactic(auto)]
 
@@ -14,9 +13,7 @@ mod asked;
 mod asking;
 mod besides;
 mod board_games;
-mod delay;
 mod exporting;
-mod file_state;
 mod initials;
 mod keeper;
 mod keeping;
@@ -24,11 +21,8 @@ mod kept;
 mod living;
 mod log_reader;
 mod players;
-mod reading;
 mod rows;
 mod sources;
-mod telling;
-mod written;
 
 pub use asked::{Besides, Exporting, Form, Keeping, Living, Source};
 pub use exporting::export;

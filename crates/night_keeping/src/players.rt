@@ -1,9 +1,8 @@
 //! The players as they stand in their file.
-use crate::reading::found;
-use crate::telling::Telling;
 use anyhow::{Result, bail};
 use lobby_players::players_of;
 use lobby_words::Player;
+use night_links::{Telling, found};
 use std::rt::Files;
 
 /// The players of a file, where one is named.

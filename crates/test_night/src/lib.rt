@@ -33,6 +33,8 @@ mod report;
 #[cfg(test)]
 mod rounds;
 #[cfg(test)]
+mod spectators;
+#[cfg(test)]
 mod standings;
 #[cfg(test)]
 mod sums;

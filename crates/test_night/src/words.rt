@@ -55,8 +55,8 @@ fn live_said(alloc: Global, living: &Living<'_>) -> Result<String, AllocError> {
     let (file, archive) = (living.file, living.archive.unwrap_or("-"));
     let (since, kept) = (living.since.unwrap_or("-"), living.kept.unwrap_or("-"));
     let besides = besides_said(alloc, &living.besides)?;
-    let delay = living.delay;
-    format!(in alloc; "live {source} {file} {archive} {since} {kept} {besides} {delay}")
+    let (games, delay) = (living.games.unwrap_or("-"), living.delay);
+    format!(in alloc; "live {source} {file} {archive} {since} {kept} {games} {besides} {delay}")
 }
 
 fn start_said(alloc: Global, starting: &Starting<'_>) -> Result<String, AllocError> {
@@ -169,11 +169,11 @@ static LINES: [(&str, Result<&str, ErrorKind>); 47] = [
     ("chess-club export --archive a", Ok("export a false - - 0")),
     (
         "chess-club live --server s/ --file f --date 2026.11.??",
-        Ok("live s/ ? 2026.11.?? 0 f - 2026.11.?? - - 0 0"),
+        Ok("live s/ ? 2026.11.?? 0 f - 2026.11.?? - - - 0 0"),
     ),
     (
         "chess-club live --server s/ --file f --archive a --since 2026.11.26 --date 2026.11.27 --kept k",
-        Ok("live s/ ? 2026.11.27 0 f a 2026.11.26 k - 0 0"),
+        Ok("live s/ ? 2026.11.27 0 f a 2026.11.26 k - - 0 0"),
     ),
     (
         "chess-club export --archive a --players p --particulars q --rounds a,b --rounds c,d,e",
@@ -181,7 +181,15 @@ static LINES: [(&str, Result<&str, ErrorKind>); 47] = [
     ),
     (
         "chess-club live --server s/ --file f --rounds a,b --particulars q --delay 15",
-        Ok("live s/ ? ????.??.?? 0 f - - - q 1 15"),
+        Ok("live s/ ? ????.??.?? 0 f - - - - q 1 15"),
+    ),
+    (
+        "chess-club live --server s/ --file f --games folder --every 1",
+        Ok("live s/ ? ????.??.?? 1 f - - - folder - 0 0"),
+    ),
+    (
+        "chess-club live --server s/ --file f --games folder --delay 15",
+        Err(ErrorKind::InvalidValue),
     ),
     (
         "chess-club live --server s/ --file f --delay 61",

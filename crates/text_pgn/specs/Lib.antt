@@ -7,3 +7,6 @@ pub mod Game
 pub mod Answer
 pub mod Replaying
 pub mod Telling
+pub mod Json
+pub mod Rows
+pub mod Spectators

@@ -90,8 +90,8 @@ fn push_move(
     Ok(())
 }
 
-// The clock after the next move, and those behind it.
-fn cut_clock(clocks: &[Option<u64>]) -> (Option<u64>, &[Option<u64>])
+/// The clock after the next move, and those behind it.
+pub fn cut_clock(clocks: &[Option<u64>]) -> (Option<u64>, &[Option<u64>])
     ensures first { result.0 ≡ spec.first_clock clocks.entry.now }
     ensures rest { result.1.now ≡ spec.next_clocks clocks.entry.now }
 {

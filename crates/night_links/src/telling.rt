@@ -1,6 +1,6 @@
 //! What is told on standard error of work that is done again and again.
 use anyhow::Result;
-use command_lines::tell;
+use command_lines::{tell, unix_time};
 use std::rt::Clock;
 use std::thread;
 use std::time::Duration;
@@ -50,21 +50,59 @@ pub trait Work {
     fn work(&mut self, is_once: bool) -> Result<()>;
 }
 
-/// Does work once, or, where so many seconds are to lie between two times, again and again until the program is killed.
-/// What is wrong is then told, and that all is well again.
-pub fn go_on<R, W>(rt: &R, work: &mut W, every: Option<u32>, well: &str) -> Result<()>
+/// How often work is done.
+#[derive(Clone, Copy)]
+pub enum Pace {
+    Once,
+    /// So many seconds lie between two times.
+    Seconds(u32),
+    /// It begins with each half of a second of the system's clock, but for those that pass while it is done: so it is
+    /// begun twice in a second at most.
+    HalfSeconds,
+}
+
+/// So many milliseconds are half a second.
+const HALF: u64 = 500;
+
+impl Pace {
+    /// Once, or with so many seconds between two times.
+    pub fn every(seconds: Option<u32>) -> Pace {
+        match seconds {
+            Some(seconds) => Pace::Seconds(seconds),
+            None => Pace::Once,
+        }
+    }
+
+    // Waits until it is to be done again.
+    fn wait<R: Clock>(self, rt: &R) -> Result<()> {
+        let pause = match self {
+            Pace::Once => Duration::ZERO,
+            Pace::Seconds(seconds) => Duration::from_secs(u64::from(seconds)),
+            Pace::HalfSeconds => {
+                let at = unix_time(rt)?.unwrap_or(0);
+                Duration::from_millis(HALF - at % HALF)
+            }
+        };
+        thread::sleep(rt, pause);
+        Ok(())
+    }
+}
+
+/// Does work once, or again and again until the program is killed. What is wrong is then told, and that all is well
+/// again.
+pub fn go_on<R, W>(rt: &R, work: &mut W, pace: Pace, well: &str) -> Result<()>
 where
     R: AllocGlobal + Eprint + Clock,
     W: Work,
 {
-    let Some(every) = every else {
+    if matches!(pace, Pace::Once) {
         return work.work(true);
-    };
+    }
     let mut telling = Telling::new(rt, well);
     for _ in 0..u64::MAX {
         let done = work.work(false);
         telling.tell(done)?;
-        thread::sleep(rt, Duration::from_secs(u64::from(every)));
+        pace.wait(rt)?;
     }
     Ok(())
 }

@@ -1,0 +1,98 @@
+//! What no clause says: the texts by which spectators watch, whole, as objects of JSON.
+use server_answers::{Clocks, Offers, Side};
+use std::alloc::Global;
+use std::process::Abort;
+use text_pgn::{GameTold, PlayedGame, Spectated, Stand, game_json, games_json, replayed};
+
+const MOVES: &str =
+    "[White \"Ann \\\"A\\\" Lee\"]\n[Black \"Bob\"]\n\n1. Nf3 {[%clk 0:04:59]} Nf6 *\n\n";
+
+const GAME: &str =
+    r#"{"at":1764160000123,"game":7,"white":"ann","black":"bob","names":["Ann \"A\" Lee","Bob"],"tags":[["White","Ann \"A\" Lee"],["Black","Bob"]],"times":"300+2","start":"rnbqkbnr/pppppppp/8/8/8/8/PPPPPPPP/RNBQKBNR w KQkq - 0 1","moves":[["Nf3","g1f3","rnbqkbnr/pppppppp/8/8/8/5N2/PPPPPPPP/RNBQKB1R b KQkq - 1 1",299000],["Nf6","g8f6","rnbqkb1r/pppppppp/5n2/8/8/5N2/PPPPPPPP/RNBQKB1R w KQkq - 2 2",null]],"check":false,"toMove":"white","running":"white","clocks":[299000,300000],"offer":"black","result":"*","article":"-"}
+"#;
+
+// (two seconds later)
+const ALL: &str =
+    r#"{"at":1764160002123,"games":[{"game":7,"white":"ann","black":"bob","names":["Ann \"A\" Lee","Bob"],"plies":2,"last":"Nf6","lastMove":"g8f6","fen":"rnbqkb1r/pppppppp/5n2/8/8/5N2/PPPPPPPP/RNBQKB1R w KQkq - 2 2","check":false,"toMove":"white","running":"white","clocks":[297000,300000],"offer":"black","result":"*","article":"-"},{"game":8,"white":"-","black":"-","names":["-","-"],"plies":0,"last":"-","lastMove":"-","fen":"7k/8/8/8/8/8/8/K6R b - - 0 1","check":true,"toMove":"black","running":"-","clocks":[null,null],"offer":"-","result":"1-0","article":"5.1.2"}]}
+"#;
+
+const PLAYED: Spectated<'static> = Spectated {
+    game: 7,
+    white: "ann",
+    black: "bob",
+    white_name: "Ann \"A\" Lee",
+    black_name: "Bob",
+    tags: MOVES,
+    times: "300+2",
+    stand: Stand {
+        at: 1_764_160_000_123,
+        running: Some(Side::White),
+        clocks: Some(Clocks {
+            white_ms: 299_000,
+            black_ms: 300_000,
+        }),
+        offers: Offers {
+            white: false,
+            black: true,
+        },
+        result: "*",
+        article: "-",
+    },
+};
+
+const OVER: Spectated<'static> = Spectated {
+    game: 8,
+    white: "-",
+    black: "-",
+    white_name: "-",
+    black_name: "-",
+    tags: "",
+    times: "-",
+    stand: Stand {
+        at: 1_764_160_000_000,
+        running: None,
+        clocks: None,
+        offers: Offers {
+            white: false,
+            black: false,
+        },
+        result: "1-0",
+        article: "5.1.2",
+    },
+};
+
+fn replay(rt: &impl Abort, alloc: Global, game: u32, pgn: &str) -> PlayedGame {
+    let found = replayed(alloc, game, pgn).expect(rt, "memory");
+    found.expect(rt, "a game")
+}
+
+#[test]
+fn tells_spectators_of_games(rt: HostRuntime) {
+    let alloc = rt.alloc();
+    let played = replay(&rt, alloc, 7, MOVES);
+    let text = game_json(alloc, &PLAYED, &played, &[Some(299_000)]).expect(&rt, "memory");
+    assert!(rt; text.as_slice() == GAME.as_bytes());
+    let over = replay(
+        &rt,
+        alloc,
+        8,
+        "[FEN \"7k/8/8/8/8/8/8/K6R b - - 0 1\"]\n\n1-0\n\n",
+    );
+    let games = [
+        GameTold {
+            game: PLAYED,
+            played: &played,
+        },
+        GameTold {
+            game: OVER,
+            played: &over,
+        },
+    ];
+    let all = games_json(alloc, 1_764_160_002_123, &games).expect(&rt, "memory");
+    assert!(rt; all.as_slice() == ALL.as_bytes());
+    assert!(rt;
+        replayed(alloc, 9, "1. e5 *\n")
+            .expect(&rt, "memory")
+            .is_none()
+    );
+}
