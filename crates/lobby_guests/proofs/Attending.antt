@@ -18,7 +18,15 @@ module _ {S : Type 0} (remaining : S → Option (List ℕ)) (site : Site) (at : 
   left_alone : (old new : Guest S) (talk after : Talk) → new ≡ old → after ≡ talk → IsAttended remaining site at old new talk after
   left_alone old new talk after same still = record {
     read = old;
-    reads = record { number = refl; waits = refl; taken = []; consumed = none_consumed (remaining old.stream); takes = inl (refl, refl) };
+    reads = record {
+      number = refl;
+      waits = refl;
+      since = refl;
+      origin = λ not_proxy. refl;
+      taken = [];
+      consumed = none_consumed (remaining old.stream);
+      takes = inl (refl, refl);
+    };
     hears = inr (same, still);
   }
 

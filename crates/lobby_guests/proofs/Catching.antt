@@ -62,7 +62,15 @@ told_answer waits one ones told answer is first same =
 module _ {S : Type 0} where
   -- nothing of a browser changes
   pub same_guest : (guest : Guest S) → IsAsBefore guest guest
-  same_guest guest = record { number = refl; stream = refl; browser = refl; waits = refl }
+  same_guest guest = record {
+    number = refl;
+    stream = refl;
+    browser = refl;
+    waits = refl;
+    since = refl;
+    origin = refl;
+    paid = refl;
+  }
 
   pub caught_none : (guest : Guest S) → IsCaughtUp guest guest
   caught_none guest = record { front = []; are = same_guest guest; at_line = λ at. at }
@@ -79,11 +87,15 @@ module _ {S : Type 0} where
       record {
         number = put.number ∙ same.number;
         stream = put.stream ∙ same.stream;
+        since = put.since ∙ same.since;
+        origin = put.origin ∙ same.origin;
         passed = subst (λ (b : Bool). IsPassedOn b (must_wait old.waits.items made.kind) made old new) (sym for_it)
             (subst (λ (b : Bool). IsPassedOn true b made old new) (sym here) (record {
               number = put.number ∙ same.number;
               stream = put.stream ∙ same.stream;
               browser = put.browser ∙ same.browser;
+              since = put.since ∙ same.since;
+              origin = put.origin ∙ same.origin;
               one = put.one;
               copy = put.copy;
               waits = put.waits ∙ ap (λ v. v.items ++ put.one ∷ []) same.waits;

@@ -6,3 +6,5 @@ pub mod Owing
 mod Resting
 mod Wanted
 mod Catching
+mod Waking
+mod Writing

@@ -5,12 +5,12 @@ use Rattle.std.proofs.Math.Seq.{drop-cons}
 use Rattle.std.proofs.lemmas.List.{drop_all}
 use Rattle.lobby_desk.specs.declared.telling.Message.{Message}
 use Rattle.lobby_guests.specs.Guests.{taken_until}
-use Rattle.lobby_guests.specs.Rests.{rested}
+use Rattle.lobby_guests.specs.Rests.{rest_of, rested}
 
 module _ (at first : ℕ) (told : List Message) where
   pub rested_further : (i : ℕ) (d : Message) (until now : ℕ) → i < length told →
       rested at until (drop i told) ≡ rested at first told →
-      now ≡ taken_until at until (string_len (get_or told i d).text / 1000) →
+      now ≡ taken_until at until (rest_of (string_len (get_or told i d).text)) →
       rested at now (drop (i + 1) told) ≡ rested at first told
   rested_further i d until now below whole is =
       ap (λ (n : ℕ). rested at n (drop (i + 1) told)) is

@@ -24,7 +24,7 @@ use Rattle.lobby_guests.specs.declared.rounds.Others.{Others}
 use Rattle.lobby_guests.specs.declared.rounds.Others.TheVariants.{Newcomers, Strangers}
 use Rattle.lobby_talk.specs.declared.talk.Talk.{Talk}
 use Rattle.lobby_talk.specs.Talking.{Moves, Opens, IsTextSaid, acts_at}
-use Rattle.lobby_talk.specs.Counting.{is_for}
+use Rattle.lobby_talk.specs.Counting.{is_for, is_answer}
 use Rattle.lobby_talk.specs.Keeping.{IsMadeOf}
 use Rattle.lobby_talk.specs.declared.kept_answer.KeptAnswer.{KeptAnswer}
 use Rattle.lobby_guests.specs.declared.waiting.Waiting.{Waiting}
@@ -42,25 +42,44 @@ pub record IsNewGuest {S : Type 0} (stream : S) (guest : Guest S) : Type 0 where
 pub record ComesFrom {S : Type 0} (key : ℕ) (origin : Origin) (at : ℕ) (guest : Guest S) : Type 0 where
   pub key_is : guest.key ≡ key
   pub origin_is : guest.origin ≡ origin
-  pub came : (guest.came_at ≡ at) × (guest.heard_at ≡ at)
+  pub came : (guest.since ≡ at) × (guest.heard_at ≡ at)
   pub ready : (guest.can_read ≡ true) × (guest.can_write ≡ true)
   pub stays : guest.is_lost ≡ false
   pub unpaid : (guest.paid_until ≡ 0) × (guest.logins_until ≡ 0)
 
--- Nothing came, and nothing went.
+-- The time of a nameless one counts from when it did, and it counts for the address for which it did.
+pub record IsSameVisit {S : Type 0} (old new : Guest S) : Type 0 where
+  pub since : new.since ≡ old.since
+  pub origin : new.origin ≡ old.origin
+
+-- Nothing came, nothing went, and nothing of its time was taken.
 pub record IsAsBefore {S : Type 0} (old new : Guest S) : Type 0 where
   pub number : new.number ≡ old.number
   pub stream : new.stream ≡ old.stream
   pub browser : new.browser ≡ old.browser
   pub waits : new.waits ≡ old.waits
+  pub since : new.since ≡ old.since
+  pub origin : new.origin ≡ old.origin
+  pub paid : new.paid_until ≡ old.paid_until
+
+-- Nothing came, and nothing went.
+pub record IsStill {S : Type 0} (old new : Guest S) : Type 0 where
+  pub number : new.number ≡ old.number
+  pub stream : new.stream ≡ old.stream
+  pub browser : new.browser ≡ old.browser
+  pub waits : new.waits ≡ old.waits
+  pub since : new.since ≡ old.since
+  pub origin : new.origin ≡ old.origin
 
 -- ---- what comes
 
 -- Bytes came of a browser's socket where they are wanted, and its connection takes them; none where it is told that no
--- more come. Or nothing came.
+-- more come. Or nothing came. For another address it counts only where it is the trusted proxy's, which tells one.
 pub record IsRead {S : Type 0} (remaining : S → Option (List ℕ)) (site : Site) (old new : Guest S) : Type 0 where
   pub number : new.number ≡ old.number
   pub waits : new.waits ≡ old.waits
+  pub since : new.since ≡ old.since
+  pub origin : old.origin.is_proxy ≡ false → new.origin ≡ old.origin
   pub taken : List ℕ
   pub consumed : Consumes (remaining old.stream) (remaining new.stream) taken
   pub takes : (new.browser ≡ old.browser) × (taken ≡ [])
@@ -76,13 +95,16 @@ IsHeardAs (Some heards.Opened) at (Some c) after old new = (after ≡ Some c) ×
 IsHeardAs (Some (heards.Text text)) at None after old new = (after ≡ None) × (new ≡ old)
 IsHeardAs (Some (heards.Text text)) at (Some c) after old new = (after ≡ Some c) × IsTextSaid text.items c at old new
 
--- A browser's socket is asked what came next, and the desk is told that.
+-- A browser's socket is asked what came next, and the desk is told that. Where something came, more may have come.
 pub record IsAsked {S : Type 0} (at : ℕ) (old new : Guest S) (talk after : Talk) : Type 0 where
   pub heard : Option Heard
   pub gives : HearsNext old.browser.stage new.browser.stage heard
   pub told : IsHeardAs heard at old.number new.number talk after
   pub stream : new.stream ≡ old.stream
   pub waits : new.waits ≡ old.waits
+  pub since : new.since ≡ old.since
+  pub origin : new.origin ≡ old.origin
+  pub more : is_some heard ≡ true → new.has_more ≡ old.has_more
 
 -- It is asked, or not: then nothing changes.
 abbrev pub IsHeard : {S : Type 0} → ℕ → Guest S → Guest S → Talk → Talk → Type 0
@@ -104,12 +126,16 @@ pub record IsAttended {S : Type 0} (remaining : S → Option (List ℕ)) (site :
 abbrev pub taken_until : ℕ → ℕ → ℕ → ℕ
 taken_until at until millis = min (max until at + millis) (2 ^ 64 - 1)
 
+-- the same once it was told a text: of an answer a millisecond for each 200 bytes, and of a notice none
+abbrev pub paid_for : ℕ → List ℕ → ℕ → ℕ
+paid_for at text until = if is_answer text then taken_until at until (length text / 200) else until
+
 -- the same once it was read: a millisecond where bytes came, and one for each 40 of them
 abbrev pub paid_after : ℕ → ℕ → ℕ → ℕ
 paid_after at until count = if count == 0 then until else taken_until at until (1 + count / 40)
 
--- At most 1,024 bytes of one are read, for which its time is taken; of one that acts for nobody none while something of
--- it may wait to be heard.
+-- At most 1,024 bytes of one are read, for which its time is taken, and which are then to be heard; of one that acts
+-- for nobody none while something of it may wait to be heard.
 pub record IsPaid {S : Type 0} (remaining : S → Option (List ℕ)) (acts : Bool) (at : ℕ)
     (old new : Guest S) : Type 0 where
   pub taken : List ℕ
@@ -117,6 +143,8 @@ pub record IsPaid {S : Type 0} (remaining : S → Option (List ℕ)) (acts : Boo
   pub few : length taken ≤ 1024
   pub waits : acts ≡ false → old.has_more ≡ true → length taken ≡ 0
   pub paid : new.paid_until ≡ paid_after at old.paid_until (length taken)
+  pub more : (length taken ≡ 0) ⊎ (new.has_more ≡ true)
+  pub keeps : old.has_more ≡ true → new.has_more ≡ true
 
 -- the same once its socket has opened: nothing is owed then
 abbrev pub owed_after : Option ℕ → Option ℕ → ℕ → ℕ
@@ -296,6 +324,8 @@ pub record IsPutBehind {S : Type 0} (made : Message) (old new : Guest S) : Type 
   pub number : new.number ≡ old.number
   pub stream : new.stream ≡ old.stream
   pub browser : new.browser ≡ old.browser
+  pub since : new.since ≡ old.since
+  pub origin : new.origin ≡ old.origin
   pub one : Waiting
   pub copy : IsCopyOf made one
   pub waits : new.waits.items ≡ old.waits.items ++ one ∷ []
@@ -312,6 +342,8 @@ IsPassedOn true true made old new = IsPutBehind made old new
 pub record IsTold {S : Type 0} (made : Message) (old new : Guest S) : Type 0 where
   pub number : new.number ≡ old.number
   pub stream : new.stream ≡ old.stream
+  pub since : new.since ≡ old.since
+  pub origin : new.origin ≡ old.origin
   pub passed : IsPassedOn (is_for old.number made.to.items) (must_wait old.waits.items made.kind) made old new
 
 -- all of these, in their order
@@ -323,6 +355,8 @@ AreTold {S = S} (one ∷ made) old new = (between : Guest S) × IsTold one old b
 pub record IsNextTold {S : Type 0} (one : Waiting) (old new : Guest S) : Type 0 where
   pub number : new.number ≡ old.number
   pub stream : new.stream ≡ old.stream
+  pub since : new.since ≡ old.since
+  pub origin : new.origin ≡ old.origin
   pub first : old.waits.items ≡ one ∷ new.waits.items
   pub text : List ℕ
   pub told : IsToldBy (is_line one.kind) (string_bytes one.text) text
@@ -371,17 +405,38 @@ pub record AreDelivered {S : Type 0} (kept : List KeptAnswer) (told : List Messa
 pub record IsWritten {S : Type 0} (contents : S → Option (List ℕ)) (site : Site) (old new : Guest S) : Type 0 where
   pub number : new.number ≡ old.number
   pub waits : new.waits ≡ old.waits
+  pub since : new.since ≡ old.since
+  pub origin : new.origin ≡ old.origin
+  pub paid : new.paid_until ≡ old.paid_until
   pub count : ℕ
   pub within : count ≤ length (pending old.browser.stage)
   pub few : count ≤ 16384
   pub written : Appends (contents old.stream) (contents new.stream) (take count (pending old.browser.stage))
   pub goes : (new.browser ≡ old.browser) × (count ≡ 0) ⊎ Writes site count old.browser.stage new.browser.stage
 
+-- The moment from which on the time of a nameless one counts: as before, but where it acts for a player now, this one.
+abbrev pub since_after : Bool → ℕ → ℕ → ℕ
+since_after acts at since = if acts then at else since
+
 -- A browser is asked whether it is there, or nothing is said.
-pub record IsLookedAfter {S : Type 0} (old new : Guest S) : Type 0 where
+pub record IsPinged {S : Type 0} (old new : Guest S) : Type 0 where
   pub number : new.number ≡ old.number
   pub stream : new.stream ≡ old.stream
   pub waits : new.waits ≡ old.waits
+  pub since : new.since ≡ old.since
+  pub origin : new.origin ≡ old.origin
+  pub paid : new.paid_until ≡ old.paid_until
+  pub said : (new.browser ≡ old.browser) ⊎ ((answer : Result (Unit {0}) Unsaid)
+      × SaysTo (Ping []) old.browser.stage new.browser.stage answer)
+
+-- The same, and it is seen whether it acts for a player.
+pub record IsLookedAfter {S : Type 0} (desk : Desk) (at : ℕ) (old new : Guest S) : Type 0 where
+  pub number : new.number ≡ old.number
+  pub stream : new.stream ≡ old.stream
+  pub waits : new.waits ≡ old.waits
+  pub since : new.since ≡ since_after (acts_at desk old.number) at old.since
+  pub origin : new.origin ≡ old.origin
+  pub paid : new.paid_until ≡ old.paid_until
   pub said : (new.browser ≡ old.browser) ⊎ ((answer : Result (Unit {0}) Unsaid)
       × SaysTo (Ping []) old.browser.stage new.browser.stage answer)
 

@@ -4,3 +4,4 @@ pub mod Place
 pub mod Rests
 pub mod Counting
 pub mod Waiting
+pub mod Waking

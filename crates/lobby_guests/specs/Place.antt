@@ -36,18 +36,17 @@ abbrev pub player_of : Desk → Option ℕ → Option (List ℕ)
 player_of desk None = None
 player_of desk (Some c) = player_at desk c
 
--- a connection's place
+-- a connection's place; its time counts from when it came, and of one that acted for a player from the last turn in
+-- which it did
 abbrev pub place_of : {S : Type 0} → Desk → Guest S → Place
 place_of desk guest = record {
   address = guest.origin.address;
   role = role_of desk guest.is_lost guest.number;
   player = player_of desk guest.number;
-  since = guest.came_at;
+  since = guest.since;
 }
 
 -- A connection goes where its place has nobody any more; nothing else changes.
 pub record Yields {S : Type 0} (place : Place) (old new : Guest S) : Type 0 where
   pub before : IsAsBefore old new
   pub lost : new.is_lost ≡ (old.is_lost || is_gone place.role)
-  pub origin : new.origin ≡ old.origin
-  pub came : new.came_at ≡ old.came_at

@@ -4,15 +4,17 @@ ghost use Rattle.std.specs.Prelude.{◌≢◌};
 ghost use Rattle.lobby_desk.specs.Who.{IsReady, at_table};
 ghost use Rattle.lobby_guests.specs.Guests.{has_time, is_beyond, IsNewGuest, ComesFrom, IsAsBefore, IsRead};
 ghost use Rattle.lobby_guests.specs.Guests.{IsHeardAs, IsHeard, IsAsked, MaySpeak, IsSaid, IsTold, AreTold, IsWritten};
-ghost use Rattle.lobby_guests.specs.Guests.{IsPutBehind, IsNextTold, IsCaughtUp, IsFirst};
+ghost use Rattle.lobby_guests.specs.Guests.{IsPutBehind, IsNextTold, IsCaughtUp, IsFirst, IsSameVisit, IsStill};
+ghost use Rattle.lobby_guests.specs.Guests.{IsPinged};
 ghost use Rattle.lobby_guests.specs.Waiting.{must_wait, AtLine};
+ghost use Rattle.lobby_guests.specs.Waking.{IsAwake};
 ghost use Rattle.lobby_guests.specs.declared.waiting.Waiting.{Waiting as WaitingValue};
 ghost use Rattle.std.specs.String.{string_bytes};
 ghost use Rattle.std.specs.Option.{option_map};
 ghost use Rattle.lobby_talk.specs.Counting.{is_for};
 ghost use Rattle.lobby_guests.specs.Waiting as waiting;
 ghost use Rattle.lobby_guests.specs.Guests.{IsLookedAfter, is_in_time, taken_until, MayHave, may_have, is_fresh, IsDue};
-ghost use Rattle.lobby_guests.specs.Guests.{due_at, ahead_at, is_unheard, IsPaid, owed_after};
+ghost use Rattle.lobby_guests.specs.Guests.{due_at, ahead_at, is_unheard, IsPaid, owed_after, paid_for, since_after};
 ghost use Rattle.lobby_web.specs.Browsing.{WantsBytes};
 ghost use Rattle.lobby_talk.specs.Counting.{refuses_login, counted_up, one_if, refuses, refusals_of};
 ghost use Rattle.lobby_guests.specs.Place.{role_at, role_of, player_of, place_of, Yields};
@@ -22,8 +24,8 @@ use crate::place::{Place, Role, is_gone};
 use crate::waiting::{Waiting, is_line};
 use lobby_desk::{Kind, Message};
 use lobby_talk::{
-    Asked, Coming, Counts, Gone, KeepsLinks, KeptAnswer, PIECE_ROOM, Talk, is_refused_login,
-    say_to_desk, write_piece,
+    Asked, Coming, Counts, Gone, KeepsLinks, KeptAnswer, PIECE_ROOM, Talk, is_answer,
+    is_refused_login, say_to_desk, write_piece,
 };
 use lobby_web::{Browser, Heard, Site, Unsaid};
 use player_name::Name;
@@ -80,7 +82,8 @@ pub struct Guest<S> {
     has_more: bool,
     /// Whether it is to be closed at once.
     is_lost: bool,
-    came_at: u64,
+    /// From when on its time as a nameless one counts: when it came, or the last turn in which it acted for a player.
+    since: u64,
     /// When it last sent something.
     heard_at: u64,
     /// Whether it was asked since whether it is there.
@@ -140,7 +143,7 @@ impl<S> Guest<S> {
             can_write: true,
             has_more: false,
             is_lost: false,
-            came_at: at,
+            since: at,
             heard_at: at,
             is_asked: false,
             asked: Asked::new(),
@@ -165,7 +168,9 @@ impl<S> Guest<S> {
     }
 
     /// The name of its socket.
-    pub fn key(&self) -> usize {
+    pub fn key(&self) -> usize
+        ensures { result ≡ self.now.key }
+    {
         self.key
     }
 
@@ -254,14 +259,12 @@ impl<S> Guest<S> {
         self.can_write && !self.is_lost && !self.browser.out().is_empty()
     }
 
-    /// The socket of this name may be ready.
-    pub fn wake(&mut self, key: usize)
-        ensures { IsAsBefore self.old self.new }
+    /// Its socket may be ready.
+    pub fn wake(&mut self)
+        ensures { IsAwake self.old self.new }
     {
-        if self.key == key {
-            self.can_read = true;
-            self.can_write = true;
-        }
+        self.can_read = true;
+        self.can_write = true;
     }
 
     /// It is to be closed where it is over, with nothing left to write or to hear.
@@ -311,7 +314,7 @@ impl<S> Guest<S> {
             address: self.origin.address,
             role: self.role(talk),
             player: self.player(talk),
-            since: self.came_at,
+            since: self.since,
         }
     }
 
@@ -350,6 +353,8 @@ impl<S> Guest<S> {
         ensures browser { OnOk result (self.new.browser ≡ self.old.browser) }
         ensures stream { OnOk result (self.new.stream ≡ self.old.stream) }
         ensures waits { OnOk result (self.new.waits ≡ self.old.waits) }
+        ensures visit { OnOk result (IsSameVisit self.old self.new) }
+        ensures more { OnOk result (self.new.has_more ≡ self.old.has_more) }
         ensures owes { OnOk result
             (self.new.paid_until ≡ owed_after self.old.number self.new.number self.old.paid_until) }
     {
@@ -420,6 +425,8 @@ impl<S> Guest<S> {
         ensures number { self.new.number ≡ self.old.number }
         ensures stream { self.new.stream ≡ self.old.stream }
         ensures waits { self.new.waits ≡ self.old.waits }
+        ensures visit { IsSameVisit self.old self.new }
+        ensures paid { self.new.paid_until ≡ self.old.paid_until }
     {
         match self.browser.say(text.as_bytes()) {
             Ok(()) => {}
@@ -430,7 +437,7 @@ impl<S> Guest<S> {
 
     // So many milliseconds more of its time are taken.
     fn take_time(&mut self, at: u64, millis: u64)
-        ensures before { IsAsBefore self.old self.new }
+        ensures before { IsStill self.old self.new }
         ensures time { self.new.paid_until ≡ taken_until at self.old.paid_until millis }
     {
         self.paid_until = self.paid_until.max(at).saturating_add(millis);
@@ -438,7 +445,7 @@ impl<S> Guest<S> {
 
     // Its time is taken by an answer of so many bytes.
     fn pay(&mut self, at: u64, bytes: usize)
-        ensures before { IsAsBefore self.old self.new }
+        ensures before { IsStill self.old self.new }
         ensures paid { self.new.paid_until ≡ taken_until at self.old.paid_until (bytes / 200) }
     {
         self.take_time(at, bytes as u64 / BYTES_A_MILLISECOND);
@@ -466,10 +473,13 @@ impl<S> Guest<S> {
         ensures number { self.new.number ≡ self.old.number }
         ensures stream { self.new.stream ≡ self.old.stream }
         ensures waits { self.new.waits ≡ self.old.waits }
+        ensures visit { IsSameVisit self.old self.new }
+        ensures paid { self.new.paid_until ≡ paid_for counts.old.at text.now self.old.paid_until }
         ensures logins { counts.new.logins_refused ≡ counts.old.logins_refused }
     {
         self.be_told_text(text);
-        if counts.told(text, &mut self.asked) {
+        counts.told(text, &mut self.asked);
+        if is_answer(text) {
             self.pay(counts.at, text.len());
         }
     }
@@ -632,7 +642,7 @@ impl<S> Guest<S> {
 
     // Asks a browser of which nothing came whether it is there.
     fn ask(&mut self)
-        ensures { IsLookedAfter self.old self.new }
+        ensures { IsPinged self.old self.new }
     {
         if self.browser.ping().is_err() {
             self.is_lost = true;
@@ -640,10 +650,10 @@ impl<S> Guest<S> {
         self.is_asked = true;
     }
 
-    /// Where it is time, asks a browser that has been silent whether it is there, and lets one go that has been for too
-    /// long.
-    pub fn look_after(&mut self, is_time: bool, at: u64)
-        ensures { IsLookedAfter self.old self.new }
+    // Where it is time, asks a browser that has been silent whether it is there, and lets one go that has been for too
+    // long.
+    fn ask_silent(&mut self, is_time: bool, at: u64)
+        ensures { IsPinged self.old self.new }
     {
         if !is_time {
             return;
@@ -654,6 +664,23 @@ impl<S> Guest<S> {
         } else if silent >= ASKED_AFTER && !self.is_asked && self.browser.is_open() {
             self.ask();
         }
+    }
+
+    // From when on its time counts, where it acts for a player or not.
+    fn since_after(&self, acts: bool, at: u64) -> u64
+        ensures { result ≡ since_after acts at self.now.since }
+    {
+        if acts { at } else { self.since }
+    }
+
+    /// Where it acts for a player its time as a nameless one counts from now on. Where it is time, asks a browser that
+    /// has been silent whether it is there, and lets one go that has been for too long.
+    pub fn look_after(&mut self, talk: &Talk, is_time: bool, at: u64)
+        ensures { IsLookedAfter talk.now.desk at self.old self.new }
+    {
+        let acts = talk.acts(self.number);
+        self.since = self.since_after(acts, at);
+        self.ask_silent(is_time, at);
     }
 }
 
@@ -670,13 +697,14 @@ impl<S: Read + Write> Guest<S> {
 
     // Bytes of it came, for which its time is taken.
     fn note_bytes(&mut self, at: u64, count: usize)
-        ensures before { IsAsBefore self.old self.new }
+        ensures before { IsStill self.old self.new }
         ensures paid { self.new.paid_until ≡ taken_until at self.old.paid_until (1 + count / 40) }
+        ensures more { self.new.has_more ≡ true }
     {
+        self.take_time(at, 1 + count as u64 / COME_A_MILLISECOND);
         self.heard_at = at;
         self.is_asked = false;
         self.has_more = true;
-        self.take_time(at, 1 + count as u64 / COME_A_MILLISECOND);
     }
 
     /// Reads at most 1,024 bytes, if they are wanted, of one that acts for a player or for nobody. It tells whether
@@ -725,7 +753,8 @@ impl<S: Read + Write> Guest<S> {
     /// Writes what the socket takes at once of what waits to be written, at most 16,384 bytes, if it is its turn. It
     /// tells whether that was anything.
     pub fn write_out(&mut self, site: &Site, is_turn: bool) -> bool
-        ensures { IsWritten S.contents site.now self.old self.new }
+        ensures written { IsWritten S.contents site.now self.old self.new }
+        ensures waits { is_turn ≡ false → self.new ≡ self.old }
     {
         if !is_turn || !self.has_to_write() {
             return false;

@@ -1,20 +1,22 @@
 //! All browsers that are connected, by the names of their sockets, which grow.
 #![tactic(auto, using(lobby_talk::proofs::Each::zipped_none, lobby_talk::proofs::Each::zipped_vec))]
 
-ghost use Rattle.std.specs.Prelude.{ℕ, Bool, true, false, nat_lt, ◌≡◌, ◌++◌, ◌∷◌, [], List, Option, OnOk, count_by};
+ghost use Rattle.std.specs.Prelude.{ℕ, Bool, true, false, nat_lt, length, ◌<◌, ◌≡◌, ◌++◌, ◌∷◌, [], List, Option, OnOk};
+ghost use Rattle.std.specs.Prelude.{count_by, slice_index_or, slice_set, ◌≢◌};
 ghost use Rattle.std.specs.Option.{option_map};
-ghost use Rattle.std.specs.List.{AllZip};
+ghost use Rattle.std.specs.List.{AllZip, HoldsAt};
 ghost use Rattle.lobby_guests.specs.Counting.{refusals_in, CountsLogins};
 ghost use Rattle.lobby_talk.specs.Counting.{counted_up};
 ghost use Rattle.lobby_guests.specs.Guests as guests;
 ghost use Rattle.lobby_guests.specs.Guests.{IsAsBefore, IsServed, IsPlayersTurn, IsOthersTurn, InTurn, Room, full_room};
 ghost use Rattle.lobby_guests.specs.Guests.{AreAttended, AreTold, AreDelivered, IsWritten, IsLookedAfter, IsClosedIf};
 ghost use Rattle.lobby_guests.specs.Guests.{AreClosed, AreParted, IsCaughtUp, first_wanted, has_waiting, pass_of};
-ghost use Rattle.lobby_guests.specs.Rests.{LeavesOthers};
-ghost use Rattle.lobby_guests.specs.declared.rounds.Others.TheVariants.{Strangers};
+ghost use Rattle.lobby_guests.specs.Rests.{LeavesOthers, LeavesNewcomers, LeavesStranger};
+ghost use Rattle.lobby_guests.specs.Waking.{IsAwake, StaysUnlessNamed, IsAwakeIfNamed, NamesGrow, IsPlaceNamed};
+ghost use Rattle.lobby_guests.specs.Waking.{number_named};
 ghost use Rattle.lobby_guests.specs.Waiting as waiting;
 ghost use Rattle.lobby_talk.specs.Replaying.{IsReplayed};
-ghost use Rattle.lobby_talk.specs.Talking.{IsTalkAsBefore};
+ghost use Rattle.lobby_talk.specs.Talking.{IsTalkAsBefore, acts_at};
 ghost use Rattle.lobby_talk.specs.Keeping.{AreKept};
 
 use crate::guest::Guest;
@@ -163,10 +165,12 @@ fn attend_others<S: Read + Write, K: KeepsLinks>(
     Ok(any | can_more)
 }
 
-// Attends some of those who act for nobody and were heard before, where these do not rest.
-fn attend_rested<S: Read + Write, K: KeepsLinks>(
+// Attends some of these others, where they do not rest.
+fn attend_unless<S: Read + Write, K: KeepsLinks>(
     guests: &mut Vec<Guest<S>>,
     rests: bool,
+    others: Others,
+    is_fresh: bool,
     round: &mut Round,
     site: &Site,
     talk: &mut Talk,
@@ -176,24 +180,25 @@ fn attend_rested<S: Read + Write, K: KeepsLinks>(
     coming: &mut Coming,
 ) -> Result<bool, AllocError>
     ensures turned { OnOk result ((room : Room) × (room.talk ≡ talk.new)
-        × InTurn (IsOthersTurn (pass_of Strangers false at) S.remaining site.now) guests.old.items guests.new.items
+        × InTurn (IsOthersTurn (pass_of others is_fresh at) S.remaining site.now) guests.old.items guests.new.items
         (full_room talk.old) room) }
     ensures rests { rests ≡ true → (guests.new.items ≡ guests.old.items) × (talk.new ≡ talk.old) }
 {
     if rests {
         return Ok(false);
     }
-    let strange = Others::Strangers;
     attend_others(
-        guests, strange, false, round, site, talk, at, links, piece, coming,
+        guests, others, is_fresh, round, site, talk, at, links, piece, coming,
     )
 }
 
 /// Reads for players, and says to the desk what came next of each of them; and then for some of the others, of whom
-/// those who were heard before may rest. It tells whether there was anything.
+/// those who have no socket yet wait in a short turn, and those who were heard before may rest. It tells whether there
+/// was anything of players.
 pub fn attend_all<S: Read + Write, K: KeepsLinks>(
     guests: &mut Vec<Guest<S>>,
     rounds: &mut Rounds,
+    is_short: bool,
     site: &Site,
     talk: &mut Talk,
     at: u64,
@@ -202,7 +207,8 @@ pub fn attend_all<S: Read + Write, K: KeepsLinks>(
     counts: &mut Counts,
 ) -> Result<bool, AllocError>
     ensures attended { OnOk result ((attended : AreAttended S.remaining site.now at guests.old.items guests.new.items
-        talk.old talk.new) × (nat_lt at rounds.old.rests_until ≡ true → LeavesOthers attended)) }
+        talk.old talk.new) × (nat_lt at rounds.old.rests_until ≡ true → LeavesOthers attended)
+        × (is_short ≡ true → LeavesNewcomers attended)) }
     ensures rests { OnOk result (rounds.new.rests_until ≡ rounds.old.rests_until) }
     ensures logins { OnOk result (counts.new.logins_refused ≡ counts.old.logins_refused) }
 {
@@ -210,8 +216,9 @@ pub fn attend_all<S: Read + Write, K: KeepsLinks>(
     let new = Others::Newcomers;
     let round = &mut rounds.newcomers;
     let players = attend_players(guests, site, talk, at, links, piece, &mut coming)?;
-    let newcomers = attend_others(
+    let newcomers = attend_unless(
         guests,
+        is_short,
         new,
         true,
         round,
@@ -238,9 +245,11 @@ pub fn attend_all<S: Read + Write, K: KeepsLinks>(
     )?;
     let rests = rounds.rests(at);
     let round = &mut rounds.strangers;
-    let other = attend_rested(
+    let other = attend_unless(
         guests,
         rests,
+        strange,
+        false,
         round,
         site,
         talk,
@@ -250,7 +259,8 @@ pub fn attend_all<S: Read + Write, K: KeepsLinks>(
         &mut coming,
     )?;
     counts.add(&coming);
-    Ok(players | newcomers | fresh | other)
+    rounds.has_others = is_short | newcomers | fresh | other;
+    Ok(players)
 }
 
 // Each is told the messages that go to it, or they wait.
@@ -358,13 +368,21 @@ pub fn deliver<S>(
     Ok(())
 }
 
+// Whether something is to be written to a browser that acts for a player.
+fn has_for_player<S>(guest: &Guest<S>, talk: &Talk) -> bool
+    ensures { acts_at talk.now.desk guest.now.number ≡ false → result ≡ false }
+{
+    guest.has_to_write() && talk.acts(guest.number())
+}
+
 // Writes to each that acts for a player what it takes.
 fn write_players<S: Read + Write>(guests: &mut Vec<Guest<S>>, site: &Site, talk: &Talk) -> bool
-    ensures { AllZip (IsWritten S.contents site.now) guests.old.items guests.new.items }
+    ensures written { AllZip (IsWritten S.contents site.now) guests.old.items guests.new.items }
+    ensures strangers { AllZip (LeavesStranger talk.now.desk) guests.old.items guests.new.items }
 {
     let mut any = false;
     for guest in guests.iter_mut() {
-        let is_turn = guest.has_to_write() && talk.acts(guest.number());
+        let is_turn = has_for_player(guest, talk);
         any |= guest.write_out(site, is_turn);
     }
     any
@@ -379,7 +397,7 @@ fn has_turn_to_write<S>(guest: &Guest<S>, talk: &Talk, round: &mut Round) -> boo
     is_turn
 }
 
-// Writes to some of the others what they take, and tells whether that was anything or more can be written at once.
+// Writes to some of the others what they take. It tells whether that was anything, or more can be written.
 fn write_others<S: Read + Write>(
     guests: &mut Vec<Guest<S>>,
     site: &Site,
@@ -398,20 +416,41 @@ fn write_others<S: Read + Write>(
     any | can_more
 }
 
-/// Writes to players what they take, and then to some of the others. It tells whether that was anything.
+// Writes to some of the others, where they do not wait.
+fn write_unless<S: Read + Write>(
+    guests: &mut Vec<Guest<S>>,
+    waits: bool,
+    site: &Site,
+    talk: &Talk,
+    round: &mut Round,
+) -> bool
+    ensures written { AllZip (IsWritten S.contents site.now) guests.old.items guests.new.items }
+    ensures waits { waits ≡ true → guests.new.items ≡ guests.old.items }
+{
+    if waits {
+        return false;
+    }
+    write_others(guests, site, talk, round)
+}
+
+/// Writes to players what they take, and then to some of the others, but not in a short turn. It tells whether that was
+/// anything for players.
 pub fn write_all<S: Read + Write>(
     guests: &mut Vec<Guest<S>>,
     rounds: &mut Rounds,
+    is_short: bool,
     site: &Site,
     talk: &Talk,
 ) -> bool
     ensures written { (first : List (Guest S)) × AllZip (IsWritten S.contents site.now) guests.old.items first
         × AllZip (IsWritten S.contents site.now) first guests.new.items }
+    ensures short { is_short ≡ true → AllZip (LeavesStranger talk.now.desk) guests.old.items guests.new.items }
     ensures rests { rounds.new.rests_until ≡ rounds.old.rests_until }
 {
     let players = write_players(guests, site, talk);
-    let others = write_others(guests, site, talk, &mut rounds.written);
-    players | others
+    let others = write_unless(guests, is_short, site, talk, &mut rounds.written);
+    rounds.has_others |= others;
+    players
 }
 
 /// The earlier of two moments, where there are any.
@@ -454,21 +493,61 @@ pub fn is_crowded<S>(connections: &[Guest<S>]) -> bool
     count_unheard(connections) > ATTENDED_MOST
 }
 
-/// Looks after each, where it is time.
-pub fn look_after_all<S>(guests: &mut Vec<Guest<S>>, is_time: bool, at: u64)
-    ensures { AllZip IsLookedAfter guests.old.items guests.new.items }
+/// Of each it is seen whether it acts for a player; and where it is time each is looked after.
+pub fn look_after_all<S>(guests: &mut Vec<Guest<S>>, talk: &Talk, is_time: bool, at: u64)
+    ensures { AllZip (IsLookedAfter talk.now.desk at) guests.old.items guests.new.items }
 {
     for guest in guests.iter_mut() {
-        guest.look_after(is_time, at);
+        guest.look_after(talk, is_time, at);
     }
 }
 
-/// The socket of this name may be ready.
-pub fn wake_all<S>(guests: &mut Vec<Guest<S>>, key: usize)
-    ensures { AllZip IsAsBefore guests.old.items guests.new.items }
+// Whether the socket of the browser at this place has this name.
+fn is_named_at<S>(connections: &[Guest<S>], place: usize, key: usize) -> bool
+    requires { place < length connections.now }
+    ensures yes { result ≡ true → HoldsAt (λ guest. guest.key ≡ key) connections.now place }
+    ensures no { result ≡ false → HoldsAt (λ guest. guest.key ≢ key) connections.now place }
 {
-    for guest in guests.iter_mut() {
-        guest.wake(key);
+    connections[place].key() == key
+}
+
+// The place of the browser whose socket has this name, if there is one: names grow.
+fn place_named<S>(connections: &[Guest<S>], key: usize) -> Option<usize>
+    ensures { IsPlaceNamed key connections.now result }
+{
+    let place = connections.partition_point(|guest| guest.key() < key);
+    if place >= connections.len() {
+        return None;
+    }
+    if is_named_at(connections, place, key) {
+        Some(place)
+    } else {
+        None
+    }
+}
+
+// The socket of the browser at this place may be ready. It tells its number at the desk.
+fn wake_at<S>(guests: &mut Vec<Guest<S>>, place: usize) -> Option<u64>
+    requires { place < length guests.old.items }
+    ensures { (woken : Guest S) × IsAwake (slice_index_or guests.old.items place woken) woken
+        × (guests.new.items ≡ slice_set guests.old.items place woken) × (result ≡ woken.number) }
+{
+    let guest = &mut guests[place];
+    guest.wake();
+    guest.number()
+}
+
+/// The socket of this name may be ready: it is looked for by names, which grow. It tells of whom it is, as the desk
+/// knows it, if of anybody there.
+pub fn wake_one<S>(guests: &mut Vec<Guest<S>>, key: usize) -> Option<u64>
+    ensures before { AllZip IsAsBefore guests.old.items guests.new.items }
+    ensures others { AllZip (StaysUnlessNamed key) guests.old.items guests.new.items }
+    ensures named { NamesGrow guests.old.items → AllZip (IsAwakeIfNamed key) guests.old.items guests.new.items
+        × (result ≡ number_named key guests.old.items) }
+{
+    match place_named(guests.as_slice(), key) {
+        Some(place) => wake_at(guests, place),
+        None => None,
     }
 }
 

@@ -15,7 +15,7 @@ mod waiting;
 pub use guest::Guest;
 pub use guests::{
     attend_all, deliver, earlier, first_due, has_waiting, is_crowded, let_go, look_after_all,
-    push_guest, wake_all, write_all,
+    push_guest, wake_one, write_all,
 };
 pub use origin::Origin;
 pub use place::{Place, Role, is_gone};

@@ -1,7 +1,7 @@
 //! Whose turn it is among those who act for nobody: a few of them in each turn, and in a round; and how long they rest.
 ghost use Rattle.std.specs.Prelude.{◌≡◌, ◌≤◌, ◌<◌, ◌/◌, ◌&&◌, nat_lt, nat_le, true};
 ghost use Rattle.lobby_guests.specs.Guests.{others_most, taken_until};
-ghost use Rattle.lobby_guests.specs.Rests.{rested, rest_over};
+ghost use Rattle.lobby_guests.specs.Rests.{rest_of, rested, rest_over};
 
 use lobby_desk::Message;
 
@@ -9,11 +9,28 @@ use lobby_desk::Message;
 pub const ATTENDED_MOST: usize = 16;
 
 /// To so many of them something is written in a turn at most.
-const WRITTEN_MOST: usize = 64;
+const WRITTEN_MOST: usize = 32;
 
 /// For each so many bytes of a message that is told, those who act for nobody and were heard before rest for a
 /// millisecond: so the server and the lobby make answers to them for some hundredths of the time.
 const BYTES_A_REST: u64 = 1_000;
+
+/// A message of more bytes than these, as of a game of 4,700 plies, takes the server so long that a move notices: for
+/// it they rest ten times as long.
+const LONG: usize = 32_000;
+
+const BYTES_A_LONG_REST: u64 = 100;
+
+// How many milliseconds they rest for a message of so many bytes.
+fn rest_of(bytes: usize) -> u64
+    ensures { result ≡ rest_of bytes }
+{
+    if bytes <= LONG {
+        bytes as u64 / BYTES_A_REST
+    } else {
+        bytes as u64 / BYTES_A_LONG_REST
+    }
+}
 
 /// Those who are attended behind the players.
 #[derive(Clone, Copy, PartialEq, Eq)]
@@ -114,6 +131,8 @@ pub struct Rounds {
     pub written: Round,
     /// Until this moment the others rest, for what was told.
     pub rests_until: u64,
+    /// Whether there may be more to be done for those who act for nobody.
+    pub has_others: bool,
 }
 
 impl Rounds {
@@ -125,6 +144,7 @@ impl Rounds {
             strangers: Round::new(),
             written: Round::new(),
             rests_until: 0,
+            has_others: false,
         }
     }
 
@@ -148,10 +168,9 @@ impl Rounds {
 
     // They rest for a message of so many bytes.
     fn rest_for(&mut self, at: u64, bytes: usize)
-        ensures { self.new.rests_until ≡ taken_until at self.old.rests_until (bytes / 1000) }
+        ensures { self.new.rests_until ≡ taken_until at self.old.rests_until (rest_of bytes) }
     {
-        let rest = bytes as u64 / BYTES_A_REST;
-        self.rests_until = self.rests_until.max(at).saturating_add(rest);
+        self.rests_until = self.rests_until.max(at).saturating_add(rest_of(bytes));
     }
 
     /// They rest for each of these messages, from a moment on.

@@ -1181,8 +1181,8 @@ module _ {S : Type 0} (remaining contents : S → Option (List ℕ)) (players : 
       t.between.talk.wire.items (message_values t.between.talk.told.items) =
       at_with players is_paused base out (AreKept remaining contents site came former out t.takes.attended)
       (AreKept remaining contents site came former out t.between.guests.items) t.between.talk.desk t.between.talk.wire.items (message_values t.between.talk.told.items)
-      (kept_same remaining contents site came former out IsLookedAfter
-      (λ steps x y one was. served_looked remaining contents site came steps out x y one was) (λ x y one. one.number) t.takes.attended
+      (kept_same remaining contents site came former out (IsLookedAfter t.between.talk.desk at)
+      (λ steps x y one was. served_looked remaining contents site came t.between.talk.desk at steps out x y one was) (λ x y one. one.number) t.takes.attended
       t.between.guests.items t.takes.looks) attended in
       let told = gone_out site former out base t.hands.front t.between.talk t.hands.rest.desk t.hands.rest.wire.items t.between.guests.items t.hands.told t.hands.delivers
       (written_on contents t.hands.front t.between.server new.server t.between.talk.wire.items t.hands.rest.wire.items t.hands.tells) t.hands.desk looked in
@@ -1214,7 +1214,7 @@ module _ {S : Type 0} (remaining contents : S → Option (List ℕ)) (players : 
       ∙ (same_numbers IsCaughtUp (λ x y one. caught_number x y one) t.hands.delivers.first t.hands.told t.hands.delivers.caught_up
       ∙ (same_numbers (AreTold t.hands.delivers.made) (λ x y one. told_number t.hands.delivers.made x y one) t.between.guests.items
       t.hands.delivers.first t.hands.delivers.are_told
-      ∙ same_numbers IsLookedAfter (λ x y one. one.number) t.takes.attended t.between.guests.items t.takes.looks)))) in
+      ∙ same_numbers (IsLookedAfter t.between.talk.desk at) (λ x y one. one.number) t.takes.attended t.between.guests.items t.takes.looks)))) in
       let own_said : AreOwn t.between.talk.next (numbers (former ++ t.takes.attended)) = said.1 in
       let own_settled : AreOwn t.between.talk.next (numbers ((gone_of settled ++ former) ++ stay_of settled)) =
       own_parted t.between.talk.next former settled (own_as t.between.talk.next former t.takes.attended settled same own_said) in

@@ -105,16 +105,16 @@ kept_or_gone (p ∷ ps) (q ∷ qs) (r ∷ rs) first second =
 
 module _ {S : Type 0} (desk : Desk) where
   yielded_place : (p : Place) (g h : Guest S) → Yields p g h →
-      place_of desk h ≡ place_with g.origin.address (role_of desk (g.is_lost || is_gone p.role) g.number) (player_of desk g.number) g.came_at
+      place_of desk h ≡ place_with g.origin.address (role_of desk (g.is_lost || is_gone p.role) g.number) (player_of desk g.number) g.since
   yielded_place p g h yields =
-      ap (λ o. place_with o.address (role_of desk h.is_lost h.number) (player_of desk h.number) h.came_at) yields.origin
-      ∙ ap (λ b. place_with g.origin.address (role_of desk b h.number) (player_of desk h.number) h.came_at) yields.lost
-      ∙ ap (λ n. place_with g.origin.address (role_of desk (g.is_lost || is_gone p.role) n) (player_of desk n) h.came_at) yields.before.number
-      ∙ ap (λ n. place_with g.origin.address (role_of desk (g.is_lost || is_gone p.role) g.number) (player_of desk g.number) n) yields.came
+      ap (λ o. place_with o.address (role_of desk h.is_lost h.number) (player_of desk h.number) h.since) yields.before.origin
+      ∙ ap (λ b. place_with g.origin.address (role_of desk b h.number) (player_of desk h.number) h.since) yields.lost
+      ∙ ap (λ n. place_with g.origin.address (role_of desk (g.is_lost || is_gone p.role) n) (player_of desk n) h.since) yields.before.number
+      ∙ ap (λ n. place_with g.origin.address (role_of desk (g.is_lost || is_gone p.role) g.number) (player_of desk g.number) n) yields.before.since
 
   one_place : (p : Place) (g h : Guest S) → Yields p g h → IsKeptOrGone (place_of desk g) p → place_of desk h ≡ p
   one_place p g h yields kept =
-      let with_role : Role → Place = λ r. place_with g.origin.address r (player_of desk g.number) g.came_at in
+      let with_role : Role → Place = λ r. place_with g.origin.address r (player_of desk g.number) g.since in
       elim kept [
         | inl same ↦
             yielded_place p g h yields
@@ -174,7 +174,10 @@ fair_length at from old new fair = sym (length_all_zip IsKeptOrClosed old new fa
 module _ {S : Type 0} (desk : Desk) where
   all_as_before : (guests : List (Guest S)) → AllZip IsAsBefore guests guests
   all_as_before [] = tt
-  all_as_before (guest ∷ guests) = (record { number = refl; stream = refl; browser = refl; waits = refl }, all_as_before guests)
+  all_as_before (guest ∷ guests) = (
+    record { number = refl; stream = refl; browser = refl; waits = refl; since = refl; origin = refl; paid = refl },
+    all_as_before guests,
+  )
 
   pub seated_not : (at from : ℕ) (guests : List (Guest S)) → AreSeatedIf false at from desk guests guests
   seated_not at from guests = record { before = all_as_before guests; seats = λ is. absurd (cc); same = λ is. refl }

@@ -7,6 +7,7 @@ use Rattle.std.specs.Io.KnownBytes.{Consumes, Appends}
 use Rattle.std.proofs.lemmas.Bool.{eq-eqb, ne_eqb, cases_Bool, false≢true}
 use Rattle.websocket.specs.Content.{text as Text, ping as Ping}
 use Rattle.lobby_desk.specs.declared.telling.Message.{Message}
+use Rattle.lobby_desk.specs.declared.desk.Desk.{Desk}
 use Rattle.lobby_desk.specs.Events.{DeskInput, Opened, Closed, Said, Hurried, Heard, ServerTurned, Renewed, Linked, MessageValue, message_value, message_values}
 use Rattle.lobby_desk.specs.Who.{at_table}
 use Rattle.lobby_desk.specs.History.{Step}
@@ -395,9 +396,9 @@ module _ {S : Type 0} (remaining contents : S → Option (List ℕ)) (site : Sit
             (λ past. record { opened = refl; given = refl; told = refl; late = λ so_far. so_far }) refl (reads.consumed, takes.0, takes.1) was
       ])
 
-  pub served_looked : (steps : List Step) (out : List MessageValue) (old new : Guest S) → IsLookedAfter old new →
+  pub served_looked : (desk : Desk) (at : ℕ) (steps : List Step) (out : List MessageValue) (old new : Guest S) → IsLookedAfter desk at old new →
       Served steps out old.number (spot old) → Served steps out new.number (spot new)
-  served_looked steps out old new looks was =
+  served_looked desk at steps out old new looks was =
       subst (λ (n : Option ℕ). Served steps out n (spot new)) (sym looks.number) (elim looks.said [
         | inl same ↦ stays_at steps out old.number old new same looks.stream looks.waits was
         | inr pings ↦ done_more steps out old.number (WasTold (Ping []) pings.0) (spot old) (spot new) (ap (λ v. v.items) looks.waits)

@@ -11,7 +11,10 @@ use Rattle.lobby_loop.specs.Living.{IsWoken}
 module _ {S : Type 0} where
   pub all_as_before : (guests : List (Guest S)) → AllZip IsAsBefore guests guests
   all_as_before [] = tt
-  all_as_before (guest ∷ guests) = (record { number = refl; stream = refl; browser = refl; waits = refl }, all_as_before guests)
+  all_as_before (guest ∷ guests) = (
+    record { number = refl; stream = refl; browser = refl; waits = refl; since = refl; origin = refl; paid = refl },
+    all_as_before guests,
+  )
 
   as_before_twice : (xs ys zs : List (Guest S)) → AllZip IsAsBefore xs ys → AllZip IsAsBefore ys zs → AllZip IsAsBefore xs zs
   as_before_twice [] [] [] none all = tt
@@ -25,6 +28,9 @@ module _ {S : Type 0} where
       stream = next.stream ∙ one.stream;
       browser = next.browser ∙ one.browser;
       waits = next.waits ∙ one.waits;
+      since = next.since ∙ one.since;
+      origin = next.origin ∙ one.origin;
+      paid = next.paid ∙ one.paid;
     },
     as_before_twice xs ys zs all more,
   )

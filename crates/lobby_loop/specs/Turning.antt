@@ -1,6 +1,6 @@
 -- One turn of all that are connected.
-use Rattle.std.specs.Prelude.{ℕ, ◌≡◌, ◌⊎◌, ◌||◌, ◌+◌, ◌-◌, ◌^◌, ◌==◌, nat_le, nat_lt, Bool, true, false, List, [], ◌∷◌, ◌++◌}
-use Rattle.std.specs.Prelude.{Option, None, Some, is_some, length, if◌then◌else◌}
+use Rattle.std.specs.Prelude.{ℕ, ◌≡◌, ◌⊎◌, ◌||◌, ◌&&◌, ◌+◌, ◌-◌, ◌^◌, ◌==◌, nat_le, nat_lt, min, Bool, true, false}
+use Rattle.std.specs.Prelude.{List, [], ◌∷◌, ◌++◌, Option, None, Some, is_some, length, if◌then◌else◌}
 use Rattle.std.specs.declared.net.ip_addr.IpAddr.{IpAddr}
 use Rattle.std.specs.List.{AllZip}
 use Rattle.lobby_words.specs.declared.players.Player.{Player}
@@ -14,7 +14,7 @@ use Rattle.lobby_talk.specs.Talking.{Begins, MovesAnew}
 use Rattle.lobby_guests.specs.Origins.{IsPlain, IsFrom}
 use Rattle.lobby_guests.specs.Guests.{IsNewGuest, ComesFrom, AreAttended, AreDelivered, IsWritten, IsLookedAfter}
 use Rattle.lobby_guests.specs.Guests.{AreParted, has_waiting, earlier, first_due}
-use Rattle.lobby_guests.specs.Rests.{rested, rest_over, LeavesOthers}
+use Rattle.lobby_guests.specs.Rests.{rested, rest_over, LeavesOthers, LeavesNewcomers, LeavesStranger}
 use Rattle.lobby_talk.specs.Held.{TakesIn, HandsOn, IsKept}
 use Rattle.lobby_talk.specs.Replaying.{IsReplayed}
 use Rattle.lobby_loop.specs.Seating.{AreSeated}
@@ -126,13 +126,14 @@ away_after is_here before at = if is_here then before else at
 abbrev pub HasPlaces : {S : Type 0} → Bool → ℕ → List (Guest S) → Hall S → Type 0
 HasPlaces {S} has_come at attended new =
     has_come ≡ true →
-    (looked : List (Guest S)) × AllZip IsLookedAfter attended looked
+    (looked : List (Guest S)) × AllZip (IsLookedAfter new.talk.desk at) attended looked
     × AreSeated at new.away_at new.talk.desk looked new.guests.items
 
 -- What comes is taken in: the server is heard, and the desk is told where its connection is lost; then each browser is,
--- but until their rest is over none of those who act for nobody and were heard before. For all that is told then they
--- rest on.
-pub record TakesAllIn {S : Type 0} (remaining : S → Option (List ℕ)) (at : ℕ) (old new : Hall S) : Type 0 where
+-- but in a short turn none of those who have no socket yet, and until their rest is over none of those who act for
+-- nobody and were heard before. For all that is told then they rest on.
+pub record TakesAllIn {S : Type 0} (remaining : S → Option (List ℕ)) (at : ℕ) (is_short : Bool)
+    (old new : Hall S) : Type 0 where
   pub server_heard : Option (Link S)
   pub heard : Talk
   pub hears : HearsServer remaining old.server server_heard old.talk heard
@@ -143,16 +144,17 @@ pub record TakesAllIn {S : Type 0} (remaining : S → Option (List ℕ)) (at : �
   pub attended : List (Guest S)
   pub attends : AreAttended remaining old.site at old.guests.items attended parted new.talk
   pub rests : nat_lt at old.rounds.rests_until ≡ true → LeavesOthers attends
+  pub newcomers : is_short ≡ true → LeavesNewcomers attends
   pub rested_is : new.rounds.rests_until ≡ rested at old.rounds.rests_until new.talk.told.items
-  pub looks : AllZip IsLookedAfter attended new.guests.items
+  pub looks : AllZip (IsLookedAfter new.talk.desk at) attended new.guests.items
   pub places : HasPlaces old.has_come at attended new
   pub away : new.away_at ≡ away_after (is_some new.server) old.away_at at
   pub site : new.site ≡ old.site
 
 -- What is to go is handed out: what the desk told is delivered, for which of all replays the one that is under way goes
--- on by at most 16 plies, and what is to go is written, to the server and to each
--- browser; and the desk is told who is let go.
-pub record HandsAllOut {S : Type 0} (contents : S → Option (List ℕ)) (old new : Hall S) : Type 0 where
+-- on by at most 16 plies, and what is to go is written, to the server and to each browser, but in a short turn to none
+-- that acts for nobody; and the desk is told who is let go.
+pub record HandsAllOut {S : Type 0} (contents : S → Option (List ℕ)) (is_short : Bool) (old new : Hall S) : Type 0 where
   pub told : List (Guest S)
   pub delivers : AreDelivered old.talk.kept.answers.items old.talk.told.items old.guests.items told
   pub rest : Talk
@@ -166,15 +168,15 @@ pub record HandsAllOut {S : Type 0} (contents : S → Option (List ℕ)) (old ne
   pub writes_first : AllZip (IsWritten contents old.site) told first
   pub written : List (Guest S)
   pub writes : AllZip (IsWritten contents old.site) first written
+  pub strangers : is_short ≡ true → AllZip (LeavesStranger rest.desk) told written
   pub parted_from : AreParted written new.guests.items rest new.talk
   pub site : new.site ≡ old.site
   pub rests : new.rounds.rests_until ≡ old.rounds.rests_until
 
--- the next moment at which there is something to do though no socket is ready, where anybody is there: somebody's next
--- message is taken, those who rest do so no more, or it is looked after who is silent
-abbrev pub next_moment : {S : Type 0} → Hall S → Option ℕ
-next_moment hall =
-    let at = hall.counts.at in
+-- the next moment behind one at which there is something to do though no socket is ready, where anybody is there:
+-- somebody's next message is taken, those who rest do so no more, or it is looked after who is silent
+abbrev pub next_moment : {S : Type 0} → ℕ → Hall S → Option ℕ
+next_moment at hall =
     if length hall.guests.items == 0 then None
     else earlier (earlier (first_due at hall.guests.items) (rest_over at hall.rounds.rests_until)) (Some hall.look_at)
 
@@ -182,11 +184,13 @@ next_moment hall =
 abbrev pub has_more : {S : Type 0} → Hall S → Bool
 has_more hall = has_waiting hall.guests.items hall.talk
 
--- A turn: all that comes is taken in, and then all that is to go is handed out. Between them the log has its texts.
+-- A turn, a short one or not: all that comes is taken in, and then all that is to go is handed out. Between them the
+-- log has its texts.
 pub record HasTurned {S : Type 0} (remaining contents : S → Option (List ℕ)) (at : ℕ) (old new : Hall S) : Type 0 where
+  pub is_short : Bool
   pub between : Hall S
-  pub takes : TakesAllIn remaining at old between
-  pub hands : HandsAllOut contents between new
+  pub takes : TakesAllIn remaining at is_short old between
+  pub hands : HandsAllOut contents is_short between new
 
 -- the texts that the log has in a turn: those for it among all that is to go then
 abbrev pub texts_put : {S : Type 0} → {remaining contents : S → Option (List ℕ)} → {at : ℕ} → {old new : Hall S} →
@@ -203,8 +207,22 @@ AreAdmitted {S} (stream ∷ before) old new =
 abbrev pub IsReached : {S : Type 0} → Hall S → Hall S → Type 0
 IsReached {S} old new = (new ≡ old) ⊎ ((old.server ≡ None) × ((stream : S) × ServerComes stream old new))
 
--- One turn of the lobby: the server is reached or not, browsers come or are turned away, and then all who are connected
--- have one turn.
+-- until when turns are short once one was taken at a moment: two milliseconds from one that was not
+abbrev pub short_after : ℕ → ℕ → ℕ
+short_after short_until at = if nat_lt at short_until then short_until else min (at + 2) (2 ^ 64 - 1)
+
+-- so many milliseconds a turn may be put off at a moment: until turns are short no more, and not at all where something
+-- else may have happened than of those who act for nobody
+abbrev pub left_at : Bool → ℕ → ℕ → Option ℕ
+left_at is_awake short_until at = if is_awake || nat_le short_until at then None else Some (short_until - at)
+
+-- until when those who come may be held at the listener, once that was judged at a moment: as long as too many wait to
+-- be heard that moment stays
+abbrev pub held_after : ℕ → Bool → ℕ → ℕ
+held_after held_until crowded at = if nat_lt at held_until && crowded then held_until else min (at + 1000) (2 ^ 64 - 1)
+
+-- One turn of the lobby: the server is reached or not, browsers come or are turned away, but none in a short turn, and
+-- then all who are connected have one turn.
 pub record IsLobbyTurn {S : Type 0} (remaining contents : S → Option (List ℕ)) (at : ℕ)
     (old new : Hall S) : Type 0 where
   pub reached : Hall S
@@ -213,6 +231,7 @@ pub record IsLobbyTurn {S : Type 0} (remaining contents : S → Option (List ℕ
   pub welcomed : Hall S
   pub welcomes : AreAdmitted streams reached welcomed
   pub turns : HasTurned remaining contents at welcomed new
+  pub shut : turns.is_short ≡ true → streams ≡ []
 
 -- of a socket's bytes nothing is known, be it of a port or a Unix socket
 abbrev pub unknown : {S : Type 0} → S → Option (List ℕ)

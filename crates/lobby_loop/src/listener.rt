@@ -6,9 +6,12 @@ use crate::hall::Hall;
 use either::Left;
 use mio::net::TcpListener;
 use mio::{Registry, Token};
-use sockets::{ACCEPT_TRIES, AcceptFault, Call, accept_fault, watch_call};
+use sockets::{AcceptFault, Call, accept_fault, watch_call};
 use std::io;
 use std::net::{IpAddr, Net, SocketAddr};
+
+/// So many who wait are accepted in a turn at most.
+const ACCEPTED_MOST: usize = 32;
 
 /// What accepts connections, and watches them.
 pub trait Acceptor {
@@ -97,11 +100,11 @@ fn take_in<A: Acceptor>(
     hall.turn_away();
 }
 
-/// Accepts those who wait, up to 64.
+/// Accepts those who wait, up to 32.
 pub fn welcome<A: Acceptor>(acceptor: &mut A, hall: &mut Hall<A::Stream>, at: u64) -> Welcomed
     ensures { (streams : List A.Stream) × AreAdmitted streams hall.old hall.new }
 {
-    for _ in 0..ACCEPT_TRIES {
+    for _ in 0..ACCEPTED_MOST {
         match acceptor.accept_one() {
             Ok((stream, peer)) => take_in(acceptor, hall, stream, peer, at),
             Err(AcceptFault::Nobody) => return Welcomed::All,

@@ -1,5 +1,6 @@
 //! The sockets of a lobby, and what wakes it.
-ghost use Rattle.std.specs.Prelude.{◌≡◌, ◌≤◌, true, false, List, None, Some, IfOk, OnOk, OnErr, is_some, length};
+ghost use Rattle.std.specs.Prelude.{◌≡◌, ◌≤◌, true, false, List, [], None, Some, is_some, length, nat_lt};
+ghost use Rattle.std.specs.Prelude.{IfOk, OnOk, OnErr};
 ghost use Rattle.mio.specs.declared.net.stream.TcpStream.{TcpStream};
 ghost use Rattle.mio.specs.declared.net.uds.stream.UnixStream.{UnixStream};
 ghost use Rattle.either.specs.declared.Either.{Either};
@@ -7,7 +8,7 @@ ghost use Rattle.lobby_desk.specs.Who.{watched_games};
 ghost use Rattle.lobby_guests.specs.Guests.{is_crowded};
 ghost use Rattle.either.specs.Either.{either};
 ghost use Rattle.lobby_loop.specs.Turning.{BeginsHall, AreAdmitted, IsReached, IsLobbyTurn, has_more, texts_put};
-ghost use Rattle.lobby_loop.specs.Turning.{unknown};
+ghost use Rattle.lobby_loop.specs.Turning.{unknown, short_after, left_at, held_after};
 ghost use Rattle.lobby_loop.specs.Living.{IsWoken, Files, KeepsFiles, Renews};
 ghost use Rattle.lobby_loop.specs.Logging.{Logs};
 ghost use Rattle.lobby_loop.specs.declared.lobby.Turned.TheVariants.{Worked};
@@ -56,6 +57,10 @@ const HOLD: u64 = 10;
 
 const HELD_MOST: u64 = 1_000;
 
+// For so many milliseconds turns are short once one was not: who comes waits at the listener, who has no socket yet is
+// not attended, and no turn is taken for those who act for nobody alone. So what these do gathers.
+const PACE: u64 = 2;
+
 /// A lobby: its listener, its browsers, and its connection to the server.
 #[derive(Drop)]
 pub struct Lobby {
@@ -70,6 +75,10 @@ pub struct Lobby {
     call: Option<Call>,
     call_until: u64,
     call_at: u64,
+    // Until when turns are short.
+    short_until: u64,
+    // Whether something else may have happened since the last turn: at the server, of a player, or that time passed.
+    is_awake: bool,
     hall: Hall<Call>,
     poll: Poll,
     events: Events,
@@ -80,6 +89,17 @@ pub struct Lobby {
 struct Watched {
     poll: Poll,
     events: Events,
+}
+
+// Until when turns are short once one was taken at a moment.
+fn short_after(short_until: u64, at: u64) -> u64
+    ensures { result ≡ short_after short_until at }
+{
+    if at < short_until {
+        short_until
+    } else {
+        at.saturating_add(PACE)
+    }
 }
 
 // Watches the listener, and nothing else yet.
@@ -96,33 +116,38 @@ fn watch_listener(
     })
 }
 
-// The socket of this name may be ready. It tells whether that is the listener's.
+// The socket of this name may be ready. It tells whether that is the server's, or a player's.
 fn wake_socket(hall: &mut Hall<Call>, key: usize) -> bool
     ensures { IsWoken hall.old hall.new }
 {
     match key {
-        LISTENER => true,
+        LISTENER => false,
         SERVER => {
             hall.wake_server();
-            false
+            true
         }
-        key => {
-            hall.wake(key);
-            false
-        }
+        key => hall.wake(key),
     }
 }
 
-// The sockets of these events may be ready. It tells whether the listener's is among them.
+// The sockets of these events may be ready. It tells whether the server's or a player's is among them.
 fn wake_each(events: &Events, hall: &mut Hall<Call>) -> bool
     ensures { IsWoken hall.old hall.new }
 {
-    let mut has_listener = false;
+    let mut any = false;
     for event in events.iter() {
-        let is_listener = wake_socket(hall, usize::from(event.token()));
-        has_listener |= is_listener;
+        any |= wake_socket(hall, usize::from(event.token()));
     }
-    has_listener
+    any
+}
+
+// Whether the listener is among the sockets of these events.
+fn has_listener(events: &Events) -> bool {
+    let mut any = false;
+    for event in events.iter() {
+        any |= usize::from(event.token()) == LISTENER;
+    }
+    any
 }
 
 impl Lobby {
@@ -153,6 +178,8 @@ impl Lobby {
             call: None,
             call_until: 0,
             call_at: 0,
+            short_until: 0,
+            is_awake: true,
             hall: Hall::new(alloc, keys, site, players, halts, limits, proxy),
             poll,
             events,
@@ -223,6 +250,8 @@ impl Lobby {
         ensures hall { self.new.hall ≡ self.old.hall }
         ensures few { is_crowded self.old.hall.guests.items ≡ false → self.new.ask_at ≡ self.old.ask_at }
         ensures most { self.old.held_until ≤ at → self.new.ask_at ≡ self.old.ask_at }
+        ensures held { self.new.held_until ≡ held_after self.old.held_until (is_crowded self.old.hall.guests.items) at }
+        ensures short { self.new.short_until ≡ self.old.short_until }
     {
         if at < self.held_until && self.hall.is_crowded() {
             self.ask_at = self.ask_at.max(at.saturating_add(HOLD));
@@ -231,33 +260,32 @@ impl Lobby {
         }
     }
 
-    // Accepts who waits at the listener, and tells whether more may.
-    fn welcome(&mut self, at: u64) -> bool
-        ensures { (streams : List (Either TcpStream UnixStream)) × AreAdmitted streams self.old.hall self.new.hall }
+    // Accepts who waits at the listener, and nobody while turns are short.
+    fn welcome(&mut self, at: u64)
+        ensures came { (streams : List (Either TcpStream UnixStream)) × AreAdmitted streams self.old.hall self.new.hall
+            × (nat_lt at self.old.short_until ≡ true → streams ≡ []) }
+        ensures held { self.new.held_until ≡ self.old.held_until }
+        ensures short { self.new.short_until ≡ self.old.short_until }
     {
-        if !self.has_more || at < self.ask_at {
-            return false;
+        if !self.has_more || at < self.ask_at || at < self.short_until {
+            return;
         }
         let mut acceptor = LobbyAcceptor {
             listener: &self.listener.listener,
             registry: self.poll.registry(),
         };
         match welcome(&mut acceptor, &mut self.hall, at) {
-            Welcomed::All => {
-                self.has_more = false;
-                false
-            }
-            Welcomed::Some => true,
-            Welcomed::Refused => {
-                self.ask_at = at.saturating_add(REST);
-                false
-            }
+            Welcomed::All => self.has_more = false,
+            Welcomed::Some => {}
+            Welcomed::Refused => self.ask_at = at.saturating_add(REST),
         }
     }
 
     // Begins a connection to the server.
     fn begin_call(&mut self, net: &impl Net, at: u64)
-        ensures { self.new.hall ≡ self.old.hall }
+        ensures hall { self.new.hall ≡ self.old.hall }
+        ensures held { self.new.held_until ≡ self.old.held_until }
+        ensures short { self.new.short_until ≡ self.old.short_until }
     {
         self.call_at = at.saturating_add(RETRY);
         self.call_until = at.saturating_add(PATIENCE);
@@ -267,7 +295,9 @@ impl Lobby {
     // Goes on with the connection to the server that is being made.
     fn end_call(&mut self, call: Call, at: u64) -> Result<bool, AllocError>
         requires { self.old.hall.server ≡ None }
-        ensures { OnOk result (IsReached self.old.hall self.new.hall) }
+        ensures reached { OnOk result (IsReached self.old.hall self.new.hall) }
+        ensures held { self.new.held_until ≡ self.old.held_until }
+        ensures short { self.new.short_until ≡ self.old.short_until }
     {
         match is_made(&call) {
             Some(true) => {
@@ -284,7 +314,9 @@ impl Lobby {
 
     // Reaches for the server where it is not there, and tells whether it came.
     fn reach_server(&mut self, net: &impl Net, at: u64) -> Result<bool, AllocError>
-        ensures { OnOk result (IsReached self.old.hall self.new.hall) }
+        ensures reached { OnOk result (IsReached self.old.hall self.new.hall) }
+        ensures held { self.new.held_until ≡ self.old.held_until }
+        ensures short { self.new.short_until ≡ self.old.short_until }
     {
         if self.hall.has_server() {
             return Ok(false);
@@ -298,8 +330,8 @@ impl Lobby {
         }
     }
 
-    // The moment at which there is something to do, though no socket is ready.
-    fn next_moment(&self) -> Option<u64> {
+    // The moment behind this one at which there is something to do, though no socket is ready.
+    fn next_moment(&self, at: u64) -> Option<u64> {
         let call = if self.hall.has_server() {
             None
         } else if self.call.is_some() {
@@ -308,11 +340,17 @@ impl Lobby {
             Some(self.call_at)
         };
         let ask = if self.has_more {
-            Some(self.ask_at)
+            Some(self.ask_at.max(self.short_until))
         } else {
             None
         };
-        earlier(earlier(call, ask), self.hall.look_at())
+        let others = if self.hall.has_others() {
+            Some(self.short_until)
+        } else {
+            None
+        };
+        let moment = earlier(earlier(call, ask), others);
+        earlier(moment, self.hall.look_at(at))
     }
 
     // What came of a turn in which there was something to do, or nothing.
@@ -322,12 +360,13 @@ impl Lobby {
         if has_worked {
             Turned::Worked
         } else {
-            Turned::Idle(self.next_moment().map(|moment| moment.saturating_sub(at)))
+            let moment = self.next_moment(at);
+            Turned::Idle(moment.map(|moment| moment.saturating_sub(at)))
         }
     }
 
     /// One turn at a moment, in milliseconds of a clock that does not go back. It waits for nothing but the log and
-    /// the players' file.
+    /// the players' file. It is a short one where less than two milliseconds have passed since one that was not.
     pub fn turn<L: ActLog, K: KeepsLinks>(
         &mut self,
         net: &impl Net,
@@ -337,29 +376,53 @@ impl Lobby {
     ) -> Result<Turned, Fault>
         ensures turned { OnOk result ((turn : IsLobbyTurn (either unknown unknown)
             (either unknown unknown) at self.old.hall self.new.hall)
+            × (turn.turns.is_short ≡ nat_lt at self.old.short_until)
             × Logs (L.logged log.old) (L.logged log.new) (texts_put turn.turns)) }
+        ensures short { OnOk result (self.new.short_until ≡ short_after self.old.short_until at) }
+        ensures held { OnOk result (self.new.held_until
+            ≡ held_after self.old.held_until (is_crowded self.old.hall.guests.items) at) }
         ensures more { IfOk result (λ turned. has_more self.new.hall ≡ true → turned ≡ Worked) }
     {
         self.hold(at);
         let has_reached = self.reach_server(net, at)?;
-        let has_welcomed = self.welcome(at);
-        let has_turned = self.hall.turn(at, log, links)?;
-        Ok(self.turned(has_reached | has_welcomed | has_turned, at))
+        self.welcome(at);
+        let is_short = at < self.short_until;
+        let has_turned = self.hall.turn(at, is_short, log, links)?;
+        self.short_until = short_after(self.short_until, at);
+        Ok(self.turned(has_reached | has_turned, at))
     }
 
     // The sockets that were ready are looked at in the next turn.
     fn wake(&mut self)
-        ensures { IsWoken self.old.hall self.new.hall }
+        ensures woken { IsWoken self.old.hall self.new.hall }
+        ensures held { self.new.held_until ≡ self.old.held_until }
+        ensures short { self.new.short_until ≡ self.old.short_until }
+        ensures awake { self.old.is_awake ≡ true → self.new.is_awake ≡ true }
     {
-        if wake_each(&self.events, &mut self.hall) {
-            self.has_more = true;
+        self.has_more |= has_listener(&self.events);
+        let is_awake = wake_each(&self.events, &mut self.hall);
+        self.is_awake |= is_awake | self.events.is_empty();
+    }
+
+    /// So many milliseconds it may rest on at a moment, where turns are short and since the last one nothing happened
+    /// but of those who act for nobody and at the listener. None where a turn is to be taken.
+    pub fn left(&self, at: u64) -> Option<u64>
+        ensures { result ≡ left_at self.now.is_awake self.now.short_until at }
+    {
+        if self.is_awake || at >= self.short_until {
+            return None;
         }
+        Some(self.short_until - at)
     }
 
     /// Waits until a socket is ready, or as long as the turn before says; not at all where that had something to do.
     pub fn rest(&mut self, turned: Turned) -> Result<(), Fault>
-        ensures { OnOk result (IsWoken self.old.hall self.new.hall) }
+        ensures woken { OnOk result (IsWoken self.old.hall self.new.hall) }
+        ensures held { OnOk result (self.new.held_until ≡ self.old.held_until) }
+        ensures short { OnOk result (self.new.short_until ≡ self.old.short_until) }
+        ensures awake { OnOk result (turned ≡ Worked → self.new.is_awake ≡ true) }
     {
+        self.is_awake = matches!(turned, Turned::Worked);
         let most = match turned {
             Turned::Worked => Some(Duration::ZERO),
             Turned::Idle(most) => most.map(Duration::from_millis),

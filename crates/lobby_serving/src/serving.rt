@@ -147,8 +147,13 @@ where
         let mut moments = Moments::new(self.rt)?;
         for _ in 0..u64::MAX {
             let at = moments.next();
-            players.look(lobby, at);
-            self.turn(lobby, log, at)?;
+            match lobby.left(at) {
+                Some(left) => lobby.rest(Turned::Idle(Some(left)))?,
+                None => {
+                    players.look(lobby, at);
+                    self.turn(lobby, log, at)?;
+                }
+            }
         }
         Ok(())
     }

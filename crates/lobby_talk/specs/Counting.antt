@@ -1,5 +1,5 @@
 -- What is counted of logins that are refused.
-use Rattle.std.specs.Prelude.{ℕ, ◌==◌, ◌+◌, ◌-◌, ◌^◌, ◌&&◌, Bool, true, false, List, Option, None, Some, max, min}
+use Rattle.std.specs.Prelude.{ℕ, ◌==◌, ◌+◌, ◌-◌, ◌^◌, ◌&&◌, ◌||◌, Bool, true, false, List, Option, None, Some, max, min}
 use Rattle.std.specs.Prelude.{codes, count_by}
 use Rattle.std.specs.List.{starts_with}
 use Rattle.std.specs.String.{string_bytes}
@@ -9,6 +9,15 @@ use Rattle.lobby_desk.specs.Who.{at_table}
 -- whether an answer refuses a login
 abbrev pub refuses_login : List ℕ → Bool
 refuses_login text = starts_with (λ a b. a == b) text (codes "no 32 ")
+
+-- whether a text answers a message, and is no notice: by the word in front
+abbrev pub begins_with : List ℕ → List ℕ → Bool
+begins_with word text = starts_with (λ a b. a == b) text word
+
+abbrev pub is_answer : List ℕ → Bool
+is_answer text =
+    begins_with (codes "ok ") text || begins_with (codes "no ") text || begins_with (codes "fallen ") text
+    || begins_with (codes "lost\n") text
 
 -- whether a message is for a connection
 abbrev pub is_for : Option ℕ → List ℕ → Bool

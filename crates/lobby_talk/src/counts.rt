@@ -1,6 +1,6 @@
 //! What is counted for who looks after a lobby. Nothing else goes by it.
 ghost use Rattle.std.specs.Prelude.{◌≡◌};
-ghost use Rattle.lobby_talk.specs.Counting.{counted_up, one_if, refuses_login};
+ghost use Rattle.lobby_talk.specs.Counting.{counted_up, is_answer, one_if, refuses_login};
 
 /// The acts: the second words of their answers.
 pub const ACTS: [&str; 11] = [
@@ -42,6 +42,16 @@ pub fn is_refused_login(text: &str) -> bool
     ensures { result ≡ refuses_login text.now }
 {
     text.starts_with("no 32 ")
+}
+
+/// Whether a text answers a message, and is no notice.
+pub fn is_answer(text: &str) -> bool
+    ensures { result ≡ is_answer text.now }
+{
+    text.starts_with("ok ")
+        || text.starts_with("no ")
+        || text.starts_with("fallen ")
+        || text.starts_with("lost\n")
 }
 
 // One more.
@@ -135,7 +145,8 @@ impl Counts {
 
     /// What came is counted too.
     pub fn add(&mut self, coming: &Coming)
-        ensures { self.new.logins_refused ≡ self.old.logins_refused }
+        ensures logins { self.new.logins_refused ≡ self.old.logins_refused }
+        ensures at { self.new.at ≡ self.old.at }
     {
         self.figures = self.figures.saturating_add(coming.figures);
         self.messages = self.messages.saturating_add(coming.messages);
@@ -143,7 +154,8 @@ impl Counts {
 
     // An answer goes out to the earliest message that has none, where that is known.
     fn answered(&mut self, asked: &mut Asked)
-        ensures { self.new.logins_refused ≡ self.old.logins_refused }
+        ensures logins { self.new.logins_refused ≡ self.old.logins_refused }
+        ensures at { self.new.at ≡ self.old.at }
     {
         if let Some(asked_at) = asked.take() {
             let time = self.at.saturating_sub(asked_at);
@@ -155,17 +167,19 @@ impl Counts {
 
     /// A text is for a browser: a login that it refuses is counted.
     pub fn note_login(&mut self, text: &str)
-        ensures { self.new.logins_refused ≡ counted_up self.old.logins_refused (one_if (refuses_login text.now)) }
+        ensures logins { self.new.logins_refused
+            ≡ counted_up self.old.logins_refused (one_if (refuses_login text.now)) }
+        ensures at { self.new.at ≡ self.old.at }
     {
         if is_refused_login(text) {
             count(&mut self.logins_refused);
         }
     }
 
-    /// A browser that asked at these moments is told a text: an answer, or a notice, which is not counted. It tells
-    /// whether it is an answer.
-    pub fn told(&mut self, text: &str, asked: &mut Asked) -> bool
-        ensures { self.new.logins_refused ≡ self.old.logins_refused }
+    /// A browser that asked at these moments is told a text: an answer, or a notice, which is not counted.
+    pub fn told(&mut self, text: &str, asked: &mut Asked)
+        ensures logins { self.new.logins_refused ≡ self.old.logins_refused }
+        ensures at { self.new.at ≡ self.old.at }
     {
         match first_word(text) {
             "ok" => {
@@ -175,10 +189,9 @@ impl Counts {
             "no" => count(&mut self.no),
             "fallen" => count(&mut self.fallen),
             "lost" => count(&mut self.lost),
-            _ => return false,
+            _ => return,
         }
         self.answered(asked);
-        true
     }
 }
 

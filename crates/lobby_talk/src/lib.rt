@@ -21,7 +21,7 @@ mod said;
 mod talk;
 mod under_way;
 
-pub use counts::{ACTS, Asked, BOUNDS, Coming, Counts, is_refused_login};
+pub use counts::{ACTS, Asked, BOUNDS, Coming, Counts, is_answer, is_refused_login};
 pub use kept_answer::KeptAnswer;
 pub use link::Link;
 pub use links::{KeepsLinks, NoLinks};

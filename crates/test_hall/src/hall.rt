@@ -163,7 +163,7 @@ impl Lab {
         for turn in 0..turns {
             let was_paused = self.links.is_paused;
             let at = turn.saturating_mul(apart);
-            if let Err(fault) = self.hall.turn(at, &mut self.log, &mut self.links) {
+            if let Err(fault) = self.hall.turn(at, false, &mut self.log, &mut self.links) {
                 assert!(rt; matches!(&fault, Fault::NoLog(_)));
                 return Some(was_paused);
             }
@@ -176,7 +176,7 @@ impl Lab {
 
     // A turn more, without a log and without a players' file.
     fn turn_alone(&mut self, rt: &impl Abort, at: u64) {
-        let turned = self.hall.turn(at, &mut NoActLog, &mut NoLinks);
+        let turned = self.hall.turn(at, false, &mut NoActLog, &mut NoLinks);
         assert!(rt; turned.is_ok());
     }
 

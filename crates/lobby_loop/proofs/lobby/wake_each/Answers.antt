@@ -7,5 +7,5 @@ loop-event-init c = woken_none c.args.hall.now
 
 pub loop-event-preserved : goal.loop-event-preserved
 loop-event-preserved c =
-    woken_more c.args.hall.now c.loop-event.hall c.wake_socket-is_listener.new.hall c.loop-event.invariant
-    c.wake_socket-is_listener.ensures
+    woken_more c.args.hall.now c.loop-event.hall c.wake_socket-any.new.hall c.loop-event.invariant
+    c.wake_socket-any.ensures

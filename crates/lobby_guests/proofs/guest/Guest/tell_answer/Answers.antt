@@ -13,6 +13,8 @@ returns-clause-told g c =
       record {
         number = c.tell.ensures.number;
         stream = c.tell.ensures.stream;
+        since = c.tell.ensures.visit.since;
+        origin = c.tell.ensures.visit.origin;
         first = first ∙ ap (λ v. one ∷ v.items) (sym c.tell.ensures.waits);
         text = c.answer.result.now;
         told = told_answer waits one c.remove.new.self.items c.answer.result.now c.args.answer.now first c.requires c.answer.ensures;

@@ -25,6 +25,8 @@ returns-clause-told g c =
       record {
         number = c.tell.ensures.number;
         stream = c.tell.ensures.stream;
+        since = c.tell.ensures.visit.since;
+        origin = c.tell.ensures.visit.origin;
         first = first ∙ ap (λ v. one ∷ v.items) (sym c.tell.ensures.waits);
         text = c.as_str.result.now;
         told = told_whole waits one c.remove-one.new.self.items c.as_str.result.now first whole c.as_str.ensures.value;
