@@ -1,4 +1,4 @@
-use Rattle.std.proofs.Common.{ℕ, List, ◌++◌, map, codes}
+use Rattle.std.proofs.Common.{ℕ, List, map, codes}
 use Rattle.std.specs.Borrow.{Bor}
 use Rattle.text_pgn.specs.Json.{listed}
 use Rattle.text_pgn.specs.Spectators.{moves_json, moves_from}
