@@ -1,6 +1,6 @@
 -- What connections are told.
-use Rattle.std.specs.Prelude.{ℕ, ◌≡◌, ◌⊎◌, Bool, true, false, ◌&&◌, ◌||◌, ◌==◌, not, List, [], ◌∷◌, ◌++◌, codes, decimal}
-use Rattle.std.specs.Prelude.{Option, None, Some, is_some, length, nat_le, if◌then◌else◌}
+use Rattle.std.specs.Prelude.{ℕ, ◌≡◌, ◌⊎◌, Bool, true, false, ◌&&◌, ◌||◌, ◌==◌, not, List, [], ◌∷◌, ◌++◌, codes}
+use Rattle.std.specs.Prelude.{decimal, Option, None, Some, is_some, length, nat_le, if◌then◌else◌}
 use Rattle.std.specs.List.{list_any}
 use Rattle.lobby_words.specs.declared.listing.Seat.{Seat}
 use Rattle.lobby_table.specs.declared.watching.Watch.{Watch}
@@ -238,8 +238,8 @@ offers_notice table = record { to = table; kind = kinds.Whole; text = codes "off
 abbrev pub AreToldOffers : List ℕ → ℕ → List MessageValue → Type 0
 AreToldOffers table c tells = (text : List ℕ) × (tells ≡ to_one c text ∷ offers_notice table ∷ [])
 
--- What the log is told where everybody is told something of an arbiter's: who said it, and the message. It is none of an
--- act.
+-- What the log is told where everybody is told something of an arbiter's: who said it, and the message. It is none of
+-- an act.
 abbrev pub call_front : Call → List ℕ
 call_front calls.Announce = codes "told by "
 call_front _ = codes "clocks by "
@@ -331,8 +331,8 @@ notice k game act is_table now = record {
 }
 
 -- What a `drop` is answered that does not go out, by the answer to `show`: where another waits in its game, that who
--- asks is no arbiter; else, where the game is shown, that it does not wait for a second player; else the refusal to show
--- it.
+-- asks is no arbiter; else, where the game is shown, that it does not wait for a second player; else the refusal to
+-- show it.
 abbrev pub undropped : List ℕ → List ℕ → List ℕ
 undropped text now =
     if is_some (lone_player now (rest_of text)) then refusal_text refusals.NotArbiter
@@ -397,7 +397,8 @@ AreToldAll is_open first text tells =
 abbrev pub IsTold : DeskInput → List (List ℕ) → List MessageValue → (ℕ → Bool) → Known → Type 0
 IsTold (Opened c) lines tells is_open k = IsToldOne c tells
 IsTold (Closed c) lines tells is_open k = tells ≡ []
-IsTold (Said c text at) lines tells is_open k = (is_open c ≡ true) × (owes k.owed c ≡ false) × IsToldOrSent is_open k.table lines c tells
+IsTold (Said c text at) lines tells is_open k =
+    (is_open c ≡ true) × (owes k.owed c ≡ false) × IsToldOrSent is_open k.table lines c tells
 IsTold (Hurried c) lines tells is_open k =
     (is_open c ≡ true) × (owes k.owed c ≡ false) × (tells ≡ to_one c (codes "no 34 TooFast\n") ∷ [])
 IsTold (Heard line) lines tells is_open k = IsToldHeard (is_counted k line) k (answer k.begun line) lines tells
