@@ -20,7 +20,7 @@ pub fn asker(due: &Due) -> Option<u64>
 fn is_for(due: &Due, connection: u64) -> bool
     ensures { result ≡ is_number connection (waiter (owed_of due.now)) }
 {
-    asker(due).is_some_and(|to| to == connection)
+    asker(due).is_some_and(|to| connection == to)
 }
 
 fn is_among(dues: &[Due], connection: u64) -> bool

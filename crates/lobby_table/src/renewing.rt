@@ -28,7 +28,8 @@ fn goes_on(before: Option<&Player>, after: Option<&Player>) -> Option<Identity>
 fn renewed(before: &[Player], later: &[Player], who: Option<Identity>) -> Option<Identity>
     ensures { result ≡ renewed before.now later.now who }
 {
-    let name = who.as_ref()?.name.as_str();
+    let who = who.as_ref()?;
+    let name = who.name.as_str();
     let old = player_by_name(before, name);
     let new = player_by_name(later, name);
     goes_on(old, new)

@@ -54,7 +54,7 @@ pub fn is_shown(answer: &str) -> bool
 fn has_ended(shown: Option<Shown>) -> bool
     ensures { result ≡ spec.has_ended shown }
 {
-    shown.is_some_and(|shown| shown.ending.is_some())
+    shown.as_ref().is_some_and(|shown| shown.ending.is_some())
 }
 
 /// Whether a game goes on no more, as the answer to `show` says: it has ended, or there is no such game. Another
@@ -88,5 +88,7 @@ fn alone_in(shown: &Shown, game: Option<u32>) -> Option<Name>
 pub fn lone_player(answer: &str, number: &str) -> Option<Name>
     ensures { result ≡ spec.lone_player answer.now number.now }
 {
-    shown_of(first_line(answer)).and_then(|shown| alone_in(&shown, number_named(number)))
+    shown_of(first_line(answer))
+        .as_ref()
+        .and_then(|shown| alone_in(shown, number_named(number)))
 }
