@@ -7,6 +7,7 @@ use Rattle.lobby_words.specs.declared.words.Sort.TheVariants as sorts
 use Rattle.lobby_words.specs.declared.refusals.Refusal.{Refusal}
 use Rattle.lobby_words.specs.declared.refusals.Refusal.TheVariants as refusals
 use Rattle.lobby_words.specs.declared.planning.Order.{Order}
+use Rattle.lobby_words.specs.declared.words.Call.{Call}
 use Rattle.lobby_words.specs.declared.planning.Accord.{Accord}
 use Rattle.lobby_words.specs.declared.planning.Accord.TheVariants as accords
 use Rattle.lobby_words.specs.declared.listing.Seat.{Seat}
@@ -395,39 +396,97 @@ pub planned_table : (m : Bool) (sort : Sort) (s : Standing) (game : Option ℕ) 
     plan_table (plan_of m sort s game) c table ≡ (if m && is_leave_lobby_sort sort then risen c table else table)
 planned_table m sort s game c table = (planned m sort s game c [] table).1
 
--- a message is answered at once where nothing goes out by its plan
-act_sent : (is_open : ℕ → Bool) (table : List ℕ) (b : Bool) (name text : List ℕ) (rest : List (List ℕ)) (c : ℕ) (tells : List MessageValue) → tells ≡ [] →
-    IsToldOrSent is_open table (if b then text ∷ rest else name_line name ∷ text ∷ rest) c tells
-act_sent is_open table true name text rest c tells h = h
-act_sent is_open table false name text rest c tells h = h
+-- ---- of whom everybody is told something
 
-pub answered_or_sent : (players : List Player) (v : View) (plan : Plan) (said : Option (List ℕ)) (text : List ℕ) (c : ℕ) (tells : List MessageValue) → IsAnswered players v text plan c tells →
-    IsToldOrSent v.is_open v.known.table (lines_of plan said text) c tells
-answered_or_sent players v (plans.Refuse refusal) said text c tells h = inl (h.0, h.2)
-answered_or_sent players v (plans.Offer who) said text c tells h = inr (inl (h.0, h.2))
-answered_or_sent players v (plans.Unpair who) said text c tells h = inr (inl (h.0, h.2))
-answered_or_sent players v (plans.Call call) said text c tells h =
-    inr (inr (inl (record { by = name_of (v.who c); said = text; call = call; text = h.0; told = h.2 })))
-answered_or_sent players v (plans.Offers who at) said text c tells h = inl (h.0, h.2)
-answered_or_sent players v plans.Read said text c tells h = h
-answered_or_sent players v (plans.Act who) said text c tells h = act_sent v.is_open v.known.table (is_said said who.name) who.name text (notice_lines (game_named text)) c tells h
-answered_or_sent players v (plans.ActAs who name) said text c tells h = act_sent v.is_open v.known.table (is_said said name) name (as_line text) (notice_lines (game_named text)) c tells h
-answered_or_sent players v (plans.Pair who white black) said text c tells h = act_sent v.is_open v.known.table (is_said said white) white (pair_line text) [] c tells h
-answered_or_sent players v (plans.Drop who game) said text c tells h = h
-answered_or_sent players v (plans.Login who) said text c tells h = inl (h.0, h.2)
-answered_or_sent players v plans.Players said text c tells h = inl (h.0, h.2)
-answered_or_sent players v (plans.Seated form) said text c tells h = inl (h.0, h.2)
-answered_or_sent players v plans.Who said text c tells h = inl (h.0, h.2)
-answered_or_sent players v plans.Pause said text c tells h = inl (h.0, h.2)
-answered_or_sent players v plans.Resume said text c tells h = inl (h.0, h.2)
-answered_or_sent players v (plans.Order order) said text c tells h = inl (h.0, h.2)
-answered_or_sent players v plans.Lobby said text c tells h = h
-answered_or_sent players v plans.LeaveLobby said text c tells h = inl (h.0, h.2)
-answered_or_sent players v (plans.Watch game) said text c tells h = h
-answered_or_sent players v (plans.Leave game) said text c tells h = inl (h.0, h.2)
-answered_or_sent players v (plans.Line game) said text c tells h = h
-answered_or_sent players v (plans.Room game at) said text c tells h = inl (h.0, h.2)
-answered_or_sent players v plans.Moves said text c tells h = inr (inr (inr (text, h.2)))
+-- what holds of what an arbiter has everybody told, and of `moves`, where a plan is one
+abbrev pub OfTold : (Call → Type 0) → Type 0 → Plan → Type 0
+OfTold Q M (plans.Call call) = Q call
+OfTold Q M plans.Moves = M
+OfTold Q M _ = Unit {0}
+
+-- Everybody is told something for a message that asks for just this, of an arbiter.
+pub record Calls (sort : Sort) (who : Option Identity) (call : Call) : Type 0 where
+  pub asked : sort ≡ sorts.Call call
+  pub arbiter : IsArbiter who
+
+abbrev Tells : Sort → Standing → Plan → Type 0
+Tells sort s plan = OfTold (Calls sort s.who) (sort ≡ sorts.Moves) plan
+
+called_at : (s : Standing) (call : Call) (who : Identity) → s.who ≡ Some who → (b : Bool) → who.is_arbiter ≡ b →
+    Tells (sorts.Call call) s (if b then barred s.bar (plans.Call call) else plans.Refuse refusals.NotArbiter)
+called_at s call who is true arbiter =
+    barred_does (Tells (sorts.Call call) s) s.bar (plans.Call call) (λ _. tt) (record { asked = refl; arbiter = subst IsArbiter (sym is) arbiter })
+called_at s call who is false arbiter = tt
+
+calls_at : (s : Standing) (call : Call) (who : Option Identity) → s.who ≡ who →
+    Tells (sorts.Call call) s (arbiter_plan who (barred s.bar (plans.Call call)))
+calls_at s call None is = tt
+calls_at s call (Some who) is = called_at s call who is who.is_arbiter refl
+
+leave_tells : (s : Standing) (game : Option ℕ) → Tells sorts.Leave s (numbered_plan sorts.Leave s game)
+leave_tells s None = tt
+leave_tells s (Some game) = tt
+
+pub planned_tells : (m : Bool) (sort : Sort) (s : Standing) (game : Option ℕ) → Tells sort s (plan_of m sort s game)
+planned_tells false sort s game = tt
+planned_tells true sorts.Read s game = asked_does (Tells sorts.Read s) s plans.Read tt tt
+planned_tells true sorts.Act s game = act_does (Tells sorts.Act s) s s.who (λ _. tt) (λ _. tt)
+planned_tells true sorts.As s game = as_does (Tells sorts.As s) s s.who (λ _. tt) (λ _ _. tt)
+planned_tells true sorts.Pair s game = pair_does (Tells sorts.Pair s) s s.who (λ _. tt) (λ _. tt) (λ _ _ _. tt)
+planned_tells true sorts.Unpair s game = offers_does (Tells sorts.Unpair s) true s.at s.who (λ _. tt) (λ _. tt) (λ _. tt)
+planned_tells true sorts.Offers s game = offers_does (Tells sorts.Offers s) false s.at s.who (λ _. tt) (λ _. tt) (λ _. tt)
+planned_tells true sorts.Drop s game = dropped_does (Tells sorts.Drop s) s game (λ _. tt) (λ _ _. tt)
+planned_tells true sorts.Login s game = login_does (Tells sorts.Login s) s.holder (λ _. tt) (λ _. tt)
+planned_tells true sorts.Players s game = players_does (Tells sorts.Players s) s s.who tt tt
+planned_tells true sorts.Who s game = arbiter_does (Tells sorts.Who s) s.who plans.Who (λ _. tt) tt
+planned_tells true sorts.Pause s game = arbiter_does (Tells sorts.Pause s) s.who plans.Pause (λ _. tt) tt
+planned_tells true sorts.Resume s game = arbiter_does (Tells sorts.Resume s) s.who plans.Resume (λ _. tt) tt
+planned_tells true (sorts.Call call) s game = calls_at s call s.who refl
+planned_tells true sorts.Link s game = link_does (Tells sorts.Link s) s.who false s.linked (λ _. tt) (λ _. tt)
+planned_tells true sorts.Close s game = link_does (Tells sorts.Close s) s.who true s.linked (λ _. tt) (λ _. tt)
+planned_tells true sorts.Lobby s game = asked_does (Tells sorts.Lobby s) s plans.Lobby tt tt
+planned_tells true sorts.LeaveLobby s game = tt
+planned_tells true sorts.Watch s game = watch_does (Tells sorts.Watch s) s game (λ _. tt) (λ _. tt)
+planned_tells true sorts.Leave s game = leave_tells s game
+planned_tells true sorts.Line s game = line_does (Tells sorts.Line s) s game (λ _. tt) (λ _. tt)
+planned_tells true sorts.Room s game = room_does (Tells sorts.Room s) s game (λ _. tt) (λ _. tt)
+planned_tells true sorts.Moves s game = token_does (Tells sorts.Moves s) s.who plans.Moves (λ _. tt) refl
+planned_tells true sorts.Name s game = tt
+planned_tells true sorts.Nothing s game = tt
+
+-- a message is answered at once where nothing goes out by its plan
+act_sent : (is_open : ℕ → Bool) (table : List ℕ) (who : Option Identity) (said : List ℕ) (b : Bool) (name text : List ℕ) (rest : List (List ℕ)) (c : ℕ) (tells : List MessageValue) → tells ≡ [] →
+    IsToldOrSent is_open table who said (if b then text ∷ rest else name_line name ∷ text ∷ rest) c tells
+act_sent is_open table who said true name text rest c tells h = h
+act_sent is_open table who said false name text rest c tells h = h
+
+pub answered_or_sent : (players : List Player) (v : View) (plan : Plan) (said : Option (List ℕ)) (text : List ℕ) (c : ℕ) (tells : List MessageValue) → OfTold (Calls (sort_of text) (v.who c)) (sort_of text ≡ sorts.Moves) plan → IsAnswered players v text plan c tells →
+    IsToldOrSent v.is_open v.known.table (v.who c) text (lines_of plan said text) c tells
+answered_or_sent players v (plans.Refuse refusal) said text c tells asks h = inl (h.0, h.2)
+answered_or_sent players v (plans.Offer who) said text c tells asks h = inr (inl (h.0, h.2))
+answered_or_sent players v (plans.Unpair who) said text c tells asks h = inr (inl (h.0, h.2))
+answered_or_sent players v (plans.Call call) said text c tells asks h =
+    inr (inr (inl (record { call = call; asked = asks.asked; arbiter = asks.arbiter; text = h.0; told = h.2 })))
+answered_or_sent players v (plans.Offers who at) said text c tells asks h = inl (h.0, h.2)
+answered_or_sent players v plans.Read said text c tells asks h = h
+answered_or_sent players v (plans.Act who) said text c tells asks h = act_sent v.is_open v.known.table (v.who c) text (is_said said who.name) who.name text (notice_lines (game_named text)) c tells h
+answered_or_sent players v (plans.ActAs who name) said text c tells asks h = act_sent v.is_open v.known.table (v.who c) text (is_said said name) name (as_line text) (notice_lines (game_named text)) c tells h
+answered_or_sent players v (plans.Pair who white black) said text c tells asks h = act_sent v.is_open v.known.table (v.who c) text (is_said said white) white (pair_line text) [] c tells h
+answered_or_sent players v (plans.Drop who game) said text c tells asks h = h
+answered_or_sent players v (plans.Login who) said text c tells asks h = inl (h.0, h.2)
+answered_or_sent players v plans.Players said text c tells asks h = inl (h.0, h.2)
+answered_or_sent players v (plans.Seated form) said text c tells asks h = inl (h.0, h.2)
+answered_or_sent players v plans.Who said text c tells asks h = inl (h.0, h.2)
+answered_or_sent players v plans.Pause said text c tells asks h = inl (h.0, h.2)
+answered_or_sent players v plans.Resume said text c tells asks h = inl (h.0, h.2)
+answered_or_sent players v (plans.Order order) said text c tells asks h = inl (h.0, h.2)
+answered_or_sent players v plans.Lobby said text c tells asks h = h
+answered_or_sent players v plans.LeaveLobby said text c tells asks h = inl (h.0, h.2)
+answered_or_sent players v (plans.Watch game) said text c tells asks h = h
+answered_or_sent players v (plans.Leave game) said text c tells asks h = inl (h.0, h.2)
+answered_or_sent players v (plans.Line game) said text c tells asks h = h
+answered_or_sent players v (plans.Room game at) said text c tells asks h = inl (h.0, h.2)
+answered_or_sent players v plans.Moves said text c tells asks h = inr (inr (inr (asks, h.2)))
 
 -- ---- who orders
 

@@ -642,18 +642,18 @@ all_alike : (f g : ℕ → Bool) → ((c : ℕ) → f c ≡ g c) → (first : Li
     AreToldAll f first text tells → AreToldAll g first text tells
 all_alike f g same first text tells h = (h.0, λ c. h.1 c ∙ same c, h.2)
 
-said_alike : (f g : ℕ → Bool) → ((c : ℕ) → f c ≡ g c) → (table : List ℕ) (lines : List (List ℕ)) (c : ℕ) (tells : List MessageValue) →
-    IsToldOrSent f table lines c tells → IsToldOrSent g table lines c tells
-said_alike f g same table [] c tells h =
+said_alike : (f g : ℕ → Bool) → ((c : ℕ) → f c ≡ g c) → (table : List ℕ) (who : Option Identity) (said : List ℕ) (lines : List (List ℕ)) (c : ℕ) (tells : List MessageValue) →
+    IsToldOrSent f table who said lines c tells → IsToldOrSent g table who said lines c tells
+said_alike f g same table who said [] c tells h =
     elim h [
       | inl one ↦ inl one
       | inr more ↦ elim more [
         | inl two ↦ inr (inl two)
         | inr rest ↦ elim rest [
           | inl some ↦ inr (inr (inl (record {
-            by = some.by;
-            said = some.said;
             call = some.call;
+            asked = some.asked;
+            arbiter = some.arbiter;
             text = some.text;
             told = record { to = some.told.to; all = λ d. some.told.all d ∙ same d; told = some.told.told };
           })))
@@ -661,18 +661,22 @@ said_alike f g same table [] c tells h =
         ]
       ]
     ]
-said_alike f g same table (line ∷ lines) c tells h = h
+said_alike f g same table who said (line ∷ lines) c tells h = h
 
-told_alike : (event : DeskInput) (lines : List (List ℕ)) (tells : List MessageValue) (f g : ℕ → Bool) → ((c : ℕ) → f c ≡ g c) → (k : Known) →
-    IsTold event lines tells f k → IsTold event lines tells g k
-told_alike (Opened c) lines tells f g same k h = h
-told_alike (Closed c) lines tells f g same k h = h
-told_alike (Said c text at) lines tells f g same k h = (sym (same c) ∙ h.0, h.1, said_alike f g same k.table lines c tells h.2)
-told_alike (Hurried c) lines tells f g same k h = (sym (same c) ∙ h.0, h.1, h.2)
-told_alike (Heard line) lines tells f g same k h = h
-told_alike (Renewed later) lines tells f g same k h = h
-told_alike (Linked c text later token) lines tells f g same k h = (sym (same c) ∙ h.0, h.1, h.2)
-told_alike (ServerTurned is_here) lines tells f g same k h = all_alike f g same (lost k.owed) (presence is_here) tells h
+told_alike : (event : DeskInput) (lines : List (List ℕ)) (tells : List MessageValue) (f g : ℕ → Bool) → ((c : ℕ) → f c ≡ g c) →
+    (p q : ℕ → Option Identity) → ((c : ℕ) → p c ≡ q c) → (k : Known) → IsTold event lines tells f p k → IsTold event lines tells g q k
+told_alike (Opened c) lines tells f g same p q acts k h = h
+told_alike (Closed c) lines tells f g same p q acts k h = h
+told_alike (Said c text at) lines tells f g same p q acts k h = (
+    sym (same c) ∙ h.0,
+    h.1,
+    said_alike f g same k.table (q c) text lines c tells (subst (λ (w : Option Identity). IsToldOrSent f k.table w text lines c tells) (acts c) h.2),
+)
+told_alike (Hurried c) lines tells f g same p q acts k h = (sym (same c) ∙ h.0, h.1, h.2)
+told_alike (Heard line) lines tells f g same p q acts k h = h
+told_alike (Renewed later) lines tells f g same p q acts k h = h
+told_alike (Linked c text later token) lines tells f g same p q acts k h = (sym (same c) ∙ h.0, h.1, h.2)
+told_alike (ServerTurned is_here) lines tells f g same p q acts k h = all_alike f g same (lost k.owed) (presence is_here) tells h
 
 -- each drop, and each pairing, that waits was asked for
 abbrev pub IsAsked : List Player → List Step → Owed → Type 0
@@ -1394,8 +1398,8 @@ run_good players is_paused (s ∷ past) now run =
       };
       right = (good.right, good.whole, before.right);
       told = (
-        told_alike s.event s.lines s.tells run.0.is_open (open_in past) before.agrees.opens (known_in players past)
-            (subst (λ (k : Known). IsTold s.event s.lines s.tells run.0.is_open k) before.agrees.known step.told),
+        told_alike s.event s.lines s.tells run.0.is_open (open_in past) before.agrees.opens run.0.who (player_in players past) before.agrees.who (known_in players past)
+            (subst (λ (k : Known). IsTold s.event s.lines s.tells run.0.is_open run.0.who k) before.agrees.known step.told),
         before.told,
       );
     }

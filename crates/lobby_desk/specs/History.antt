@@ -23,6 +23,7 @@ use Rattle.lobby_table.specs.declared.pairings.Pairing.{Pairing}
 use Rattle.lobby_table.specs.Pairings.{game_joined, IsFree, IsOffered}
 use Rattle.lobby_desk.specs.Logging.{act_logged, is_of_act, one_if, log_texts}
 use Rattle.lobby_desk.specs.Tellings.{Known, is_counted, known_now, pairings_now, open_now, IsTold}
+pub use Rattle.lobby_desk.specs.Tellings.{IsArbiter}
 use Rattle.lobby_table.specs.Owed.{is_number}
 use Rattle.lobby_desk.specs.Who.{View, BeginsView, IsStep, may_drop, speaker, players_now, offers_now}
 use Rattle.lobby_offers.specs.Offers.{Offered, accord_of}
@@ -192,10 +193,6 @@ known_in players [] =
 known_in players (s ∷ past) =
     known_now s.event (speaker (player_in players past) s.event) s.lines (open_in past) (known_in players past)
 
-abbrev pub IsArbiter : Option Identity → Type 0
-IsArbiter None = ⊥
-IsArbiter (Some who) = who.is_arbiter ≡ true
-
 -- Who acts so, an arbiter or one who agrees with the other player, may have a pairing made.
 abbrev pub MayPair : Bool → Option Identity → Type 0
 MayPair agreed who = IsArbiter who ⊎ (agreed ≡ true)
@@ -310,7 +307,8 @@ AllRight players (s ∷ past) = IsRight players past s.event s.lines × AreWhole
 abbrev pub AllTold : List Player → List Step → Type 0
 AllTold players [] = Unit {0}
 AllTold players (s ∷ past) =
-    IsTold s.event s.lines s.tells (open_in past) (known_in players past) × AllTold players past
+    IsTold s.event s.lines s.tells (open_in past) (player_in players past) (known_in players past)
+    × AllTold players past
 
 -- The lines for an event, under the name that holds before each: none joins a game that is kept for another. A game is
 -- kept for Black from the server's answer to the opening of its pairing until that to its join, or its drop.
@@ -439,8 +437,8 @@ entries_now acts (Heard line) k =
     if is_counted k line then entries_next acts k.last k.follows k.owed (answer k.begun line) else []
 entries_now acts _ k = []
 
--- What the log is told for a message that asks for nothing of the server, which is none of an act: what everybody is
--- told of an arbiter's, where the plan for the message is that.
+-- What the log is told for a message that asks for nothing of the server, which is none of an act: what `AreToldSome`
+-- says of an arbiter's, where everybody is told of it.
 abbrev pub said_entries : DeskInput → List MessageValue → List (List ℕ)
 said_entries (Said c text at) tells = log_texts tells
 said_entries _ tells = []

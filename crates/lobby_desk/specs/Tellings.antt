@@ -8,6 +8,8 @@ use Rattle.lobby_table.specs.declared.refusals.RefusedActs.{RefusedActs}
 use Rattle.lobby_table.specs.declared.pairings.Pairing.{Pairing}
 use Rattle.lobby_desk.specs.declared.telling.Kind.{Kind}
 use Rattle.lobby_desk.specs.declared.telling.Kind.TheVariants as kinds
+use Rattle.lobby_words.specs.declared.words.Sort.TheVariants as sorts
+use Rattle.lobby_words.specs.declared.planning.Identity.{Identity}
 use Rattle.lobby_words.specs.declared.words.Call.{Call}
 use Rattle.lobby_words.specs.declared.words.Call.TheVariants as calls
 use Rattle.lobby_words.specs.Words.{rest_of, is_pair, is_message, sort_of, is_close_sort, is_leave_sort}
@@ -264,6 +266,15 @@ call_line calls.Announce text = announcement (rest_of text)
 abbrev pub call_notice : List ℕ → Call → List ℕ → MessageValue
 call_notice to call text = record { to = to; kind = kinds.Whole; text = call_line call text }
 
+-- the name of a player, and none of nobody
+abbrev pub name_of : Option Identity → List ℕ
+name_of None = []
+name_of (Some who) = who.name
+
+abbrev pub IsArbiter : Option Identity → Type 0
+IsArbiter None = ⊥
+IsArbiter (Some who) = who.is_arbiter ≡ true
+
 -- The log is told first who said so, then he is answered, and then every connection that is open is told.
 pub record AreToldCall (is_open : ℕ → Bool) (by said : List ℕ) (call : Call) (own : MessageValue)
     (tells : List MessageValue) : Type 0 where
@@ -271,25 +282,28 @@ pub record AreToldCall (is_open : ℕ → Bool) (by said : List ℕ) (call : Cal
   pub all : (c : ℕ) → at_table to c ≡ is_open c
   pub told : tells ≡ call_logged call by said ∷ own ∷ call_notice to call said ∷ []
 
-pub record AreToldSome (is_open : ℕ → Bool) (c : ℕ) (tells : List MessageValue) : Type 0 where
-  pub by : List ℕ
-  pub said : List ℕ
+-- They are for an arbiter's message that asks for just this.
+pub record AreToldSome (is_open : ℕ → Bool) (who : Option Identity) (said : List ℕ) (c : ℕ)
+    (tells : List MessageValue) : Type 0 where
   pub call : Call
+  pub asked : sort_of said ≡ sorts.Call call
+  pub arbiter : IsArbiter who
   pub text : List ℕ
-  pub told : AreToldCall is_open by said call (to_one c text) tells
+  pub told : AreToldCall is_open (name_of who) said call (to_one c text) tells
 
 -- the answer to `moves FEN`, which is made of the message as it goes out
 abbrev pub moves_told : ℕ → List ℕ → MessageValue
 moves_told c said = to_one_as c kinds.Moves said
 
-abbrev pub AreToldMoves : ℕ → List MessageValue → Type 0
-AreToldMoves c tells = (said : List ℕ) × (tells ≡ moves_told c said ∷ [])
+abbrev pub AreToldMoves : List ℕ → ℕ → List MessageValue → Type 0
+AreToldMoves said c tells = (sort_of said ≡ sorts.Moves) × (tells ≡ moves_told c said ∷ [])
 
--- A message is answered at once where nothing goes to the server for it.
-abbrev pub IsToldOrSent : (ℕ → Bool) → List ℕ → List (List ℕ) → ℕ → List MessageValue → Type 0
-IsToldOrSent is_open table [] c tells =
-    IsToldOne c tells ⊎ AreToldOffers table c tells ⊎ AreToldSome is_open c tells ⊎ AreToldMoves c tells
-IsToldOrSent is_open table (line ∷ lines) c tells = tells ≡ []
+-- A message of a connection that acts so is answered at once where nothing goes to the server for it.
+abbrev pub IsToldOrSent : (ℕ → Bool) → List ℕ → Option Identity → List ℕ → List (List ℕ) → ℕ → List MessageValue →
+    Type 0
+IsToldOrSent is_open table who said [] c tells =
+    IsToldOne c tells ⊎ AreToldOffers table c tells ⊎ AreToldSome is_open who said c tells ⊎ AreToldMoves said c tells
+IsToldOrSent is_open table who said (line ∷ lines) c tells = tells ≡ []
 
 -- The answer to an act is the server's; but that to a pairing, once its game is joined, tells the game.
 abbrev pub pair_told : Option ℕ → List ℕ → List ℕ
@@ -391,18 +405,19 @@ AreToldAll is_open first text tells =
     (to : List ℕ) × ((c : ℕ) → at_table to c ≡ is_open c)
     × (tells ≡ first ++ record { to = to; kind = kinds.Whole; text = text } ∷ [])
 
--- What connections are told for an event, where these are open and this is known before it, and these lines go out. A
--- connection says a message where it is open and no answer is owed to it, so that its answers come in the order of its
--- messages.
-abbrev pub IsTold : DeskInput → List (List ℕ) → List MessageValue → (ℕ → Bool) → Known → Type 0
-IsTold (Opened c) lines tells is_open k = IsToldOne c tells
-IsTold (Closed c) lines tells is_open k = tells ≡ []
-IsTold (Said c text at) lines tells is_open k =
-    (is_open c ≡ true) × (owes k.owed c ≡ false) × IsToldOrSent is_open k.table lines c tells
-IsTold (Hurried c) lines tells is_open k =
+-- What connections are told for an event, where these are open, act for these players and this is known before it, and
+-- these lines go out. A connection says a message where it is open and no answer is owed to it, so that its answers come
+-- in the order of its messages.
+abbrev pub IsTold : DeskInput → List (List ℕ) → List MessageValue → (ℕ → Bool) → (ℕ → Option Identity) → Known →
+    Type 0
+IsTold (Opened c) lines tells is_open acts_for k = IsToldOne c tells
+IsTold (Closed c) lines tells is_open acts_for k = tells ≡ []
+IsTold (Said c text at) lines tells is_open acts_for k =
+    (is_open c ≡ true) × (owes k.owed c ≡ false) × IsToldOrSent is_open k.table (acts_for c) text lines c tells
+IsTold (Hurried c) lines tells is_open acts_for k =
     (is_open c ≡ true) × (owes k.owed c ≡ false) × (tells ≡ to_one c (codes "no 34 TooFast\n") ∷ [])
-IsTold (Heard line) lines tells is_open k = IsToldHeard (is_counted k line) k (answer k.begun line) lines tells
-IsTold (Renewed players) lines tells is_open k = tells ≡ []
-IsTold (Linked c text players token) lines tells is_open k =
+IsTold (Heard line) lines tells is_open acts_for k = IsToldHeard (is_counted k line) k (answer k.begun line) lines tells
+IsTold (Renewed players) lines tells is_open acts_for k = tells ≡ []
+IsTold (Linked c text players token) lines tells is_open acts_for k =
     (is_open c ≡ true) × (owes k.owed c ≡ false) × (tells ≡ to_one c (linked_text text token) ∷ [])
-IsTold (ServerTurned is_here) lines tells is_open k = AreToldAll is_open (lost k.owed) (presence is_here) tells
+IsTold (ServerTurned is_here) lines tells is_open acts_for k = AreToldAll is_open (lost k.owed) (presence is_here) tells

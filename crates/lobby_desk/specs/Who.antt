@@ -49,6 +49,7 @@ use Rattle.lobby_desk.specs.Tellings.{follows_next, follows_now, misnamed_heard,
 use Rattle.lobby_desk.specs.Tellings.{left_now, begun_now, last_now, owed_answered, presence, IsTold, IsToldFor}
 use Rattle.lobby_table.specs.Owed.{owes}
 use Rattle.lobby_desk.specs.Tellings.{IsToldNext, offers_notice, AreToldCall, moves_told}
+pub use Rattle.lobby_desk.specs.Tellings.{name_of}
 use Rattle.lobby_table.specs.declared.rooms.Attendance.{Attendance}
 use Rattle.lobby_table.specs.Rooms.{Gathering, IsRoom, attended, gone}
 use Rattle.lobby_offers.specs.Offers.{Offered, offered, accord_of, offers_said, offers_text}
@@ -80,11 +81,6 @@ players_now _ before = before
 
 abbrev pub open_of : Desk → ℕ → Bool
 open_of desk c = open_in_map desk.visitors c
-
--- the name of a player, and none of nobody
-abbrev pub name_of : Option Identity → List ℕ
-name_of None = []
-name_of (Some who) = who.name
 
 -- the name of the player for whom a connection acts that says a message
 abbrev pub speaker : (ℕ → Option Identity) → DeskInput → List ℕ
@@ -258,6 +254,7 @@ pub record BeginsView (is_paused : Bool) (now : View) : Type 0 where
   pub none_open : (c : ℕ) → now.is_open c ≡ false
   pub who : (c : ℕ) → now.who c ≡ None
   pub said : now.said ≡ None
+  pub here : now.here ≡ false
   pub paused : now.halts.paused ≡ is_paused
   pub offers : now.offers ≡ []
   pub attendances : now.attendances ≡ []
@@ -558,7 +555,7 @@ pub record IsStep (players : List Player) (old : View) (event : DeskInput) (line
   pub offers : new.offers ≡ offers_now players old.who event old.offers
   pub attendances : new.attendances ≡ attendances_now old.who event old.attendances
   pub known : IsKnown event (speaker old.who event) lines old.is_open old.known new.known
-  pub told : IsTold event lines tells old.is_open old.known
+  pub told : IsTold event lines tells old.is_open old.who old.known
 
 -- A step of the desk, with the bytes that go to the server and what connections are told. The time of no other
 -- connection is taken.
