@@ -406,8 +406,8 @@ AreToldAll is_open first text tells =
     × (tells ≡ first ++ record { to = to; kind = kinds.Whole; text = text } ∷ [])
 
 -- What connections are told for an event, where these are open, act for these players and this is known before it, and
--- these lines go out. A connection says a message where it is open and no answer is owed to it, so that its answers come
--- in the order of its messages.
+-- these lines go out. A connection says a message where it is open and no answer is owed to it, so that its answers
+-- come in the order of its messages.
 abbrev pub IsTold : DeskInput → List (List ℕ) → List MessageValue → (ℕ → Bool) → (ℕ → Option Identity) → Known →
     Type 0
 IsTold (Opened c) lines tells is_open acts_for k = IsToldOne c tells
