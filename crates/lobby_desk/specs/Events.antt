@@ -19,8 +19,8 @@ use Rattle.lobby_words.specs.Answers.{act_game, is_table_act}
 use Rattle.lobby_table.specs.Owed.{ForItself, ForPositions, ForTable, ForGame, ForAct, Owed, Nobody, Asker}
 use Rattle.lobby_table.specs.Owed.{Dropper, Pairer, Followers, Behind}
 
--- What comes in; a message at a moment, and of one that comes too fast nothing is read. The players are these from now on: by themselves, or
--- for a message that asks for a player's link, and for which this token was made.
+-- What comes in; a message at a moment, and of one that comes too fast nothing is read. The players are these from now
+-- on: by themselves, or for a message that asks for a player's link, and for which this token was made.
 pub data DeskInput : Type 0 where
   Opened : (c : ℕ) → DeskInput
   Closed : (c : ℕ) → DeskInput

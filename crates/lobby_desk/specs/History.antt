@@ -131,8 +131,8 @@ is_agreement _ = false
 
 -- The name under which the acts for a message may stand, where its connection has shown the token of this player: his
 -- own; but for `as NAME LINE` that name, where he is an arbiter and a player has it, and else none; and for
--- `pair WHITE ..` that of White, where he is an arbiter, or the two agree, and a player has it, and else none. Without a
--- token there is none.
+-- `pair WHITE ..` that of White, where he is an arbiter, or the two agree, and a player has it, and else none. Without
+-- a token there is none.
 abbrev pub name_as : List Player → Bool → List ℕ → Option (List ℕ)
 name_as players is_arbiter text = if is_arbiter then known_name players (as_name text) else None
 
@@ -211,8 +211,8 @@ HasAsked players (s ∷ past) c text = AsksNow players past s.event c text ⊎ H
 -- A drop goes out behind an answer of the server. It is the message of a connection that had shown a token when it said
 -- it; the answer is the one for which this message waits, and shows the game with an empty seat, so that it waits for
 -- its second player; and the drop stands under the name of the player who, as that answer says, has the other seat,
--- which is a name of the protocol. The token that the connection has shown is an arbiter's, or this very player's. Right
--- behind the drop it is asked how its game stands.
+-- which is a name of the protocol. The token that the connection has shown is an arbiter's, or this very player's.
+-- Right behind the drop it is asked how its game stands.
 pub record IsDropOf (players : List Player) (past : List Step) (line : List ℕ) (lines : List (List ℕ)) : Type 0 where
   pub c : ℕ
   pub by : List ℕ

@@ -1,6 +1,6 @@
 -- What connections are told.
-use Rattle.std.specs.Prelude.{ℕ, ◌≡◌, ◌⊎◌, Bool, true, false, ◌&&◌, ◌||◌, ◌==◌, not, List, [], ◌∷◌, ◌++◌, codes, decimal}
-use Rattle.std.specs.Prelude.{Option, None, Some, is_some, length, nat_le, if◌then◌else◌}
+use Rattle.std.specs.Prelude.{ℕ, ◌≡◌, ◌⊎◌, Bool, true, false, ◌&&◌, ◌||◌, ◌==◌, not, List, [], ◌∷◌, ◌++◌, codes}
+use Rattle.std.specs.Prelude.{decimal, Option, None, Some, is_some, length, nat_le, if◌then◌else◌}
 use Rattle.std.specs.List.{list_any}
 use Rattle.lobby_words.specs.declared.listing.Seat.{Seat}
 use Rattle.lobby_table.specs.declared.watching.Watch.{Watch}
@@ -240,8 +240,8 @@ offers_notice table = record { to = table; kind = kinds.Whole; text = codes "off
 abbrev pub AreToldOffers : List ℕ → ℕ → List MessageValue → Type 0
 AreToldOffers table c tells = (text : List ℕ) × (tells ≡ to_one c text ∷ offers_notice table ∷ [])
 
--- What the log is told where everybody is told something of an arbiter's: who said it, and the message. It is none of an
--- act.
+-- What the log is told where everybody is told something of an arbiter's: who said it, and the message. It is none of
+-- an act.
 abbrev pub call_front : Call → List ℕ
 call_front calls.Announce = codes "told by "
 call_front _ = codes "clocks by "
@@ -345,8 +345,8 @@ notice k game act is_table now = record {
 }
 
 -- What a `drop` is answered that does not go out, by the answer to `show`: where another waits in its game, that who
--- asks is no arbiter; else, where the game is shown, that it does not wait for a second player; else the refusal to show
--- it.
+-- asks is no arbiter; else, where the game is shown, that it does not wait for a second player; else the refusal to
+-- show it.
 abbrev pub undropped : List ℕ → List ℕ → List ℕ
 undropped text now =
     if is_some (lone_player now (rest_of text)) then refusal_text refusals.NotArbiter
@@ -406,8 +406,8 @@ AreToldAll is_open first text tells =
     × (tells ≡ first ++ record { to = to; kind = kinds.Whole; text = text } ∷ [])
 
 -- What connections are told for an event, where these are open, act for these players and this is known before it, and
--- these lines go out. A connection says a message where it is open and no answer is owed to it, so that its answers come
--- in the order of its messages.
+-- these lines go out. A connection says a message where it is open and no answer is owed to it, so that its answers
+-- come in the order of its messages.
 abbrev pub IsTold : DeskInput → List (List ℕ) → List MessageValue → (ℕ → Bool) → (ℕ → Option Identity) → Known →
     Type 0
 IsTold (Opened c) lines tells is_open acts_for k = IsToldOne c tells

@@ -147,9 +147,9 @@ gathering seen = record {
   acts_for = seen.acts_for;
 }
 
--- Such an answer: a refusal says why; the player is told, or all players are, or those who have a seat, or are there, or
--- what is offered to him and by him, or who of a game is there; what is left is named. An order is not carried out here,
--- and the answer to `moves` is not made here.
+-- Such an answer: a refusal says why; the player is told, or all players are, or those who have a seat, or are there,
+-- or what is offered to him and by him, or who of a game is there; what is left is named. An order is not carried out
+-- here, and the answer to `moves` is not made here.
 abbrev pub IsOwnText : Seen → List Player → Plan → List ℕ → Type 0
 IsOwnText seen players (plans.Refuse refusal) text = text ≡ refusal_text refusal
 IsOwnText seen players (plans.Offer who) text = text ≡ codes "ok offered\n"
@@ -228,9 +228,9 @@ seen v = record {
   acts_for = v.who;
 }
 
--- Behind the answer those who are told of the table are told where the message changed what is offered; and where it has
--- everybody told something, first the log is told who said it, and then, behind the answer, everybody. The answer to
--- `moves` is the message itself, of which it is made as it goes out.
+-- Behind the answer those who are told of the table are told where the message changed what is offered; and where it
+-- has everybody told something, first the log is told who said it, and then, behind the answer, everybody. The answer
+-- to `moves` is the message itself, of which it is made as it goes out.
 abbrev pub IsToldBehind : View → List ℕ → ℕ → Plan → MessageValue → List MessageValue → Type 0
 IsToldBehind v said c (plans.Offer who) own tells = tells ≡ own ∷ offers_notice v.known.table ∷ []
 IsToldBehind v said c (plans.Unpair who) own tells = tells ≡ own ∷ offers_notice v.known.table ∷ []
@@ -397,8 +397,8 @@ pub record IsDropped (who : Option Identity) (said : Option (List ℕ)) (now tex
   pub lines_are : lines ≡ act_lines said name text (game_named text)
   pub said_is : later ≡ Some name
 
--- Nothing goes out for a drop that waited: nobody has a seat in its game, or no seat of it is empty, or who asks may not
--- drop it.
+-- Nothing goes out for a drop that waited: nobody has a seat in its game, or no seat of it is empty, or who asks may
+-- not drop it.
 pub record IsNotDropped (who : Option Identity) (said : Option (List ℕ)) (now text : List ℕ)
     (lines : List (List ℕ)) (later : Option (List ℕ)) : Type 0 where
   pub none : lines ≡ []
@@ -411,10 +411,10 @@ IsPaired None said black lines later = (lines ≡ []) × (later ≡ said)
 IsPaired (Some game) said black lines later =
     (lines ≡ act_lines said black (join_line game) None) × (later ≡ Some black) × IsName black
 
--- What goes out for an answer, by for whom connections act then, by whose it is, and by the name that was said last. For
--- the answer to an act it is asked how the game stands that it names, if that was not asked right behind the act; a drop
--- goes out for the answer that it waits for, where a seat is empty and who asks may drop that game, and the join of a
--- pairing for the answer that opens its game; else nothing does.
+-- What goes out for an answer, by for whom connections act then, by whose it is, and by the name that was said last.
+-- For the answer to an act it is asked how the game stands that it names, if that was not asked right behind the act; a
+-- drop goes out for the answer that it waits for, where a seat is empty and who asks may drop that game, and the join
+-- of a pairing for the answer that opens its game; else nothing does.
 abbrev pub IsSentFor : (ℕ → Option Identity) → Owed → Option (List ℕ) → List ℕ → List (List ℕ) → Option (List ℕ)
     → Type 0
 IsSentFor who (Asker c (ForAct by text)) said now lines later =
@@ -539,8 +539,8 @@ offers_now players who (Said c text at) offers =
     offers_said (accord_of players who c text at offers) (who c) c text at offers
 offers_now players who _ offers = offers
 
--- Who was there when, after an event: who acts for a player and says something is known from then on, and at each message
--- all that was closed before it counts as closed.
+-- Who was there when, after an event: who acts for a player and says something is known from then on, and at each
+-- message all that was closed before it counts as closed.
 abbrev pub attendances_now : (ℕ → Option Identity) → DeskInput → List Attendance → List Attendance
 attendances_now who (Said c text at) all = attended (who c) at all
 attendances_now who (Closed c) all = gone (who c) all
@@ -587,7 +587,8 @@ pub record Carried (message : Planned) (old : Desk) (before after : Outgoing) (n
   pub here_is : new.line.is_here ≡ old.line.is_here
   pub halts_is : halted new.halts ≡ halted_after message.plan message.text (halted old.halts)
   pub limits_is : new.limits ≡ old.limits
-  pub who_is : (c : ℕ) → who_of new c ≡ (if message.from == c then who_noted message.plan (who_of old c) else who_of old c)
+  pub who_is : (c : ℕ) → who_of new c
+      ≡ (if message.from == c then who_noted message.plan (who_of old c) else who_of old c)
   pub owed : (known new).owed ≡ (known old).owed ++ owed_lines (plan_asker message.plan message.from message.text)
       (lines_of message.plan old.line.said message.text)
   pub opens : (c : ℕ) → open_of new c ≡ (message.from == c || open_of old c)

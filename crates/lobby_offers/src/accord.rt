@@ -41,7 +41,7 @@ fn is_answered(
 ) -> bool
     ensures { result ≡ spec.is_answered (who_in visitors.now) other.now text.now now (spec.offered offer.now) }
 {
-    offer.text.as_str() == text && (offer.by.as_str() == other && stands(offer, visitors, now))
+    offer.text.as_str() == text && offer.by.as_str() == other && stands(offer, visitors, now)
 }
 
 // Whether it takes one of these.
@@ -109,8 +109,7 @@ pub fn accord_of(
     ensures { result ≡ spec.accord_by players.now (who_in visitors.now) who.now text.now now
         (map spec.offered offers.now) }
 {
-    match who {
-        None => Accord::Nothing,
-        Some(who) => accord_with(players, visitors, offers, who, text, now),
-    }
+    who.as_ref().map_or(Accord::Nothing, |who| {
+        accord_with(players, visitors, offers, who, text, now)
+    })
 }

@@ -49,6 +49,7 @@ fn put(offers: &mut Vec<Offer>, offer: Offer) -> Result<(), AllocError>
         ≡ spec.but_by offer.by (map spec.offered offers.old.items) ++ spec.offered offer ∷ []) }
 {
     take_off(offers, offer.by.as_str());
+    // (`?` and `Ok(())`: the prover has no proof of the result of `push` itself)
     offers.push(offer)?;
     Ok(())
 }
@@ -115,19 +116,17 @@ pub fn note_offers(
     ensures { OnOk result (map spec.offered offers.new.items
         ≡ spec.offers_said accord who.now from text.now at (map spec.offered offers.old.items)) }
 {
-    match who {
-        None => Ok(()),
-        Some(who) => {
-            if ends_offers(text) {
-                let (_, other) = cut_word(text);
-                part(offers, who.name.as_str(), other);
-                Ok(())
-            } else if pairs_at_once(who, text) {
-                take_both(offers, text);
-                Ok(())
-            } else {
-                note_accord(offers, alloc, accord, who.name, from, text, at)
-            }
-        }
+    let Some(who) = who else {
+        return Ok(());
+    };
+    if ends_offers(text) {
+        let (_, other) = cut_word(text);
+        part(offers, who.name.as_str(), other);
+        Ok(())
+    } else if pairs_at_once(who, text) {
+        take_both(offers, text);
+        Ok(())
+    } else {
+        note_accord(offers, alloc, accord, who.name, from, text, at)
     }
 }

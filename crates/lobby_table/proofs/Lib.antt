@@ -5,3 +5,5 @@ pub mod Watched
 pub mod Others
 pub mod Opened
 pub mod Rows
+pub mod First
+pub mod Tails

@@ -92,4 +92,5 @@ seat_row acts_for all attendances game at s =
 abbrev pub IsRoom : Gathering → ℕ → ℕ → List ℕ → Type 0
 IsRoom g game at text =
     (all : List ℕ) × ((c : ℕ) → at_table all c ≡ g.is_open c)
-    × (text ≡ room_head game (watching game g.watches) ++ flat_map (seat_row g.acts_for all g.attendances game at) g.seats)
+    × (text ≡ room_head game (watching game g.watches)
+    ++ flat_map (seat_row g.acts_for all g.attendances game at) g.seats)

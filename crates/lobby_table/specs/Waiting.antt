@@ -1,7 +1,7 @@
 -- The seats of players in the games on the server's table, as far as its answers have told, and who may open or join
 -- one more.
-use Rattle.std.specs.Prelude.{ℕ, Bool, true, false, ◌&&◌, ◌||◌, ◌==◌, ◌+◌, ◌-◌, ◌*◌, ◌/◌, not, nat_le, List, [], ◌∷◌, ◌++◌}
-use Rattle.std.specs.Prelude.{length, map, filter, Option, None, Some, if◌then◌else◌}
+use Rattle.std.specs.Prelude.{ℕ, Bool, true, false, ◌&&◌, ◌||◌, ◌==◌, ◌+◌, ◌-◌, ◌*◌, ◌/◌, not, nat_le, List, [], ◌∷◌}
+use Rattle.std.specs.Prelude.{◌++◌, length, map, filter, Option, None, Some, if◌then◌else◌}
 use Rattle.std.specs.List.{count_by}
 use Rattle.std.specs.Str.{bytes_eq}
 use Rattle.lobby_words.specs.declared.listing.Seat.{Seat}
@@ -85,7 +85,8 @@ abbrev pub pairs_by : Stage → List ℕ → List ℕ → Bool
 pairs_by stage name text = is_stage stage stages.Waits && bytes_eq (as_name text) name || plays_by stage name text
 
 abbrev pub is_entry : Stage → List ℕ → Owed → Bool
-is_entry stage name (Asker c (ForAct by text)) = enters_by stage name by text || is_pair text && plays_by stage name text
+is_entry stage name (Asker c (ForAct by text)) =
+    enters_by stage name by text || is_pair text && plays_by stage name text
 is_entry stage name (Pairer c by black text) = pairs_by stage name text
 is_entry stage name _ = false
 

@@ -17,8 +17,5 @@ pub fn add_if<T: Copy>(to: &mut Vec<T>, is_so: bool, one: T) -> Result<(), Alloc
 pub fn number_after(id: u64) -> Result<u64, AllocError>
     ensures { IfOk result (λ next. next ≡ id + 1) }
 {
-    match id.checked_add(1) {
-        Some(next) => Ok(next),
-        None => Err(AllocError),
-    }
+    id.checked_add(1).ok_or(AllocError)
 }

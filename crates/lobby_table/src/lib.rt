@@ -4,8 +4,8 @@
 //! Modules: `server_line` is the line to the server, and `owing` tells for whom its answers are. By these are known who
 //! has a seat in which game (`waiting`), which games are kept for one player (`pairings`), and how many acts were
 //! refused (`refusals`). `visitors` tells who is connected, `present` which players that are, `renewing` for whom they
-//! act when the players are others, `watching` who is told of what, and `rooms` who of a game's players is there. `adding`
-//! adds.
+//! act when the players are others, `watching` who is told of what, and `rooms` who of a game's players is there.
+//! `adding` adds.
 #![tactic(auto)]
 
 mod adding;

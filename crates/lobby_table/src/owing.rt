@@ -20,10 +20,7 @@ pub fn asker(due: &Due) -> Option<u64>
 fn is_for(due: &Due, connection: u64) -> bool
     ensures { result ≡ is_number connection (waiter (owed_of due.now)) }
 {
-    match asker(due) {
-        None => false,
-        Some(to) => connection == to,
-    }
+    asker(due).is_some_and(|to| connection == to)
 }
 
 fn is_among(dues: &[Due], connection: u64) -> bool

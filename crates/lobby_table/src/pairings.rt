@@ -46,27 +46,21 @@ fn take_off(pairings: &mut Vec<Pairing>, game: u32)
 pub fn keep(pairings: &mut Vec<Pairing>, black: Name, game: Option<u32>) -> Result<(), AllocError>
     ensures { OnOk result (pairings.new.items ≡ spec.pairings_opened black game pairings.old.items) }
 {
-    match game {
-        None => Ok(()),
-        Some(game) => {
-            take_off(pairings, game);
-            pairings.push(Pairing { game, black })?;
-            Ok(())
-        }
+    if let Some(game) = game {
+        take_off(pairings, game);
+        pairings.push(Pairing { game, black })?;
     }
+    Ok(())
 }
 
 /// Notes an act, where it was done in a game.
 pub fn note_pairing(pairings: &mut Vec<Pairing>, text: &str, game: Option<u32>)
     ensures { pairings.new.items ≡ spec.pairings_told text.now game pairings.old.items }
 {
-    match game {
-        None => {}
-        Some(game) => {
-            if ends_wait(text) {
-                take_off(pairings, game);
-            }
-        }
+    if let Some(game) = game
+        && ends_wait(text)
+    {
+        take_off(pairings, game);
     }
 }
 
@@ -110,22 +104,11 @@ pub fn join_bar(
 pub fn open_bar(is_crowded: bool, is_full: bool, bar: Option<Refusal>) -> Option<Refusal>
     ensures { result ≡ spec.open_bar is_crowded is_full bar }
 {
-    match bar {
-        Some(bar) => {
-            if is_crowded {
-                Some(Refusal::TooManyOpen)
-            } else {
-                Some(bar)
-            }
-        }
-        None => {
-            if is_crowded {
-                Some(Refusal::TooManyOpen)
-            } else if is_full {
-                Some(Refusal::NearlyFull)
-            } else {
-                None
-            }
-        }
+    if is_crowded {
+        Some(Refusal::TooManyOpen)
+    } else if is_full {
+        bar.or(Some(Refusal::NearlyFull))
+    } else {
+        bar
     }
 }

@@ -77,6 +77,5 @@ pub fn present_rows(
 {
     let all = open_ones(alloc, visitors)?;
     let names = present_names(alloc, players, visitors, all.as_slice())?;
-    let text = who_text(alloc, is_paused, names.as_slice())?;
-    Ok(text)
+    who_text(alloc, is_paused, names.as_slice())
 }

@@ -1,5 +1,7 @@
 //! The acts that the server refused, of each game since it accepted one there.
-ghost use Rattle.std.specs.Prelude.{◌≡◌, ◌==◌, OnOk};
+ghost use Rattle.std.specs.Prelude.{◌≡◌, ◌==◌, find, OnOk};
+ghost use Rattle.std.specs.Option.{option_copied};
+ghost use Rattle.lobby_table.specs.declared.refusals.RefusedActs.{RefusedActs};
 ghost use Rattle.lobby_table.specs.Refusals as spec;
 
 use crate::adding::number_after;
@@ -20,11 +22,10 @@ pub struct RefusedActs {
 fn is_of_seated(refusal: Option<Refusal>) -> bool
     ensures { result ≡ spec.is_of_seated refusal }
 {
-    match refusal {
-        None => false,
-        Some(Refusal::BadLine | Refusal::NoName | Refusal::NoGame | Refusal::NotSeated) => false,
-        Some(_) => true,
-    }
+    !matches!(
+        refusal,
+        None | Some(Refusal::BadLine | Refusal::NoName | Refusal::NoGame | Refusal::NotSeated)
+    )
 }
 
 // Whether an answer refuses what one who plays in a game asked there.
@@ -58,26 +59,25 @@ fn refused_game(text: &str, answer: &str) -> Option<u32>
     }
 }
 
+// What is known of a game.
+fn acts_in(refused: &[RefusedActs], game: u32) -> Option<&RefusedActs>
+    ensures { option_copied result ≡ find (λ (r : RefusedActs). r.game == game) refused.now }
+{
+    refused.iter().find(|one| one.game == game)
+}
+
 // How many acts were refused in a game.
 fn count_in(refused: &[RefusedActs], game: u32) -> u64
     ensures { result ≡ spec.count_in game refused.now }
 {
-    for one in refused {
-        if one.game == game {
-            return one.count;
-        }
-    }
-    0
+    acts_in(refused, game).map_or(0, |one| one.count)
 }
 
 /// How many acts were refused in a game, if one is named.
 pub fn count_of(refused: &[RefusedActs], game: Option<u32>) -> u64
     ensures { result ≡ spec.count_of game refused.now }
 {
-    match game {
-        None => 0,
-        Some(game) => count_in(refused, game),
-    }
+    game.map_or(0, |game| count_in(refused, game))
 }
 
 // None was refused in a game any more.
@@ -100,15 +100,12 @@ fn clear(refused: &mut Vec<RefusedActs>, game: Option<u32>)
 fn add_one(refused: &mut Vec<RefusedActs>, game: Option<u32>) -> Result<(), AllocError>
     ensures { OnOk result (refused.new.items ≡ spec.one_more game refused.old.items) }
 {
-    match game {
-        None => Ok(()),
-        Some(game) => {
-            let count = number_after(count_in(refused.as_slice(), game))?;
-            take_off(refused, game);
-            refused.push(RefusedActs { game, count })?;
-            Ok(())
-        }
+    if let Some(game) = game {
+        let count = number_after(count_in(refused.as_slice(), game))?;
+        take_off(refused, game);
+        refused.push(RefusedActs { game, count })?;
     }
+    Ok(())
 }
 
 /// Notes the answer to an act.

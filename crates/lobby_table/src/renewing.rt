@@ -12,21 +12,15 @@ use std::collections::BTreeMap;
 fn goes_on(before: Option<&Player>, after: Option<&Player>) -> Option<Identity>
     ensures { result ≡ goes_on (option_copied before.entry) (option_copied after.entry) }
 {
-    match before {
-        None => None,
-        Some(before) => match after {
-            None => None,
-            Some(after) => {
-                if is_same_sum(&before.sum, &after.sum) {
-                    Some(Identity {
-                        name: after.name,
-                        is_arbiter: after.is_arbiter,
-                    })
-                } else {
-                    None
-                }
-            }
-        },
+    let before = before?;
+    let after = after?;
+    if is_same_sum(&before.sum, &after.sum) {
+        Some(Identity {
+            name: after.name,
+            is_arbiter: after.is_arbiter,
+        })
+    } else {
+        None
     }
 }
 
@@ -34,15 +28,11 @@ fn goes_on(before: Option<&Player>, after: Option<&Player>) -> Option<Identity>
 fn renewed(before: &[Player], later: &[Player], who: Option<Identity>) -> Option<Identity>
     ensures { result ≡ renewed before.now later.now who }
 {
-    match who {
-        None => None,
-        Some(who) => {
-            let name = who.name.as_str();
-            let old = player_by_name(before, name);
-            let new = player_by_name(later, name);
-            goes_on(old, new)
-        }
-    }
+    let who = who.as_ref()?;
+    let name = who.name.as_str();
+    let old = player_by_name(before, name);
+    let new = player_by_name(later, name);
+    goes_on(old, new)
 }
 
 // For whom a connection acts then, written where it stands. It tells that the connection stays.

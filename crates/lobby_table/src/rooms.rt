@@ -51,18 +51,15 @@ fn is_met(all: &[Attendance], name: &str) -> bool
 fn meet(all: &mut Vec<Attendance>, who: &Option<Identity>) -> Result<(), AllocError>
     ensures { OnOk result (all.new.items ≡ spec.met who.now all.old.items) }
 {
-    match who {
-        None => Ok(()),
-        Some(who) => {
-            if !is_met(all.as_slice(), who.name.as_str()) {
-                all.push(Attendance {
-                    name: who.name,
-                    left: Left::Never,
-                })?;
-            }
-            Ok(())
-        }
+    if let Some(who) = who
+        && !is_met(all.as_slice(), who.name.as_str())
+    {
+        all.push(Attendance {
+            name: who.name,
+            left: Left::Never,
+        })?;
     }
+    Ok(())
 }
 
 // A player, one of whose connections is closed, if he has this name.
@@ -134,10 +131,7 @@ pub fn attend(all: &mut Vec<Attendance>, who: &Option<Identity>, at: u64) -> Res
 fn left_of(all: &[Attendance], name: &str) -> Left
     ensures { result ≡ spec.left_of name.now all.now }
 {
-    match attendance_of(all, name) {
-        None => Left::Never,
-        Some(one) => one.left,
-    }
+    attendance_of(all, name).map_or(Left::Never, |one| one.left)
 }
 
 // Puts the digits of a number behind a text.

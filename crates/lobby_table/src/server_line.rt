@@ -176,8 +176,7 @@ impl ServerLine {
         ensures heard { IsHeardSame self.old self.new }
     {
         self.queue.push_back(due)?;
-        put(wire, front, rest)?;
-        Ok(())
+        put(wire, front, rest)
     }
 
     /// Passes a line on.
@@ -245,8 +244,7 @@ impl ServerLine {
         ensures heard { IsHeardSame self.old self.new }
     {
         self.ask("show ", game, Due::Own, wire)?;
-        self.ask("fen ", game, due, wire)?;
-        Ok(())
+        self.ask("fen ", game, due, wire)
     }
 
     // Asks right behind an act how its game stands, if it names one.
@@ -286,8 +284,7 @@ impl ServerLine {
     {
         self.say_name(name, wire)?;
         self.pass(line, Due::Act(act), wire)?;
-        self.ask_behind(game, wire)?;
-        Ok(())
+        self.ask_behind(game, wire)
     }
 
     /// Passes the message of a connection on as an act, by this line and under this name, as `act` does.
@@ -338,8 +335,7 @@ impl ServerLine {
     {
         let act = waiting_act(alloc, from, who, text)?;
         self.say_name(white, wire)?;
-        self.send("open white ", pair_times(text), Due::Pair(act, black), wire)?;
-        Ok(())
+        self.send("open white ", pair_times(text), Due::Pair(act, black), wire)
     }
 
     /// Joins the game that a pairing has opened under the name of Black, which is said first where another was said
@@ -364,8 +360,7 @@ impl ServerLine {
     {
         let later = waiting_act(alloc, act.from, act.who, act.text.as_str())?;
         self.say_name(black, wire)?;
-        self.ask("join ", game, Due::Act(later), wire)?;
-        Ok(())
+        self.ask("join ", game, Due::Act(later), wire)
     }
 
     /// Sends the drop that waited under a name, and asks right behind it how its game stands.

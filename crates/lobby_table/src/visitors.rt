@@ -21,20 +21,14 @@ pub struct Visitor {
 pub fn who_acts(visitors: &BTreeMap<u64, Visitor>, connection: u64) -> Option<Identity>
     ensures { result ≡ who_in visitors.now connection }
 {
-    match visitors.get(&connection) {
-        Some(visitor) => visitor.who,
-        None => None,
-    }
+    visitors.get(&connection).and_then(|visitor| visitor.who)
 }
 
 /// Whether it is the player of this name.
 pub fn is_named(who: &Option<Identity>, name: &str) -> bool
     ensures { result ≡ is_named who.now name.now }
 {
-    match who {
-        None => false,
-        Some(who) => who.name.as_str() == name,
-    }
+    who.as_ref().is_some_and(|who| who.name.as_str() == name)
 }
 
 /// A connection is so from now on.

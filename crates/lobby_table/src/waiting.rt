@@ -1,7 +1,10 @@
 //! The seats of players in the games on the server's table, as far as its answers have told.
 ghost use Rattle.std.specs.Prelude.{◌≡◌, ◌==◌, ◌&&◌, ◌||◌, ◌+◌, ◌-◌, ◌*◌, ◌/◌, true, false, not, nat_le, map, OnOk};
+ghost use Rattle.std.specs.Prelude.{find};
 ghost use Rattle.std.specs.List.{count_by};
+ghost use Rattle.std.specs.Option.{option_copied};
 ghost use Rattle.std.specs.String.{string_bytes};
+ghost use Rattle.lobby_words.specs.declared.listing.Seat.{Seat};
 ghost use Rattle.lobby_table.specs.Owed.{owed_of};
 ghost use Rattle.lobby_table.specs.Waiting as spec;
 ghost use Rattle.lobby_words.specs.Answers.{tells_end};
@@ -26,13 +29,7 @@ fn is_seat(one: &Seat, stage: Stage, name: &str) -> bool
 fn seats_by(seats: &[Seat], stage: Stage, name: &str) -> usize
     ensures { result ≡ count_by (spec.is_seat stage name.now) seats.now }
 {
-    let mut count = 0;
-    for one in seats {
-        if is_seat(one, stage, name) {
-            count += 1;
-        }
-    }
-    count
+    seats.iter().filter(|one| is_seat(one, stage, name)).count()
 }
 
 // Whether a message is one by which one more game stands so.
@@ -91,26 +88,17 @@ fn is_entry(due: &Due, stage: Stage, name: &str) -> bool
 fn entries(dues: &[Due], stage: Stage, name: &str) -> usize
     ensures { result ≡ count_by (λ due. spec.is_entry stage name.now (owed_of due)) dues.now }
 {
-    let mut count = 0;
-    for due in dues {
-        if is_entry(due, stage, name) {
-            count += 1;
-        }
-    }
-    count
+    dues.iter().filter(|due| is_entry(due, stage, name)).count()
 }
 
 // How many seats are in games that wait.
 fn waiting_seats(seats: &[Seat]) -> usize
     ensures { result ≡ count_by spec.is_waiting seats.now }
 {
-    let mut count = 0;
-    for one in seats {
-        if is_stage(one.stage, Stage::Waits) {
-            count += 1;
-        }
-    }
-    count
+    seats
+        .iter()
+        .filter(|one| is_stage(one.stage, Stage::Waits))
+        .count()
 }
 
 // Whether the answer to an act is due that opens a game.
@@ -128,13 +116,7 @@ fn is_opening(due: &Due) -> bool
 fn openings(dues: &[Due]) -> usize
     ensures { result ≡ count_by (λ due. spec.is_opening (owed_of due)) dues.now }
 {
-    let mut count = 0;
-    for due in dues {
-        if is_opening(due) {
-            count += 1;
-        }
-    }
-    count
+    dues.iter().filter(|due| is_opening(due)).count()
 }
 
 // So many halves of places are taken where the rest is for arbiters and pairings.
@@ -210,30 +192,29 @@ fn add_seat(seats: &mut Vec<Seat>, one: Option<Seat>) -> Result<(), AllocError>
     Ok(())
 }
 
+// The first seat in a game.
+fn first_in(seats: &[Seat], game: u32) -> Option<&Seat>
+    ensures { option_copied result ≡ find (λ (s : Seat). s.game == game) seats.now }
+{
+    seats.iter().find(|one| one.game == game)
+}
+
 // Who has the first seat in a game.
 fn first_by(seats: &[Seat], game: u32) -> Option<Name>
     ensures { result ≡ spec.first_by game seats.now }
 {
-    for one in seats {
-        if one.game == game {
-            return Some(one.by);
-        }
-    }
-    None
+    first_in(seats, game).map(|one| one.by)
 }
 
 // That seat, in the game that goes on.
 fn still_by(game: u32, by: Option<Name>) -> Option<Seat>
     ensures { result ≡ spec.still_by game by }
 {
-    match by {
-        None => None,
-        Some(by) => Some(Seat {
-            game,
-            by,
-            stage: Stage::Plays,
-        }),
-    }
+    by.map(|by| Seat {
+        game,
+        by,
+        stage: Stage::Plays,
+    })
 }
 
 // Notes that a game was joined.

@@ -1,6 +1,7 @@
 //! Who is told of what.
-ghost use Rattle.std.specs.Prelude.{◌≡◌, ◌==◌, nat_le, length, filter, OnOk, IfOk};
-ghost use Rattle.lobby_table.specs.Watching.{is_watch, watched, watches_any, games_of, at_table, watch_if, sit_if, unwatched};
+ghost use Rattle.std.specs.Prelude.{◌≡◌, ◌==◌, ◌&&◌, not, nat_le, length, filter, OnOk, IfOk};
+ghost use Rattle.lobby_table.specs.Watching.{is_watch, watched, watches_any, games_of, at_table, watch_if, sit_if};
+ghost use Rattle.lobby_table.specs.Watching.{unwatched};
 ghost use Rattle.lobby_table.specs.Watching.{none_watched, risen, followers};
 
 use crate::adding::add_if;
@@ -108,6 +109,13 @@ pub fn rise(table: &mut Vec<u64>, by: u64)
     table.retain(|one| *one != by);
 }
 
+// Whether who is told of the table is told of an act by that alone, where the table is told of it or not.
+fn follows_by_table(watches: &[Watch], by: u64, game: u32, is_table: bool) -> bool
+    ensures { result ≡ (is_table && not (watched watches.now by game)) }
+{
+    is_table && !is_watched(watches, by, game)
+}
+
 /// The connections that watch a game, and perhaps those that are told of the table; each once.
 pub fn followers(
     alloc: Global,
@@ -123,8 +131,8 @@ pub fn followers(
         add_if(&mut to, watch.game == game, watch.by)?;
     }
     for one in table {
-        let is_new = !is_watched(watches, *one, game);
-        add_if(&mut to, is_table & is_new, *one)?;
+        let follows = follows_by_table(watches, *one, game, is_table);
+        add_if(&mut to, follows, *one)?;
     }
     Ok(to)
 }

@@ -6,3 +6,4 @@ pub mod Found
 pub mod ByName
 mod PlayerRows
 pub mod Alike
+pub mod Mapped

@@ -97,11 +97,12 @@ line_said text = if is_as_word (word_of text) then as_line text else text
 abbrev pub actor : List ℕ → List ℕ → List ℕ
 actor by text = if is_as_word (word_of text) then as_name text else by
 
--- What an arbiter has everybody told: `stop clocks REASON`, where REASON has one byte at least and stands where LINE does
--- in `as NAME LINE`; `start clocks`; and `announce TEXT`, or `announce` alone.
+-- What an arbiter has everybody told: `stop clocks REASON`, where REASON has one byte at least and stands where LINE
+-- does in `as NAME LINE`; `start clocks`; and `announce TEXT`, or `announce` alone.
 abbrev pub is_stop : List ℕ → Bool
 is_stop text =
-    bytes_eq (word_of text) (codes "stop") && bytes_eq (as_name text) (codes "clocks") && nat_le 1 (length (as_line text))
+    bytes_eq (word_of text) (codes "stop") && bytes_eq (as_name text) (codes "clocks")
+    && nat_le 1 (length (as_line text))
 
 abbrev pub call_sort : List ℕ → Sort
 call_sort text =

@@ -18,10 +18,7 @@ pub fn first_line(answer: &str) -> &str
 pub fn game_told(answer: &str) -> Option<u32>
     ensures { result ≡ spec.act_game answer.now }
 {
-    match entered_of(first_line(answer)) {
-        Some(entered) => Some(entered.game),
-        None => None,
-    }
+    entered_of(first_line(answer)).map(|entered| entered.game)
 }
 
 /// Whether an act was entered, as its answer tells.
@@ -35,10 +32,7 @@ pub fn is_entered(answer: &str) -> bool
 pub fn tells_end(answer: &str) -> bool
     ensures { result ≡ spec.tells_end answer.now }
 {
-    match entered_of(first_line(answer)) {
-        Some(entered) => entered.done.ending().is_some(),
-        None => false,
-    }
+    entered_of(first_line(answer)).is_some_and(|entered| entered.done.ending().is_some())
 }
 
 /// Whether those who are told of the table are told of an act, whatever comes of it.
@@ -60,10 +54,7 @@ pub fn is_shown(answer: &str) -> bool
 fn has_ended(shown: Option<Shown>) -> bool
     ensures { result ≡ spec.has_ended shown }
 {
-    match shown {
-        Some(shown) => shown.ending.is_some(),
-        None => false,
-    }
+    shown.as_ref().is_some_and(|shown| shown.ending.is_some())
 }
 
 /// Whether a game goes on no more, as the answer to `show` says: it has ended, or there is no such game. Another
@@ -79,28 +70,17 @@ pub fn is_over(answer: &str) -> bool
 fn alone(seats: &Seats) -> Option<Name>
     ensures { result ≡ spec.alone seats.now.white seats.now.black }
 {
-    match seats.white {
-        None => seats.black,
-        Some(_) => match seats.black {
-            None => seats.white,
-            Some(_) => None,
-        },
-    }
+    seats.white.xor(seats.black)
 }
 
 // Who waits in a game that is shown, if it has this number.
 fn alone_in(shown: &Shown, game: Option<u32>) -> Option<Name>
     ensures { result ≡ spec.alone_in shown.now game }
 {
-    match game {
-        Some(game) => {
-            if shown.game == game {
-                alone(&shown.seats)
-            } else {
-                None
-            }
-        }
-        None => None,
+    if game? == shown.game {
+        alone(&shown.seats)
+    } else {
+        None
     }
 }
 
@@ -108,8 +88,7 @@ fn alone_in(shown: &Shown, game: Option<u32>) -> Option<Name>
 pub fn lone_player(answer: &str, number: &str) -> Option<Name>
     ensures { result ≡ spec.lone_player answer.now number.now }
 {
-    match shown_of(first_line(answer)) {
-        Some(shown) => alone_in(&shown, number_named(number)),
-        None => None,
-    }
+    shown_of(first_line(answer))
+        .as_ref()
+        .and_then(|shown| alone_in(shown, number_named(number)))
 }

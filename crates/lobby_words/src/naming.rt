@@ -12,10 +12,7 @@ pub fn is_said(said: &Option<Name>, name: &Name) -> bool
     ensures named { IsName name.now }
 {
     let name = name.as_str();
-    match said {
-        None => false,
-        Some(said) => said.as_str() == name,
-    }
+    said.as_ref().is_some_and(|said| said.as_str() == name)
 }
 
 /// Whether an answer of the server takes a name: it is `ok name NAME`, with this name.

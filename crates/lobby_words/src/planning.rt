@@ -139,10 +139,7 @@ fn asked(standing: &Standing, plan: Plan) -> Plan
 fn barred(bar: Option<Refusal>, plan: Plan) -> Plan
     ensures { result ≡ plans.barred bar plan }
 {
-    match bar {
-        None => plan,
-        Some(refusal) => Plan::Refuse(refusal),
-    }
+    bar.map_or(plan, Plan::Refuse)
 }
 
 // An act but a drop, where the games that are known do not bar it.

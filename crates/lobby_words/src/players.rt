@@ -24,7 +24,7 @@ pub fn is_same_sum(a: &[u8; 32], b: &[u8; 32]) -> bool
 {
     let mut same = true;
     for i in 0..32 {
-        same = same & (a[i] == b[i]);
+        same &= a[i] == b[i];
     }
     same
 }
@@ -33,19 +33,11 @@ pub fn is_same_sum(a: &[u8; 32], b: &[u8; 32]) -> bool
 fn or_holder(before: Option<Identity>, is_holder: bool, player: &Player) -> Option<Identity>
     ensures { result ≡ or_holder before is_holder (identity_of player.now) }
 {
-    match before {
-        Some(_) => before,
-        None => {
-            if is_holder {
-                Some(Identity {
-                    name: player.name,
-                    is_arbiter: player.is_arbiter,
-                })
-            } else {
-                None
-            }
-        }
-    }
+    let holder = Identity {
+        name: player.name,
+        is_arbiter: player.is_arbiter,
+    };
+    before.or(is_holder.then_some(holder))
 }
 
 // Whether a byte is one of the digits 0 to 9 and a to f.

@@ -54,20 +54,14 @@ pub fn player_by_name<'a>(players: &'a [Player], name: &str) -> Option<&'a Playe
 pub fn known_name(players: &[Player], name: &str) -> Option<Name>
     ensures { result ≡ known_name players.now name.now }
 {
-    match player_by_name(players, name) {
-        None => None,
-        Some(player) => Some(player.name),
-    }
+    player_by_name(players, name).map(|player| player.name)
 }
 
 // The full name of the first player of a name.
 fn full_name_of<'a>(players: &'a [Player], name: &str) -> &'a str
     ensures { result.now ≡ full_name_of players.now name.now }
 {
-    match player_by_name(players, name) {
-        None => "",
-        Some(player) => player.full_name.as_str(),
-    }
+    player_by_name(players, name).map_or("", |player| player.full_name.as_str())
 }
 
 /// The answer to a `login` that is accepted.

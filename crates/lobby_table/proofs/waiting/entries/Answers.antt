@@ -1,6 +1,8 @@
-use Rattle.std.proofs.Common.{ap, ◌∙◌}
-use Rattle.std.specs.List.{count_by}
-use Rattle.std.proofs.lemmas.List.{take_all}
+use Rattle.std.proofs.Common.{◌∙◌, rules}
+use borrow.Author.Tests.{tests}
+use Rattle.std.proofs.lemmas.Iterator.{YieldsList-from_slice}
+use Rattle.std.proofs.lemmas.Iterator.Consumers.{YieldsList-from_filter, count_from_yields_List}
+use Rattle.std.proofs.lemmas.List.Sums.{length-filter}
 use Rattle.lobby_table.specs.declared.server_line.Due.{Due}
 use Rattle.lobby_table.specs.Owed.{owed_of}
 use Rattle.lobby_table.specs.Waiting.{is_entry}
@@ -8,5 +10,7 @@ use Rattle.lobby_table.proofs.waiting.entries.Goals as goal
 
 pub returns : goal.returns
 returns c =
-    c.loop-due.invariant
-    ∙ ap (count_by (λ (due : Due). is_entry c.args.stage c.args.name.now (owed_of due))) (take_all c.loop-due.due-index c.args.dues.now c.loop-due-test.false)
+    count_from_yields_List c.filter.result _ c.count.ensures.ran
+    (YieldsList-from_filter _ (λ (due : Due). is_entry c.args.stage c.args.name.now (owed_of due)) (YieldsList-from_slice c.args.dues.now cc) c.filter.ensures.closure
+    (λ x r q k. search (rules, tests)))
+    ∙ length-filter (λ (due : Due). is_entry c.args.stage c.args.name.now (owed_of due)) c.args.dues.now

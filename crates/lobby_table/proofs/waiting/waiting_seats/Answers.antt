@@ -1,10 +1,14 @@
-use Rattle.std.proofs.Common.{ap, ◌∙◌}
-use Rattle.std.specs.List.{count_by}
-use Rattle.std.proofs.lemmas.List.{take_all}
+use Rattle.std.proofs.Common.{◌∙◌, rules}
+use borrow.Author.Tests.{tests}
+use Rattle.std.proofs.lemmas.Iterator.{YieldsList-from_slice}
+use Rattle.std.proofs.lemmas.Iterator.Consumers.{YieldsList-from_filter, count_from_yields_List}
+use Rattle.std.proofs.lemmas.List.Sums.{length-filter}
 use Rattle.lobby_table.specs.Waiting.{is_waiting}
 use Rattle.lobby_table.proofs.waiting.waiting_seats.Goals as goal
 
 pub returns : goal.returns
 returns c =
-    c.loop-one.invariant
-    ∙ ap (count_by is_waiting) (take_all c.loop-one.one-index c.args.seats.now c.loop-one-test.false)
+    count_from_yields_List c.filter.result _ c.count.ensures.ran
+    (YieldsList-from_filter _ is_waiting (YieldsList-from_slice c.args.seats.now cc) c.filter.ensures.closure
+    (λ x r q k. search (rules, tests)))
+    ∙ length-filter is_waiting c.args.seats.now

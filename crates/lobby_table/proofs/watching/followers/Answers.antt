@@ -26,7 +26,7 @@ loop-one-preserved c =
     let test = λ (q : ℕ). c.args.is_table && not (watched c.args.watches.now q c.args.game) in
     let one = get_or t i 0 in
     c.in_ok-add_if-2.ensures
-    ∙ (ap (λ (b : Bool). c.loop-one.to.items ++ (if c.args.is_table && not b then one ∷ [] else [])) c.is_watched-is_new.ensures
+    ∙ (ap (λ (b : Bool). c.loop-one.to.items ++ (if b then one ∷ [] else [])) c.follows_by_table-follows.ensures
     ∙ (ap (λ (xs : List ℕ). xs ++ (if test one then one ∷ [] else [])) c.loop-one.invariant
     ∙ (append_assoc (watching g ws) (filter test (take i t)) (if test one then one ∷ [] else [])
     ∙ ap (λ (xs : List ℕ). watching g ws ++ xs) (sym (filter_more test t i 0 c.loop-one-test.true)))))

@@ -1,8 +1,0 @@
-use Rattle.std.proofs.Common.{◌≡◌, take}
-use Rattle.std.specs.List.{count_by}
-use Rattle.lobby_table.specs.Owed.{owed_of}
-use Rattle.lobby_table.specs.Waiting.{is_opening}
-use Rattle.lobby_table.proofs.waiting.openings.Given as goal
-
-abbrev pub invariant-loop-due : goal.invariant-loop-due
-invariant-loop-due l = l.count ≡ count_by (λ due. is_opening (owed_of due)) (take l.due-index l.dues)

@@ -1,7 +1,0 @@
-use Rattle.std.proofs.Common.{◌≡◌, take}
-use Rattle.std.specs.List.{count_by}
-use Rattle.lobby_table.specs.Waiting.{is_waiting}
-use Rattle.lobby_table.proofs.waiting.waiting_seats.Given as goal
-
-abbrev pub invariant-loop-one : goal.invariant-loop-one
-invariant-loop-one l = l.count ≡ count_by is_waiting (take l.one-index l.seats)
