@@ -11,14 +11,17 @@ const AHEAD: u64 = 950;
 pub fn until_after(until: u64, now: u64) -> u64
     ensures { result ≡ until_after until now }
 {
-    paced(until, now).unwrap_or(until)
+    match paced(until, now) {
+        Some(later) => later,
+        None => until,
+    }
 }
 
 /// Until when the time of a connection is taken after a message that comes at a moment; `None` where it comes too fast.
 pub fn paced(until: u64, now: u64) -> Option<u64>
     ensures { result ≡ paced until now }
 {
-    let from = until.max(now);
+    let from = if until < now { now } else { until };
     if from - now <= AHEAD && from <= u64::MAX - COST {
         Some(from + COST)
     } else {
