@@ -85,16 +85,16 @@ module _ {S : Type 0} (key : ℕ) where
       (not_it : (d : Guest S) → i < length guests → (get_or guests i d).key ≢ key) where
     by_place : (k : ℕ) (d : Guest S) → k < length guests → (before behind : Bool) → ltb k i ≡ before → ltb i k ≡ behind →
         (get_or guests k d).key ≢ key
-    by_place k d below true behind is then =
+    by_place k d below true behind is far =
         let less : (get_or guests k d).key < key = ltb-true _ _ (point.0 k d (omega arith) (ltb-true _ _ is)) in
         λ same. omega (arith, less, same)
-    by_place k d below false true is then =
-        let lt : i < k = ltb-true _ _ then in
+    by_place k d below false true is far =
+        let lt : i < k = ltb-true _ _ far in
         let least : key ≤ (get_or guests i d).key = ltb-false _ _ (point.1 i d (omega arith) (omega (arith, lt, below))) in
         let more : (get_or guests i d).key < (get_or guests k d).key = grow i k d lt below in
         λ same. omega (arith, least, more, same)
-    by_place k d below false false is then =
-        let here : k ≡ i = omega (arith, ltb-false _ _ is, ltb-false _ _ then) in
+    by_place k d below false false is far =
+        let here : k ≡ i = omega (arith, ltb-false _ _ is, ltb-false _ _ far) in
         λ same. not_it d (omega (arith, here, below)) (ap (λ (n : ℕ). (get_or guests n d).key) (sym here) ∙ same)
 
     -- nobody has a name where who is at the place up to which all names are smaller has not

@@ -166,6 +166,7 @@ impl Lobby {
         proxy: Option<IpAddr>,
     ) -> io::Result<Lobby>
         ensures begins { IfOk result (λ lobby. BeginsHall site players.items halts.is_paused lobby.hall) }
+        ensures halts { IfOk result (λ lobby. lobby.hall.talk.desk.halts ≡ halts) }
         ensures limits { IfOk result (λ lobby. lobby.hall.talk.desk.limits ≡ limits) }
     {
         let Watched { poll, events } = watch_listener(net, alloc, &mut listener)?;

@@ -1,5 +1,5 @@
 -- Who has the name is awake, and the others are as they were.
-use Rattle.std.proofs.Common.{◌≡◌, ◌×◌, ◌∙◌, ℕ, List, Option, None, Some, ap, sym, refl, subst}
+use Rattle.std.proofs.Common.{◌≡◌, ◌∙◌, ℕ, List, Option, None, Some, ap, sym, refl, subst}
 use Rattle.std.specs.List.{AllZip}
 use Rattle.lobby_guests.specs.declared.guest.Guest.{Guest}
 use Rattle.lobby_guests.specs.Guests.{IsAsBefore}
