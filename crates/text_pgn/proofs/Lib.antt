@@ -5,3 +5,4 @@ pub mod Spelled
 pub mod Found
 pub mod Replaying
 pub mod Naming
+pub mod Checked

@@ -2,7 +2,7 @@
 use Rattle.std.specs.Prelude.{ℕ, Bool, true, false, List, [], ◌∷◌, ◌++◌, codes, decimal, Option, Some, None, flat_map}
 use Rattle.text_parts.specs.Strings.{escaped}
 
-abbrev pub string : List ℕ → List ℕ
+unfoldable pub string : List ℕ → List ℕ
 string text = codes "\"" ++ (escaped text ++ codes "\"")
 
 abbrev pub number_or_null : Option ℕ → List ℕ

@@ -30,7 +30,7 @@ use Rattle.text_pgn.specs.Tags.{head_of}
 -- ---- the players, and the tags
 
 -- `"game":G,"white":NAME,"black":NAME,"names":[FULL NAME,FULL NAME]`: names in the protocol, and full names
-abbrev pub players_json : Spectated → List ℕ
+unfoldable pub players_json : Spectated → List ℕ
 players_json g =
     codes "\"game\":" ++ (decimal g.game ++ (codes ",\"white\":" ++ (string g.white.now ++ (codes ",\"black\":" ++ (string g.black.now
     ++ (codes ",\"names\":[" ++ (string g.white_name.now ++ (codes "," ++ (string g.black_name.now ++ codes "]")))))))))
@@ -47,7 +47,7 @@ abbrev pub tag_json : List ℕ → List ℕ
 tag_json line = codes "[" ++ (string (tag_name line) ++ (codes "," ++ (string (tag_value line) ++ codes "]")))
 
 -- the tags of lines, in their order
-abbrev pub tags_json : List (List ℕ) → List ℕ
+unfoldable pub tags_json : List (List ℕ) → List ℕ
 tags_json lines = codes "[" ++ (listed (map tag_json (filter is_tag lines)) ++ codes "]")
 
 -- ---- the moves
@@ -63,7 +63,7 @@ abbrev pub moves_from : List (List ℕ) → List (Option ℕ) → List (List ℕ
 moves_from [] clocks = []
 moves_from (row ∷ rows) clocks = move_json row (first_clock clocks) ∷ moves_from rows (next_clocks clocks)
 
-abbrev pub moves_json : List (List ℕ) → List (Option ℕ) → List ℕ
+unfoldable pub moves_json : List (List ℕ) → List (Option ℕ) → List ℕ
 moves_json rows clocks = codes "[" ++ (listed (moves_from rows clocks) ++ codes "]")
 
 -- ---- how it stands
@@ -107,7 +107,7 @@ clocks_json later running (Some clocks) =
     ++ (decimal (ms_later (runs_black running) later clocks.black_ms) ++ codes "]")))
 
 -- how a game stands in the position of a FEN, with its clocks as they are at this moment
-abbrev pub stand_json : ℕ → Stand → List ℕ → Bool → List ℕ
+unfoldable pub stand_json : ℕ → Stand → List ℕ → Bool → List ℕ
 stand_json at s fen check =
     codes "\"check\":" ++ (truth check ++ (codes ",\"toMove\":" ++ (string (turn_in fen) ++ (codes ",\"running\":" ++ (string (running_word s.running)
     ++ (codes ",\"clocks\":" ++ (clocks_json (at - s.at) s.running s.clocks ++ (codes ",\"offer\":" ++ (string (offer_by s.offers.white s.offers.black)
@@ -115,20 +115,29 @@ stand_json at s fen check =
 
 -- ---- the two texts
 
+-- what stands in front of its moves, with the row of the start
+unfoldable pub front_json : Spectated → List ℕ → List ℕ
+front_json g start =
+    codes "{\"at\":" ++ (decimal g.stand.at ++ (codes "," ++ (players_json g ++ (codes ",\"tags\":" ++ (tags_json (parts_of 10 g.tags.now)
+    ++ (codes ",\"times\":" ++ (string g.times.now ++ (codes ",\"start\":" ++ string (position_in start)))))))))
+
 -- a game's own file, with the rows of its answer to `line G`, and whether the side to move is in check
 abbrev pub game_json : Spectated → List (List ℕ) → Bool → List (Option ℕ) → List ℕ
 game_json g rows check clocks =
-    codes "{\"at\":" ++ (decimal g.stand.at ++ (codes "," ++ (players_json g ++ (codes ",\"tags\":" ++ (tags_json (parts_of 10 g.tags.now)
-    ++ (codes ",\"times\":" ++ (string g.times.now ++ (codes ",\"start\":" ++ (string (position_in (start_row rows))
-    ++ (codes ",\"moves\":" ++ (moves_json (move_rows rows) clocks ++ (codes ","
-    ++ (stand_json g.stand.at g.stand (position_in (last_row rows)) check ++ codes "}\n")))))))))))))
+    front_json g (start_row rows) ++ (codes ",\"moves\":" ++ (moves_json (move_rows rows) clocks ++ (codes ","
+    ++ (stand_json g.stand.at g.stand (position_in (last_row rows)) check ++ codes "}\n"))))
+
+-- how many moves there were, and the last of rows
+unfoldable pub last_json : ℕ → List ℕ → List ℕ
+last_json count row =
+    codes ",\"plies\":" ++ (decimal count ++ (codes ",\"last\":" ++ (string (san_in row)
+    ++ (codes ",\"lastMove\":" ++ (string (move_in row) ++ (codes ",\"fen\":" ++ string (position_in row)))))))
 
 -- its part of the file of all games, at this moment
 abbrev pub entry_json : ℕ → Spectated → List (List ℕ) → Bool → List ℕ
 entry_json at g rows check =
-    codes "{" ++ (players_json g ++ (codes ",\"plies\":" ++ (decimal (length (move_rows rows)) ++ (codes ",\"last\":" ++ (string (san_in (last_row rows))
-    ++ (codes ",\"lastMove\":" ++ (string (move_in (last_row rows)) ++ (codes ",\"fen\":" ++ (string (position_in (last_row rows))
-    ++ (codes "," ++ (stand_json at g.stand (position_in (last_row rows)) check ++ codes "}")))))))))))
+    codes "{" ++ (players_json g ++ (last_json (length (move_rows rows)) (last_row rows)
+    ++ (codes "," ++ (stand_json at g.stand (position_in (last_row rows)) check ++ codes "}"))))
 
 abbrev pub entry_of : ℕ → GameTold → List ℕ
 entry_of at g = entry_json at g.game (rows_in (string_bytes g.played.now.answer)) g.played.now.is_check

@@ -8,10 +8,11 @@ ghost use Rattle.text_pgn.specs.Json.{behind_comma, listed};
 ghost use Rattle.text_parts.specs.Parts.{parts_of};
 ghost use Rattle.text_pgn.specs.Spectators as spec;
 ghost use Rattle.text_pgn.specs.Rows as rows_spec;
+ghost use Rattle.text_pgn.specs.Pgn as pgn;
 
 use crate::answer::line_answer;
 use crate::answer_rows::{cut_row, last_row, move_in, position_in, rows_in, san_in};
-use crate::json::{push_decimal, push_known, push_string, push_truth};
+use crate::json::{push_decimal, push_known, push_number, push_string, push_text, push_truth};
 use crate::moves::cut_clock;
 use crate::pgn_lines::is_tag;
 use crate::spectated::{GameTold, PlayedGame, Spectated, Stand};
@@ -25,17 +26,13 @@ use text_parts::{before, behind, parts, skip, unescaped};
 fn push_players(out: &mut Vec<u8>, game: &Spectated<'_>) -> Result<(), AllocError>
     ensures { OnOk result (out.new.items ≡ out.old.items ++ spec.players_json game.now) }
 {
-    out.extend_from_slice(b"\"game\":")?;
-    push_decimal(out, u64::from(game.game))?;
-    out.extend_from_slice(b",\"white\":")?;
-    push_string(out, game.white.as_bytes())?;
-    out.extend_from_slice(b",\"black\":")?;
-    push_string(out, game.black.as_bytes())?;
-    out.extend_from_slice(b",\"names\":[")?;
-    push_string(out, game.white_name.as_bytes())?;
-    out.extend_from_slice(b",")?;
-    push_string(out, game.black_name.as_bytes())?;
-    out.extend_from_slice(b"]")
+    push_number(out, b"\"game\":", u64::from(game.game))?;
+    push_text(out, b",\"white\":", game.white)?;
+    push_text(out, b",\"black\":", game.black)?;
+    push_text(out, b",\"names\":[", game.white_name)?;
+    push_text(out, b",", game.black_name)?;
+    out.extend_from_slice(b"]")?;
+    Ok(())
 }
 
 // Appends a tag.
@@ -53,7 +50,7 @@ fn push_tag(out: &mut Vec<u8>, alloc: Global, line: &str) -> Result<(), AllocErr
 // Appends tags behind another.
 fn push_more_tags(out: &mut Vec<u8>, alloc: Global, tags: &[&str]) -> Result<(), AllocError>
     ensures { OnOk result (out.new.items
-        ≡ out.old.items ++ flat_map behind_comma (map (λ line. spec.tag_json line.now) tags.now)) }
+        ≡ out.old.items ++ flat_map behind_comma (map spec.tag_json (map (λ line. line.now) tags.now))) }
 {
     for line in tags {
         out.extend_from_slice(b",")?;
@@ -65,7 +62,7 @@ fn push_more_tags(out: &mut Vec<u8>, alloc: Global, tags: &[&str]) -> Result<(),
 // Appends tags.
 fn push_tag_list(out: &mut Vec<u8>, alloc: Global, tags: &[&str]) -> Result<(), AllocError>
     ensures { OnOk result (out.new.items
-        ≡ out.old.items ++ listed (map (λ line. spec.tag_json line.now) tags.now)) }
+        ≡ out.old.items ++ listed (map spec.tag_json (map (λ line. line.now) tags.now))) }
 {
     match tags {
         [] => Ok(()),
@@ -76,30 +73,37 @@ fn push_tag_list(out: &mut Vec<u8>, alloc: Global, tags: &[&str]) -> Result<(), 
     }
 }
 
+// The lines of a text that are tags.
+fn tag_lines<'a>(alloc: Global, text: &'a str) -> Result<Vec<&'a str>, AllocError>
+    ensures { IfOk result (λ lines. map (λ line. line.now) lines.items ≡ filter pgn.is_tag (parts_of 10 text.entry.now)) }
+{
+    let mut lines = parts(alloc, text, '\n')?;
+    lines.retain(|line| is_tag(line));
+    Ok(lines)
+}
+
 // Appends the tags of a text.
 fn push_tags(out: &mut Vec<u8>, alloc: Global, text: &str) -> Result<(), AllocError>
     ensures { OnOk result (out.new.items ≡ out.old.items ++ spec.tags_json (parts_of 10 text.now)) }
 {
-    let mut lines = parts(alloc, text, '\n')?;
-    lines.retain(|line| is_tag(line));
+    let lines = tag_lines(alloc, text)?;
     out.extend_from_slice(b"[")?;
     push_tag_list(out, alloc, lines.as_slice())?;
-    out.extend_from_slice(b"]")
+    out.extend_from_slice(b"]")?;
+    Ok(())
 }
 
 // Appends a move.
 fn push_move(out: &mut Vec<u8>, row: &str, clock: Option<u64>) -> Result<(), AllocError>
     ensures { OnOk result (out.new.items ≡ out.old.items ++ spec.move_json row.now clock) }
 {
-    out.extend_from_slice(b"[")?;
-    push_string(out, san_in(row).as_bytes())?;
-    out.extend_from_slice(b",")?;
-    push_string(out, move_in(row).as_bytes())?;
-    out.extend_from_slice(b",")?;
-    push_string(out, position_in(row).as_bytes())?;
+    push_text(out, b"[", san_in(row))?;
+    push_text(out, b",", move_in(row))?;
+    push_text(out, b",", position_in(row))?;
     out.extend_from_slice(b",")?;
     push_known(out, clock)?;
-    out.extend_from_slice(b"]")
+    out.extend_from_slice(b"]")?;
+    Ok(())
 }
 
 // Appends moves behind another.
@@ -121,8 +125,8 @@ fn push_more_moves(
     Ok(())
 }
 
-// Appends moves.
-fn push_moves(out: &mut Vec<u8>, rows: &[&str], clocks: &[Option<u64>]) -> Result<(), AllocError>
+// Appends moves with commas between them.
+fn push_listed(out: &mut Vec<u8>, rows: &[&str], clocks: &[Option<u64>]) -> Result<(), AllocError>
     ensures { OnOk result (out.new.items
         ≡ out.old.items ++ listed (spec.moves_from (map (λ row. row.now) rows.now) clocks.now)) }
 {
@@ -134,6 +138,17 @@ fn push_moves(out: &mut Vec<u8>, rows: &[&str], clocks: &[Option<u64>]) -> Resul
             push_more_moves(out, rest, later)
         }
     }
+}
+
+// Appends moves.
+fn push_moves(out: &mut Vec<u8>, rows: &[&str], clocks: &[Option<u64>]) -> Result<(), AllocError>
+    ensures { OnOk result (out.new.items
+        ≡ out.old.items ++ spec.moves_json (map (λ row. row.now) rows.now) clocks.now) }
+{
+    out.extend_from_slice(b"[")?;
+    push_listed(out, rows, clocks)?;
+    out.extend_from_slice(b"]")?;
+    Ok(())
 }
 
 // The word of a side.
@@ -219,23 +234,15 @@ fn push_stand(
 {
     out.extend_from_slice(b"\"check\":")?;
     push_truth(out, is_check)?;
-    out.extend_from_slice(b",\"toMove\":")?;
-    push_string(out, turn_word(fen).as_bytes())?;
-    out.extend_from_slice(b",\"running\":")?;
-    push_string(out, running_word(stand.running).as_bytes())?;
+    push_text(out, b",\"toMove\":", turn_word(fen))?;
+    push_text(out, b",\"running\":", running_word(stand.running))?;
     out.extend_from_slice(b",\"clocks\":")?;
-    push_clocks(
-        out,
-        at.saturating_sub(stand.at),
-        stand.running,
-        stand.clocks,
-    )?;
-    out.extend_from_slice(b",\"offer\":")?;
-    push_string(out, offer_word(stand.offers).as_bytes())?;
-    out.extend_from_slice(b",\"result\":")?;
-    push_string(out, stand.result.as_bytes())?;
-    out.extend_from_slice(b",\"article\":")?;
-    push_string(out, stand.article.as_bytes())
+    let later = at.saturating_sub(stand.at);
+    push_clocks(out, later, stand.running, stand.clocks)?;
+    push_text(out, b",\"offer\":", offer_word(stand.offers))?;
+    push_text(out, b",\"result\":", stand.result)?;
+    push_text(out, b",\"article\":", stand.article)?;
+    Ok(())
 }
 
 // Whether the side to move of a FEN is in check.
@@ -272,6 +279,25 @@ pub fn replayed(alloc: Global, game: u32, pgn: &str) -> Result<Option<PlayedGame
     Ok(Some(PlayedGame { answer, is_check }))
 }
 
+// Appends what stands in front of the moves: who plays, the tags, the times and the position of the start.
+fn push_front(
+    out: &mut Vec<u8>,
+    alloc: Global,
+    game: &Spectated<'_>,
+    start: &str,
+) -> Result<(), AllocError>
+    ensures { OnOk result (out.new.items ≡ out.old.items ++ spec.front_json game.now start.now) }
+{
+    push_number(out, b"{\"at\":", game.stand.at)?;
+    out.extend_from_slice(b",")?;
+    push_players(out, game)?;
+    out.extend_from_slice(b",\"tags\":")?;
+    push_tags(out, alloc, game.tags)?;
+    push_text(out, b",\"times\":", game.times)?;
+    push_text(out, b",\"start\":", position_in(start))?;
+    Ok(())
+}
+
 /// The text of a game's own file: who plays, the tags, all moves with the positions that they bring and the clocks after
 /// them, where these are known, and how it stands. It fails where memory is refused.
 pub fn game_json(
@@ -286,22 +312,25 @@ pub fn game_json(
     let all = rows_in(alloc, played.answer.as_str())?;
     let (start, rows) = cut_row(all.as_slice());
     let fen = position_in(last_row(all.as_slice()));
-    let mut out = Vec::from_slice(alloc, b"{\"at\":")?;
-    push_decimal(&mut out, game.stand.at)?;
-    out.extend_from_slice(b",")?;
-    push_players(&mut out, game)?;
-    out.extend_from_slice(b",\"tags\":")?;
-    push_tags(&mut out, alloc, game.tags)?;
-    out.extend_from_slice(b",\"times\":")?;
-    push_string(&mut out, game.times.as_bytes())?;
-    out.extend_from_slice(b",\"start\":")?;
-    push_string(&mut out, position_in(start).as_bytes())?;
-    out.extend_from_slice(b",\"moves\":[")?;
+    let mut out = Vec::new(alloc);
+    push_front(&mut out, alloc, game, start)?;
+    out.extend_from_slice(b",\"moves\":")?;
     push_moves(&mut out, rows, clocks)?;
-    out.extend_from_slice(b"],")?;
+    out.extend_from_slice(b",")?;
     push_stand(&mut out, game.stand.at, &game.stand, fen, played.is_check)?;
     out.extend_from_slice(b"}\n")?;
     Ok(out)
+}
+
+// Appends the last move of rows: how many there were, its SAN, its squares and the position that it brings.
+fn push_last(out: &mut Vec<u8>, count: u64, last: &str) -> Result<(), AllocError>
+    ensures { OnOk result (out.new.items ≡ out.old.items ++ spec.last_json count last.now) }
+{
+    push_number(out, b",\"plies\":", count)?;
+    push_text(out, b",\"last\":", san_in(last))?;
+    push_text(out, b",\"lastMove\":", move_in(last))?;
+    push_text(out, b",\"fen\":", position_in(last))?;
+    Ok(())
 }
 
 // Appends a game's part of the file of all games, at a moment.
@@ -320,17 +349,11 @@ fn push_entry(
     let last = last_row(all.as_slice());
     out.extend_from_slice(b"{")?;
     push_players(out, game)?;
-    out.extend_from_slice(b",\"plies\":")?;
-    push_decimal(out, rows.len() as u64)?;
-    out.extend_from_slice(b",\"last\":")?;
-    push_string(out, san_in(last).as_bytes())?;
-    out.extend_from_slice(b",\"lastMove\":")?;
-    push_string(out, move_in(last).as_bytes())?;
-    out.extend_from_slice(b",\"fen\":")?;
-    push_string(out, position_in(last).as_bytes())?;
+    push_last(out, rows.len() as u64, last)?;
     out.extend_from_slice(b",")?;
     push_stand(out, at, &game.stand, position_in(last), played.is_check)?;
-    out.extend_from_slice(b"}")
+    out.extend_from_slice(b"}")?;
+    Ok(())
 }
 
 // Appends games behind another.
@@ -373,8 +396,8 @@ fn push_games(
 pub fn games_json(alloc: Global, at: u64, games: &[GameTold<'_>]) -> Result<Vec<u8>, AllocError>
     ensures { IfOk result (λ text. text.items ≡ spec.games_json at games.now) }
 {
-    let mut out = Vec::from_slice(alloc, b"{\"at\":")?;
-    push_decimal(&mut out, at)?;
+    let mut out = Vec::new(alloc);
+    push_number(&mut out, b"{\"at\":", at)?;
     out.extend_from_slice(b",\"games\":[")?;
     push_games(&mut out, alloc, at, games)?;
     out.extend_from_slice(b"]}\n")?;

@@ -8,8 +8,8 @@
 //! positions `game_words` finds the start and the words that name moves, `rows` writes the rows of an answer, `replay`
 //! plays the words and writes the answer, a part at a time, and `answer` does that at once; `telling` has the line of
 //! legal moves. For spectators `spectated` has what is told of a game besides its moves, `answer_rows` reads the rows of
-//! an answer, `json` writes values of JSON, `game_file` the texts. `proofs/Kept` shows that the moves stay, `proofs/Fits` which tokens fit, `proofs/Played` that a game is
-//! one.
+//! an answer, `json` writes values of JSON, `game_file` the texts. `proofs/Kept` shows that the moves stay,
+//! `proofs/Fits` which tokens fit, `proofs/Played` that a game is one.
 #![tactic(auto)]
 
 mod answer;

@@ -5,4 +5,4 @@ use Rattle.text_pgn.proofs.game_file.push_more_tags.Given as goal
 
 abbrev pub invariant-loop-line : goal.invariant-loop-line
 invariant-loop-line l =
-    l.out.items ++ flat_map behind_comma (map (λ line. tag_json line.now) (drop l.line-index l.tags)) ≡ l.fn.out.items ++ flat_map behind_comma (map (λ line. tag_json line.now) l.tags)
+    l.out.items ++ flat_map behind_comma (map tag_json (map (λ line. line.now) (drop l.line-index l.tags))) ≡ l.fn.out.items ++ flat_map behind_comma (map tag_json (map (λ line. line.now) l.tags))
