@@ -28,7 +28,7 @@ pub use file_state::{FileState, NO_FILE, state_of};
 pub use folder::GamesFolder;
 pub use link::{Answer, Link, refused};
 pub use reading::{bytes_from, found};
-pub use spectated_game::{GameNow, SpectatedGame, spectated_game};
+pub use spectated_game::{GameNow, SpectatedGame, spectated_now};
 pub use spectators::Spectators;
 pub use table::{Table, ToldGame, rows_asked};
 pub use telling::{Pace, Telling, Work, go_on};

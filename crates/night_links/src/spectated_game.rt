@@ -195,7 +195,7 @@ fn standing_of(
 
 /// A game as it is to be told, where it was told so last; none where it stands elsewhere than its moves lead, since one
 /// was made between the two answers. It fails where its PGN tells no game.
-pub fn spectated_game(
+pub fn spectated_now(
     alloc: Global,
     now: &GameNow<'_>,
     last: Option<&SpectatedGame>,

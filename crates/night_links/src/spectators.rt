@@ -1,6 +1,6 @@
 //! What spectators fetch of games, kept in a folder: one file for each, and one of all.
 use crate::folder::GamesFolder;
-use crate::spectated_game::{GameNow, SpectatedGame, spectated_game};
+use crate::spectated_game::{GameNow, SpectatedGame, spectated_now};
 use anyhow::{Context, Result};
 use std::alloc::Global;
 use std::fs::File;
@@ -44,8 +44,8 @@ impl<'a> Spectators<'a> {
     // A game as it is to be told; none where its moves and how it stands do not belong together.
     fn renewed(&self, alloc: Global, now: &GameNow<'_>) -> Result<Option<SpectatedGame>> {
         match self.find(now.game) {
-            Some(watched) => spectated_game(alloc, now, Some(&watched.game)),
-            None => spectated_game(alloc, now, None),
+            Some(watched) => spectated_now(alloc, now, Some(&watched.game)),
+            None => spectated_now(alloc, now, None),
         }
     }
 
