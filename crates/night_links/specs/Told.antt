@@ -45,7 +45,7 @@ pub record IsToldNow (now : GameNow) (g : SpectatedGame) : Type 0 where
   pub stopped : g.is_stopped ≡ now.is_stopped
   pub stands : StandsAsTold now g.standing
   pub played : (start : Position) → (moves : List Move) → TellsGame now.moves.now start moves →
-    IsPlayed now.game start moves g.played
+      IsPlayed now.game start moves g.played
 
 -- ---- its file
 

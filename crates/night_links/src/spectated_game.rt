@@ -283,9 +283,7 @@ impl SpectatedGame {
     /// Whether it was told just so.
     pub fn is_told(&self, now: &GameNow<'_>) -> bool {
         let is_shown = match now.told {
-            Some((told, _)) => {
-                self.standing.at == told.at && self.is_stopped == now.is_stopped
-            }
+            Some((told, _)) => { self.standing.at == told.at && self.is_stopped == now.is_stopped }
             None => true,
         };
         is_shown && self.tags.text.as_str() == now.tags

@@ -91,7 +91,8 @@ impl<'a> Spectators<'a> {
         R: Files + AllocGlobal + Clone + Drop,
     {
         let count = self.games.len();
-        self.games.retain(|watched| games.contains(&watched.game.game));
+        self.games
+            .retain(|watched| games.contains(&watched.game.game));
         if self.is_new || self.games.len() < count {
             self.files.keep_only(rt, games)?;
             self.is_new = false;
