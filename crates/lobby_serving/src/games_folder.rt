@@ -4,8 +4,7 @@ use crate::mark::Mark;
 use lobby_loop::Lobby;
 use lobby_web::Kind;
 use std::alloc::{AllocError, Global};
-use std::fs::{self, DirEntry, File};
-use std::io::ErrorKind;
+use std::fs::{self, File};
 use std::rt::Files;
 use text_parts::number_of_32_bits;
 

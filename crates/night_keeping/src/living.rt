@@ -358,14 +358,14 @@ where
 {
     // Tells spectators of all boards, whose PGNs are told so. Those games of which a move came between two answers are
     // asked about again.
-    fn tell_spectators(&mut self, pgns: &[Vec<u8>], at: u64) -> Result<()> {
+    fn tell_spectators(&mut self, pgns: Vec<Vec<u8>>, at: u64) -> Result<()> {
         let alloc = self.rt.alloc();
         let boards = in_order(alloc, self.seen.as_slice(), self.archived.as_slice())?;
         let Some(spectators) = &mut self.spectators else {
             return Ok(());
         };
         let mut games = Vec::new(alloc);
-        for (board, pgn) in boards.as_slice().iter().zip(pgns) {
+        for (board, pgn) in boards.as_slice().iter().zip(pgns.as_slice()) {
             let told = told_beside(&self.table, self.seen.as_slice(), board.game);
             let now = game_now(board, pgn.as_slice(), told, self.was_stopped, at)?;
             if !spectators.tell(self.rt, &now)? {
@@ -410,8 +410,8 @@ where
         let at = unix_time(self.rt)?.context("the system's clock shows a time before 1970")?;
         self.look(at)?;
         let pgns = self.pgns()?;
-        self.tell_spectators(pgns.as_slice(), at)?;
         let text = text_of(self.rt.alloc(), pgns.as_slice())?;
+        self.tell_spectators(pgns, at)?;
         if let Some(text) = self.delay.due(self.rt, text)? {
             self.file.put(self.rt, text)?;
         }

@@ -1,8 +1,6 @@
 //! What no clause says: the texts by which spectators watch, whole, as objects of JSON.
 use server_answers::{Clocks, Offers, Side};
-use std::alloc::Global;
-use std::process::Abort;
-use text_pgn::{GameTold, PlayedGame, Spectated, Stand, game_json, games_json, replayed};
+use text_pgn::{GameTold, Spectated, Stand, game_json, games_json, replayed};
 
 const MOVES: &str =
     "[White \"Ann \\\"A\\\" Lee\"]\n[Black \"Bob\"]\n\n1. Nf3 {[%clk 0:04:59]} Nf6 *\n\n";
@@ -61,23 +59,21 @@ const OVER: Spectated<'static> = Spectated {
     },
 };
 
-fn replay(rt: &impl Abort, alloc: Global, game: u32, pgn: &str) -> PlayedGame {
-    let found = replayed(alloc, game, pgn).expect(rt, "memory");
-    found.expect(rt, "a game")
-}
-
 #[test]
 fn tells_spectators_of_games(rt: HostRuntime) {
     let alloc = rt.alloc();
-    let played = replay(&rt, alloc, 7, MOVES);
+    let played = replayed(alloc, 7, MOVES)
+        .expect(&rt, "memory")
+        .expect(&rt, "a game");
     let text = game_json(alloc, &PLAYED, &played, &[Some(299_000)]).expect(&rt, "memory");
     assert!(rt; text.as_slice() == GAME.as_bytes());
-    let over = replay(
-        &rt,
+    let over = replayed(
         alloc,
         8,
         "[FEN \"7k/8/8/8/8/8/8/K6R b - - 0 1\"]\n\n1-0\n\n",
-    );
+    )
+    .expect(&rt, "memory")
+    .expect(&rt, "a game");
     let games = [
         GameTold {
             game: PLAYED,
