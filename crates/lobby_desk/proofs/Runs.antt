@@ -668,9 +668,9 @@ told_alike : (event : DeskInput) (lines : List (List ℕ)) (tells : List Message
 told_alike (Opened c) lines tells f g same p q acts k h = h
 told_alike (Closed c) lines tells f g same p q acts k h = h
 told_alike (Said c text at) lines tells f g same p q acts k h = (
-    sym (same c) ∙ h.0,
-    h.1,
-    said_alike f g same k.table (q c) text lines c tells (subst (λ (w : Option Identity). IsToldOrSent f k.table w text lines c tells) (acts c) h.2),
+  sym (same c) ∙ h.0,
+  h.1,
+  said_alike f g same k.table (q c) text lines c tells (subst (λ (w : Option Identity). IsToldOrSent f k.table w text lines c tells) (acts c) h.2),
 )
 told_alike (Hurried c) lines tells f g same p q acts k h = (sym (same c) ∙ h.0, h.1, h.2)
 told_alike (Heard line) lines tells f g same p q acts k h = h
