@@ -29,7 +29,7 @@ use Rattle.lobby_table.specs.Owed.{ForItself, ForPositions, ForTable, ForGame, F
 use Rattle.lobby_table.specs.Owed.{Dropper, Pairer, Followers, Behind, owed_lines}
 use Rattle.lobby_desk.specs.Tellings.{Known, is_counted, misnamed_heard, misnamed_next, owed_answered}
 use Rattle.lobby_desk.specs.Who.{View, IsSaid, IsSentFor, IsSentNext, IsSentHeard, IsDone, IsDropped, IsPaired, name_of}
-use Rattle.lobby_desk.specs.History.{Step, player_in, players_in, says_name, is_act, is_drop, is_pairing, name_behind, name_through, name_in, known_in, HasAsked, PairsNow, HasPaired, IsRun, Sent, sent_under, but_first, unanswered_in, shown_behind, shown_next, shown_in, IsLineIf, IsLineOf, IsNameIf, IsNameOf, IsOfOwed, IsOfNext, IsOfHeard, IsOfName, AllNamed}
+use Rattle.lobby_desk.specs.History.{Step, player_in, players_in, says_name, is_act, is_drop, is_pairing, name_behind, name_through, name_in, known_in, HasAsked, PairsNow, HasPaired, IsRun, Sent, sent_under, but_first, unanswered_in, shown_behind, shown_next, shown_in, IsLineIf, IsLineOf, IsNameIf, IsNameOf, IsOfAct, IsOfOwed, IsOfNext, IsOfHeard, IsOfName, AllNamed}
 use Rattle.lobby_table.proofs.Sent.{is_said_same}
 use Rattle.lobby_desk.proofs.Lines.{join_line_acts, list_reads, name_names}
 use Rattle.lobby_desk.proofs.As.{as_acts, as_word, plain_word, pair_acts}
@@ -533,7 +533,21 @@ done_waits players past old (Heard line) lines tells now agrees before step =
     let asked = subst (λ (k : Known). AreAsked players past k.owed) agrees.known agrees.asked in
     heard_waits old.who players past line lines tells now.said before asked (is_counted (known_in players past) line) refl known
 
--- the answer to an act
+-- the answer to an act, whose line and name are such
+act_named : (IsLine IsName : List ℕ → Type 0) (s : Sent) (sent : List Sent) (shown : Option (List ℕ)) →
+    ((is_act s.line ≡ true) × IsLine s.line × ((name : List ℕ) × (s.under ≡ Some name) × IsName name)) → s.under ≡ shown →
+    IsOfAct IsLine IsName (s ∷ sent) shown
+act_named IsLine IsName s sent shown fits is = record {
+  line = s.line;
+  name = fits.2.0;
+  others = sent;
+  first = ap (λ (under : Option (List ℕ)). record { line = s.line; under = under } ∷ sent) fits.2.1;
+  act = fits.0;
+  of_text = fits.1;
+  named = fits.2.2;
+  holds = sym is ∙ fits.2.1;
+}
+
 owed_named : (o : Owed) (owed : List Owed) (sent : List Sent) (shown said : Option (List ℕ)) → Waits (o ∷ owed) sent shown said → IsOfOwed o sent shown
 owed_named Nobody owed sent shown said h = tt
 owed_named (Naming name) owed sent shown said h = tt
@@ -543,31 +557,11 @@ owed_named (Asker c ForTable) owed sent shown said h = tt
 owed_named (Asker c (ForGame game)) owed sent shown said h = tt
 owed_named (Asker c (ForAct by text)) owed [] shown said h = absurd h.0
 owed_named (Asker c (ForAct by text)) owed (s ∷ sent) shown said h =
-    let fits = h.0.0 in
-    record {
-      line = s.line;
-      name = fits.2.0;
-      others = sent;
-      first = ap (λ (under : Option (List ℕ)). record { line = s.line; under = under } ∷ sent) fits.2.1;
-      act = fits.0;
-      of_text = fits.1;
-      named = fits.2.2;
-      holds = sym h.1.0 ∙ fits.2.1;
-    }
+    act_named (IsLineOf text) (IsNameOf by text) s sent shown h.0.0 h.1.0
 owed_named (Dropper c by text) owed sent shown said h = tt
 owed_named (Pairer c by black text) owed [] shown said h = absurd h.0
 owed_named (Pairer c by black text) owed (s ∷ sent) shown said h =
-    let fits = h.0.0 in
-    record {
-      line = s.line;
-      name = fits.2.0;
-      others = sent;
-      first = ap (λ (under : Option (List ℕ)). record { line = s.line; under = under } ∷ sent) fits.2.1;
-      act = fits.0;
-      of_text = fits.1;
-      named = fits.2.2;
-      holds = sym h.1.0 ∙ fits.2.1;
-    }
+    act_named (λ line. line ≡ pair_line text) (λ name. name ≡ as_name text) s sent shown h.0.0 h.1.0
 owed_named (Followers game act is_table) owed sent shown said h = tt
 owed_named Behind owed sent shown said h = tt
 

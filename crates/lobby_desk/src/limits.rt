@@ -45,9 +45,6 @@ impl Limits {
     pub fn is_nearly_full(&self, line: &ServerLine) -> bool
         ensures { result ≡ spec.is_nearly_full self.now line.now.seats.items (map owed_of line.now.queue.items) }
     {
-        match self.places {
-            None => false,
-            Some(places) => line.is_full_at(places),
-        }
+        self.places.is_some_and(|places| line.is_full_at(places))
     }
 }

@@ -11,17 +11,14 @@ const AHEAD: u64 = 950;
 pub fn until_after(until: u64, now: u64) -> u64
     ensures { result ≡ until_after until now }
 {
-    match paced(until, now) {
-        Some(later) => later,
-        None => until,
-    }
+    paced(until, now).unwrap_or(until)
 }
 
 /// Until when the time of a connection is taken after a message that comes at a moment; `None` where it comes too fast.
 pub fn paced(until: u64, now: u64) -> Option<u64>
     ensures { result ≡ paced until now }
 {
-    let from = if until < now { now } else { until };
+    let from = until.max(now);
     if from - now <= AHEAD && from <= u64::MAX - COST {
         Some(from + COST)
     } else {

@@ -11,8 +11,7 @@ impl Desk {
     pub fn is_watcher(&self, connection: u64) -> bool
         ensures { result ≡ is_watcher self.now connection }
     {
-        let watches = watches_any(self.watches.as_slice(), connection);
-        let is_at_table = is_at_table(self.table.as_slice(), connection);
-        watches || is_at_table
+        watches_any(self.watches.as_slice(), connection)
+            || is_at_table(self.table.as_slice(), connection)
     }
 }

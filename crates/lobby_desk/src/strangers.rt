@@ -15,10 +15,7 @@ use std::collections::BTreeMap;
 fn is_strangers(visitors: &BTreeMap<u64, Visitor>, due: &Due) -> bool
     ensures { result ≡ is_stranger (who_in visitors.now) (waiter (owed_of due.now)) }
 {
-    match asker(due) {
-        None => false,
-        Some(connection) => who_acts(visitors, connection).is_none(),
-    }
+    asker(due).is_some_and(|connection| who_acts(visitors, connection).is_none())
 }
 
 // Whether one of these answers is.
@@ -40,10 +37,7 @@ impl Desk {
     pub fn player_at(&self, connection: u64) -> Option<Name>
         ensures { result ≡ player_at self.now connection }
     {
-        match who_acts(&self.visitors, connection) {
-            None => None,
-            Some(who) => Some(who.name),
-        }
+        who_acts(&self.visitors, connection).map(|who| who.name)
     }
 
     /// Whether the server owes an answer to a message of a connection that acts for nobody.
