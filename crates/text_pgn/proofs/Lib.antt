@@ -6,3 +6,4 @@ pub mod Found
 pub mod Replaying
 pub mod Naming
 pub mod Checked
+pub mod Appended

@@ -1,8 +1,7 @@
 -- What spectators are told of a game, as values of JSON (docs/client/LOBBY.md).
-use Rattle.std.specs.Prelude.{ℕ, ◌-◌, ◌≡◌, ◌↔◌, Bool, true, false, not, ◌&&◌, ◌==◌, IsTrue, List, [], ◌∷◌, ◌++◌, length, map, drop}
-use Rattle.std.specs.Prelude.{codes, decimal, Option, Some, None, flat_map, filter, if◌then◌else◌}
+use Rattle.std.specs.Prelude.{ℕ, ◌-◌, ◌↔◌, Bool, true, false, ◌==◌, IsTrue, List, [], ◌∷◌, ◌++◌, length, map, drop}
+use Rattle.std.specs.Prelude.{codes, decimal, Option, Some, None, filter, if◌then◌else◌}
 use Rattle.std.specs.List.{after_first}
-use Rattle.std.specs.Option.{option_map}
 use Rattle.std.specs.Str.{bytes_eq}
 use Rattle.std.specs.String.{string_bytes}
 use Rattle.text_parts.specs.Parts.{parts_of}
@@ -20,8 +19,7 @@ use Rattle.text_pgn.specs.declared.spectated.Spectated.{Spectated}
 use Rattle.text_pgn.specs.declared.spectated.PlayedGame.{PlayedGame}
 use Rattle.text_pgn.specs.declared.spectated.GameTold.{GameTold}
 use Rattle.text_pgn.specs.Answer.{IsLineAnswer}
-use Rattle.text_pgn.specs.Game.{TellsGame}
-use Rattle.text_pgn.specs.Json.{string, number_or_null, truth, behind_comma, listed}
+use Rattle.text_pgn.specs.Json.{string, number_or_null, truth, listed}
 use Rattle.text_pgn.specs.Moves.{first_clock, next_clocks}
 use Rattle.text_pgn.specs.Pgn.{is_tag}
 use Rattle.text_pgn.specs.Rows.{first_field, next_fields, san_in, move_in, position_in, rows_in, start_row, move_rows, last_row}
