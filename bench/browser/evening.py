@@ -39,7 +39,7 @@ def no_dead_buttons(hall):
     bob.click('#challenges .banner button.strong').until(lambda: not bob.driver.current_url.endswith('/' + number),
                                                          'another game is there')
     ann.reads('#outcome', 'Waiting for your opponent')
-    ann.is_so(ann.complaints() == [], 'and no script has failed')
+    ann.is_quiet()
 
 
 def handy_moves(hall):
@@ -376,6 +376,24 @@ ROOM = '''const [list, row] = ['#moves', '#moves li'].map((css) => document.quer
   return list.height / row.height;'''
 
 
+def on_screens(person, what):
+    """Each screen: what is looked at there, its width and height, and whether it is a phone's. Nothing may be beyond
+    its side."""
+    for width, height, phone in SCREENS:
+        person.screen(width, height, 1, phone)
+        time.sleep(0.3)
+        told = '%s, %d x %d' % (what, width, height)
+        person.is_so(person.width() <= width, '%s: nothing is beyond the side: %d' % (told, person.width()))
+        yield told, width, height, phone
+    person.media().screen(1280, 800)
+
+
+def in_order(person, what):
+    """Nothing is beyond the side, pale, nameless or stumbled over, on every screen, light and dark."""
+    for told, *_ in on_screens(person, what):
+        reads_well(person, told)
+
+
 def room_for_all(hall):
     """Screens of seven sizes: nothing lies over anything, the list of moves has room, the board is in sight."""
     number, ann, bob, sue = hall.begin(minutes='90', increment='30', second=('40', '30'))
@@ -383,20 +401,14 @@ def room_for_all(hall):
     bob.click('#offer')
     ann.finds('#offered', 'an offer')
     for person in (ann, bob, sue):
-        for width, height, phone in SCREENS:
-            person.screen(width, height, 1, phone)
-            time.sleep(0.3)
-            what = '%s, %d x %d' % (person.name, width, height)
+        for what, _, height, phone in on_screens(person, person.name):
             person.is_so(person.run(OVERLAPS) == [], '%s: %s' % (what, person.run(OVERLAPS)))
-            wide = person.width()
-            person.is_so(wide <= width, what + ': nothing is beyond the side')
             box = person.box('#board .board')
             person.is_so(box['top'] >= 0 and box['bottom'] <= height, '%s: the board is in sight: %s' % (what, box))
             low = person.run('return document.querySelector("#near .clock").getBoundingClientRect().bottom')
             person.is_so(low <= height, '%s: both clocks are in sight: %s' % (what, low))
             if not phone:
                 person.is_so(person.run(ROOM) >= 3, '%s: the list has room: %s rows' % (what, person.run(ROOM)))
-        person.screen(1280, 800)
     ann.click('#accept')
     bob.reads('#outcome', 'Draw by agreement')
     hall.watch(number)
@@ -485,19 +497,35 @@ TABLES = '''return performance.getEntriesByType('resource').map((one) => one.nam
 
 def fits(person, language):
     """No word is too long, on any screen."""
-    for width, height, phone in SCREENS:
-        person.screen(width, height, 1, phone)
-        time.sleep(0.2)
-        wide = person.width()
-        person.is_so(wide <= width, 'longer words fit into %d in %s: %d' % (width, language, wide))
+    for told, *_ in on_screens(person, 'in ' + language):
         cut = person.run('''return [...document.querySelectorAll('button')].filter((e) => e.getClientRects().length
             && e.scrollWidth > e.clientWidth + 1).map((e) => e.textContent)''')
-        person.is_so(cut == [], 'and none is cut off at %d in %s: %s' % (width, language, cut))
-    person.screen(1280, 800)
+        person.is_so(cut == [], '%s: no word is cut off: %s' % (told, cut))
 
 
 def left(person):
     return person.driver.execute_async_script(ENGLISH)
+
+
+def is_in(language, person, what):
+    """All that is shown is in this language, and fits."""
+    person.is_so(left(person) == [], '%s: nothing is English in %s: %s' % (what, language, left(person)))
+    fits(person, language)
+
+
+def english_again(*persons):
+    for person in persons:
+        person.run('localStorage.removeItem("language")')
+        person.reload().until(lambda: person.run('return document.documentElement.lang') == 'en', 'English again')
+
+
+def in_languages(*persons):
+    """Each language, in which the page is from its next load on; and English again."""
+    for language in ('de', 'es', 'fr', 'it', 'nl', 'pl', 'pt'):
+        for person in persons:
+            person.run('localStorage.setItem("language", arguments[0])', language)
+        yield language
+    english_again(*persons)
 
 
 def in_german(hall):
@@ -532,9 +560,7 @@ def in_german(hall):
     sue.is_so(left(sue) == [], 'nor at the desk: %s' % left(sue))
     for person in (ann, sue):
         fits(person, 'de')
-    for person in (ann, sue):
-        person.run('localStorage.removeItem("language")')
-        person.reload().until(lambda: person.run('return document.documentElement.lang') == 'en', 'English again')
+    english_again(ann, sue)
 
 
 def in_every_language(hall):
@@ -543,27 +569,22 @@ def in_every_language(hall):
     _, ann, _, sue = hall.begin(minutes='20', fen=ROOK_AND_KING)
     sue.takes(hall.lobby.tokens['eve'])
     sue.click('#to-arbiter')
-    for language in ('de', 'es', 'fr', 'it', 'nl', 'pl', 'pt'):
+    for language in in_languages(ann, sue):
         for person, place in ((ann, '#resign'), (sue, '#arbiter-desk .desk-card')):
-            person.run('localStorage.setItem("language", arguments[0])', language)
             person.reload().finds(place, 'the page in %s' % language)
             tables = person.run(TABLES)
             person.is_so(tables == ['words-%s.js' % language], 'one table is loaded for %s: %s' % (language, tables))
-            person.is_so(left(person) == [], 'nothing is English in %s: %s' % (language, left(person)))
-            fits(person, language)
+            is_in(language, person, place)
         sue.goes('again').finds('#again-board', 'the board on which a game is looked at again')
         sue.run('document.querySelector("#again-paste").open = true')
-        sue.is_so(left(sue) == [], 'nothing is English there in %s: %s' % (language, left(sue)))
-        fits(sue, language)
+        is_in(language, sue, 'looked at again')
         sue.goes('arbiter')
     ann.run('localStorage.setItem("language", "fr")')
     ann.reload().finds('#resign', 'the page in French')
     ann.type('#move-text', 'Rd1' + Keys.ENTER).reads('#note', 'Rd1 peut être un coup du roi')
     ann.is_so(ann.moves() == [], 'nothing was sent')
     ann.type('#move-text', 'Ra5' + Keys.ENTER).moved(['Ta5'], 'the rook alone can go there')
-    for person in (ann, sue):
-        person.run('localStorage.removeItem("language")')
-        person.reload().until(lambda: person.run('return document.documentElement.lang') == 'en', 'English again')
+    english_again(ann)
 
 
 JOINS = 'return [...document.querySelectorAll("[data-key^=join-]")].map((e) => e.dataset.key)'
@@ -651,14 +672,11 @@ def looked_at_again(hall):
     program = shutil.which('pgn-extract') or '/usr/games/pgn-extract'
     read = subprocess.run([program, '-s', '-Wlalg'], input=ann.clipboard(), capture_output=True, text=True)
     ann.is_so('f2f3 e7e5 (' in read.stdout and read.stderr == '', 'that others read: %s' % read)
-    for width, height, phone in SCREENS:
-        ann.screen(width, height, 1, phone)
-        time.sleep(0.3)
-        box, what = ann.box('#again-board .board'), '%d x %d' % (width, height)
-        ann.is_so(ann.width() <= width, what + ': nothing is beyond the side')
+    for what, width, height, _ in on_screens(ann, 'again'):
+        box = ann.box('#again-board .board')
         ann.is_so(box['top'] >= 0 and box['bottom'] <= height, '%s: the board is in sight: %s' % (what, box))
         ann.is_so(box['width'] >= 0.4 * min(width, height), '%s: and large: %s' % (what, box))
-    ann.screen(1280, 800).click('#again-next', '#again-next', '#again-cut')
+    ann.click('#again-next', '#again-next', '#again-cut')
     ann.shows('#again-moves', '1.f3d52.e4dxe4', 'cut')
     ann.click('#again-anew').shows('#again-moves', '1.f3e52.g4Qh4#', 'as it was told')
     paste(sue.goes('again'), PASTED.replace('Nxe4 Nf6', 'Nxe4 Ne4'))

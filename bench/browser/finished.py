@@ -3,7 +3,7 @@
 import os
 import time
 
-from evening import FOOLS, SCREENS, fits, left
+from evening import FOOLS, in_languages, in_order, is_in, on_screens
 from lib.program import put
 from readable import reads_well
 
@@ -82,33 +82,22 @@ def finished_games(hall):
         person.goes('games')
         lists(person, NUMBERS, 'all again')
         looks_for(person, player='stone')
-        for width, height, phone in SCREENS:
-            person.screen(width, height, 1, phone)
-            time.sleep(0.2)
-            what = '%d x %d' % (width, height)
-            person.is_so(person.width() <= width, '%s: nothing is beyond the side: %d' % (what, person.width()))
-            reads_well(person, what)
-        person.media().screen(1280, 800)
-        complaints = person.complaints()
-        person.is_so(complaints == [], 'the console is quiet: %s' % complaints)
+        in_order(person, 'games')
+        person.is_quiet()
 
 
 def finished_in_every_language(hall):
     """The lists, a player's page and a kept game in each language, on every screen."""
     sue = hall.sit('sue')[2]
     keeps(hall, KEPT)
-    for language in ('de', 'es', 'fr', 'it', 'nl', 'pl', 'pt'):
-        sue.run('localStorage.setItem("language", arguments[0])', language)
+    for language in in_languages(sue):
         for view, css in (('games', '#finished-list .pairing'), ('game/' + NUMBERS[1], '#game-kept'),
                           ('player/' + ANN.replace(' ', '%20'), '#finished-score')):
             sue.goes(view).reload().finds(css, view + ' in ' + language)
             sue.until(lambda: 'Club' in sue.text('#game-kept') or len(sue.run(LISTED)) == 4, 'with its games')
             if view == 'games':
                 looks_for(sue, player='ann').finds('#finished-names a', 'the way to a player')
-            sue.is_so(left(sue) == [], '%s: nothing is English in %s: %s' % (view, language, left(sue)))
-            fits(sue, language)
-    sue.run('localStorage.removeItem("language")')
-    sue.reload().until(lambda: sue.run('return document.documentElement.lang') == 'en', 'English again')
+            is_in(language, sue, view)
 
 
 def a_kept_game(hall):
@@ -144,15 +133,11 @@ def a_kept_game(hall):
     sue.goes('arbiter').click('#adjourned-games > summary').type('#adjourned-form [name=number]', NUMBERS[2])
     sue.click('#adjourned-form button').reads('#adjourned-list', 'Looked up', ' w KQkq - 2 3', '5:00')
     sue.run('localStorage.clear()')
-    for width, height, phone in SCREENS:
-        sue.goes('game/' + number).screen(width, height, 1, phone).finds('#game-kept', 'a kept game')
-        time.sleep(0.2)
-        sue.is_so(sue.width() <= width, 'nothing is beyond the side of %d' % width)
-        sue.is_so(sue.box('#board .board')['bottom'] <= height, 'the board is in sight')
-        reads_well(sue, '%d' % width)
-    sue.media().screen(1280, 800)
-    complaints = sue.complaints()
-    sue.is_so(complaints == [], 'the console is quiet: %s' % complaints)
+    sue.goes('game/' + number).finds('#game-kept', 'a kept game')
+    for what, _, height, _ in on_screens(sue, 'a kept game'):
+        sue.is_so(sue.box('#board .board')['bottom'] <= height, '%s: the board is in sight' % what)
+        reads_well(sue, what)
+    sue.is_quiet()
 
 
 def many_kept_games(hall):
@@ -178,8 +163,7 @@ def many_kept_games(hall):
     begun = time.monotonic()
     sue.goes('game/%d' % (NOBODY + 1)).reads('#outcome', 'Draw by agreement', patience=10)
     sue.is_so(time.monotonic() - begun < 10, 'the oldest one is found')
-    complaints = sue.complaints()
-    sue.is_so(complaints == [], 'the console is quiet: %s' % complaints)
+    sue.is_quiet()
     keeps(hall, ())
 
 

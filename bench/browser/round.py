@@ -1,11 +1,9 @@
 """Scenes of bench/browser/page: a round's pairings, the standings and the crosstable, as /round.json has them."""
 
 import json
-import time
 
-from evening import SCREENS, fits, left
+from evening import in_languages, in_order, is_in
 from lib.program import put
-from readable import reads_well
 
 NAMES = (('ann', 'Ann Lee'), ('bob', 'Bob <b>Stone</b> & Sons'), ('cid', 'Cid Okonkwo'), ('dee', 'Dee van der Meer'),
          ('fay', 'Wilhelmina Featherstonehaugh-Cholmondeley'))
@@ -18,7 +16,8 @@ PLACES = ((1, '1.5', '0.0', '2.0', '2.0', '2.25'), (4, '0.0', '0.0', '2.5', '2.5
 def round_told(game):
     """A tournament in its second round, of which this game is the first board's."""
     second = [{'board': 1, 'white': 4, 'black': 1, 'result': '*', 'game': int(game)},
-              {'board': 2, 'white': 2, 'black': 5, 'result': '+/-'}, {'board': 3, 'white': 3, 'bye': 'H', 'result': '1/2'}]
+              {'board': 2, 'white': 2, 'black': 5, 'result': '+/-'},
+              {'board': 3, 'white': 3, 'bye': 'H', 'result': '1/2'}]
     players = [{'name': name, 'full': full, 'place': place, 'points': points, 'values': values}
                for (name, full), (place, points, *values) in zip(NAMES, PLACES)]
     return {'event': 'Club Cup', 'rounds': [FIRST, second], 'breaks': ['DE', 'BHC1', 'BH', 'SB'], 'players': players}
@@ -35,17 +34,6 @@ def serves(hall, text):
 def cells(person, css):
     return person.run('''return [...document.querySelectorAll(arguments[0] + ' tr')]
         .map((row) => [...row.children].map((cell) => cell.textContent))''', css)
-
-
-def in_order(person, what):
-    """Nothing is beyond the side, pale, nameless or stumbled over, on every screen, light and dark."""
-    for width, height, phone in SCREENS:
-        person.screen(width, height, 1, phone)
-        time.sleep(0.2)
-        told = '%s, %d x %d' % (what, width, height)
-        person.is_so(person.width() <= width, '%s: nothing is beyond the side: %d' % (told, person.width()))
-        reads_well(person, told)
-    person.media().screen(1280, 800)
 
 
 def the_round(hall):
@@ -74,8 +62,7 @@ def the_round(hall):
     sue.click('#round-boards a').shows('#game-board', 'Round 2, board 1', 'the game says so')
     ann.reload().shows('#game-board', 'Round 2, board 1', 'to its player too')
     for person in (ann, sue):
-        complaints = person.complaints()
-        person.is_so(complaints == [], 'the console is quiet: %s' % complaints)
+        person.is_quiet()
     serves(hall, '')
 
 
@@ -83,13 +70,9 @@ def the_round_in_every_language(hall):
     """The round in each language, on every screen."""
     sue = hall.sit('sue')[2]
     serves(hall, json.dumps(round_told(4000000002)))
-    for language in ('de', 'es', 'fr', 'it', 'nl', 'pl', 'pt'):
-        sue.run('localStorage.setItem("language", arguments[0])', language)
+    for language in in_languages(sue):
         sue.goes('round').reload().finds('#round-boards td', 'the round in ' + language)
-        sue.is_so(left(sue) == [], 'nothing is English in %s: %s' % (language, left(sue)))
-        fits(sue, language)
-    sue.run('localStorage.removeItem("language")')
-    sue.reload().until(lambda: sue.run('return document.documentElement.lang') == 'en', 'English again')
+        is_in(language, sue, 'the round')
     serves(hall, '')
 
 

@@ -8,7 +8,7 @@ import os
 import threading
 import time
 
-from evening import ELSEWHERE, LOOKS, fits, left
+from evening import ELSEWHERE, LOOKS, in_languages, is_in
 from finished import kept_pgn
 from lib.program import PAGE
 from readable import reads_well
@@ -317,12 +317,9 @@ def files_on_a_phone(sue, shown):
         sue.is_so(sue.width() <= 360, '%s is not scrolled sideways: %d' % (view, sue.width()))
         reads_well(sue, view or 'the table')
     sue.screen(1280, 800)
-    for language in ('de', 'es', 'fr', 'it', 'nl', 'pl', 'pt'):
-        sue.run('localStorage.setItem("language", arguments[0])', language)
+    for language in in_languages(sue):
         sue.goes('game/12').reload().finds('#no-game-words', 'a game that is not there, in ' + language)
-        sue.is_so(left(sue) == [], 'nothing is English in %s: %s' % (language, left(sue)))
-        fits(sue, language)
-    sue.run('localStorage.removeItem("language")')
+        is_in(language, sue, 'no game')
 
 
 @watching

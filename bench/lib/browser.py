@@ -226,6 +226,10 @@ class Person:
                 and not re.search('ERR_(CONNECTION_(REFUSED|RESET)|EMPTY_RESPONSE)', entry['message'])
                 and not re.search(r'/games/\d+\.json - .* 404 ', entry['message'])]
 
+    def is_quiet(self):
+        complaints = self.complaints()
+        return self.is_so(complaints == [], 'the console is quiet: %s' % complaints)
+
     # ---- doing
 
     def click(self, *places):

@@ -74,9 +74,9 @@ class Lobby(Closing):
 class Relay:
     """Passes lines on between the lobby and the server, as long as it is not told otherwise:
 
-    lose     the next act reaches the server, and the connection breaks before its answer drop     the connection breaks
-    before the next act reaches the server behind   the next act is answered, and the connection breaks before it is
-    answered how the game stands then """
+    lose     the next act reaches the server, and the connection breaks before its answer
+    drop     the connection breaks before the next act reaches the server
+    behind   the next act is answered, and the connection breaks before it is answered how the game stands then"""
 
     def __init__(self, server):
         self.server, self.fault, self.delay = server, None, 0
@@ -155,13 +155,15 @@ class Relay:
 class Programs(Lobby):
     """Server and lobby, and a relay between the two where `has_relay`, over the players of these rows, or over the
     `club.players` that is in the folder. The lobby keeps a log, without which nobody is an arbiter, where `has_log`.
-    Where `has_live`, `chess-club live` writes the files of the games beside them, which the lobby serves to who watches.
-    Words of `control` bring about what goes wrong, those of Relay and these:
+    Where `has_live`, `chess-club live` writes the files of the games beside them, which the lobby serves to who
+    watches. Words of `control` bring about what goes wrong, those of Relay and these:
 
-    gone     the server is killed here     it is started again, over its journal slow MS  each answer of the server
-    comes MS milliseconds late silent   the lobby stands still, and its connections stay open beside WHITE BLACK   a
-    game is opened and joined on the server, past the lobby off G    a game that is over is taken off the table there,
-    as by who keeps games """
+    gone     the server is killed
+    here     it is started again, over its journal
+    slow MS  each answer of the server comes MS milliseconds late
+    silent   the lobby stands still, and its connections stay open
+    beside WHITE BLACK   a game is opened and joined on the server, past the lobby
+    off G    a game that is over is taken off the table there, as by who keeps games"""
 
     def __init__(self, folder, rows=None, *words, has_relay=False, has_log=True, has_live=False, games=1024, plies=600,
                  **how):

@@ -55,7 +55,7 @@ class Session:
 
 def answer_lines(store, at, taken):
     """The answers to lines `(session, line)` as one batch; names hold from then on. A Fault changes nothing."""
-    names, places, commands, answers = {}, [], [], []
+    names, commands, answers = {}, [], []
     for session, line in taken:
         name = names.get(id(session), session.name)
         parsed = parse(line)

@@ -37,4 +37,5 @@ STALEMATE = 'e3 a5 Qh5 Ra6 Qxa5 h5 Qxc7 Rah6 h4 f6 Qxd7+ Kf7 Qxb7 Qd3 Qxb8 Qh7 Q
 DEAD = '''
     b3 Nc6 e4 b5 Bxb5 Na5 Bxd7+ Kxd7 e5 Nxb3 cxb3 h6 Na3 g5 d3 Rb8 Bxg5 hxg5 Nc4 Rxh2 Rxh2 Rxb3 axb3 a5 Nxa5 Nh6 Rxh6
     Bxh6 Ne2 Bg7 Ng1 Bxe5 f4 Bxa1 Qxa1 gxf4 g4 fxg3 Qa3 e5 Qa4+ Ke6 b4 Qxd3 Qa2+ Qd5 Qxd5+ Kxd5 b5 c6 Nxc6 f5 Nxe5 Kxe5
-    Ne2 Bb7 Nxg3 Bd5 Nxf5 Kxf5 Ke2 Bf3+ Kxf3 Kf6 Kf2 Kf5 Ke1 Ke4 Ke2 Kf5 Ke3 Ke6 Kd3 Kd6 Kc2 Kc7 Kb2 Kc8 b6 Kb8 b7 Kxb7'''
+    Ne2 Bb7 Nxg3 Bd5 Nxf5 Kxf5 Ke2 Bf3+ Kxf3 Kf6 Kf2 Kf5 Ke1 Ke4 Ke2 Kf5 Ke3 Ke6 Kd3 Kd6 Kc2 Kc7 Kb2 Kc8 b6 Kb8 b7
+    Kxb7'''

@@ -7,7 +7,7 @@ A sector that cannot be read has zeros here, which are no header and no record: 
 import itertools
 
 from lib.model.images import Noted, fours, header, sectors_of, snapshot_of
-from lib.model.reader import SECTOR, SIGNATURE, Fault, Header, Sizes, contents, enter, read_entry, read_snapshot, up
+from lib.model.reader import SECTOR, SIGNATURE, Fault, Header, Sizes, contents, read_on, up
 from lib.model.rules import READS, split_input
 from lib.model.tables import is_record
 
@@ -83,11 +83,7 @@ MEANT = {}                      # kept for speed: limits and records -> the tabl
 def meaning(limits, snapshot, journal):
     key = limits, *snapshot, None, *journal
     if key not in MEANT:
-        table = MEANT[key] = Noted(*limits)
-        if snapshot:
-            read_snapshot(snapshot, table)
-        for data in journal:
-            enter(table, read_entry(data))
+        MEANT[key] = read_on(Noted(*limits), snapshot, journal)
     return MEANT[key].copy()
 
 
