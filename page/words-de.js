@@ -68,7 +68,7 @@ export const WORDS = {
   'not connected': 'nicht verbunden',
   'not connected for {0} min': 'seit {0} min nicht verbunden',
   '{0} is connected again.': '{0} ist wieder verbunden.',
-  'Spectators signed in: {0}': 'Angemeldete Zuschauer: {0}',
+  'Spectators connected: {0}': 'Verbundene Zuschauer: {0}',
   ', game {0}': ', Partie {0}',
   'More': 'Mehr',
   'Take off': 'Vom Tisch nehmen',

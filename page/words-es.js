@@ -65,7 +65,7 @@ export const WORDS = {
   'not connected': 'sin conexión',
   'not connected for {0} min': 'sin conexión desde hace {0} min',
   '{0} is connected again.': '{0} está de nuevo en línea.',
-  'Spectators signed in: {0}': 'Espectadores identificados: {0}',
+  'Spectators connected: {0}': 'Espectadores conectados: {0}',
   ', game {0}': ', partida {0}',
   'More': 'Más',
   'Take off': 'Retirar',

@@ -70,7 +70,7 @@ export const WORDS = {
   'not connected': 'hors ligne',
   'not connected for {0} min': 'hors ligne depuis {0} min',
   '{0} is connected again.': '{0} est de nouveau en ligne.',
-  'Spectators signed in: {0}': 'Spectateurs connectés : {0}',
+  'Spectators connected: {0}': 'Spectateurs connectés : {0}',
   ', game {0}': ', partie {0}',
   'More': 'Plus',
   'Take off': 'Retirer',

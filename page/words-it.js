@@ -67,7 +67,7 @@ export const WORDS = {
   'not connected': 'non in linea',
   'not connected for {0} min': 'non in linea da {0} min',
   '{0} is connected again.': '{0} è di nuovo in linea.',
-  'Spectators signed in: {0}': 'Spettatori connessi: {0}',
+  'Spectators connected: {0}': 'Spettatori connessi: {0}',
   ', game {0}': ', partita {0}',
   'More': 'Altro',
   'Take off': 'Togli',

@@ -67,7 +67,7 @@ export const WORDS = {
   'not connected': 'geen verbinding',
   'not connected for {0} min': 'al {0} min geen verbinding',
   '{0} is connected again.': '{0} heeft weer verbinding.',
-  'Spectators signed in: {0}': 'Aangemelde toeschouwers: {0}',
+  'Spectators connected: {0}': 'Verbonden toeschouwers: {0}',
   ', game {0}': ', partij {0}',
   'More': 'Meer',
   'Take off': 'Weghalen',

@@ -66,7 +66,7 @@ export const WORDS = {
   'not connected': 'brak połączenia',
   'not connected for {0} min': 'brak połączenia od {0} min',
   '{0} is connected again.': '{0} znów ma połączenie.',
-  'Spectators signed in: {0}': 'Zalogowani widzowie: {0}',
+  'Spectators connected: {0}': 'Połączeni widzowie: {0}',
   ', game {0}': ', partia {0}',
   'More': 'Więcej',
   'Take off': 'Usuń z listy',

@@ -66,7 +66,7 @@ export const WORDS = {
   'not connected': 'sem conexão',
   'not connected for {0} min': 'sem conexão há {0} min',
   '{0} is connected again.': '{0} está de novo com conexão.',
-  'Spectators signed in: {0}': 'Espectadores conectados: {0}',
+  'Spectators connected: {0}': 'Espectadores conectados: {0}',
   ', game {0}': ', partida {0}',
   'More': 'Mais',
   'Take off': 'Retirar',
