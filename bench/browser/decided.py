@@ -11,7 +11,7 @@ from page_lines import by_lines
 from readable import keys_go_round, reads_well
 from round import round_told, serves
 
-PAIRINGS = 'board,white,black,times,start\n1,ann,bob,8+0,\n2,cid,dee,300+0,\n'
+PAIRINGS = 'board,white,black,times,start\n1,ann,bob,20+0,\n2,cid,dee,300+0,\n'
 KEPT = '''[Event "Club night"]
 [Site "?"]
 [Date "2026.11.27"]
@@ -42,6 +42,16 @@ def on_card(number, css):
     return '.desk-card:has(a[href="#/game/%s"]) %s' % (number, css)
 
 
+def entered(hall, *lines):
+    """What an arbiter enters for players; the answers."""
+    return by_lines(hall, 'eve', *lines)
+
+
+def paired(hall, white, black, times):
+    """The number of the game of two whom an arbiter pairs."""
+    return entered(hall, 'pair %s %s %s' % (white, black, times))[0].split(' ')[2]
+
+
 def value(person, name):
     return person.run('return document.querySelector("#decide-form").elements[arguments[0]].value', name)
 
@@ -50,19 +60,16 @@ def a_decision(hall):
     """The desk has the command that decides a board: of a game that ended by a flag, of one whose player has not come,
     which waits once the default time is over, and of one that has left the table. It is as the program takes it."""
     _, _, sue = hall.sit()
-    lost, = by_lines(hall, 'ann', 'open white 8 0')
-    lost = lost.split(' ')[2]
-    by_lines(hall, 'bob', 'join ' + lost)
-    by_lines(hall, 'ann', 'move %s 0 e2e4' % lost)
-    by_lines(hall, 'bob', 'move %s 1 e7e5' % lost)
+    lost = paired(hall, 'ann', 'bob', '20 0')
+    entered(hall, 'as ann move %s 0 e2e4' % lost, 'as bob move %s 1 e7e5' % lost)
     serves(hall, json.dumps(round_told(lost)))
     for number in (1, 2):
         put(os.path.join(hall.lobby.folder, 'round%d.csv' % number), PAIRINGS)
     hall.signs_in(sue, 'eve', 'an arbiter')
     sue.click('#to-arbiter').finds('#arbiter-desk', 'the desk')
-    sue.reads('#waits-list', 'White’s flag has fallen', patience=30)
+    sue.reads('#waits-list', 'White’s flag has fallen')
     sue.lacks(on_card(lost, '[data-key^=decide-]'), 'while a game goes on the button is not there')
-    by_lines(hall, 'bob', 'flag ' + lost)
+    entered(hall, 'as bob flag ' + lost)
     sue.click(on_card(lost, '[data-key^=decide-]')).reads('#decide-title', 'game %s: Ann Lee – Bob' % lost)
     sue.reads('#decide-stands', 'The server says 0–1: Black wins on time.')
     sue.reads('#decide-law', 'By 6.9 it is a draw where Black cannot mate', 'Black has: king, queen, 2 rooks')
@@ -77,8 +84,7 @@ def a_decision(hall):
     decides(hall, 'round2.csv', 'round2.decisions', '6.9', 'Eve Arbiter', 'Black cannot mate by any legal moves',
             prints='board 1: 1/2-1/2')
     sue.click('#decide-leave').loses('#decide-dialog', 'the question is over')
-    absent = by_lines(hall, 'cid', 'open white 300 0')[0].split(' ')[2]
-    by_lines(hall, 'dee', 'join ' + absent)
+    absent = paired(hall, 'cid', 'dee', '300 0')
     sue.click(on_card(absent, '[data-key^=decide-]'))
     sue.reads('#decide-stands', 'White has not made a move; the clocks have run for 0 min.')
     sue.reads('#decide-law', 'By 6.7 who comes after the default time loses').reads('#decide-board', 'look at the pairings')
@@ -91,8 +97,7 @@ def a_decision(hall):
     sue.run('const now = performance.now.bind(performance); performance.now = () => now() + 61000')
     sue.reads('#waits-list', 'White has not moved within the default time, 1 min')
     sue.reload().finds('.wait.late', 'the time is kept', patience=90)
-    by_lines(hall, 'cid', 'move %s 0 e2e4' % absent)
-    by_lines(hall, 'dee', 'move %s 1 e7e5' % absent)
+    entered(hall, 'as cid move %s 0 e2e4' % absent, 'as dee move %s 1 e7e5' % absent)
     sue.loses('.wait.late', 'until both have moved').click('#decide-a-result summary')
     put(hall.lobby.kept, KEPT)
     for number, told in ((absent, 'Game %s goes on' % absent), ('4000000001', 'There is no game of this number.')):

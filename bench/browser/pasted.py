@@ -57,7 +57,7 @@ WRONG = '''[Event "One"]
 WRONG_BESIDE = '''1. e4 e5 (1... c5 2. Nf3 Nf3 3. d4 (3. c3) 3... cxd4) 2. Nf3 Nc6'''
 CUT_SHORT = '''1. e4 e5
 2. Nf3 {the plan is clear: 2... Nc6'''
-BETWEEN = '#again-moves'
+TREE = '#again-moves'
 
 
 def pasted_games(hall):
@@ -70,14 +70,14 @@ def pasted_games(hall):
 
     def puts(text, moves, *, note='', again=True):
         paste(sue, text)
-        sue.shows(BETWEEN, moves, 'its moves: ' + moves)
+        sue.shows(TREE, moves, 'its moves: ' + moves)
         sue.until(lambda: note in sue.text('#again-note') and bool(note) == bool(sue.text('#again-note')),
                   'what is said of it: %r' % note)
         sue.click('#again-copy-pgn').reads('#again-note', 'PGN is copied')
         copied = sue.clipboard()
         if again:
             paste(sue, copied)
-            sue.shows(BETWEEN, moves, 'the same from its own PGN')
+            sue.shows(TREE, moves, 'the same from its own PGN')
             sue.click('#again-copy-pgn')
             sue.until(lambda: sue.clipboard() == copied, 'which is the same again')
         return copied
@@ -85,9 +85,8 @@ def pasted_games(hall):
     copied = puts(LICHESS, '1.e4e52.Qh5?!(0.19 → -0.30) Inaccuracy. Nf3 was best.(2.Nf3Nc63.Bb5a64.Ba4Nf65.O-O)2…Nc63.Bc4'
                   'Nf6??Checkmate is now unavoidable.(3…g64.Qf3Nf65.Ne2)4.Qxf7#White wins by checkmate.')
     sue.is_so('2. Qh5 $6 ' in copied and '[%clk 0:04:41]' in copied, 'the PGN has signs and clocks: ' + copied)
-    sue.run('document.querySelector(arguments[0] + " button:last-of-type").click()', BETWEEN)
-    sue.shows('#again-clocks', 'Clocks: 4:41 – 4:50', 'the clocks of the position').reads('#again-who', 'anna – bert')
-    sue.keys('b').run('document.activeElement.blur()')
+    sue.click('#again-last').shows('#again-clocks', 'Clocks: 4:41 – 4:50', 'the clocks of the position')
+    sue.reads('#again-who', 'anna – bert')
     sue.click('#again-first').until(lambda: not sue.text('#again-clocks'), 'none at the start')
     puts(CHESS_COM, '1.f3e52.g4Qh4#')
     sue.click('#again-last').shows('#again-clocks', 'Clocks: 2:57 – 2:55', 'clocks with tenths')
@@ -109,7 +108,7 @@ def pasted_games(hall):
     sue.run('localStorage.setItem("language", "de")')
     sue.reload().finds('#again-board', 'the page in German')
     paste(sue, '1. Sf3 d5 2. Nc3 Sf6')
-    sue.shows(BETWEEN, '1.Sf3d52.Sc3Sf6', 'there the letters of German are read too')
+    sue.shows(TREE, '1.Sf3d52.Sc3Sf6', 'there the letters of German are read too')
     paste(sue, LICHESS)
     for width, height, phone in SCREENS:
         sue.screen(width, height, 1, phone)
