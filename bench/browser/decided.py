@@ -11,7 +11,7 @@ from page_lines import by_lines
 from readable import keys_go_round, reads_well
 from round import round_told, serves
 
-PAIRINGS = 'board,white,black,times,start\n1,ann,bob,20+0,\n2,cid,dee,300+0,\n'
+PAIRINGS = 'board,white,black,times,start\n1,ann,bob,20,\n2,cid,dee,300,\n'
 KEPT = '''[Event "Club night"]
 [Site "?"]
 [Date "2026.11.27"]
