@@ -2,14 +2,16 @@
 // the browser. A game comes from the lobby, or from a PGN or a FEN that is pasted.
 
 import { Board } from './board.js';
-import { findKept } from './kept.js';
+import { clocksAt, findKept } from './kept.js';
 import { t } from './language.js';
 import { readLine, readMoves, readPgn, readRefusal, squaresOf } from './lines.js';
 import { byId, copy, make, read, save, say, setText, write } from './make.js';
 import { fenOf, isInCheck, legalMoves } from './rules.js';
 import { keepInSight } from './sheet.js';
-import { begin, endOf, graft, isMain, makeMain, pgnOf, play, readGame, takeOut } from './study.js';
-import { BAD_FEN, BAD_LINE, NO_GAME, refusalWords, sanShown, sanWords } from './words.js';
+import { begin, endOf, graft, isMain, makeMain, pgnOf, play, readGame, saidIn, signsOf, takeOut } from './study.js';
+import {
+  BAD_FEN, BAD_LINE, NO_GAME, clockText, movesTyped, refusalWords, sanShown, sanWords,
+} from './words.js';
 
 const ASKS_MOVES = 200;              // milliseconds that a position stands before the lobby is asked for its moves
 const local = () => localStorage;
@@ -126,9 +128,9 @@ export class AgainView {
   }
 
   paste(text) {
-    const game = readGame(text);
+    const game = readGame(text, movesTyped);
     if (!game) {
-      this.note(t`That is neither a FEN nor a PGN.`);
+      this.note(/\[FEN /.test(text) ? refusalWords({ number: BAD_FEN }) : t`That is neither a FEN nor a PGN.`);
       return;
     }
     byId('again-text').value = '';
@@ -137,7 +139,7 @@ export class AgainView {
     history.replaceState(null, '', '#/again');
     this.set(game);
     this.keep();
-    this.note(game.wrong ? t`${game.wrong} cannot be played there: what stands before it is on the board.` : '');
+    this.note(game.wrong ? wrongWords(game.wrong) : '');
     this.board.focus();
   }
 
@@ -230,6 +232,7 @@ export class AgainView {
     this.askMoves();
     setText(byId('again-title'), this.number ? t`Game ${this.number}` : t`Look at a game again`);
     setText(byId('again-who'), White ? `${this.nameOf(White)} – ${this.nameOf(Black)}  ${Result || ''}` : '');
+    setText(byId('again-clocks'), this.clockWords());
     byId('again-back').hidden = !this.number;
     byId('again-back').href = `#/game/${this.number}`;
     byId('again-first').disabled = byId('again-previous').disabled = !parent;
@@ -256,9 +259,15 @@ export class AgainView {
     return name ? this.app.nameWords(name) : '';
   }
 
+  /** What both clocks showed, where the PGN has them. */
+  clockWords() {
+    const { w, b } = clocksAt(this.at, this.tags);
+    return w === null || b === null ? '' : t`Clocks: ${clockText(w)} – ${clockText(b)}`;
+  }
+
   drawMoves() {
     this.buttons.clear();
-    byId('again-moves').replaceChildren(...this.movesBehind(this.start, true));
+    byId('again-moves').replaceChildren(...said(this.start), ...this.movesBehind(this.start, true));
   }
 
   /** The moves behind a position, each a button, with the variations behind the move beside which they stand. */
@@ -280,12 +289,28 @@ export class AgainView {
 
   move(at, fresh) {
     const { side, full } = at.parent.position, number = side === 'w' ? `${full}.` : fresh ? `${full}…` : '';
+    const signs = signsOf(at);
     const button = make('button', { type: 'button', class: 'ply', 'aria-label':
-      `${full}${side === 'b' ? t`, Black` : ''}: ${sanWords(at.san)}`, onclick: () => this.goTo(at) }, sanShown(at.san));
+      `${full}${side === 'b' ? t`, Black` : ''}: ${sanWords(at.san)}${signs}`, onclick: () => this.goTo(at) },
+    sanShown(at.san) + signs);
     this.buttons.set(at, button);
     return [number && make('span', { class: 'number', 'aria-hidden': 'true' }, number), button,
-      at.comment && make('span', { class: 'small' }, at.comment)].filter(Boolean);
+      ...said(at)].filter(Boolean);
   }
+}
+
+/** What a comment says behind a move, or before the first. */
+function said(at) {
+  const words = saidIn(at);
+  return words ? [make('span', { class: 'small' }, words)] : [];
+}
+
+/** What of a PGN could not be read, with its place. */
+function wrongWords({ move, at, line, isMain }) {
+  if (move === '{') return t`Line ${line}: the comment that begins here has no end, and the rest was taken for it.`;
+  const { side, full } = at.position, placed = `${full}${side === 'w' ? '.' : '…'} ${move}`;
+  return isMain ? t`Line ${line}: ${placed} cannot be played there. What stands before it is on the board.`
+    : t`Line ${line}: ${placed} cannot be played there. The rest of this variation is left out.`;
 }
 
 /** The moves that lead to a position. */

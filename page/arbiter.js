@@ -1,9 +1,11 @@
 // The arbiter's desk: all running games at a glance, and what is entered for their players.
 
+import { Absences, isAbsent } from './absent.js';
 import { Adjournments, timesToGoOn, wordsToGoOn } from './adjourn.js';
 import { announced } from './announced.js';
 import { Picture } from './board.js';
 import { Clock } from './clock.js';
+import { Decision } from './decide.js';
 import { pgnOf } from './kept.js';
 import { t } from './language.js';
 import { isNoGame, placementOf, readLine, readRefusal, readShow, readStanding, readWho, squaresOf } from './lines.js';
@@ -48,12 +50,14 @@ export class ArbiterView {
     this.here = null;                  // the names of who is connected, once that was told
     this.arePaused = null;             // whether new games are stopped, once that was told
     this.question = new Question();
+    this.absences = new Absences(app, () => this.waits.render());
     this.waits = new Waits(this);
     this.pairing = new Pairing(this, (key, number) => this.adjourned.goesOn(key, number));
     this.adjourned = new Adjournments(this, (note) => this.pairing.fill({ ...note, times: timesToGoOn(note) },
       wordsToGoOn(note)));
     this.openings = new Openings(this);
     this.links = new Links(this);
+    this.decision = new Decision(this);
     byId('arbiter-find').addEventListener('input', () => this.turnTo(0));
     for (const kind of ['pointermove', 'pointerdown', 'keydown']) {
       this.list.addEventListener(kind, () => { this.touchedAt = performance.now(); }, { passive: true });
@@ -95,7 +99,7 @@ export class ArbiterView {
     this.root.hidden = true;
     clearInterval(this.asking);
     clearInterval(this.askingTable);
-    for (const part of [this.question, this.waits, this.adjourned, this.links]) part.close();
+    for (const part of [this.question, this.waits, this.adjourned, this.links, this.decision]) part.close();
     for (const number of [...this.cards.keys()]) this.remove(number);
     this.places.clear();
     this.shown = [];
@@ -221,7 +225,8 @@ export class ArbiterView {
    * or go. A game that an arbiter is asked about stays where it is. */
   fill() {
     if (this.root.hidden || !this.app.isArbiter()) return;
-    const found = this.found(), stands = new Set(this.shown), held = this.question.about || this.adjourned.about();
+    const found = this.found(), stands = new Set(this.shown), held = this.question.about || this.adjourned.about()
+      || this.decision.about;
     if (this.first > 0) {
       const place = found.findIndex((row) => stands.has(row.number));
       if (place >= 0) this.first = place;
@@ -299,7 +304,8 @@ export class ArbiterView {
       make('h2', {}, card.title), player('b'), card.state, card.last, player('w'),
       make('div', { class: 'desk-acts', role: 'group', 'aria-label': t`Decide game ${number}` },
         act('w', t`White resigns`), act('b', t`Black resigns`), act('draw', t`Draw`), act('mistake', t`By mistake`),
-        act('flag', t`Flag`), act('adjourn', t`Adjourn`), act('pgn', t`Save PGN`), card.more), card.note);
+        act('flag', t`Flag`), act('adjourn', t`Adjourn`), act('pgn', t`Save PGN`),
+        act('decide', t`Decide the result`), card.more), card.note);
     card.acts.mistake.title = t`The game was begun by mistake`;
     this.cards.set(number, card);
     this.renderActs(card);
@@ -429,6 +435,7 @@ export class ArbiterView {
     // (one stands in the other's place)
     acts.draw.hidden = acts.draw.hidden || isEarly;
     acts.mistake.hidden = acts.mistake.hidden || !isEarly;
+    acts.decide.hidden = !standing || !card.isOver && !isAbsent(standing);
     card.more.hidden = !standing || runs || card.isOver;
     if (card.root.contains(had) && !had.getClientRects().length) card.title.focus();
   }
@@ -497,6 +504,10 @@ export class ArbiterView {
     const { number } = card, button = card.acts[kind];
     if (kind === 'pgn') {
       this.savePgn(number);
+      return;
+    }
+    if (kind === 'decide') {
+      this.decision.ask(card.standing);
       return;
     }
     if (kind === 'adjourn') {

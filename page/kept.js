@@ -3,12 +3,13 @@
 import { endOf, readGame } from './study.js';
 import { fenOf, isInCheck } from './rules.js';
 import { readPgn, squaresOf } from './lines.js';
+import { SIDES } from './words.js';
 
 const FILE = 'kept.pgn';
 const BETWEEN = /\n\n(?=\[)/;        // a game ends with an empty line, and the next begins with a tag
 const TAG = /^\[(\w+) "((?:[^"\\]|\\.)*)"\]$/gm;
 const PLAYER = /^(White|Black)$/, NO_DAY = /^Date [?]/;
-const CLOCK = /\[%clk (\d+):(\d\d):(\d\d)\]/;
+const CLOCK = /\[%clk (\d+):(\d\d):(\d\d)(?:\.\d+)?\]/;
 
 /** What was read whole, by the tag of the file that it was. */
 let whole = { tag: '', games: [] };
@@ -91,6 +92,18 @@ function leftAt(at, side, initial) {
   return initial;
 }
 
+/** What both clocks showed at a position, in milliseconds; null of a side of which that is not known. */
+export function clocksAt(at, tags) {
+  const initial = initialOf(tags), [w, b] = SIDES.map((side) => leftAt(at, side, null));
+  return w === null && b === null ? { w, b } : { w: w ?? initial, b: b ?? initial };
+}
+
+/** The time with which both begin, null where it is not told. */
+function initialOf({ TimeControl }) {
+  const found = /(?:\/|^)(\d+)(?=[+:]|$)/.exec(TimeControl || '');
+  return found ? Number(found[1]) * 1000 : null;
+}
+
 /** A game as the lobby would tell it were it on the table: {standing, line}; null where its moves cannot be read. Who
  * played is told by `nameOf` of what the tags have. */
 export function toldOf({ number, tags, text }, nameOf) {
@@ -100,7 +113,7 @@ export function toldOf({ number, tags, text }, nameOf) {
   for (let [at] = game.start.next; at; [at] = at.next) {
     line.push({ san: at.san, text: at.text, ...squaresOf(at.text), fen: fenOf(at.position) });
   }
-  const initial = Number(/(?:\/|^)(\d+)(?=[+:]|$)/.exec(tags.TimeControl || '')?.[1] || 0) * 1000;
+  const initial = initialOf(tags) || 0;
   const standing = { number, white: nameOf(tags.White), black: nameOf(tags.Black), ply: line.length - 1,
     side: last.position.side, left: { w: leftAt(last, 'w', initial), b: leftAt(last, 'b', initial) }, offer: '',
     result: tags.Result, article: tags.Article || '?', fen: fenOf(last.position), check: isInCheck(last.position),

@@ -121,6 +121,12 @@ export class Openings {
 
   // ---- showing
 
+  /** The board of a game that was opened here, '' where it is none's. */
+  boardOf(number) {
+    const found = this.boards.find(({ game }) => game === number);
+    return found ? found.board : '';
+  }
+
   /** Which games are which board's, as chess-club start takes them. */
   taken() {
     return this.boards.filter(({ game }) => game).map(({ board, game }) => `--take ${board}=${game}`).join(' ');

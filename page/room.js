@@ -1,4 +1,4 @@
-// Who is there while a game goes on: whether its players are connected, and how many watch.
+// Who is there while a game goes on: whether its players are connected, and by how many connections it is watched.
 
 import { t } from './language.js';
 import { readRoom } from './lines.js';
@@ -22,7 +22,7 @@ export class Room {
     this.watching = 0;
   }
 
-  /** Asks the lobby, which tells it to who has signed in. */
+  /** Asks the lobby, which tells it to everybody who is connected; a page without a link is not. */
   async ask() {
     const { game } = this, { app, number } = game;
     if (!app.me() || !number || !game.running()) return;
@@ -31,7 +31,8 @@ export class Room {
     const before = this.since;
     const since = (seconds) => (seconds === null ? null : now - 1000 * seconds);
     this.since = new Map([...room.away].map(([name, seconds]) => [name, since(seconds)]));
-    this.watching = Math.max(0, room.watching - room.here.size);         // (a player who is here watches too)
+    // (a player who is here watches too; who watches by files has no connection, and nobody counts them)
+    this.watching = Math.max(0, room.watching - room.here.size);
     this.tell(before);
     game.render();
   }
@@ -58,6 +59,6 @@ export class Room {
   }
 
   watchedWords() {
-    return this.watching && this.game.running() ? t`Spectators signed in: ${this.watching}` : '';
+    return this.watching && this.game.running() ? t`Spectators connected: ${this.watching}` : '';
   }
 }

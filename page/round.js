@@ -65,11 +65,22 @@ export class RoundView {
   /** For a game's page: which round's board a game is, in words; '' where it is none's. */
   boardWords(number) {
     if (performance.now() - this.readAt > (this.told ? KNOWS_FOR : LOOKS_AGAIN)) this.look();
+    const place = this.placeOf(number);
+    return place ? t`Round ${place.round}, board ${place.board}` : '';
+  }
+
+  /** Which board of which round a game is, {round, board}, as it was told last; null where it is none's. */
+  placeOf(number) {
     for (const [place, boards] of (this.told ? this.told.rounds : []).entries()) {
       const found = boards.find(({ game }) => game === number);
-      if (found) return t`Round ${place + 1}, board ${found.board}`;
+      if (found) return { round: place + 1, board: found.board };
     }
-    return '';
+    return null;
+  }
+
+  /** The number of the newest round, 0 where none was told. */
+  newest() {
+    return this.told ? this.told.rounds.length : 0;
   }
 
   // ---- drawing

@@ -158,12 +158,12 @@ export function sanOf(position, move) {
 
 /** The one legal move that is written so, as SAN or as squares; '' where there is none, or several. */
 export function moveOfSan(position, text) {
-  const bare = text.replace(/[+#!?]+$/, '').replace(/0/g, 'O'), moves = legalMoves(position);
+  const bare = text.replace(/e\.?p\.?$/, '').replace(/[+#!?]+$/, '').replace(/[0o]/g, 'O'), moves = legalMoves(position);
   if (moves.includes(text)) return text;
   if (/^O-O(-O)?$/.test(bare)) {
     return moves.find((move) => sanOf(position, move).replace(/[+#]$/, '') === bare) || '';
   }
-  const found = /^([KQRBN]?)([a-h]?)([1-8]?)[x-]?([a-h][1-8])=?([QRBN]?)$/.exec(bare);
+  const found = /^([KQRBNP]?)([a-h]?)([1-8]?)[x:×-]?([a-h][1-8])[=/]?([QRBN]?)$/.exec(bare);
   if (!found) return '';
   const [, kind, file, rank, to, becomes] = found;
   const meant = moves.filter((move) => position.men.get(move.slice(0, 2)).toUpperCase() === (kind || 'P')

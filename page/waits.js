@@ -1,4 +1,5 @@
-// What waits for an arbiter, in any running game: an offer of a draw, and a clock that has run out without a word.
+// What waits for an arbiter, in any running game: an offer of a draw, a clock that has run out without a word, and a
+// player who has not moved within the default time.
 
 import { t } from './language.js';
 import { readShow } from './lines.js';
@@ -10,8 +11,8 @@ const ANEW = 10000;                  // and the same game every ten seconds at m
 const MOST_SHOWN = 50;
 
 export class Waits {
-  /** desk: {app, root, running(), has(number), showGame(number)}; running() gives all rows of running games, has(number)
-   * whether the desk is told of a game. */
+  /** desk: {app, root, absences, running(), has(number), showGame(number)}; running() gives all rows of running games,
+   * has(number) whether the desk is told of a game. */
   constructor(desk) {
     this.desk = desk;
     this.seen = new Map();             // number -> {standing, at, askedAt}
@@ -47,11 +48,24 @@ export class Waits {
     const app = this.desk.app;
     if (this.busy || document.hidden || !app.isArbiter() || !app.reachable()) return;
     const number = this.next();
-    if (number === undefined) return;
+    if (number === undefined) {
+      await this.askTimes();
+      return;
+    }
     this.busy = true;
     const answer = await app.wire.say(`show ${number}`, true), standing = readShow(answer[0]), at = performance.now();
     this.busy = false;
     this.told(number, standing && !standing.article ? standing : null, at);
+  }
+
+  /** Asks for the times of a game of which they matter. */
+  async askTimes() {
+    const { absences } = this.desk, standingOf = (number) => (this.seen.get(number) || {}).standing;
+    const number = absences.untimed(this.desk.running(), standingOf);
+    this.busy = true;
+    if (number !== undefined) await absences.ask(number);
+    this.busy = false;
+    this.render();
   }
 
   /** Of all running games first one whose clock, as it was told last, has run out by now; then, of those that the desk
@@ -74,16 +88,18 @@ export class Waits {
 
   // ---- showing
 
-  /** [{number, kind, words, row}]: a clock that the server tells as run out, and each offer. */
+  /** [{number, kind, words, row}]: a clock that the server tells as run out, each offer, and who has not come. */
   found() {
     const found = [];
     for (const row of this.desk.running()) {
-      const { standing } = this.seen.get(row.number) || {};
+      const { standing, at } = this.seen.get(row.number) || {};
       if (!standing) continue;
       if (standing.left[standing.side] === 0) {
         found.push({ row, kind: 'flag', words: t`${colourWord(standing.side)}’s flag has fallen, and nobody has
           called it` });
       }
+      const absent = this.desk.absences.words(standing, at);
+      if (absent && standing.left[standing.side] > 0) found.push({ row, kind: 'late', words: absent });
       const offers = SIDES.filter((side) => standing.offer.includes(side)).map(colourWord);
       if (offers.length) {
         const words = offers.length > 1 ? t`White and Black offer a draw` : t`${offers[0]} offers a draw`;

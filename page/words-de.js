@@ -68,7 +68,7 @@ export const WORDS = {
   'not connected': 'nicht verbunden',
   'not connected for {0} min': 'seit {0} min nicht verbunden',
   '{0} is connected again.': '{0} ist wieder verbunden.',
-  'Spectators signed in: {0}': 'Angemeldete Zuschauer: {0}',
+  'Spectators connected: {0}': 'Verbundene Zuschauer: {0}',
   ', game {0}': ', Partie {0}',
   'More': 'Mehr',
   'Take off': 'Vom Tisch nehmen',
@@ -694,8 +694,6 @@ export const WORDS = {
   'You play in this game: look at it again once it is over.':
     'Du spielst in dieser Partie: sieh sie dir noch einmal an, wenn sie zu Ende ist.',
   'That is neither a FEN nor a PGN.': 'Das ist weder eine FEN noch eine PGN.',
-  '{0} cannot be played there: what stands before it is on the board.':
-    '{0} lässt sich dort nicht spielen: was davor steht, ist auf dem Brett.',
   'This browser keeps nothing: copy the PGN.': 'Dieser Browser bewahrt nichts auf: kopiere die PGN.',
   'the start': 'der Anfang',
   'Look at a game again': 'Eine Partie noch einmal ansehen',
@@ -860,4 +858,56 @@ export const WORDS = {
     '{0} ist jetzt aufgeführt: mache einen neuen Link, der hier einmal gezeigt wird.',
   'Both sides are moved here, for you alone. What you try is kept in this browser.':
     'Hier ziehst du beide Seiten, für dich allein. Was du versuchst, bewahrt dieser Browser auf.',
+  'Clocks: {0} – {1}': 'Uhren: {0} – {1}',
+  'Line {0}: the comment that begins here has no end, and the rest was taken for it.':
+    'Zeile {0}: Der Kommentar, der hier beginnt, hat kein Ende; der Rest wurde für ihn gehalten.',
+  'Line {0}: {1} cannot be played there. What stands before it is on the board.':
+    'Zeile {0}: {1} lässt sich dort nicht ziehen. Was davor steht, ist auf dem Brett.',
+  'Line {0}: {1} cannot be played there. The rest of this variation is left out.':
+    'Zeile {0}: {1} lässt sich dort nicht ziehen. Der Rest dieser Variante ist weggelassen.',
+  'Decide the result': 'Ergebnis entscheiden',
+  'Decide the result of game {0}: {1} – {2}': 'Das Ergebnis von Partie {0} entscheiden: {1} – {2}',
+  'The server says {0}: {1}.': 'Der Server sagt {0}: {1}.',
+  '{0} has not made a move.': '{0} hat noch nicht gezogen.',
+  '{0} has not made a move; the clocks have run for {1} min.':
+    '{0} hat noch nicht gezogen; die Uhren laufen seit {1} min.',
+  'To be run on the club’s machine, in the folder with the round’s files.':
+    'Auf dem Rechner des Vereins auszuführen, im Ordner mit den Dateien der Runde.',
+  'Fill in the board, the result and the reason.': 'Trage Brett, Ergebnis und Grund ein.',
+  'This page does not know which board of which round it is: look at the pairings.':
+    'Welches Brett welcher Runde es ist, weiß diese Seite nicht: sieh in den Paarungen nach.',
+  '{0} Run it on the club’s machine, in the folder with the round’s files: it prints “board {1}: {2} is decided”.':
+    '{0} Führe ihn auf dem Rechner des Vereins aus, im Ordner mit den Dateien der Runde: er sagt „board {1}: {2} is '
+    + 'decided“.',
+  '{0} did not come in time': '{0} ist nicht rechtzeitig gekommen',
+  '{0} cannot mate by any legal moves': '{0} kann durch keine regelgemäßen Züge matt setzen',
+  ['By 6.7 who comes after the default time loses, unless the arbiter decides otherwise. The game goes on until it '
+    + 'is ended here, by “By mistake” or “Flag”.']:
+    'Nach 6.7 verliert, wer nach der Wartezeit kommt, wenn der Schiedsrichter nicht anders entscheidet. Die Partie '
+    + 'läuft weiter, bis sie hier beendet wird, durch „Versehentlich“ oder „Zeit“.',
+  ['By {0} it is a draw where {1} cannot mate by any legal moves. {2} has: {3}. The server draws by 6.9 against a '
+    + 'king alone; of the rest the note of “chess-club results” says what the Laws say.']:
+    'Nach {0} ist es remis, wenn {1} durch keine regelgemäßen Züge matt setzen kann. {2} hat: {3}. Der Server gibt '
+    + 'nach 6.9 remis gegen einen König allein; was die Regeln sonst sagen, steht in der Anmerkung von „chess-club '
+    + 'results“.',
+  '1–0: White wins': '1–0: Weiß gewinnt',
+  '½–½: a draw': '½–½: remis',
+  '0–1: Black wins': '0–1: Schwarz gewinnt',
+  '½–0: half a point for White alone': '½–0: ein halber Punkt für Weiß allein',
+  '0–½: half a point for Black alone': '0–½: ein halber Punkt für Schwarz allein',
+  '0–0: both lose': '0–0: beide verlieren',
+  '+ –: Black did not come': '+ –: Schwarz ist nicht gekommen',
+  '– +: White did not come': '– +: Weiß ist nicht gekommen',
+  '– –: neither came': '– –: keiner ist gekommen',
+  'Article': 'Artikel',
+  ['A decision is put down by a command. It counts in place of what the server says: in results, reports and '
+    + 'standings. The game’s own record stays as it is, and the last decision about a board counts.']:
+    'Eine Entscheidung wird durch einen Befehl festgehalten. Sie zählt anstelle dessen, was der Server sagt: in '
+    + 'Ergebnissen, Berichten und Tabellen. Die Partie selbst bleibt verzeichnet, wie sie ist, und es zählt die '
+    + 'letzte Entscheidung über ein Brett.',
+  'Decide a result': 'Ein Ergebnis entscheiden',
+  'The game’s number': 'Nummer der Partie',
+  'Game {0} goes on: first its result is entered.': 'Partie {0} läuft noch: zuerst wird ihr Ergebnis eingetragen.',
+  'Default time, min': 'Wartezeit, min',
+  '{0} has not moved within the default time, {1} min': '{0} hat in der Wartezeit nicht gezogen, {1} min',
 };

@@ -65,7 +65,7 @@ export const WORDS = {
   'not connected': 'sin conexión',
   'not connected for {0} min': 'sin conexión desde hace {0} min',
   '{0} is connected again.': '{0} está de nuevo en línea.',
-  'Spectators signed in: {0}': 'Espectadores identificados: {0}',
+  'Spectators connected: {0}': 'Espectadores conectados: {0}',
   ', game {0}': ', partida {0}',
   'More': 'Más',
   'Take off': 'Retirar',
@@ -687,8 +687,6 @@ export const WORDS = {
   'You play in this game: look at it again once it is over.':
     'Juegas en esta partida: vuelve a verla cuando termine.',
   'That is neither a FEN nor a PGN.': 'Eso no es ni una FEN ni una PGN.',
-  '{0} cannot be played there: what stands before it is on the board.':
-    '{0} no se puede jugar ahí: lo anterior está en el tablero.',
   'This browser keeps nothing: copy the PGN.': 'Este navegador no guarda nada: copia la PGN.',
   'the start': 'el inicio',
   'Look at a game again': 'Volver a ver una partida',
@@ -851,4 +849,55 @@ export const WORDS = {
     '{0} figura ahora en la lista: crea un enlace nuevo, que se muestra aquí una vez.',
   'Both sides are moved here, for you alone. What you try is kept in this browser.':
     'Aquí mueves ambos bandos, solo para ti. Lo que pruebas se guarda en este navegador.',
+  'Clocks: {0} – {1}': 'Relojes: {0} – {1}',
+  'Line {0}: the comment that begins here has no end, and the rest was taken for it.':
+    'Línea {0}: el comentario que empieza aquí no tiene fin, y lo demás se tomó por él.',
+  'Line {0}: {1} cannot be played there. What stands before it is on the board.':
+    'Línea {0}: {1} no se puede jugar ahí. Lo que está antes está en el tablero.',
+  'Line {0}: {1} cannot be played there. The rest of this variation is left out.':
+    'Línea {0}: {1} no se puede jugar ahí. El resto de esta variante se omite.',
+  'Decide the result': 'Decidir el resultado',
+  'Decide the result of game {0}: {1} – {2}': 'Decidir el resultado de la partida {0}: {1} – {2}',
+  'The server says {0}: {1}.': 'El servidor dice {0}: {1}.',
+  '{0} has not made a move.': '{0}: ninguna jugada todavía.',
+  '{0} has not made a move; the clocks have run for {1} min.':
+    '{0}: ninguna jugada todavía; los relojes corren desde hace {1} min.',
+  'To be run on the club’s machine, in the folder with the round’s files.':
+    'Se ejecuta en la máquina del club, en la carpeta con los archivos de la ronda.',
+  'Fill in the board, the result and the reason.': 'Rellena el tablero, el resultado y el motivo.',
+  'This page does not know which board of which round it is: look at the pairings.':
+    'Esta página no sabe qué tablero de qué ronda es: mira los emparejamientos.',
+  '{0} Run it on the club’s machine, in the folder with the round’s files: it prints “board {1}: {2} is decided”.':
+    '{0} Ejecútala en la máquina del club, en la carpeta con los archivos de la ronda: dice «board {1}: {2} is '
+    + 'decided».',
+  '{0} did not come in time': '{0}: no se presentaron a tiempo',
+  '{0} cannot mate by any legal moves': '{0} no pueden dar mate con ninguna serie de jugadas legales',
+  ['By 6.7 who comes after the default time loses, unless the arbiter decides otherwise. The game goes on until it '
+    + 'is ended here, by “By mistake” or “Flag”.']:
+    'Según 6.7 pierde quien llega después del tiempo de espera, salvo que el árbitro decida otra cosa. La partida '
+    + 'sigue hasta que se termine aquí, con «Por error» o «Bandera».',
+  ['By {0} it is a draw where {1} cannot mate by any legal moves. {2} has: {3}. The server draws by 6.9 against a '
+    + 'king alone; of the rest the note of “chess-club results” says what the Laws say.']:
+    'Según {0} son tablas si {1} no pueden dar mate con ninguna serie de jugadas legales. {2} tienen: {3}. El '
+    + 'servidor da tablas por 6.9 contra un rey solo; de lo demás, la nota de «chess-club results» dice lo que dicen '
+    + 'las Leyes.',
+  '1–0: White wins': '1–0: ganan blancas',
+  '½–½: a draw': '½–½: tablas',
+  '0–1: Black wins': '0–1: ganan negras',
+  '½–0: half a point for White alone': '½–0: medio punto solo para blancas',
+  '0–½: half a point for Black alone': '0–½: medio punto solo para negras',
+  '0–0: both lose': '0–0: ambos pierden',
+  '+ –: Black did not come': '+ –: no se presentaron las negras',
+  '– +: White did not come': '– +: no se presentaron las blancas',
+  '– –: neither came': '– –: no se presentó nadie',
+  'Article': 'Artículo',
+  ['A decision is put down by a command. It counts in place of what the server says: in results, reports and '
+    + 'standings. The game’s own record stays as it is, and the last decision about a board counts.']:
+    'Una decisión se anota con una orden. Cuenta en lugar de lo que dice el servidor: en resultados, informes y '
+    + 'clasificaciones. El registro de la partida queda como está, y cuenta la última decisión sobre un tablero.',
+  'Decide a result': 'Decidir un resultado',
+  'The game’s number': 'Número de la partida',
+  'Game {0} goes on: first its result is entered.': 'La partida {0} sigue: primero se anota su resultado.',
+  'Default time, min': 'Tiempo de espera, min',
+  '{0} has not moved within the default time, {1} min': '{0}: ninguna jugada en el tiempo de espera, {1} min',
 };

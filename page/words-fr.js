@@ -70,7 +70,7 @@ export const WORDS = {
   'not connected': 'hors ligne',
   'not connected for {0} min': 'hors ligne depuis {0} min',
   '{0} is connected again.': '{0} est de nouveau en ligne.',
-  'Spectators signed in: {0}': 'Spectateurs connectés : {0}',
+  'Spectators connected: {0}': 'Spectateurs connectés : {0}',
   ', game {0}': ', partie {0}',
   'More': 'Plus',
   'Take off': 'Retirer',
@@ -698,8 +698,6 @@ export const WORDS = {
   'You play in this game: look at it again once it is over.':
     'Vous jouez dans cette partie : revoyez-la une fois finie.',
   'That is neither a FEN nor a PGN.': 'Ce n’est ni une FEN ni un PGN.',
-  '{0} cannot be played there: what stands before it is on the board.':
-    '{0} ne peut pas être joué là : ce qui précède est sur l’échiquier.',
   'This browser keeps nothing: copy the PGN.': 'Ce navigateur ne garde rien : copiez le PGN.',
   'the start': 'le début',
   'Look at a game again': 'Revoir une partie',
@@ -865,4 +863,56 @@ export const WORDS = {
     '{0} figure maintenant dans la liste : créez un nouveau lien, affiché ici une seule fois.',
   'Both sides are moved here, for you alone. What you try is kept in this browser.':
     'Ici vous jouez les deux camps, pour vous seul. Ce que vous essayez est gardé dans ce navigateur.',
+  'Clocks: {0} – {1}': 'Pendules : {0} – {1}',
+  'Line {0}: the comment that begins here has no end, and the rest was taken for it.':
+    'Ligne {0} : le commentaire qui commence ici n’a pas de fin, et le reste a été pris pour lui.',
+  'Line {0}: {1} cannot be played there. What stands before it is on the board.':
+    'Ligne {0} : {1} ne peut pas y être joué. Ce qui précède est sur l’échiquier.',
+  'Line {0}: {1} cannot be played there. The rest of this variation is left out.':
+    'Ligne {0} : {1} ne peut pas y être joué. Le reste de cette variante est laissé de côté.',
+  'Decide the result': 'Décider le résultat',
+  'Decide the result of game {0}: {1} – {2}': 'Décider le résultat de la partie {0} : {1} – {2}',
+  'The server says {0}: {1}.': 'Le serveur dit {0} : {1}.',
+  '{0} has not made a move.': '{0} : aucun coup joué.',
+  '{0} has not made a move; the clocks have run for {1} min.':
+    '{0} : aucun coup joué ; les pendules tournent depuis {1} min.',
+  'To be run on the club’s machine, in the folder with the round’s files.':
+    'À lancer sur la machine du club, dans le dossier des fichiers de la ronde.',
+  'Fill in the board, the result and the reason.': 'Indiquez l’échiquier, le résultat et le motif.',
+  'This page does not know which board of which round it is: look at the pairings.':
+    'Cette page ne sait pas de quel échiquier de quelle ronde il s’agit : voyez les appariements.',
+  '{0} Run it on the club’s machine, in the folder with the round’s files: it prints “board {1}: {2} is decided”.':
+    '{0} Lancez-la sur la machine du club, dans le dossier des fichiers de la ronde : elle affiche « board {1}: {2} '
+    + 'is decided ».',
+  '{0} did not come in time': '{0} : absence à l’heure limite',
+  '{0} cannot mate by any legal moves': 'Les {0} ne peuvent mater par aucune suite de coups légaux',
+  ['By 6.7 who comes after the default time loses, unless the arbiter decides otherwise. The game goes on until it '
+    + 'is ended here, by “By mistake” or “Flag”.']:
+    'Selon 6.7, qui arrive après le délai d’attente perd, sauf décision contraire de l’arbitre. La partie continue '
+    + 'jusqu’à ce qu’elle soit terminée ici, par « Par erreur » ou « Drapeau ».',
+  ['By {0} it is a draw where {1} cannot mate by any legal moves. {2} has: {3}. The server draws by 6.9 against a '
+    + 'king alone; of the rest the note of “chess-club results” says what the Laws say.']:
+    'Selon {0}, la partie est nulle si les {1} ne peuvent mater par aucune suite de coups légaux. Les {2} ont : {3}. '
+    + 'Le serveur donne nulle par 6.9 contre un roi seul ; pour le reste, la note de « chess-club results » dit ce '
+    + 'que disent les Règles.',
+  '1–0: White wins': '1–0 : les Blancs gagnent',
+  '½–½: a draw': '½–½ : nulle',
+  '0–1: Black wins': '0–1 : les Noirs gagnent',
+  '½–0: half a point for White alone': '½–0 : un demi-point aux Blancs seuls',
+  '0–½: half a point for Black alone': '0–½ : un demi-point aux Noirs seuls',
+  '0–0: both lose': '0–0 : les deux perdent',
+  '+ –: Black did not come': '+ – : les Noirs ne sont pas venus',
+  '– +: White did not come': '– + : les Blancs ne sont pas venus',
+  '– –: neither came': '– – : personne n’est venu',
+  'Article': 'Article',
+  ['A decision is put down by a command. It counts in place of what the server says: in results, reports and '
+    + 'standings. The game’s own record stays as it is, and the last decision about a board counts.']:
+    'Une décision est inscrite par une commande. Elle compte à la place de ce que dit le serveur : dans les '
+    + 'résultats, les rapports et les classements. La partie reste archivée telle quelle, et la dernière décision '
+    + 'sur un échiquier compte.',
+  'Decide a result': 'Décider un résultat',
+  'The game’s number': 'Numéro de la partie',
+  'Game {0} goes on: first its result is entered.': 'La partie {0} continue : son résultat est d’abord à inscrire.',
+  'Default time, min': 'Délai d’attente, min',
+  '{0} has not moved within the default time, {1} min': '{0} : aucun coup joué dans le délai d’attente, {1} min',
 };

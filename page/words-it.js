@@ -67,7 +67,7 @@ export const WORDS = {
   'not connected': 'non in linea',
   'not connected for {0} min': 'non in linea da {0} min',
   '{0} is connected again.': '{0} è di nuovo in linea.',
-  'Spectators signed in: {0}': 'Spettatori connessi: {0}',
+  'Spectators connected: {0}': 'Spettatori connessi: {0}',
   ', game {0}': ', partita {0}',
   'More': 'Altro',
   'Take off': 'Togli',
@@ -692,8 +692,6 @@ export const WORDS = {
   'You play in this game: look at it again once it is over.':
     'Giochi in questa partita: riguardala quando sarà finita.',
   'That is neither a FEN nor a PGN.': 'Non è né una FEN né una PGN.',
-  '{0} cannot be played there: what stands before it is on the board.':
-    '{0} non si può giocare lì: ciò che precede è sulla scacchiera.',
   'This browser keeps nothing: copy the PGN.': 'Questo browser non conserva nulla: copia la PGN.',
   'the start': 'l’inizio',
   'Look at a game again': 'Riguardare una partita',
@@ -856,4 +854,53 @@ export const WORDS = {
     '{0} è ora nell’elenco: crea un nuovo link, mostrato qui una volta sola.',
   'Both sides are moved here, for you alone. What you try is kept in this browser.':
     'Qui muovi entrambe le parti, solo per te. Ciò che provi è conservato in questo browser.',
+  'Clocks: {0} – {1}': 'Orologi: {0} – {1}',
+  'Line {0}: the comment that begins here has no end, and the rest was taken for it.':
+    'Riga {0}: il commento che comincia qui non ha fine, e il resto è stato preso per esso.',
+  'Line {0}: {1} cannot be played there. What stands before it is on the board.':
+    'Riga {0}: {1} lì non si può giocare. Ciò che sta prima è sulla scacchiera.',
+  'Line {0}: {1} cannot be played there. The rest of this variation is left out.':
+    'Riga {0}: {1} lì non si può giocare. Il resto di questa variante è tralasciato.',
+  'Decide the result': 'Decidi il risultato',
+  'Decide the result of game {0}: {1} – {2}': 'Decidi il risultato della partita {0}: {1} – {2}',
+  'The server says {0}: {1}.': 'Il server dice {0}: {1}.',
+  '{0} has not made a move.': 'Il {0} non ha ancora mosso.',
+  '{0} has not made a move; the clocks have run for {1} min.':
+    'Il {0} non ha ancora mosso; gli orologi vanno da {1} min.',
+  'To be run on the club’s machine, in the folder with the round’s files.':
+    'Da eseguire sulla macchina del circolo, nella cartella con i file del turno.',
+  'Fill in the board, the result and the reason.': 'Indica la scacchiera, il risultato e il motivo.',
+  'This page does not know which board of which round it is: look at the pairings.':
+    'Questa pagina non sa quale scacchiera di quale turno sia: guarda gli abbinamenti.',
+  '{0} Run it on the club’s machine, in the folder with the round’s files: it prints “board {1}: {2} is decided”.':
+    '{0} Eseguilo sulla macchina del circolo, nella cartella con i file del turno: scrive «board {1}: {2} is decided».',
+  '{0} did not come in time': 'Il {0} non è venuto in tempo',
+  '{0} cannot mate by any legal moves': 'Il {0} non può dare matto con alcuna serie di mosse legali',
+  ['By 6.7 who comes after the default time loses, unless the arbiter decides otherwise. The game goes on until it '
+    + 'is ended here, by “By mistake” or “Flag”.']:
+    'Secondo 6.7 perde chi arriva dopo il tempo di attesa, se l’arbitro non decide altrimenti. La partita continua '
+    + 'finché non è chiusa qui, con «Per errore» o «Bandierina».',
+  ['By {0} it is a draw where {1} cannot mate by any legal moves. {2} has: {3}. The server draws by 6.9 against a '
+    + 'king alone; of the rest the note of “chess-club results” says what the Laws say.']:
+    'Secondo {0} è patta se il {1} non può dare matto con alcuna serie di mosse legali. Il {2} ha: {3}. Il server dà '
+    + 'patta per 6.9 contro un re solo; del resto, la nota di «chess-club results» dice ciò che dicono le Regole.',
+  '1–0: White wins': '1–0: il Bianco vince',
+  '½–½: a draw': '½–½: patta',
+  '0–1: Black wins': '0–1: il Nero vince',
+  '½–0: half a point for White alone': '½–0: mezzo punto al solo Bianco',
+  '0–½: half a point for Black alone': '0–½: mezzo punto al solo Nero',
+  '0–0: both lose': '0–0: perdono entrambi',
+  '+ –: Black did not come': '+ –: il Nero non è venuto',
+  '– +: White did not come': '– +: il Bianco non è venuto',
+  '– –: neither came': '– –: non è venuto nessuno',
+  'Article': 'Articolo',
+  ['A decision is put down by a command. It counts in place of what the server says: in results, reports and '
+    + 'standings. The game’s own record stays as it is, and the last decision about a board counts.']:
+    'Una decisione si annota con un comando. Vale al posto di ciò che dice il server: nei risultati, nei rapporti e '
+    + 'nelle classifiche. Il registro della partita resta com’è, e vale l’ultima decisione su una scacchiera.',
+  'Decide a result': 'Decidi un risultato',
+  'The game’s number': 'Numero della partita',
+  'Game {0} goes on: first its result is entered.': 'La partita {0} continua: prima si registra il suo risultato.',
+  'Default time, min': 'Tempo di attesa, min',
+  '{0} has not moved within the default time, {1} min': 'Il {0} non ha mosso nel tempo di attesa, {1} min',
 };

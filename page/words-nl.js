@@ -67,7 +67,7 @@ export const WORDS = {
   'not connected': 'geen verbinding',
   'not connected for {0} min': 'al {0} min geen verbinding',
   '{0} is connected again.': '{0} heeft weer verbinding.',
-  'Spectators signed in: {0}': 'Aangemelde toeschouwers: {0}',
+  'Spectators connected: {0}': 'Verbonden toeschouwers: {0}',
   ', game {0}': ', partij {0}',
   'More': 'Meer',
   'Take off': 'Weghalen',
@@ -693,8 +693,6 @@ export const WORDS = {
   'You play in this game: look at it again once it is over.':
     'Je speelt in deze partij: bekijk haar opnieuw als ze voorbij is.',
   'That is neither a FEN nor a PGN.': 'Dat is geen FEN en geen PGN.',
-  '{0} cannot be played there: what stands before it is on the board.':
-    '{0} kan daar niet gespeeld worden: wat ervoor staat, is op het bord.',
   'This browser keeps nothing: copy the PGN.': 'Deze browser bewaart niets: kopieer de PGN.',
   'the start': 'het begin',
   'Look at a game again': 'Een partij opnieuw bekijken',
@@ -858,4 +856,54 @@ export const WORDS = {
     '{0} staat nu in de lijst: maak een nieuwe link, die hier één keer wordt getoond.',
   'Both sides are moved here, for you alone. What you try is kept in this browser.':
     'Hier zet je beide kanten, alleen voor jezelf. Wat je probeert, bewaart deze browser.',
+  'Clocks: {0} – {1}': 'Klokken: {0} – {1}',
+  'Line {0}: the comment that begins here has no end, and the rest was taken for it.':
+    'Regel {0}: het commentaar dat hier begint heeft geen einde, en de rest is ervoor gehouden.',
+  'Line {0}: {1} cannot be played there. What stands before it is on the board.':
+    'Regel {0}: {1} kan daar niet gespeeld worden. Wat ervoor staat, staat op het bord.',
+  'Line {0}: {1} cannot be played there. The rest of this variation is left out.':
+    'Regel {0}: {1} kan daar niet gespeeld worden. De rest van deze variant is weggelaten.',
+  'Decide the result': 'Uitslag bepalen',
+  'Decide the result of game {0}: {1} – {2}': 'De uitslag van partij {0} bepalen: {1} – {2}',
+  'The server says {0}: {1}.': 'De server zegt {0}: {1}.',
+  '{0} has not made a move.': '{0} heeft nog niet gezet.',
+  '{0} has not made a move; the clocks have run for {1} min.': '{0} heeft nog niet gezet; de klokken lopen al {1} min.',
+  'To be run on the club’s machine, in the folder with the round’s files.':
+    'Uit te voeren op de machine van de club, in de map met de bestanden van de ronde.',
+  'Fill in the board, the result and the reason.': 'Vul het bord, de uitslag en de reden in.',
+  'This page does not know which board of which round it is: look at the pairings.':
+    'Welk bord van welke ronde het is, weet deze pagina niet: kijk in de indeling.',
+  '{0} Run it on the club’s machine, in the folder with the round’s files: it prints “board {1}: {2} is decided”.':
+    '{0} Voer ze uit op de machine van de club, in de map met de bestanden van de ronde: ze zegt ‘board {1}: {2} is '
+    + 'decided’.',
+  '{0} did not come in time': '{0} is niet op tijd gekomen',
+  '{0} cannot mate by any legal moves': '{0} kan met geen enkele reglementaire zettenreeks mat zetten',
+  ['By 6.7 who comes after the default time loses, unless the arbiter decides otherwise. The game goes on until it '
+    + 'is ended here, by “By mistake” or “Flag”.']:
+    'Volgens 6.7 verliest wie na de wachttijd komt, tenzij de arbiter anders beslist. De partij gaat door tot ze '
+    + 'hier wordt beëindigd, met ‘Vergissing’ of ‘Vlag’.',
+  ['By {0} it is a draw where {1} cannot mate by any legal moves. {2} has: {3}. The server draws by 6.9 against a '
+    + 'king alone; of the rest the note of “chess-club results” says what the Laws say.']:
+    'Volgens {0} is het remise als {1} met geen enkele reglementaire zettenreeks mat kan zetten. {2} heeft: {3}. De '
+    + 'server geeft volgens 6.9 remise tegen een kale koning; van de rest zegt de opmerking van ‘chess-club results’ '
+    + 'wat de Regels zeggen.',
+  '1–0: White wins': '1–0: Wit wint',
+  '½–½: a draw': '½–½: remise',
+  '0–1: Black wins': '0–1: Zwart wint',
+  '½–0: half a point for White alone': '½–0: een half punt voor Wit alleen',
+  '0–½: half a point for Black alone': '0–½: een half punt voor Zwart alleen',
+  '0–0: both lose': '0–0: beiden verliezen',
+  '+ –: Black did not come': '+ –: Zwart is niet gekomen',
+  '– +: White did not come': '– +: Wit is niet gekomen',
+  '– –: neither came': '– –: niemand is gekomen',
+  'Article': 'Artikel',
+  ['A decision is put down by a command. It counts in place of what the server says: in results, reports and '
+    + 'standings. The game’s own record stays as it is, and the last decision about a board counts.']:
+    'Een beslissing wordt met een opdracht vastgelegd. Ze telt in plaats van wat de server zegt: in uitslagen, '
+    + 'verslagen en standen. De partij zelf blijft staan zoals ze is, en de laatste beslissing over een bord telt.',
+  'Decide a result': 'Een uitslag bepalen',
+  'The game’s number': 'Nummer van de partij',
+  'Game {0} goes on: first its result is entered.': 'Partij {0} gaat door: eerst wordt haar uitslag ingevoerd.',
+  'Default time, min': 'Wachttijd, min',
+  '{0} has not moved within the default time, {1} min': '{0} heeft binnen de wachttijd niet gezet, {1} min',
 };

@@ -66,7 +66,7 @@ export const WORDS = {
   'not connected': 'brak połączenia',
   'not connected for {0} min': 'brak połączenia od {0} min',
   '{0} is connected again.': '{0} znów ma połączenie.',
-  'Spectators signed in: {0}': 'Zalogowani widzowie: {0}',
+  'Spectators connected: {0}': 'Połączeni widzowie: {0}',
   ', game {0}': ', partia {0}',
   'More': 'Więcej',
   'Take off': 'Usuń z listy',
@@ -686,8 +686,6 @@ export const WORDS = {
   'You play in this game: look at it again once it is over.':
     'Grasz w tej partii: obejrzyj ją ponownie, gdy się skończy.',
   'That is neither a FEN nor a PGN.': 'To nie jest ani FEN, ani PGN.',
-  '{0} cannot be played there: what stands before it is on the board.':
-    '{0} nie da się tam zagrać: to, co przed tym, jest na szachownicy.',
   'This browser keeps nothing: copy the PGN.': 'Ta przeglądarka nic nie zachowuje: skopiuj PGN.',
   'the start': 'początek',
   'Look at a game again': 'Obejrzyj partię ponownie',
@@ -850,4 +848,52 @@ export const WORDS = {
     '{0} jest już na liście: utwórz nowy link, pokazany tu jeden raz.',
   'Both sides are moved here, for you alone. What you try is kept in this browser.':
     'Tutaj grasz obiema stronami, tylko dla siebie. To, czego próbujesz, zachowuje ta przeglądarka.',
+  'Clocks: {0} – {1}': 'Zegary: {0} – {1}',
+  'Line {0}: the comment that begins here has no end, and the rest was taken for it.':
+    'Wiersz {0}: komentarz, który się tu zaczyna, nie ma końca, i resztę uznano za jego treść.',
+  'Line {0}: {1} cannot be played there. What stands before it is on the board.':
+    'Wiersz {0}: {1} nie może tam być zagrane. To, co stoi wcześniej, jest na szachownicy.',
+  'Line {0}: {1} cannot be played there. The rest of this variation is left out.':
+    'Wiersz {0}: {1} nie może tam być zagrane. Resztę tego wariantu pominięto.',
+  'Decide the result': 'Rozstrzygnij wynik',
+  'Decide the result of game {0}: {1} – {2}': 'Rozstrzygnij wynik partii {0}: {1} – {2}',
+  'The server says {0}: {1}.': 'Serwer podaje {0}: {1}.',
+  '{0} has not made a move.': '{0}: jeszcze bez ruchu.',
+  '{0} has not made a move; the clocks have run for {1} min.': '{0}: jeszcze bez ruchu; zegary chodzą od {1} min.',
+  'To be run on the club’s machine, in the folder with the round’s files.':
+    'Do uruchomienia na komputerze klubu, w folderze z plikami rundy.',
+  'Fill in the board, the result and the reason.': 'Podaj szachownicę, wynik i powód.',
+  'This page does not know which board of which round it is: look at the pairings.':
+    'Ta strona nie wie, która to szachownica której rundy: zajrzyj do kojarzeń.',
+  '{0} Run it on the club’s machine, in the folder with the round’s files: it prints “board {1}: {2} is decided”.':
+    '{0} Uruchom je na komputerze klubu, w folderze z plikami rundy: wypisze „board {1}: {2} is decided”.',
+  '{0} did not come in time': '{0}: nieobecność po czasie oczekiwania',
+  '{0} cannot mate by any legal moves': '{0} nie mogą zamatować żadną serią prawidłowych posunięć',
+  ['By 6.7 who comes after the default time loses, unless the arbiter decides otherwise. The game goes on until it '
+    + 'is ended here, by “By mistake” or “Flag”.']:
+    'Według 6.7 przegrywa ten, kto przychodzi po czasie oczekiwania, o ile sędzia nie zdecyduje inaczej. Partia '
+    + 'trwa, aż zakończy się ją tutaj przez „Pomyłka” lub „Czas”.',
+  ['By {0} it is a draw where {1} cannot mate by any legal moves. {2} has: {3}. The server draws by 6.9 against a '
+    + 'king alone; of the rest the note of “chess-club results” says what the Laws say.']:
+    'Według {0} jest remis, jeśli {1} nie mogą zamatować żadną serią prawidłowych posunięć. {2} mają: {3}. Serwer '
+    + 'daje remis według 6.9 przeciw samemu królowi; o reszcie uwaga „chess-club results” mówi, co mówią Przepisy.',
+  '1–0: White wins': '1–0: białe wygrywają',
+  '½–½: a draw': '½–½: remis',
+  '0–1: Black wins': '0–1: czarne wygrywają',
+  '½–0: half a point for White alone': '½–0: pół punktu tylko dla białych',
+  '0–½: half a point for Black alone': '0–½: pół punktu tylko dla czarnych',
+  '0–0: both lose': '0–0: obie strony przegrywają',
+  '+ –: Black did not come': '+ –: czarne nie przyszły',
+  '– +: White did not come': '– +: białe nie przyszły',
+  '– –: neither came': '– –: nikt nie przyszedł',
+  'Article': 'Artykuł',
+  ['A decision is put down by a command. It counts in place of what the server says: in results, reports and '
+    + 'standings. The game’s own record stays as it is, and the last decision about a board counts.']:
+    'Decyzję zapisuje się poleceniem. Liczy się ona zamiast tego, co podaje serwer: w wynikach, raportach i '
+    + 'tabelach. Zapis partii zostaje bez zmian, a o szachownicy liczy się ostatnia decyzja.',
+  'Decide a result': 'Rozstrzygnij jakiś wynik',
+  'The game’s number': 'Numer partii',
+  'Game {0} goes on: first its result is entered.': 'Partia {0} trwa: najpierw zapisuje się jej wynik.',
+  'Default time, min': 'Czas oczekiwania, min',
+  '{0} has not moved within the default time, {1} min': '{0}: bez ruchu w czasie oczekiwania, {1} min',
 };

@@ -66,7 +66,7 @@ export const WORDS = {
   'not connected': 'sem conexão',
   'not connected for {0} min': 'sem conexão há {0} min',
   '{0} is connected again.': '{0} está de novo com conexão.',
-  'Spectators signed in: {0}': 'Espectadores conectados: {0}',
+  'Spectators connected: {0}': 'Espectadores conectados: {0}',
   ', game {0}': ', partida {0}',
   'More': 'Mais',
   'Take off': 'Retirar',
@@ -683,8 +683,6 @@ export const WORDS = {
   'Your games': 'Suas partidas',
   'You play in this game: look at it again once it is over.': 'Você joga nesta partida: reveja-a quando terminar.',
   'That is neither a FEN nor a PGN.': 'Isso não é FEN nem PGN.',
-  '{0} cannot be played there: what stands before it is on the board.':
-    '{0} não pode ser jogado ali: o que vem antes está no tabuleiro.',
   'This browser keeps nothing: copy the PGN.': 'Este navegador não guarda nada: copie a PGN.',
   'the start': 'o início',
   'Look at a game again': 'Rever uma partida',
@@ -846,4 +844,53 @@ export const WORDS = {
     '{0} já está na lista: crie um novo link, mostrado aqui uma vez.',
   'Both sides are moved here, for you alone. What you try is kept in this browser.':
     'Aqui você move os dois lados, só para si. O que você tenta fica guardado neste navegador.',
+  'Clocks: {0} – {1}': 'Relógios: {0} – {1}',
+  'Line {0}: the comment that begins here has no end, and the rest was taken for it.':
+    'Linha {0}: o comentário que começa aqui não tem fim, e o resto foi tomado por ele.',
+  'Line {0}: {1} cannot be played there. What stands before it is on the board.':
+    'Linha {0}: {1} não pode ser jogado ali. O que está antes está no tabuleiro.',
+  'Line {0}: {1} cannot be played there. The rest of this variation is left out.':
+    'Linha {0}: {1} não pode ser jogado ali. O resto desta variante fica de fora.',
+  'Decide the result': 'Decidir o resultado',
+  'Decide the result of game {0}: {1} – {2}': 'Decidir o resultado da partida {0}: {1} – {2}',
+  'The server says {0}: {1}.': 'O servidor diz {0}: {1}.',
+  '{0} has not made a move.': '{0}: nenhum lance ainda.',
+  '{0} has not made a move; the clocks have run for {1} min.':
+    '{0}: nenhum lance ainda; os relógios correm há {1} min.',
+  'To be run on the club’s machine, in the folder with the round’s files.':
+    'Para executar na máquina do clube, na pasta com os arquivos da ronda.',
+  'Fill in the board, the result and the reason.': 'Preencha o tabuleiro, o resultado e o motivo.',
+  'This page does not know which board of which round it is: look at the pairings.':
+    'Esta página não sabe que tabuleiro de que ronda é: veja os emparceiramentos.',
+  '{0} Run it on the club’s machine, in the folder with the round’s files: it prints “board {1}: {2} is decided”.':
+    '{0} Execute-o na máquina do clube, na pasta com os arquivos da ronda: ele diz “board {1}: {2} is decided”.',
+  '{0} did not come in time': '{0}: não chegaram a tempo',
+  '{0} cannot mate by any legal moves': '{0} não podem dar mate por nenhuma série de lances legais',
+  ['By 6.7 who comes after the default time loses, unless the arbiter decides otherwise. The game goes on until it '
+    + 'is ended here, by “By mistake” or “Flag”.']:
+    'Por 6.7 perde quem chega depois do tempo de tolerância, salvo decisão do árbitro. A partida continua até ser '
+    + 'encerrada aqui, por “Por engano” ou “Seta”.',
+  ['By {0} it is a draw where {1} cannot mate by any legal moves. {2} has: {3}. The server draws by 6.9 against a '
+    + 'king alone; of the rest the note of “chess-club results” says what the Laws say.']:
+    'Por {0} é empate se {1} não podem dar mate por nenhuma série de lances legais. {2} têm: {3}. O servidor dá '
+    + 'empate por 6.9 contra um rei sozinho; do resto, a nota de “chess-club results” diz o que dizem as Leis.',
+  '1–0: White wins': '1–0: brancas vencem',
+  '½–½: a draw': '½–½: empate',
+  '0–1: Black wins': '0–1: pretas vencem',
+  '½–0: half a point for White alone': '½–0: meio ponto só para as brancas',
+  '0–½: half a point for Black alone': '0–½: meio ponto só para as pretas',
+  '0–0: both lose': '0–0: ambos perdem',
+  '+ –: Black did not come': '+ –: as pretas não vieram',
+  '– +: White did not come': '– +: as brancas não vieram',
+  '– –: neither came': '– –: ninguém veio',
+  'Article': 'Artigo',
+  ['A decision is put down by a command. It counts in place of what the server says: in results, reports and '
+    + 'standings. The game’s own record stays as it is, and the last decision about a board counts.']:
+    'Uma decisão é anotada por um comando. Ela vale no lugar do que diz o servidor: em resultados, relatórios e '
+    + 'classificações. O registro da partida fica como está, e vale a última decisão sobre um tabuleiro.',
+  'Decide a result': 'Decidir um resultado',
+  'The game’s number': 'Número da partida',
+  'Game {0} goes on: first its result is entered.': 'A partida {0} continua: primeiro se registra o resultado.',
+  'Default time, min': 'Tolerância, min',
+  '{0} has not moved within the default time, {1} min': '{0}: nenhum lance no tempo de tolerância, {1} min',
 };

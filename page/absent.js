@@ -1,0 +1,65 @@
+// Who has not made a move when the default time is over (6.7), which an arbiter writes down at the desk: then that waits.
+
+import { t } from './language.js';
+import { readPgn, readTimes } from './lines.js';
+import { byId, read, write } from './make.js';
+import { stopped } from './stopped.js';
+import { AGREED, colourWord } from './words.js';
+
+const KEY = 'default-time';            // minutes
+export const MINUTE = 60000;
+const SECOND = 1000;
+const local = () => localStorage;
+
+export class Absences {
+  /** changed() is called where another time is written. */
+  constructor(app, changed) {
+    this.app = app;
+    this.times = new Map();            // number -> the game's times, null where they are not told
+    this.field = byId('default-time');
+    this.field.value = read(local, KEY) || '';
+    this.field.addEventListener('input', () => {
+      write(local, KEY, this.minutes() ? String(this.minutes()) : null);
+      changed();
+    });
+  }
+
+  /** The default time, 0 where there is none. */
+  minutes() {
+    return this.field.checkValidity() ? Number(this.field.value) : 0;
+  }
+
+  /** The next game of which it matters that its times are not known; undefined where there is none. */
+  untimed(rows, standingOf) {
+    if (!this.minutes()) return undefined;
+    return rows.map(({ number }) => number).find((number) => !this.times.has(number) && isAbsent(standingOf(number)));
+  }
+
+  /** Asks for a game's times, which its PGN has. */
+  async ask(number) {
+    const answer = await this.app.wire.say(`pgn ${number}`, true);
+    if (answer[0].startsWith('ok ')) this.times.set(number, readTimes(readPgn(answer.slice(1)).tags.TimeControl || ''));
+    else if (answer[0].startsWith('no ')) this.times.set(number, null);
+  }
+
+  /** For how many milliseconds both clocks have run in a game that stood so at the moment `at`, before both have moved;
+   * null where its times are not known. */
+  ran({ number, ply, left }, at) {
+    const times = this.times.get(number);
+    if (!times) return null;
+    const gone = (side) => SECOND * times.initial - left[side], since = stopped ? 0 : performance.now() - at;
+    return Math.max(0, since + (ply === 0 ? gone('w') : gone('w') + SECOND * times.increment + gone('b')));
+  }
+
+  /** What waits of a game that stood so at the moment `at`; '' where nothing does. */
+  words(standing, at) {
+    const minutes = this.minutes(), ran = minutes && isAbsent(standing) ? this.ran(standing, at) : null;
+    return ran === null || ran < MINUTE * minutes ? ''
+      : t`${colourWord(standing.side)} has not moved within the default time, ${minutes} min`;
+  }
+}
+
+/** Whether who is to move in a game that runs has not made a move so far. */
+export function isAbsent(standing) {
+  return Boolean(standing && standing.white && standing.black && !standing.article && standing.ply < AGREED);
+}

@@ -1,0 +1,175 @@
+// An arbiter's decision about a board of a round: the lobby has no word that puts one down, so the desk shows the command
+// that does, with all that it says filled in, and tells what the decision is.
+
+import { MINUTE, isAbsent } from './absent.js';
+import { findKept, toldOf } from './kept.js';
+import { t } from './language.js';
+import { readShow } from './lines.js';
+import { byId, copy, setText } from './make.js';
+import { AGREED, OTHER, colourWord, kindWords, resultWords, withReason } from './words.js';
+
+const WORDLESS = /^[\w.,:/+-]+$/;      // what a shell takes as it is
+/** By which a game ended that is a draw where the winner cannot mate. */
+const LOST_BY = { '6.9': '6.9', '5.1.2': '5.1.2' };
+const FORFEIT = { w: '-/+', b: '+/-' }; // of who did not come
+
+export class Decision {
+  /** desk: {app, openings, absences}. */
+  constructor(desk) {
+    this.desk = desk;
+    this.app = desk.app;
+    this.about = 0;                    // the number of the game that is asked about
+    this.isKnown = false;              // whether its board was told
+    this.dialog = byId('decide-dialog');
+    this.form = byId('decide-form');
+    this.form.addEventListener('input', () => this.render());
+    this.form.addEventListener('submit', (event) => {
+      event.preventDefault();
+      this.copied();
+    });
+    this.dialog.addEventListener('close', () => { this.about = 0; });
+    byId('decide-leave').addEventListener('click', () => this.close());
+    byId('decide-find').addEventListener('submit', (event) => {
+      event.preventDefault();
+      this.lookUp(Number(event.target.elements.number.value));
+    });
+  }
+
+  close() {
+    this.dialog.close();
+  }
+
+  // ---- asking
+
+  /** Asks about a game by its number, from the table or from the games that were kept. */
+  async lookUp(number) {
+    const { wire } = this.app, told = byId('decide-found');
+    setText(told, t`Looking among the games that were kept …`);
+    const [shown, fen] = await Promise.all(['show', 'fen'].map((word) => wire.say(`${word} ${number}`)));
+    const show = readShow(shown[0]), position = /^ok fen \d+ (.+)$/.exec(fen[0]);
+    const standing = show && position ? { ...show, fen: position[1] } : await this.kept(number);
+    setText(told, !standing ? t`There is no game of this number.`
+      : !standing.article && !isAbsent(standing) ? t`Game ${number} goes on: first its result is entered.` : '');
+    if (standing && !told.textContent) this.ask(standing);
+  }
+
+  /** How a game stands that has left the table; null where there is none. */
+  async kept(number) {
+    const kept = await findKept(number), told = kept && toldOf(kept, (full) => this.app.nameOf(full));
+    return told && told.standing;
+  }
+
+  /** Asks what the board of a game shall have that stands so; what is likely is filled in. */
+  ask(standing) {
+    const { number } = standing, fields = this.form.elements, at = performance.now();
+    const [white, black] = [standing.white, standing.black].map((name) => this.nameOf(name));
+    this.about = number;
+    for (const [name, value] of Object.entries(likely(standing))) fields[name].value = value;
+    fields.board.value = '';
+    fields.round.value = String(this.app.round.newest() || 1);
+    setText(byId('decide-title'), t`Decide the result of game ${number}: ${white} – ${black}`);
+    this.tell(standing, at);
+    this.fillPlace();
+    const goesOn = (told) => () => this.about === number && told();
+    this.app.round.look().then(goesOn(() => this.fillPlace()));
+    if (isAbsent(standing)) this.desk.absences.ask(number).then(goesOn(() => this.tell(standing, at)));
+    this.dialog.showModal();
+  }
+
+  nameOf(name) {
+    return this.app.nameWords(name);
+  }
+
+  /** Which board of which round it is, where that was told and nothing was written meanwhile. */
+  fillPlace() {
+    const fields = this.form.elements, place = this.app.round.placeOf(this.about);
+    const opened = this.desk.openings.boardOf(this.about), board = place ? place.board : opened;
+    if (place && !fields.board.value) fields.round.value = String(place.round);
+    if (board && !fields.board.value) fields.board.value = String(board);
+    this.isKnown = Boolean(board);
+    this.render();
+  }
+
+  // ---- what is told
+
+  /** What the server says of a game that stood so at the moment `at`, and what the Laws say of it. */
+  tell(standing, at) {
+    const { result, article, side } = standing, words = resultWords(result, article);
+    const ran = article ? null : this.desk.absences.ran(standing, at);
+    setText(byId('decide-stands'), article
+      ? t`The server says ${words.score}: ${withReason(words.result, words.reason).trim()}.`
+      : ran === null ? t`${colourWord(side)} has not made a move.`
+      : t`${colourWord(side)} has not made a move; the clocks have run for ${Math.floor(ran / MINUTE)} min.`);
+    setText(byId('decide-law'), lawWords(standing));
+  }
+
+  command() {
+    const { round, board, result, article, reason } = this.form.elements, arbiter = this.nameOf(this.app.me());
+    if (!this.form.checkValidity()) return '';
+    const words = [['pairings', `round${round.value}.csv`], ['decisions', `round${round.value}.decisions`],
+      ['board', board.value], ['result', result.value], ['article', article.value.trim()], ['arbiter', arbiter],
+      ['reason', reason.value.trim()]].filter(([, value]) => value);
+    return ['./chess-club decide', ...words.map(([name, value]) => `--${name}${value.startsWith('-') ? '=' : ' '}${
+      quoted(value)}`)].join(' ');
+  }
+
+  render() {
+    const command = this.command();
+    setText(byId('decide-command'), command);
+    setText(byId('decide-copied'), command ? t`To be run on the club’s machine, in the folder with the round’s files.`
+      : t`Fill in the board, the result and the reason.`);
+    setText(byId('decide-board'), this.isKnown ? '' : t`This page does not know which board of which round it is: look at
+      the pairings.`);
+  }
+
+  async copied() {
+    const done = await copy(this.command()), { board, result } = this.form.elements;
+    const copied = done ? t`The command is copied.` : t`It could not be copied. Mark it, and copy it by hand.`;
+    setText(byId('decide-copied'), t`${copied} Run it on the club’s machine, in the folder with the round’s files: it
+      prints “board ${board.value}: ${result.value} is decided”.`);
+  }
+}
+
+/** Who has lost a game that is over; '' where nobody has. */
+function loserOf({ result }) {
+  return { '1-0': 'b', '0-1': 'w' }[result] || '';
+}
+
+/** What is likely to be decided of a game, as the form has it. */
+function likely(standing) {
+  const { side, ply, article } = standing, loser = loserOf(standing);
+  if (isAbsent(standing) || loser && ply < AGREED) {
+    const absent = loser || side;
+    return { result: FORFEIT[absent], article: '6.7', reason: t`${colourWord(absent)} did not come in time` };
+  }
+  if (article === LOST_BY['6.9'] && loser) {
+    return { result: '1/2-1/2', article, reason: t`${colourWord(OTHER[loser])} cannot mate by any legal moves` };
+  }
+  return { result: '', article: '', reason: '' };
+}
+
+/** What the Laws say of it. */
+function lawWords(standing) {
+  const { article, ply, fen } = standing, loser = loserOf(standing);
+  if (isAbsent(standing)) {
+    return t`By 6.7 who comes after the default time loses, unless the arbiter decides otherwise. The game goes on until
+      it is ended here, by “By mistake” or “Flag”.`;
+  }
+  if (!loser || !LOST_BY[article] || ply < AGREED) return '';
+  const winner = OTHER[loser];
+  return t`By ${article} it is a draw where ${colourWord(winner)} cannot mate by any legal moves. ${colourWord(winner)}
+    has: ${menWords(fen, winner)}. The server draws by 6.9 against a king alone; of the rest the note of “chess-club
+    results” says what the Laws say.`;
+}
+
+/** A side's men: `king, 2 knights`. */
+function menWords(fen, side) {
+  const men = fen.split(' ')[0], own = (kind) => (side === 'w' ? kind.toUpperCase() : kind);
+  return [...'kqrbnp'].map((kind) => [kind, men.split(own(kind)).length - 1]).filter(([, count]) => count)
+    .map(([kind, count]) => kindWords(String(kind), Number(count))).join(', ');
+}
+
+/** A word as a shell takes it. */
+function quoted(text) {
+  return WORDLESS.test(text) ? text : `'${text.replace(/'/g, "'\\''")}'`;
+}
