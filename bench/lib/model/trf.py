@@ -4,7 +4,7 @@ its other words there is no model."""
 
 import argparse
 import csv
-from lib.night import OPTIONS, game_in, games_in, lines_behind, read_notes, read_particulars, report, unescaped
+from lib.night import OPTIONS, game_in, games_in, lines_behind, read_notes, read_particulars, report_beside, unescaped
 from lib.program import Wrong, wrong_if
 
 FRONT = b'{"game":'
@@ -82,9 +82,10 @@ def words_of(given):
     return words.parse_args(given)
 
 
-def told(words):
-    """The lines of the report."""
+def told(words, lines):
+    """The lines of the report, with the ranks of these lines where they may be."""
     given = words_of(words)
     full, games = players_in(given.players), dict(games_of(given.archive))
     known = read_particulars(given.particulars) if given.particulars else {}
-    return report(vars(given), full, [round_of(files, games, full) for files in given.rounds], known, given.round_date)
+    rounds = [round_of(files, games, full) for files in given.rounds]
+    return report_beside(lines, vars(given), full, rounds, known, given.round_date)
