@@ -66,8 +66,8 @@ class Player(Person):
 
 class Board(Thread):
     """Two players, w and b of a place, who play game after game at a lobby that `port_of` answers; each look at a game
-    is compared with what was answered. `ends` has how games ended; each answer's moment goes into `answered`, and what
-    is not as it should be into `wrong`."""
+    is compared with what was answered. `ends` has how games ended; the moment of each act that was taken goes into
+    `answered`, and what is not as it should be into `wrong`."""
 
     def __init__(self, port_of, place, dice, answered, wrong):
         self.dice, self.answered, self.wrong, self.ends = dice, answered, wrong, {}
@@ -86,11 +86,12 @@ class Board(Thread):
     def act(self, seat, line):
         """Whether an act was taken and answered."""
         sent, answer = time.time(), seat.act(line)
-        if answer:
+        is_taken = bool(answer) and answer[0] == 'ok'
+        if is_taken:
             self.answered.append(time.time())
             self.note(sent, answer)
         time.sleep(0.1)
-        return bool(answer) and answer[0] == 'ok'
+        return is_taken
 
     def waiting(self):
         """A game that waits for its second player."""
