@@ -1,5 +1,6 @@
-// The games as the club shows them to everybody, for a page without a link: the files /games.json and /games/G.json are
-// read again and again, and told to the views in the lobby's lines, as wire.js tells them. Nobody connects for it.
+// The games as the club shows them to everybody, for a page without a link that holds: the files /games.json and
+// /games/G.json are read again and again, and told to the views in the lobby's lines, as wire.js tells them. Nobody
+// connects for it.
 
 import { sideOf } from './lines.js';
 import { UNSAID } from './stopped.js';
@@ -83,10 +84,11 @@ class File {
 }
 
 export class Broadcast {
-  /** told: {opened, notice(lines), clocks(reason), changed, served(isServed)}, as of Wire; served() says whether the
-   * files are there. */
+  /** told: {opened, notice(lines), clocks(reason), announced(text), changed, served(isServed)}, as of Wire; served()
+   * says whether the files are there. They have nothing that an arbiter announces. */
   constructor(told) {
-    this.told = told;
+    this.told = { announced() {}, ...told };
+    this.told.announced('');
     this.state = { open: false, server: '', retryAt: 0, ever: false };
     this.host = new Host();
     this.games = new File(GAMES, this.host);
