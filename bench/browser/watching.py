@@ -286,7 +286,7 @@ def a_game_not_there(sue, shown):
     """Where no files are made that is said; a game that is not there is looked for among those that were kept, and
     shown as soon as it begins; who signs in has a socket, and who forgets the link none."""
     shown.files['/kept.pgn'] = kept_pgn(5, 'Ann Lee', 'Zoe', '2026.11.28', '1-0', '5.1.2', '1. d4 d5 2. c4 1-0')
-    comes(sue, shown).reads('#no-broadcast', 'Games are shown here as soon as', 'chess-club live')
+    comes(sue, shown).reads('#no-broadcast', 'chess-club live', 'only to who has a personal link')
     sue.goes('game/5').reads('#outcome', 'White wins by resignation').moved(['d4', 'd5', 'c4'], 'a game that was kept')
     sue.goes('game/9').reads('#no-game-words', 'Game 9 is not being played. It is shown here as soon as it begins.')
     reads_well(sue, 'a game that has not begun')
@@ -328,7 +328,7 @@ def a_screen_by_files(sue, shown):
     all that run."""
     sue.screen(1920, 1080)
     last = lambda: sue.text('.card-last')
-    comes(sue, shown, 'board/7').reads('#no-broadcast', 'Games are shown here as soon as')
+    comes(sue, shown, 'board/7').reads('#no-broadcast', 'games are shown only to who has a personal link')
     shown.has(8, 1)
     sue.loses('#no-broadcast', 'files are made', 12).reads('#hall-none', 'Game 7 is not on the table')
     shown.has(7, 4)
