@@ -1,6 +1,6 @@
 """Connections that show no token, and do all that a lobby lets them do, in a process of their own: for
-bench/speed/lobby. `-m lib.strangers PORT KIND COUNT TOKEN` prints `ready COUNT`, and once standard input ends how many
-rounds they made, in how many seconds. Who has a token, and no empty one, logs in by it first."""
+bench/speed/lobby. `-m lib.strangers PORT KIND COUNT` prints `ready`, and once standard input ends how many rounds they
+made, in how many seconds. With tokens behind that so many of each log in by it first."""
 
 import asyncio
 import contextlib
@@ -11,13 +11,12 @@ import time
 from lib.program import module
 from lib.web import PING, TEXT, frame, handshake
 
-# What is asked 18 at once, by who may not and by who may.
-REFUSED = ('pgn 1', 'line 1', 'watch 1', 'list', 'lobby', 'players') * 3
-ALLOWED = ('players',) * 18
+ASKED = ('pgn 1', 'line 1', 'watch 1', 'list', 'lobby', 'players') * 3
 
 
 class Stranger:
-    """A connection that does what its kind does, round by round, and comes again where it is closed."""
+    """A connection that does what its kind does, round by round, and comes again where it is closed. A kind is a word
+    below, or the path of a file."""
 
     rounds = 0
 
@@ -33,6 +32,10 @@ class Stranger:
         if not data:
             raise ConnectionError
         return data
+
+    async def listen(self):
+        while True:
+            await self.hear()
 
     async def say(self, *lines):
         await self.send(b''.join(frame(TEXT, line.encode()) for line in lines))
@@ -51,10 +54,10 @@ class Stranger:
             await self.send(bytes((byte,)))
             Stranger.rounds += 1
 
-    async def files(self):
-        """The page's largest file, again and again over one connection."""
+    async def load(self, path):
+        """A file, again and again over one connection."""
         while True:
-            await self.send(b'GET /game.js HTTP/1.1\r\nHost: %s\r\n\r\n' % self.host.encode())
+            await self.send(b'GET %s HTTP/1.1\r\nHost: %s\r\n\r\n' % (path.encode(), self.host.encode()))
             head, _, body = (await self.hear()).partition(b'\r\n\r\n')
             left = int(head.lower().split(b'content-length: ')[1].split(b'\r\n')[0]) - len(body)
             while left > 0:
@@ -69,8 +72,7 @@ class Stranger:
     async def waits(self):
         """A socket by which nothing is said until it is closed."""
         await self.churn()
-        while True:
-            await self.hear()
+        await self.listen()
 
     async def logins(self):
         """Tokens that nobody has, until it is closed for them."""
@@ -79,11 +81,12 @@ class Stranger:
             await self.say('login ' + '0' * 32)
 
     async def asks(self):
-        """18 questions at once, and 20 in a second."""
+        """18 questions at once, and 20 in a second; without a token they are refused."""
         await self.open_socket()
         while True:
-            await self.say(*(ALLOWED if self.token else REFUSED))
-            await asyncio.sleep(0.9)
+            await self.say(*ASKED)
+            with contextlib.suppress(asyncio.TimeoutError):
+                await asyncio.wait_for(self.listen(), 0.9)
 
     async def pings(self):
         """Pings, as many as the socket takes."""
@@ -100,15 +103,15 @@ class Stranger:
             self.line.setsockopt(socket.IPPROTO_TCP, socket.TCP_NODELAY, 1)
             with contextlib.suppress(OSError, IndexError):
                 await self.loop.sock_connect(self.line, ('127.0.0.1', self.port))
-                await getattr(self, self.kind)()
+                await (self.load(self.kind) if self.kind[0] == '/' else getattr(self, self.kind)())
             self.line.close()
             await asyncio.sleep(0.001)
 
 
-async def do(port, kind, count, token=''):
-    """So many connections of a kind, until standard input ends."""
-    tasks = [asyncio.create_task(Stranger(port, kind, token).run()) for _ in range(count)]
-    print('ready %d' % count, flush=True)
+async def do(port, kind, count, *tokens):
+    """So many connections of a kind, or so many by each of these tokens, until standard input ends."""
+    tasks = [asyncio.create_task(Stranger(port, kind, token).run()) for token in tokens or [''] for _ in range(count)]
+    print('ready', flush=True)
     began = time.monotonic()
     await asyncio.to_thread(sys.stdin.read)
     print('%d %.1f' % (Stranger.rounds, time.monotonic() - began), flush=True)
@@ -117,10 +120,10 @@ async def do(port, kind, count, token=''):
 
 
 class Crowd:
-    """So many who do this, in a process of their own."""
+    """So many who do this, or so many by each of these tokens, in a process of their own."""
 
-    def __init__(self, port, kind, count, token=''):
-        self.process = module('lib.strangers', port, kind, count, token)
+    def __init__(self, port, kind, count, *tokens):
+        self.process = module('lib.strangers', port, kind, count, *tokens)
         self.process.stdout.readline()
 
     def end(self):
@@ -132,5 +135,5 @@ class Crowd:
 
 
 if __name__ == '__main__':
-    to, kind, count, token = sys.argv[1:]
-    asyncio.run(do(int(to), kind, int(count), token))
+    to, kind, count, *tokens = sys.argv[1:]
+    asyncio.run(do(int(to), kind, int(count), *tokens))
