@@ -94,7 +94,7 @@ export class Broadcast {
     this.games = new File(GAMES, this.host);
     this.files = new Map();            // number -> the game's file
     this.names = new Map();            // who plays -> the full name
-    this.reason = null;                // why all clocks are stopped, once that was told
+    this.reason = null;                // UNSAID while all clocks are stopped, else '', once that was told
     this.failures = 0;                 // one behind the other
     this.rowsOf = null;
     this.all = new Map();
@@ -343,10 +343,10 @@ function isPlayed(told) {
   return Boolean(told) && told.white !== NONE;
 }
 
-/** Why all clocks are stopped; '' where they run. Where a file leaves the reason out a game that goes on shows it. */
+/** Whether all clocks are stopped, which a game that goes on shows, as a reason that is not said; '' where they run. */
 function stoppedIn(told) {
   const isStill = (game) => game.result === '*' && game.running === NONE;
-  return told.stopped || ((told.games || [told]).some(isStill) ? UNSAID : '');
+  return (told.games || [told]).some(isStill) ? UNSAID : '';
 }
 
 /** The positions of a game, the start first, each with the move by which it came. */
