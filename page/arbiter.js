@@ -50,7 +50,7 @@ export class ArbiterView {
     this.here = null;                  // the names of who is connected, once that was told
     this.arePaused = null;             // whether new games are stopped, once that was told
     this.question = new Question();
-    this.absences = new Absences(app, () => this.waits.render());
+    this.absences = new Absences(app, (name) => this.isHere(name), () => this.waits.render());
     this.waits = new Waits(this);
     this.pairing = new Pairing(this, (key, number) => this.adjourned.goesOn(key, number));
     this.adjourned = new Adjournments(this, (note) => this.pairing.fill({ ...note, times: timesToGoOn(note) },
