@@ -49,10 +49,16 @@ export const WORDS = {
   'is on the table no more': 'nicht mehr am Tisch ist',
   '{0} had {1}': '{0} hatte {1}',
   ['This goes on with game {0}, which {1}; the game that is opened here is the board’s. The server has one time for '
-    + 'both sides: {2}{3}.']:
+    + 'both sides: {2}.']:
     'Das setzt Partie {0} fort, die {1}; für das Brett zählt die Partie, die hier eröffnet wird. Der Server hat eine '
-    + 'Zeit für beide Seiten: {2}{3}.',
-  ', so both get the greater of the two': ', also bekommen beide die größere von beiden',
+    + 'Zeit für beide Seiten: {2}.',
+  'Both sides get': 'Beide Seiten bekommen',
+  'the greater time, {0} ({1})': 'die größere Zeit, {0} ({1})',
+  'the mean, {0} ({1})': 'das Mittel, {0} ({1})',
+  'the smaller time, {0} ({1})': 'die kleinere Zeit, {0} ({1})',
+  '{0} gains {1}': '{0} bekommt {1} mehr',
+  '{0} loses {1}': '{0} bekommt {1} weniger',
+  'Goes on with': 'Geht weiter mit',
   'The game has ended meanwhile.': 'Die Partie ist inzwischen zu Ende.',
   ['A draw can be agreed on once both sides have made a move, so this game cannot be closed yet. Have both make '
     + 'their first move; or enter a resignation, which ends it too, and pair the two anew.']:

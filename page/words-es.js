@@ -47,10 +47,16 @@ export const WORDS = {
   'is on the table no more': 'ya no está en la lista',
   '{0} had {1}': '{0} tenían {1}',
   ['This goes on with game {0}, which {1}; the game that is opened here is the board’s. The server has one time for '
-    + 'both sides: {2}{3}.']:
+    + 'both sides: {2}.']:
     'Esto reanuda la partida {0}, que {1}; para el tablero cuenta la partida que se abre aquí. El servidor tiene un '
-    + 'solo tiempo para ambos bandos: {2}{3}.',
-  ', so both get the greater of the two': ', así que ambos reciben el mayor de los dos',
+    + 'solo tiempo para ambos bandos: {2}.',
+  'Both sides get': 'Ambos bandos reciben',
+  'the greater time, {0} ({1})': 'el tiempo mayor, {0} ({1})',
+  'the mean, {0} ({1})': 'la media, {0} ({1})',
+  'the smaller time, {0} ({1})': 'el tiempo menor, {0} ({1})',
+  '{0} gains {1}': '{0}: {1} más',
+  '{0} loses {1}': '{0}: {1} menos',
+  'Goes on with': 'Sigue con',
   'The game has ended meanwhile.': 'La partida ha terminado entretanto.',
   ['A draw can be agreed on once both sides have made a move, so this game cannot be closed yet. Have both make '
     + 'their first move; or enter a resignation, which ends it too, and pair the two anew.']:

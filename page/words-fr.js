@@ -51,10 +51,16 @@ export const WORDS = {
   'is on the table no more': 'n’est plus dans la liste',
   '{0} had {1}': '{0} : {1}',
   ['This goes on with game {0}, which {1}; the game that is opened here is the board’s. The server has one time for '
-    + 'both sides: {2}{3}.']:
+    + 'both sides: {2}.']:
     'Ceci reprend la partie {0}, qui {1} ; c’est la partie ouverte ici qui compte pour l’échiquier. Le serveur n’a '
-    + 'qu’un temps pour les deux camps. Pendules – {2}{3}.',
-  ', so both get the greater of the two': ' ; les deux reçoivent donc le plus grand des deux temps',
+    + 'qu’un temps pour les deux camps. Pendules – {2}.',
+  'Both sides get': 'Les deux camps reçoivent',
+  'the greater time, {0} ({1})': 'le plus grand temps, {0} ({1})',
+  'the mean, {0} ({1})': 'la moyenne, {0} ({1})',
+  'the smaller time, {0} ({1})': 'le plus petit temps, {0} ({1})',
+  '{0} gains {1}': '{0} : {1} de plus',
+  '{0} loses {1}': '{0} : {1} de moins',
+  'Goes on with': 'Reprise avec',
   'The game has ended meanwhile.': 'La partie s’est terminée entre-temps.',
   ['A draw can be agreed on once both sides have made a move, so this game cannot be closed yet. Have both make '
     + 'their first move; or enter a resignation, which ends it too, and pair the two anew.']:

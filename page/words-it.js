@@ -48,10 +48,16 @@ export const WORDS = {
   'is on the table no more': 'non è più in elenco',
   '{0} had {1}': '{0} aveva {1}',
   ['This goes on with game {0}, which {1}; the game that is opened here is the board’s. The server has one time for '
-    + 'both sides: {2}{3}.']:
+    + 'both sides: {2}.']:
     'Questa riprende la partita {0}, che {1}; per la scacchiera vale la partita che si apre qui. Il server ha un '
-    + 'solo tempo per entrambi: {2}{3}.',
-  ', so both get the greater of the two': ', quindi entrambi ricevono il maggiore dei due',
+    + 'solo tempo per entrambi: {2}.',
+  'Both sides get': 'Entrambi ricevono',
+  'the greater time, {0} ({1})': 'il tempo maggiore, {0} ({1})',
+  'the mean, {0} ({1})': 'la media, {0} ({1})',
+  'the smaller time, {0} ({1})': 'il tempo minore, {0} ({1})',
+  '{0} gains {1}': '{0}: {1} in più',
+  '{0} loses {1}': '{0}: {1} in meno',
+  'Goes on with': 'Riprende con',
   'The game has ended meanwhile.': 'Nel frattempo la partita è finita.',
   ['A draw can be agreed on once both sides have made a move, so this game cannot be closed yet. Have both make '
     + 'their first move; or enter a resignation, which ends it too, and pair the two anew.']:

@@ -48,10 +48,16 @@ export const WORDS = {
   'is on the table no more': 'niet meer op de lijst staat',
   '{0} had {1}': '{0} had {1}',
   ['This goes on with game {0}, which {1}; the game that is opened here is the board’s. The server has one time for '
-    + 'both sides: {2}{3}.']:
+    + 'both sides: {2}.']:
     'Dit is het vervolg van partij {0}, die {1}; voor het bord telt de partij die hier wordt geopend. De server '
-    + 'heeft één tijd voor beide spelers: {2}{3}.',
-  ', so both get the greater of the two': ', dus krijgen beide de grootste van de twee',
+    + 'heeft één tijd voor beide spelers: {2}.',
+  'Both sides get': 'Beide spelers krijgen',
+  'the greater time, {0} ({1})': 'de grootste tijd, {0} ({1})',
+  'the mean, {0} ({1})': 'het gemiddelde, {0} ({1})',
+  'the smaller time, {0} ({1})': 'de kleinste tijd, {0} ({1})',
+  '{0} gains {1}': '{0} krijgt {1} meer',
+  '{0} loses {1}': '{0} krijgt {1} minder',
+  'Goes on with': 'Gaat verder met',
   'The game has ended meanwhile.': 'De partij is intussen afgelopen.',
   ['A draw can be agreed on once both sides have made a move, so this game cannot be closed yet. Have both make '
     + 'their first move; or enter a resignation, which ends it too, and pair the two anew.']:

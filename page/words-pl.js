@@ -48,10 +48,16 @@ export const WORDS = {
   'is on the table no more': 'nie jest już na liście',
   '{0} had {1}': '{0} miały {1}',
   ['This goes on with game {0}, which {1}; the game that is opened here is the board’s. The server has one time for '
-    + 'both sides: {2}{3}.']:
+    + 'both sides: {2}.']:
     'To wznowienie partii {0}, która {1}; dla szachownicy liczy się partia otwierana tutaj. Serwer ma jeden czas dla '
-    + 'obu stron: {2}{3}.',
-  ', so both get the greater of the two': ', więc obie dostają większy z nich',
+    + 'obu stron: {2}.',
+  'Both sides get': 'Obie strony dostają',
+  'the greater time, {0} ({1})': 'większy czas, {0} ({1})',
+  'the mean, {0} ({1})': 'średnią, {0} ({1})',
+  'the smaller time, {0} ({1})': 'mniejszy czas, {0} ({1})',
+  '{0} gains {1}': '{0}: o {1} więcej',
+  '{0} loses {1}': '{0}: o {1} mniej',
+  'Goes on with': 'Wznowiona z czasem',
   'The game has ended meanwhile.': 'W międzyczasie partia się skończyła.',
   ['A draw can be agreed on once both sides have made a move, so this game cannot be closed yet. Have both make '
     + 'their first move; or enter a resignation, which ends it too, and pair the two anew.']:

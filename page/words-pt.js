@@ -47,10 +47,16 @@ export const WORDS = {
   'is on the table no more': 'já não está na lista',
   '{0} had {1}': '{0} tinham {1}',
   ['This goes on with game {0}, which {1}; the game that is opened here is the board’s. The server has one time for '
-    + 'both sides: {2}{3}.']:
+    + 'both sides: {2}.']:
     'Isto retoma a partida {0}, que {1}; para o tabuleiro vale a partida aberta aqui. O servidor tem um só tempo '
-    + 'para os dois lados: {2}{3}.',
-  ', so both get the greater of the two': ', por isso os dois recebem o maior deles',
+    + 'para os dois lados: {2}.',
+  'Both sides get': 'Os dois lados recebem',
+  'the greater time, {0} ({1})': 'o tempo maior, {0} ({1})',
+  'the mean, {0} ({1})': 'a média, {0} ({1})',
+  'the smaller time, {0} ({1})': 'o tempo menor, {0} ({1})',
+  '{0} gains {1}': '{0}: mais {1}',
+  '{0} loses {1}': '{0}: menos {1}',
+  'Goes on with': 'Continua com',
   'The game has ended meanwhile.': 'Nesse meio-tempo a partida terminou.',
   ['A draw can be agreed on once both sides have made a move, so this game cannot be closed yet. Have both make '
     + 'their first move; or enter a resignation, which ends it too, and pair the two anew.']:
