@@ -5,10 +5,9 @@ import os
 import shlex
 import subprocess
 
-from evening import SCREENS
 from lib.program import put
 from page_lines import by_lines
-from readable import keys_go_round, reads_well
+from readable import well_on_screens
 from round import round_told, serves
 
 PAIRINGS = 'board,white,black,times,start\n1,ann,bob,20,\n2,cid,dee,300,\n'
@@ -82,12 +81,7 @@ def a_decision(hall):
     sue.reads('#decide-law', 'By 6.9 it is a draw: Black cannot mate', 'Black has: king, knight; White has: king, queen')
     sue.until(lambda: (value(sue, 'round'), value(sue, 'board'), value(sue, 'result')) == ('2', '1', '1/2-1/2'),
               'board and result are filled in')
-    for width, height, phone in SCREENS:
-        sue.screen(width, height, 1, phone)
-        sue.is_so(sue.width() <= width, 'nothing is beyond the side at %d' % width)
-        reads_well(sue, 'the question at %d' % width)
-    keys_go_round(sue, 'the question')
-    sue.screen(1280, 800)
+    well_on_screens(sue, 'the decision')
     decides(hall, 'round2.csv', 'round2.decisions', '6.9', 'Eve Arbiter', 'Black cannot mate by any legal moves',
             prints='board 1: 1/2-1/2')
     sue.click('#decide-leave').loses('#decide-dialog', 'the question is over')
