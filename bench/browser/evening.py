@@ -730,7 +730,8 @@ def the_first_minutes(hall):
         link = player().stdout.strip()
         sue.is_so(link.startswith(address + '#'), 'so are links')
         sue.go('about:blank').go(link).shows('#who-name', 'Ann Lee', 'a player’s')
-        sue.go('about:blank').go(content(os.path.join(top, 'friday', 'arbiter.link')).strip()).click('#other-yes')
+        desk = content(os.path.join(top, 'friday', 'arbiter.link')).strip()
+        sue.go('about:blank').go(desk).click('#other-yes')
         sue.click('#to-arbiter').reads('#unencrypted', 'This page is not encrypted')
         taken = club('evening', 'saturday', '--port', port, '--lan')
         says = taken.stderr.strip().splitlines()[-1]
@@ -743,6 +744,9 @@ def the_first_minutes(hall):
         sue.until(lambda: 'Control-C ends' in evening.told(), 'what to do next')
         sue.is_so(evening.told().count('NOT PROVED') == 1 and 'tab of its own' not in evening.told(),
                   'it says once that nothing is proved, and makes no players where there are some')
+        again = content(os.path.join(top, 'friday', 'arbiter.link')).strip()
+        sue.is_so(again == 'http://127.0.0.1:%s/#%s' % (port, desk.split('#')[1]),
+                  'the arbiter’s link has the address of this start: ' + again)
     with Evening(top, 'try', 'evening', 'sunday', '--port', port) as evening:
         sue.until(lambda: 'Control-C ends' in evening.told(), 'what to do next')
         links = re.findall(r'(\w+ \w+): +(http\S+)', evening.told())
