@@ -1,5 +1,6 @@
-// The games as the club shows them to everybody, for a page without a link: the files /games.json and /games/G.json are
-// read again and again, and told to the views in the lobby's lines, as wire.js tells them. Nobody connects for it.
+// The games as the club shows them to everybody, for a page without a link that holds: the files /games.json and
+// /games/G.json are read again and again, and told to the views in the lobby's lines, as wire.js tells them. Nobody
+// connects for it.
 
 import { sideOf } from './lines.js';
 import { UNSAID } from './stopped.js';
@@ -83,16 +84,17 @@ class File {
 }
 
 export class Broadcast {
-  /** told: {opened, notice(lines), clocks(reason), changed, served(isServed)}, as of Wire; served() says whether the
-   * files are there. */
+  /** told: {opened, notice(lines), clocks(reason), announced(text), changed, served(isServed)}, as of Wire; served()
+   * says whether the files are there. They have nothing that an arbiter announces. */
   constructor(told) {
-    this.told = told;
+    this.told = { announced() {}, ...told };
+    this.told.announced('');
     this.state = { open: false, server: '', retryAt: 0, ever: false };
     this.host = new Host();
     this.games = new File(GAMES, this.host);
     this.files = new Map();            // number -> the game's file
     this.names = new Map();            // who plays -> the full name
-    this.reason = null;                // why all clocks are stopped, once that was told
+    this.reason = null;                // UNSAID while all clocks are stopped, else '', once that was told
     this.failures = 0;                 // one behind the other
     this.rowsOf = null;
     this.all = new Map();
@@ -341,10 +343,10 @@ function isPlayed(told) {
   return Boolean(told) && told.white !== NONE;
 }
 
-/** Why all clocks are stopped; '' where they run. Where a file leaves the reason out a game that goes on shows it. */
+/** Whether all clocks are stopped, which a game that goes on shows, as a reason that is not said; '' where they run. */
 function stoppedIn(told) {
   const isStill = (game) => game.result === '*' && game.running === NONE;
-  return told.stopped || ((told.games || [told]).some(isStill) ? UNSAID : '');
+  return (told.games || [told]).some(isStill) ? UNSAID : '';
 }
 
 /** The positions of a game, the start first, each with the move by which it came. */

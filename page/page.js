@@ -55,7 +55,7 @@ class Page {
     setInterval(() => this.askAnew(), ASKS_ANEW);
   }
 
-  /** Who has a personal link speaks with the lobby; who only watches reads the files that everybody may have. */
+  /** Who has a personal link that holds speaks with the lobby; everybody else reads the files that all may have. */
   connect() {
     const told = {
       opened: (server) => this.opened(server), notice: (lines) => this.notice(lines), clocks: clocksTold,
@@ -63,16 +63,12 @@ class Page {
       unnamed: () => this.who.unnamed(),
       served: (isServed) => { byId('no-broadcast').hidden = isServed; },
     };
-    if (!this.who.token) return new Broadcast(told);
-    const address = new URL('ws', location.href.split('#')[0]);
-    address.protocol = address.protocol === 'https:' ? 'wss:' : 'ws:';
-    address.search = '';
-    return new Wire(address.href, told);
+    return this.who.mayConnect() ? new Wire(told) : new Broadcast(told);
   }
 
   /** Somebody else may be here: nothing of the old one's name is left. */
   renew() {
-    if (this.wire instanceof Wire === Boolean(this.who.token)) {
+    if (this.wire instanceof Wire === this.who.mayConnect()) {
       this.wire.renew();
       return;
     }
@@ -334,10 +330,12 @@ class Page {
 
   // ---- the connection
 
-  /** The lobby has answered: who we are, who is who, and what is shown, all once more. */
+  /** The lobby has answered, or the files: who we are, who is who, and what is shown, all once more. */
   async opened(server) {
+    const { wire } = this;
     this.isAtTable = undefined;
     await this.who.login();
+    if (wire !== this.wire) return;      // (the link does not hold)
     this.challenges.look();              // (only now the lobby knows whose connection it is)
     if (server !== 'here') return;
     await this.askPlayers();
@@ -354,7 +352,7 @@ class Page {
     this.desk.playersTold();
   }
 
-  /** Without a link only who sits in a game is told: who sits down later is asked for then. */
+  /** The files have the names of who plays: of who sits down later they are looked up then. */
   async learnNames(names) {
     if (this.who.player || this.asksNames) return;
     if (!names.some((name) => name && !this.players.has(name) && !this.nameless.has(name))) return;

@@ -22,9 +22,10 @@ export class Room {
     this.watching = 0;
   }
 
-  /** Asks the lobby, which tells it to everybody who is connected; a page without a link is not. */
+  /** Asks the lobby, which tells it to who has a link. */
   async ask() {
     const { game } = this, { app, number } = game;
+    if (!app.me()) this.clear();
     if (!app.me() || !number || !game.running()) return;
     const room = readRoom(await app.wire.say(`room ${number}`, true)), now = Date.now();
     if (!room || game.number !== number) return;

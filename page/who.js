@@ -3,6 +3,7 @@
 import { t } from './language.js';
 import { readRefusal } from './lines.js';
 import { byId, read, setText, write } from './make.js';
+import { askOnce } from './wire.js';
 import { BAD_TOKEN, refusalWords } from './words.js';
 
 const TOKEN = /^[0-9a-f]{32}$/, CUT = /^[0-9a-f]{1,31}$/i;
@@ -16,12 +17,13 @@ const cutWords = (length) => t`This link is cut short: ${length} of its 32 last 
 const session = () => sessionStorage, local = () => localStorage;
 
 export class Who {
-  /** app: {wire, renew(), shows(), tell(text), askPlayers()}; shows() is called when another player is here, or none. */
+  /** app: {wire, renew(), shows(), tell(text)}; shows() is called when another player is here. */
   constructor(app) {
     this.app = app;
     this.player = null;
     this.token = read(session, 'token') || read(local, 'token') || '';
     write(session, 'token', this.token || null);
+    this.isUnknown = false;            // whether the lobby has said that it does not know the token
     this.opened = '';                  // the token of a link that was opened while another one is here
     this.asked = '';                   // that of another player, for whom it is asked whether to play
     this.isBroken = false;             // whether a link was opened that is none
@@ -61,6 +63,11 @@ export class Who {
     return this.player ? this.player.name : '';
   }
 
+  /** Whether there is a link by which the lobby may be spoken to: it hears nobody else. */
+  mayConnect() {
+    return Boolean(this.token) && !this.isUnknown;
+  }
+
   // ---- a link is opened
 
   /** Takes what stands behind the # of a link; whether it may be one. */
@@ -74,11 +81,13 @@ export class Who {
     }
     if (!this.token || text === this.token) this.hold(text);
     else this.opened = text;
+    this.isUnknown = false;
     return true;
   }
 
   hold(token) {
     this.token = token;
+    this.isUnknown = false;
     this.player = null;
     this.fromLink = true;
     this.arrives = true;
@@ -125,7 +134,7 @@ export class Who {
 
   async login() {
     const words = this.opened && await this.weigh();
-    if (this.token) await this.signIn();
+    if (this.mayConnect()) await this.signIn();
     if (words) this.app.tell(words);
   }
 
@@ -154,7 +163,6 @@ export class Who {
     this.asksAgain = true;
     await this.login();
     this.asksAgain = false;
-    if (!this.player) this.app.shows();
   }
 
   /** Whether the link holds still. */
@@ -166,7 +174,8 @@ export class Who {
   }
 
   /** The lobby does not know the token. It says so too while its file of players is not whole: so the token stays, and
-   * is tried again. But in the place of an older one stands the player's own that is kept. */
+   * is tried again, and files are shown meanwhile. But in the place of an older one stands the player's own that is
+   * kept. */
   async unknown(token, words) {
     const kept = read(local, 'token-of') === this.signed.name ? read(local, 'token') : '';
     this.player = null;
@@ -177,16 +186,18 @@ export class Who {
       await this.signIn();
       if (this.player) return;
     }
+    this.isUnknown = true;
     this.app.tell(words);
-    this.render();
-    this.app.shows();
+    this.app.renew();
   }
 
   /** Whether the link is known again. */
   async tryLink() {
-    if (!this.token || this.player || !this.app.wire.state.open) return;
-    await this.login();
-    if (this.player) await this.app.askPlayers();
+    if (!this.isUnknown) return;
+    const { token } = this, answer = await askOnce(`login ${token}`);
+    if (!this.isUnknown || token !== this.token || !answer.startsWith('ok login ')) return;
+    this.isUnknown = false;
+    this.app.renew();
   }
 
   // ---- what is kept
@@ -224,6 +235,7 @@ export class Who {
     write(session, 'token', null);
     if (read(local, 'token') === this.token) this.keepHere(false);
     this.token = '';
+    this.isUnknown = false;
     this.player = null;
     byId('linked').hidden = true;
   }

@@ -1,5 +1,5 @@
-// The connection to the lobby: one WebSocket, answers in the order of what was sent, and notices between them.
-// Where it breaks it comes back by itself, with growing pauses.
+// The connection to the lobby, for who has a personal link: one WebSocket, answers in the order of what was sent, and
+// notices between them. Where it breaks it comes back by itself, with growing pauses.
 
 import { announcedIn, linesOf, stoppedIn } from './lines.js';
 
@@ -17,14 +17,39 @@ const STOOD = 5000;                  // a connection that stood so long begins t
 export const LOST = Object.freeze(['lost']);
 export const UNSENT = Object.freeze(['unsent']);
 
+/** The lobby's answer to one line, by a connection of its own; `lost` where none came. */
+export function askOnce(line) {
+  return new Promise((answered) => {
+    const socket = new WebSocket(socketAddress()), timer = setTimeout(() => socket.close(), ANSWER_WITHIN);
+    socket.onmessage = (event) => {
+      const [first] = linesOf(String(event.data));
+      if (first.startsWith('server ')) socket.send(line);
+      if (!/^(ok|no) /.test(first)) return;
+      answered(first);
+      socket.close();
+    };
+    socket.onclose = () => {
+      clearTimeout(timer);
+      answered(LOST[0]);
+    };
+  });
+}
+
+/** The lobby's socket, beside the page. */
+function socketAddress() {
+  const address = new URL('ws', location.href.split('#')[0]);
+  address.protocol = address.protocol === 'https:' ? 'wss:' : 'ws:';
+  address.search = '';
+  return address.href;
+}
+
 export class Wire {
   /** told: {opened, notice(lines), clocks(reason), announced(text), offers, changed, unnamed}; changed() is called
    * whenever `state` is another, clocks() where all clocks are stopped, with why, or run again, announced() where the
-   * arbiter announces something, or nothing any more, and unnamed() where an answer says that the connection has
-   * shown no token. */
-  constructor(address, told) {
-    this.address = address;
-    this.told = { announced() {}, offers() {}, ...told };
+   * arbiter announces something, or nothing any more, and unnamed() where an answer says that the connection acts for
+   * nobody. */
+  constructor(told) {
+    this.told = told;
     this.state = { open: false, server: '', retryAt: 0, ever: false };
     this.tries = 0;
     this.waiting = [];
@@ -83,7 +108,7 @@ export class Wire {
   connect() {
     clearTimeout(this.timer);
     this.timer = 0;
-    const socket = new WebSocket(this.address);
+    const socket = new WebSocket(socketAddress());
     this.socket = socket;
     this.heardAt = performance.now();
     const ours = (act) => (event) => this.socket === socket && act(event);

@@ -529,8 +529,8 @@ export const WORDS = {
   'Full screen': 'Vollbild',
   'The lobby does not answer. It is asked again by itself; the clocks run on.':
     'Die Lobby antwortet nicht. Sie wird von selbst wieder gefragt; die Uhren laufen weiter.',
-  'Games are shown here as soon as the club’s broadcast runs (“chess-club live”).':
-    'Partien sind hier zu sehen, sobald die Übertragung des Vereins läuft („chess-club live“).',
+  'Until the club’s broadcast runs (“chess-club live”), games are shown only to who has a personal link.':
+    'Bis die Übertragung des Vereins läuft („chess-club live“), sieht Partien nur, wer einen persönlichen Link hat.',
   'Game {0} is not being played. It is shown here as soon as it begins.':
     'Partie {0} wird nicht gespielt. Sie ist hier zu sehen, sobald sie beginnt.',
   'To the games': 'Zu den Partien',

@@ -524,8 +524,9 @@ export const WORDS = {
   'Full screen': 'Pantalla completa',
   'The lobby does not answer. It is asked again by itself; the clocks run on.':
     'El lobby no responde. Se le vuelve a preguntar solo; los relojes siguen corriendo.',
-  'Games are shown here as soon as the club’s broadcast runs (“chess-club live”).':
-    'Las partidas se verán aquí en cuanto funcione la retransmisión del club («chess-club live»).',
+  'Until the club’s broadcast runs (“chess-club live”), games are shown only to who has a personal link.':
+    'Hasta que funcione la retransmisión del club («chess-club live»), solo ve las partidas quien '
+    + 'tiene un enlace personal.',
   'Game {0} is not being played. It is shown here as soon as it begins.':
     'La partida {0} no se está jugando. Se verá aquí en cuanto empiece.',
   'To the games': 'A las partidas',

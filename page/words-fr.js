@@ -533,8 +533,9 @@ export const WORDS = {
   'Full screen': 'Plein écran',
   'The lobby does not answer. It is asked again by itself; the clocks run on.':
     'Le lobby ne répond pas. Un nouvel essai se fait tout seul ; les pendules tournent.',
-  'Games are shown here as soon as the club’s broadcast runs (“chess-club live”).':
-    'Les parties s’affichent ici dès que la retransmission du club fonctionne (« chess-club live »).',
+  'Until the club’s broadcast runs (“chess-club live”), games are shown only to who has a personal link.':
+    'Tant que la retransmission du club (« chess-club live ») ne fonctionne pas, seules les personnes qui '
+    + 'ont un lien personnel voient les parties.',
   'Game {0} is not being played. It is shown here as soon as it begins.':
     'La partie {0} n’est pas en cours. Elle s’affiche ici dès qu’elle commence.',
   'To the games': 'Vers les parties',

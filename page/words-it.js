@@ -528,8 +528,9 @@ export const WORDS = {
   'Full screen': 'Schermo intero',
   'The lobby does not answer. It is asked again by itself; the clocks run on.':
     'La lobby non risponde. Si riprova da soli; gli orologi corrono.',
-  'Games are shown here as soon as the club’s broadcast runs (“chess-club live”).':
-    'Le partite si vedono qui appena la trasmissione del circolo è attiva («chess-club live»).',
+  'Until the club’s broadcast runs (“chess-club live”), games are shown only to who has a personal link.':
+    'Finché la trasmissione del circolo («chess-club live») non è attiva, vede le partite solo chi '
+    + 'ha un link personale.',
   'Game {0} is not being played. It is shown here as soon as it begins.':
     'La partita {0} non è in corso. Si vede qui appena comincia.',
   'To the games': 'Alle partite',

@@ -528,8 +528,9 @@ export const WORDS = {
   'Full screen': 'Volledig scherm',
   'The lobby does not answer. It is asked again by itself; the clocks run on.':
     'De lobby antwoordt niet. Er wordt vanzelf opnieuw geprobeerd; de klokken lopen door.',
-  'Games are shown here as soon as the club’s broadcast runs (“chess-club live”).':
-    'Partijen zijn hier te zien zodra de uitzending van de club loopt (‘chess-club live’).',
+  'Until the club’s broadcast runs (“chess-club live”), games are shown only to who has a personal link.':
+    'Tot de uitzending van de club loopt (‘chess-club live’) zijn partijen alleen te zien voor wie '
+    + 'een persoonlijke link heeft.',
   'Game {0} is not being played. It is shown here as soon as it begins.':
     'Partij {0} wordt niet gespeeld. Ze is hier te zien zodra ze begint.',
   'To the games': 'Naar de partijen',

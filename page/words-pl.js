@@ -523,8 +523,8 @@ export const WORDS = {
   'Full screen': 'Pełny ekran',
   'The lobby does not answer. It is asked again by itself; the clocks run on.':
     'Lobby nie odpowiada. Próby są ponawiane same; zegary idą dalej.',
-  'Games are shown here as soon as the club’s broadcast runs (“chess-club live”).':
-    'Partie będą tu widoczne, gdy tylko ruszy transmisja klubu („chess-club live”).',
+  'Until the club’s broadcast runs (“chess-club live”), games are shown only to who has a personal link.':
+    'Dopóki nie ruszy transmisja klubu („chess-club live”), partie widzi tylko ten, kto ma osobisty link.',
   'Game {0} is not being played. It is shown here as soon as it begins.':
     'Partia {0} nie jest rozgrywana. Pojawi się tu, gdy tylko się zacznie.',
   'To the games': 'Do partii',

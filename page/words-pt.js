@@ -521,8 +521,9 @@ export const WORDS = {
   'Full screen': 'Tela cheia',
   'The lobby does not answer. It is asked again by itself; the clocks run on.':
     'O lobby não responde. A tentativa se repete sozinha; os relógios continuam a correr.',
-  'Games are shown here as soon as the club’s broadcast runs (“chess-club live”).':
-    'As partidas aparecem aqui assim que a transmissão do clube estiver no ar (“chess-club live”).',
+  'Until the club’s broadcast runs (“chess-club live”), games are shown only to who has a personal link.':
+    'Enquanto a transmissão do clube (“chess-club live”) não estiver no ar, só vê as partidas quem '
+    + 'tem um link pessoal.',
   'Game {0} is not being played. It is shown here as soon as it begins.':
     'A partida {0} não está em andamento. Ela aparece aqui assim que começar.',
   'To the games': 'Às partidas',

@@ -21,7 +21,7 @@ NUMBERS = [str(row[0]) for row in KEPT]
 
 def kept_pgn(number, white, black, date, result, article, moves):
     tag = lambda name, value: '[%s "%s"]' % (name, str(value).replace('\\', '\\\\').replace('"', '\\"'))
-    rows = (('Event', 'Club evening'), ('Site', '?'), ('Date', date), ('Round', '?'), ('White', white),
+    rows = (('Event', 'Club <i>evening</i>'), ('Site', '?'), ('Date', date), ('Round', '?'), ('White', white),
             ('Black', black), ('Result', result), ('Article', article), ('GameId', number), ('Termination', 'normal'),
             ('TimeControl', '300+3'))
     return '\n'.join(tag(*row) for row in rows) + '\n\n' + moves + '\n\n'
@@ -117,7 +117,7 @@ def a_kept_game(hall):
         person.goes('game/' + number).reads('#outcome', '0–1', 'Black wins by checkmate', 'Article 5.1.1')
         person.until(lambda: person.moves() == ['f3', 'e5', 'g4', 'Qh4#'], 'its moves')
         person.shows('#game-white', ANN, 'White').shows('#game-black', BOB, 'Black')
-        person.shows('#game-kept', 'Club evening · Nov 29, 2026', 'where and when')
+        person.shows('#game-kept', 'Club <i>evening</i> · Nov 29, 2026', 'where and when')
         person.is_so([person.text('#%s .clock' % side) for side in ('near', 'far')] == ['4:51', '4:47'], 'the clocks')
         person.click('#first-move').until(lambda: person.men().get('e2') == 'white pawn', 'through its moves')
         person.click('#copy-pgn').reads('#shared', 'PGN is copied')

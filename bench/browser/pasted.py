@@ -38,7 +38,7 @@ CHESSBASE = '''\ufeff[Event "The "Open" 2020"]\r
 LINES = '''% a line that is none of it
 [Event "One"] [Site "two"] [Result "*"]
 [White "A"]
-1. e4 ; the king's pawn { no comment begins here
+1. e4 ; the <b>king's</b> pawn { no comment begins here
 e5 ; 2. f4?
 % 2. f4 exf4
 2. Nf3 Nc6 3.Bb5 *
@@ -93,7 +93,7 @@ def pasted_games(hall):
     sue.click('#again-last').shows('#again-clocks', 'Clocks: 2:57 – 2:55', 'clocks with tenths')
     puts(CHESSBASE, 'A long comment [over lines] with (brackets) and 1. e4 $1 in it1.e4!goode5?!(1…c5!?2.Nf3+=(2.c3d5(2…Nf6'
          '3.e5=)3.exd5)2…d6)(1…e6French2.d4d5⇆)2.Nf3NNc63.Bb5a6⊕4.Ba4Nf65.O-O+-')
-    puts(LINES, '1.e4the king\'s pawn no comment begins heree52. f4?2.Nf3Nc63.Bb5')
+    puts(LINES, '1.e4the <b>king\'s</b> pawn no comment begins heree52. f4?2.Nf3Nc63.Bb5')
     copied = puts(BY_HAND, '1.e4e52.Nf3Nc63.Bc4Bc54.O-ONf65.d3O-O6.Bg5h67.Bh4g5!?8.Bg3d6±9.c3a6±10.Nbd2!!Ba7?!11.Re1!')
     sue.is_so(copied.rstrip().endswith('1/2-1/2') and '[Result "1/2-1/2"]' in copied, 'its result: ' + copied)
     puts(WRONG, '1.e4e52.Nf3Nc63.Bb5Ke74.O-O', again=False,

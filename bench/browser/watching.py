@@ -103,18 +103,18 @@ class Shown:
         self.games[number] = stands
         self.put()
 
-    def put(self, **more):
+    def put(self):
         """Puts the files in their place."""
         for number, stands in self.games.items():
             moves = [[*move, 298000 - 1000 * ply] for ply, move in enumerate(MOVES[:stands['plies']])]
             row = {name: value for name, value in stands.items() if name not in ('plies', 'times')}
             told = {'tags': [['Round', '3'], ['Board', '2']], 'times': stands['times'], 'start': START, 'moves': moves}
-            self.files['/games/%d.json' % number] = json.dumps({**row, **told, **more})
+            self.files['/games/%d.json' % number] = json.dumps({**row, **told})
         rows = []
         for stands in self.games.values():
             san, text, fen = MOVES[stands['plies'] - 1] if stands['plies'] else ('-', '-', START)
             rows.append({**stands, 'last': san, 'lastMove': text, 'fen': fen})
-        self.files['/games.json'] = json.dumps({'at': self.host(), 'games': rows, **more})
+        self.files['/games.json'] = json.dumps({'at': self.host(), 'games': rows})
 
     def of(self, path, since=0.0):
         """When this was asked for, and the answers."""
@@ -179,17 +179,15 @@ def a_game_by_files(sue, shown):
     shown.has(7, 5)
     sue.moved(SANS[:5], 'several moves at once')
     sue.is_so(sue.men().get('h5') == 'white queen', 'and where they led')
-    shown.put(stopped='fire alarm')
-    sue.reads('#clocks-stopped', 'Clocks stopped by the arbiter: fire alarm')
+    shown.has(7, 5, running='-')
+    sue.reads('#clocks-stopped', 'The arbiter has stopped all clocks.')
     stood = clock()
     time.sleep(1.5)
     sue.is_so(clock() == stood, 'the clocks stand')
-    shown.put()
+    shown.has(7, 5)
     sue.loses('#clocks-stopped', 'and run again').until(lambda: clock() < stood, 'which is seen')
-    shown.has(7, 5, running='-')
-    sue.reads('#clocks-stopped', 'The arbiter has stopped all clocks.')
     shown.has(7, 6, offer='both')
-    sue.loses('#clocks-stopped', 'also where no reason is told').reads('#note', 'offers a draw')
+    sue.reads('#note', 'offers a draw')
     shown.has(7, 7, result='1-0', article='5.1.1')
     sue.reads('#outcome', 'White wins by checkmate', 'Article 5.1.1').moved(SANS, 'to the end')
     sue.is_so(sue.lit('.check') == {'e8'}, 'the mated king is marked')
@@ -286,7 +284,7 @@ def a_game_not_there(sue, shown):
     """Where no files are made that is said; a game that is not there is looked for among those that were kept, and
     shown as soon as it begins; who signs in has a socket, and who forgets the link none."""
     shown.files['/kept.pgn'] = kept_pgn(5, 'Ann Lee', 'Zoe', '2026.11.28', '1-0', '5.1.2', '1. d4 d5 2. c4 1-0')
-    comes(sue, shown).reads('#no-broadcast', 'Games are shown here as soon as', 'chess-club live')
+    comes(sue, shown).reads('#no-broadcast', 'chess-club live', 'only to who has a personal link')
     sue.goes('game/5').reads('#outcome', 'White wins by resignation').moved(['d4', 'd5', 'c4'], 'a game that was kept')
     sue.goes('game/9').reads('#no-game-words', 'Game 9 is not being played. It is shown here as soon as it begins.')
     reads_well(sue, 'a game that has not begun')
@@ -328,7 +326,7 @@ def a_screen_by_files(sue, shown):
     all that run."""
     sue.screen(1920, 1080)
     last = lambda: sue.text('.card-last')
-    comes(sue, shown, 'board/7').reads('#no-broadcast', 'Games are shown here as soon as')
+    comes(sue, shown, 'board/7').reads('#no-broadcast', 'games are shown only to who has a personal link')
     shown.has(8, 1)
     sue.loses('#no-broadcast', 'files are made', 12).reads('#hall-none', 'Game 7 is not on the table')
     shown.has(7, 4)

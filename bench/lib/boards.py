@@ -69,6 +69,8 @@ class Board(Thread):
     is compared with what was answered. `ends` has how games ended; the moment of each act that was taken goes into
     `answered`, and what is not as it should be into `wrong`."""
 
+    times, rest = '3600 0', 0.1     # of their games; seconds after an act
+
     def __init__(self, port_of, place, dice, answered, wrong):
         self.dice, self.answered, self.wrong, self.ends = dice, answered, wrong, {}
         self.seats = [Player(port_of, '%s%d' % (colour, place)) for colour in 'wb']
@@ -90,7 +92,7 @@ class Board(Thread):
         if is_taken:
             self.answered.append(time.time())
             self.note(sent, answer)
-        time.sleep(0.1)
+        time.sleep(self.rest)
         return is_taken
 
     def waiting(self):
@@ -100,7 +102,11 @@ class Board(Thread):
             for row in white.rows():
                 if row[1] == white.name and row[2] == '-':
                     return int(row[0])
-            self.act(white, 'open white 3600 0')
+            self.act(white, 'open white ' + self.times)
+
+    def move(self, game, ply):
+        """Whether a move is taken."""
+        return self.act(self.seats[ply % 2], 'move %d %d %s' % (game, ply, TEXTS[ply]))
 
     def play(self, game, length):
         """They move, and who is to move then resigns."""
@@ -118,7 +124,7 @@ class Board(Thread):
             if words[4] == '-':
                 is_joined = self.act(self.seats[1], 'join %d' % game)
             elif ply < length:
-                made += self.act(self.seats[ply % 2], 'move %d %d %s' % (game, ply, TEXTS[ply]))
+                made += self.move(game, ply)
             else:
                 is_ended = self.act(self.seats[ply % 2], 'resign %d' % game)
         self.ends[game] = (TEXTS[:length], ('0-1', '1-0')[length % 2])

@@ -20,7 +20,7 @@ import subprocess
 import sys
 import time
 
-from lib.program import Closing, data
+from lib.program import Closing, data, put
 
 SECTOR = 512
 LIBC = ctypes.CDLL(None, use_errno=True)
@@ -191,8 +191,7 @@ def stood(path, folder, options, direct=False):
 
 def made_image(path, size, block, journal):
     """An empty ext4 in a file of so many MiB, with blocks of so many bytes; its bytes."""
-    with open(path, 'wb') as out:
-        out.truncate(size << 20)
+    put(path, bytes(size << 20))
     environment = dict(os.environ, PATH=os.environ['PATH'] + ':/usr/sbin:/sbin')
     subprocess.run(['mkfs.ext4', '-q', '-F', '-b', str(block), '-N', '64', '-m', '0', '-J', 'size=%d' % journal, '-E',
                     'lazy_itable_init=0,lazy_journal_init=0,nodiscard', path], check=True, env=environment)

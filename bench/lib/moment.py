@@ -8,15 +8,17 @@ last byte. """
 
 import contextlib
 import fcntl
+import multiprocessing
 import os
+import shutil
 import subprocess
 import threading
 import time
 
-from lib.program import Wrong, shared_library, wrong_if
+from lib.program import NAME, Wrong, kept, path_of, say, shared_library, work_folder, wrong_if
 
 PATIENCE = 120                  # seconds after which a run hangs
-SET_PIPE_SIZE, PAGE = 1031, 4096        # F_SETPIPE_SZ of Linux, which Python before 3.10 does not name
+PAGE = 4096
 SHIM = r'''
 #define _GNU_SOURCE
 #include <stdlib.h>
@@ -37,11 +39,6 @@ int clock_gettime(clockid_t clock, struct timespec *now) {
 
 def last_line(text):
     return b''.join(text.splitlines(keepends=True)[-1:])
-
-
-def build_shim(folder):
-    """The shim's library, in a folder."""
-    return shared_library(folder, 'moment', SHIM)
 
 
 class Program:
@@ -70,7 +67,7 @@ class Program:
         Unless `reads`, nothing is read before it has ended, and what it may write until then is a page."""
         process = self.start(journal, moment)
         if not reads:
-            fcntl.fcntl(process.stdout, SET_PIPE_SIZE, PAGE)
+            fcntl.fcntl(process.stdout, fcntl.F_SETPIPE_SZ, PAGE)
         alarm = threading.Timer(kill_in, process.kill)
         feeder = threading.Thread(target=feed, args=(process.stdin, pieces), daemon=True)
         begun = time.monotonic()
@@ -106,3 +103,26 @@ def feed(stream, pieces):
                 view = view[stream.write(view):]
     with contextlib.suppress(BrokenPipeError):
         stream.close()
+
+
+def of_a_seed(task):
+    """What work gives of a seed in a folder of its own, which is kept where something is Wrong."""
+    work, seed, program, above = task
+    folder = os.path.join(above, 'seed-%d' % seed)
+    os.mkdir(folder)
+    try:
+        outcome = work(seed, program, folder)
+    except Wrong as wrong:
+        return Wrong('seed %d, %s\nkept in %s' % (seed, wrong, kept(folder, os.path.basename(NAME))))
+    shutil.rmtree(folder)
+    return outcome
+
+
+def outcomes(given, size, work):
+    """What work gives of each seed, of which so many have a size as make the count that is given, in processes."""
+    seeds = range(given.seed, given.seed + max(1, -(-given.count // size)))
+    say('seeds %d to %d, %d processes' % (seeds[0], seeds[-1], given.jobs))
+    with work_folder(os.path.basename(NAME)) as folder:
+        program = Program(path_of('chess_server'), shared_library(folder, 'moment', SHIM))
+        with multiprocessing.get_context('fork').Pool(given.jobs) as pool:
+            yield from pool.imap_unordered(of_a_seed, [(work, seed, program, folder) for seed in seeds])

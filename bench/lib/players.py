@@ -14,7 +14,7 @@ from lib.model import rules as model
 from lib.model.rules import Table, coordinate, legal_moves, other
 from lib.net import connect
 from lib.program import Wrong, run, wrong_if
-from lib.server import FOR_EVER, Server, fault_of, limits_of
+from lib.server import FOR_EVER, Server, fault_of, limits_of, reads_of
 
 PATIENCE = 60                   # seconds after which an answer does not come
 
@@ -44,10 +44,6 @@ def still(line):
     return line
 
 
-def reads_of(last):
-    return ['list'] + ['%s %d' % (word, number) for number in range(1, last + 1) for word in ('show', 'fen', 'pgn')]
-
-
 def digest(lines):
     return hashlib.sha1('\n'.join(map(still, lines)).encode()).hexdigest()
 
@@ -70,7 +66,7 @@ class Chess:
         return self.work(word, *limits_of(*limits))
 
     def reads(self, last):
-        return self.work('run', given=''.join(line + '\n' for line in reads_of(last)))
+        return self.work('run', given=''.join(line + '\n' for line in reads_of(range(1, last + 1))))
 
     def serve(self):
         server = Server(self.journal, *FOR_EVER, stderr=subprocess.PIPE, preexec_fn=disk.die_with_parent, **self.how)

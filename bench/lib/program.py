@@ -3,7 +3,6 @@
 import argparse
 import contextlib
 import functools
-import multiprocessing
 import os
 import re
 import resource
@@ -242,20 +241,3 @@ def kept(folder, name):
 
 def say(text):
     print(text, flush=True)
-
-
-# ------------------------------------------------------------------- many processes
-
-def in_jobs(work, tasks, jobs, told):
-    """Calls work with each task in so many processes, and told with each outcome; ends at the first that is a Wrong."""
-    with multiprocessing.get_context('fork').Pool(jobs) as pool:
-        for outcome in pool.imap_unordered(work, tasks):
-            if isinstance(outcome, Wrong):
-                return outcome
-            told(outcome)
-    return None
-
-
-def share(count, part):
-    """How many parts of a size make at least a count."""
-    return max(1, (count + part - 1) // part)

@@ -21,6 +21,11 @@ def call(*words, given='', **how):
     return done.returncode, done.stdout, fault_of(done.stderr)
 
 
+def reads_of(numbers):
+    """Lines that ask for all that a table tells of these games."""
+    return ['list'] + ['%s %d' % (word, number) for number in numbers for word in ('show', 'fen', 'pgn')]
+
+
 def play(journal, *lines, **how):
     return call('run', '--journal', journal, given=''.join(line + '\n' for line in lines), **how)
 

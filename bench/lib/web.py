@@ -108,7 +108,8 @@ NOTICES = ('told ', 'server ', 'clocks ')
 
 
 class Guest(Line):
-    """A browser that hears answers alone, with a token or none; it rests before each line so long, in seconds."""
+    """A browser that hears answers alone, with a token, or with none, who may only log in; it rests before each line so
+    long, in seconds."""
 
     def __init__(self, port, token=None, timeout=20, rest=0.0):
         super().__init__(port, timeout)
@@ -138,12 +139,11 @@ class Guest(Line):
 class Person:
     """A player's connection to a lobby, by blocking calls, who comes back where it is gone, with all acts that were
     said from it: each its line, its answer, where that was not lost on the way, the moments at which it was sent and
-    answered, and both in Unix time. With a name it has the token `token_of(NAME)`; without one it watches. `port_of`
-    answers the lobby's port."""
+    answered, and both in Unix time. Its token is `token_of(NAME)`. `port_of` answers the lobby's port."""
 
     patience, timeout = 90, 15      # seconds: for coming back, and for one message
 
-    def __init__(self, port_of, name=None):
+    def __init__(self, port_of, name):
         self.port_of, self.name, self.line, self.has_server = port_of, name, None, False
         # (whether the server that the lobby has is that which was lost last)
         self.acts, self.is_lost = [], False
@@ -158,7 +158,7 @@ class Person:
                 self.has_server = self.is_lost = False
                 self.line = Line(self.port_of(), self.timeout)
                 self.wait_for_the_server()
-                if not self.name or self.say('login ' + token_of(self.name)).startswith('ok login '):
+                if self.say('login ' + token_of(self.name)).startswith('ok login '):
                     return
             except (OSError, Gone):
                 pass

@@ -9,6 +9,7 @@ the list of its entries, and every field of it is read off that whole list.
 
 `at` is an int, `who` a name or None, `line` a str of the bytes before the line feed (latin-1: one character a byte)."""
 
+import functools
 import re
 
 # --------------------------------------------------------------------- squares
@@ -751,29 +752,17 @@ class Table:
         self.enter(Entry('move', f['game'], at, move=m))
         return ['ok move %d %d %s%s' % (f['game'], g.ply + 1, san(g.present, m), self.end(f['game']))]
 
-    def offer(self, at, who, f):
+    def plain(self, word, at, who, f):
+        """An act that names the game alone."""
         g, side = self.running(at, who, f)
-        refuse_if(g.offers[WHITE] or g.offers[BLACK], 10)
-        self.enter(Entry('offer', f['game'], at, side=side))
-        return ['ok offer %d' % f['game']]
+        refuse_if(word == 'offer' and (g.offers[WHITE] or g.offers[BLACK]), 10)
+        refuse_if(word in ('accept', 'decline') and not g.offers[other(side)], 11)
+        refuse_if(word == 'accept' and g.ply < 2, 12)
+        self.enter(Entry(word, f['game'], at, side=side))
+        return ['ok %s %d%s' % (word, f['game'], self.end(f['game']))]
 
-    def accept(self, at, who, f):
-        g, side = self.running(at, who, f)
-        refuse_if(not g.offers[other(side)], 11)
-        refuse_if(g.ply < 2, 12)
-        self.enter(Entry('accept', f['game'], at, side=side))
-        return ['ok accept %d%s' % (f['game'], self.end(f['game']))]
-
-    def decline(self, at, who, f):
-        g, side = self.running(at, who, f)
-        refuse_if(not g.offers[other(side)], 11)
-        self.enter(Entry('decline', f['game'], at, side=side))
-        return ['ok decline %d' % f['game']]
-
-    def resign(self, at, who, f):
-        _, side = self.running(at, who, f)
-        self.enter(Entry('resign', f['game'], at, side=side))
-        return ['ok resign %d%s' % (f['game'], self.end(f['game']))]
+    offer, accept = functools.partialmethod(plain, 'offer'), functools.partialmethod(plain, 'accept')
+    decline, resign = functools.partialmethod(plain, 'decline'), functools.partialmethod(plain, 'resign')
 
     def claim(self, at, who, f):
         g, side = self.on_move(at, who, f)

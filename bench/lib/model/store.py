@@ -4,6 +4,7 @@ by images.py, and read by reader.py.
 
 A sector that cannot be read has zeros here, which are no header and no record: so it is refused all the same. """
 
+import contextlib
 import itertools
 
 from lib.model.images import Noted, fours, header, sectors_of, snapshot_of
@@ -324,7 +325,7 @@ def life(device, calls, fates, batches):
     """The line of a life, which ends at the first call that fails, or behind its batches, with a crash."""
     device.arm(calls_of(calls))
     opened, answered, accepted = '-', 0, 0
-    try:
+    with contextlib.suppress(Fault):
         store = Store(read_journal(device))
         opened = before = store.table.entries
         for batch in batches:
@@ -333,8 +334,6 @@ def life(device, calls, fates, batches):
                 answered = store.table.entries - before
             finally:
                 accepted = store.table.entries - before
-    except Fault:
-        pass
     device.crash(fates.strip('-'))
     return 'life %s %d %d 0 %d' % (opened, answered, accepted, device.failures)
 
