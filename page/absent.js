@@ -1,10 +1,11 @@
-// Who has not made a move when the default time is over (6.7), which an arbiter writes down at the desk: then that waits.
+// Who has not come when the default time is over (6.7), which an arbiter writes down at the desk: then that waits. Who is
+// connected is there.
 
 import { t } from './language.js';
 import { readPgn, readTimes } from './lines.js';
 import { byId, read, write } from './make.js';
 import { stopped } from './stopped.js';
-import { AGREED, colourWord } from './words.js';
+import { AGREED, SIDES, colourWord } from './words.js';
 
 const KEY = 'default-time';            // minutes
 export const MINUTE = 60000;
@@ -12,9 +13,11 @@ const SECOND = 1000;
 const local = () => localStorage;
 
 export class Absences {
-  /** changed() is called where another time is written. */
-  constructor(app, changed) {
+  /** changed() is called where another time is written; isHere(name) tells whether a player is connected. */
+  constructor(app, isHere, changed) {
     this.app = app;
+    this.isHere = isHere;
+    this.late = new Set();             // the game's number and the side of who was not here when the time was over
     this.times = new Map();            // number -> the game's times, null where they are not told
     this.field = byId('default-time');
     this.field.value = read(local, KEY) || '';
@@ -51,11 +54,29 @@ export class Absences {
     return Math.max(0, since + (ply === 0 ? gone('w') : gone('w') + SECOND * times.increment + gone('b')));
   }
 
+  /** Of a game's sides that have not made a move, those whose player is not here. */
+  away(standing) {
+    const { ply, side, white, black } = standing, name = { w: white, b: black };
+    return isAbsent(standing) ? SIDES.filter((one) => (ply === 0 || one === side) && !this.isHere(name[one])) : [];
+  }
+
+  /** The sides whose player is not here, or was not when the default time was over. */
+  absent(standing) {
+    const away = this.away(standing);
+    return SIDES.filter((side) => away.includes(side) || this.late.has(`${standing.number} ${side}`));
+  }
+
   /** What waits of a game that stood so at the moment `at`; '' where nothing does. */
   words(standing, at) {
     const minutes = this.minutes(), ran = minutes && isAbsent(standing) ? this.ran(standing, at) : null;
-    return ran === null || ran < MINUTE * minutes ? ''
-      : t`${colourWord(standing.side)} has not moved within the default time, ${minutes} min`;
+    if (ran === null || ran < MINUTE * minutes) return '';
+    const away = this.away(standing);
+    for (const side of away) this.late.add(`${standing.number} ${side}`);
+    const late = this.absent(standing).filter((side) => standing.ply === 0 || side === standing.side);
+    if (late.length > 1) return t`Neither player has come within the default time, ${minutes} min`;
+    return late.length === 0 ? ''
+      : away.length ? t`${colourWord(late[0])} has not come within the default time, ${minutes} min`
+      : t`${colourWord(late[0])} has come after the default time, ${minutes} min`;
   }
 }
 

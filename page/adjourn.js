@@ -4,7 +4,7 @@
 
 import { findKept, toldOf } from './kept.js';
 import { language, t } from './language.js';
-import { readPgn, readRefusal, readShow, readTimes, sideOf } from './lines.js';
+import { readPgn, readRefusal, readShow, readTimes, sideOf, timesOfOpen } from './lines.js';
 import { arrange, byId, copy, focused, make, read, setText, write } from './make.js';
 import {
   AGREED, NO_GAME, SIDES, arbiterWords, clockText, colourWord, resultWords, timesWords, withReason,
@@ -155,7 +155,7 @@ export class Adjournments {
     const row = (head, text) => [make('dt', {}, head), make('dd', {}, text)];
     return [...SIDES.flatMap((side) => row(colourWord(side), t`${this.nameOf(note, side)}: ${clockOf(note, side)}`)),
       ...row(t`Position`, positionOf(note)), ...row('FEN', note.fen),
-      ...row(t`Times`, `${timesWords(readTimes(note.times))} (${note.times})`)];
+      ...row(t`Times`, timesOf(note.times)), ...(note.taken ? row(t`Goes on with`, timesOf(note.taken)) : [])];
   }
 
   nameOf(note, side) {
@@ -165,10 +165,10 @@ export class Adjournments {
 
   /** A note as a text of its own. */
   textOf(note) {
-    const times = `${timesWords(readTimes(note.times))} (${note.times})`;
     return [t`Game ${note.game}, ${note.closed ? t`adjourned` : t`as it stood`} ${momentOf(note)}`,
       ...SIDES.map((side) => t`${colourWord(side)}: ${this.nameOf(note, side)}, ${clockOf(note, side)} left`),
-      t`Position: ${positionOf(note)}`, `FEN: ${note.fen}`, t`Times: ${times}`, ''].join('\n');
+      t`Position: ${positionOf(note)}`, `FEN: ${note.fen}`, t`Times: ${timesOf(note.times)}`,
+      ...(note.taken ? [`${t`Goes on with`}: ${timesOf(note.taken)}`] : []), ''].join('\n');
   }
 
   async copyNote(note, place) {
@@ -263,10 +263,10 @@ export class Adjournments {
     for (const note of this.notes().filter(({ closed, gone }) => !closed && !gone)) await this.settle(note, false);
   }
 
-  /** The game of a note goes on as another one. */
-  goesOn(key, number) {
+  /** The game of a note goes on as another one, which was opened by this line. */
+  goesOn(key, number, line) {
     const note = readNote(key);
-    if (note) this.keep({ ...note, later: number });
+    if (note) this.keep({ ...note, later: number, taken: timesOfOpen(line) });
   }
 
   forget(note) {
@@ -338,11 +338,11 @@ export class Adjournments {
   }
 }
 
-/** What the form that pairs is filled with: one time for both sides, the greater of the two clocks in whole seconds; of a
- * first period that goes on for either, as many moves as are left for who has made more. */
-export function timesToGoOn(note) {
+/** What the form that pairs is filled with: one time for both sides, the greater of the two clocks if no other is named,
+ * in whole seconds; of a first period that goes on for either, as many moves as are left for who has made more. */
+export function timesToGoOn(note, left = Math.max(note.left.w, note.left.b)) {
   const times = readTimes(note.times) || { initial: 0, increment: 0, moves: 0, second: 0 };
-  const initial = Math.min(DAY, Math.max(1, Math.ceil(Math.max(note.left.w, note.left.b) / 1000)));
+  const initial = Math.min(DAY, Math.max(1, Math.ceil(left / 1000)));
   const moves = Math.max(0, times.moves - Math.ceil(note.ply / 2));
   return { initial, increment: times.increment, moves, second: moves ? times.second : 0 };
 }
@@ -351,9 +351,26 @@ export function timesToGoOn(note) {
 export function wordsToGoOn(note) {
   const record = note.closed ? t`stands in the record as a draw` : t`is on the table no more`;
   const clocks = SIDES.map((side) => t`${colourWord(side)} had ${clockOf(note, side)}`).join(', ');
-  const same = Math.ceil(note.left.w / 1000) === Math.ceil(note.left.b / 1000);
   return t`This goes on with game ${note.game}, which ${record}; the game that is opened here is the board’s. The server
-    has one time for both sides: ${clocks}${same ? '' : t`, so both get the greater of the two`}.`;
+    has one time for both sides: ${clocks}.`;
+}
+
+/** The times that an arbiter may choose for both sides, [{times, words}], with what each gains or loses by them; one where
+ * the clocks are the same. */
+export function choicesToGoOn(note) {
+  const seconds = (ms) => Math.ceil(ms / 1000), { w, b } = note.left;
+  const choice = (left, name) => {
+    const times = timesToGoOn(note, left);
+    const changes = SIDES.map((side) => ({ side, more: times.initial - seconds(note.left[side]) }));
+    const words = changes.filter(({ more }) => more).map(({ side, more }) => (more > 0
+      ? t`${colourWord(side)} gains ${clockText(1000 * more)}`
+      : t`${colourWord(side)} loses ${clockText(-1000 * more)}`)).join(', ');
+    return { times, words: name(clockText(1000 * times.initial), words) };
+  };
+  const greater = choice(Math.max(w, b), (clock, words) => t`the greater time, ${clock} (${words})`);
+  return seconds(w) === seconds(b) ? [greater] : [greater,
+    choice((w + b) / 2, (clock, words) => t`the mean, ${clock} (${words})`),
+    choice(Math.min(w, b), (clock, words) => t`the smaller time, ${clock} (${words})`)];
 }
 
 /** Keeps in a player's browser that a game of the two was adjourned, and by whom: the lobby tells it once. */
@@ -403,6 +420,11 @@ function whyNot({ ply, left, fen }, article) {
       first move; or enter a resignation, which ends it too, and pair the two anew.`;
   }
   return left[sideOf(fen)] === 0 ? t`${colourWord(sideOf(fen))}’s clock has run out: call the flag.` : '';
+}
+
+/** Times as the page and as a PGN have them. */
+function timesOf(times) {
+  return `${timesWords(readTimes(times))} (${times})`;
 }
 
 /** By the position's own number of the move. */

@@ -1,7 +1,7 @@
 // The arbiter's desk: all running games at a glance, and what is entered for their players.
 
 import { Absences, isAbsent } from './absent.js';
-import { Adjournments, timesToGoOn, wordsToGoOn } from './adjourn.js';
+import { Adjournments, choicesToGoOn, timesToGoOn, wordsToGoOn } from './adjourn.js';
 import { announced } from './announced.js';
 import { Picture } from './board.js';
 import { Clock } from './clock.js';
@@ -50,11 +50,11 @@ export class ArbiterView {
     this.here = null;                  // the names of who is connected, once that was told
     this.arePaused = null;             // whether new games are stopped, once that was told
     this.question = new Question();
-    this.absences = new Absences(app, () => this.waits.render());
+    this.absences = new Absences(app, (name) => this.isHere(name), () => this.waits.render());
     this.waits = new Waits(this);
-    this.pairing = new Pairing(this, (key, number) => this.adjourned.goesOn(key, number));
+    this.pairing = new Pairing(this, (key, number, line) => this.adjourned.goesOn(key, number, line));
     this.adjourned = new Adjournments(this, (note) => this.pairing.fill({ ...note, times: timesToGoOn(note) },
-      wordsToGoOn(note)));
+      wordsToGoOn(note), choicesToGoOn(note)));
     this.openings = new Openings(this);
     this.links = new Links(this);
     this.decision = new Decision(this);

@@ -6,12 +6,13 @@ import { findKept, toldOf } from './kept.js';
 import { t } from './language.js';
 import { readShow } from './lines.js';
 import { byId, copy, setText } from './make.js';
+import { mayMate } from './material.js';
 import { AGREED, OTHER, colourWord, kindWords, resultWords, withReason } from './words.js';
 
 const WORDLESS = /^[\w.,:/+-]+$/;      // what a shell takes as it is
 /** By which a game ended that is a draw where the winner cannot mate. */
-const LOST_BY = { '6.9': '6.9', '5.1.2': '5.1.2' };
-const FORFEIT = { w: '-/+', b: '+/-' }; // of who did not come
+const LOST_BY = ['6.9', '5.1.2'];
+const FORFEIT = { w: '-/+', b: '+/-', wb: '-/-' }; // of who did not come
 
 export class Decision {
   /** desk: {app, openings, absences}. */
@@ -64,7 +65,7 @@ export class Decision {
     const { number } = standing, fields = this.form.elements, at = performance.now();
     const [white, black] = [standing.white, standing.black].map((name) => this.nameOf(name));
     this.about = number;
-    for (const [name, value] of Object.entries(likely(standing))) fields[name].value = value;
+    for (const [name, value] of Object.entries(likely(standing, this.desk.absences.absent(standing)))) fields[name].value = value;
     fields.board.value = '';
     fields.round.value = String(this.app.round.newest() || 1);
     setText(byId('decide-title'), t`Decide the result of game ${number}: ${white} – ${black}`);
@@ -135,14 +136,14 @@ function loserOf({ result }) {
   return { '1-0': 'b', '0-1': 'w' }[result] || '';
 }
 
-/** What is likely to be decided of a game, as the form has it. */
-function likely(standing) {
-  const { side, ply, article } = standing, loser = loserOf(standing);
-  if (isAbsent(standing) || loser && ply < AGREED) {
-    const absent = loser || side;
-    return { result: FORFEIT[absent], article: '6.7', reason: t`${colourWord(absent)} did not come in time` };
+/** What is likely to be decided of a game, as the form has it, where these sides have not come. */
+function likely({ ply, article, result, fen }, absent) {
+  const loser = loserOf({ result }), sides = ply < AGREED ? absent.join('') || loser : '';
+  if (sides) {
+    return { result: FORFEIT[sides], article: '6.7', reason: sides.length > 1 ? t`neither player came in time`
+      : t`${colourWord(sides)} did not come in time` };
   }
-  if (article === LOST_BY['6.9'] && loser) {
+  if (loser && LOST_BY.includes(article) && !mayMate(OTHER[loser], fen)) {
     return { result: '1/2-1/2', article, reason: t`${colourWord(OTHER[loser])} cannot mate by any legal moves` };
   }
   return { result: '', article: '', reason: '' };
@@ -155,11 +156,14 @@ function lawWords(standing) {
     return t`By 6.7 who comes after the default time loses, unless the arbiter decides otherwise. The game goes on until
       it is ended here, by “By mistake” or “Flag”.`;
   }
-  if (!loser || !LOST_BY[article] || ply < AGREED) return '';
-  const winner = OTHER[loser];
-  return t`By ${article} it is a draw where ${colourWord(winner)} cannot mate by any legal moves. ${colourWord(winner)}
-    has: ${menWords(fen, winner)}. The server draws by 6.9 against a king alone; of the rest the note of “chess-club
-    results” says what the Laws say.`;
+  if (!loser || !LOST_BY.includes(article) || ply < AGREED) return '';
+  const winner = OTHER[loser], words = colourWord(winner), men = menWords(fen, winner);
+  if (!mayMate(winner, fen)) {
+    return t`By ${article} it is a draw: ${words} cannot mate by any legal moves. ${words} has: ${men};
+      ${colourWord(loser)} has: ${menWords(fen, loser)}.`;
+  }
+  return t`By ${article} it is a draw where ${words} cannot mate by any legal moves. ${words} has: ${men}. Whether that is
+    so depends on the position: the note of “chess-club results” says what the Laws say.`;
 }
 
 /** A side's men: `king, 2 knights`. */

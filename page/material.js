@@ -33,6 +33,23 @@ export function takenBy(side, startFen, fen) {
   return { letters, ahead: worth(now, isWhite) - worth(now, !isWhite) };
 }
 
+/** Whether a side's men can mate in any position with men like the opponent's, by any legal moves: where not, they never
+ * can. */
+export function mayMate(side, fen) {
+  const own = [], others = [];
+  for (const [square, letter] of placementOf(fen)) {
+    const kind = letter.toLowerCase(), isOwn = (letter === kind) === (side === 'b');
+    if (kind !== 'k') (isOwn ? own : others).push(kind === 'b' ? `b${(square.charCodeAt(0) + Number(square[1])) % 2}` : kind);
+  }
+  const kinds = new Set(own), [first] = kinds;
+  if (own.length === 0) return false;
+  if (kinds.size > 1 || !['n', 'b0', 'b1'].includes(first)) return true;
+  // (a knight alone mates a king shut in by a man that is no queen; bishops on squares of one colour by one of these, a
+  // pawn that may become one, or a bishop on the other squares)
+  return first === 'n' ? own.length > 1 || others.some((kind) => kind !== 'q')
+    : others.some((kind) => kind === 'n' || kind === 'p' || kind[0] === 'b' && kind !== first);
+}
+
 /** Draws what a side has taken into its place, and says it as the place's name. */
 export function drawTaken(place, side, startFen, fen) {
   const { letters, ahead } = takenBy(side, startFen, fen), key = letters.join('') + (ahead > 0 ? ` +${ahead}` : '');

@@ -14,8 +14,8 @@ const SETTLES = 700;                 // milliseconds between two looks at the ta
 const local = () => localStorage;
 
 export class Pairing {
-  /** desk: {app, running(), isHere(name)}; paired(key, number) is called once both sit, `key` being that of the adjourned
-   * game that is gone on with, or empty. */
+  /** desk: {app, running(), isHere(name)}; paired(key, number, line) is called once both sit, `key` being that of the
+   * adjourned game that is gone on with, or empty, and `line` the one by which the game was opened. */
   constructor(desk, paired) {
     this.desk = desk;
     this.app = desk.app;
@@ -54,19 +54,30 @@ export class Pairing {
     this.renderHints();
   }
 
-  /** Fills the form in for an adjourned game: {key, white, black, times, fen}, and what is said of it. */
-  fill(adjourned, words) {
+  /** Fills the form in for an adjourned game: {key, white, black, times, fen}, what is said of it, and the times of which
+   * to choose, [{times, words}]. */
+  fill(adjourned, words, choices) {
     const fields = this.form.elements, { white, black, times, fen } = adjourned;
     this.adjourned = adjourned;
     [fields.white.value, fields.black.value, fields.fen.value] = [white, black, fen];
     this.times.set(times);
     this.form.querySelector('.from-position').open = true;
     setText(byId('pair-adjourned'), words);
+    this.choose(choices);
     this.note('');
     this.renderHints();
     byId('pair-by-hand').open = true;
     byId('pair-by-hand').scrollIntoView({ block: 'start' });
     byId('pair-adjourned').focus({ preventScroll: true });
+  }
+
+  /** Of these times one is chosen, the first at first. */
+  choose(choices) {
+    const field = byId('pair-clocks');
+    field.hidden = choices.length < 2;
+    field.replaceChildren(field.firstElementChild, ...choices.map(({ times, words }, place) => make('label',
+      { class: 'check' }, make('input', { type: 'radio', name: 'clocks', value: String(place), checked: place === 0,
+        onchange: () => this.times.set(times) }), make('span', {}, words))));
   }
 
   /** The players and the position go; the times stay for the next pair, but those of an adjourned game. */
@@ -77,6 +88,7 @@ export class Pairing {
     this.adjourned = null;
     this.form.querySelector('.from-position').open = false;
     setText(byId('pair-adjourned'), '');
+    this.choose([]);
     this.note('');
     this.renderHints();
   }
@@ -171,11 +183,11 @@ export class Pairing {
   }
 
   done() {
-    const { black, number, adjourned } = this.begun;
+    const { black, number, adjourned, line } = this.begun;
     this.step(t`${this.name(black)} has Black: the clocks run.`, true, number);
     this.keep(null);
     this.empty();
-    if (adjourned) this.paired(adjourned, number);
+    if (adjourned) this.paired(adjourned, number, line);
   }
 
   /** From where it stands: the table is looked at first. */

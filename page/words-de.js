@@ -49,10 +49,16 @@ export const WORDS = {
   'is on the table no more': 'nicht mehr am Tisch ist',
   '{0} had {1}': '{0} hatte {1}',
   ['This goes on with game {0}, which {1}; the game that is opened here is the board’s. The server has one time for '
-    + 'both sides: {2}{3}.']:
+    + 'both sides: {2}.']:
     'Das setzt Partie {0} fort, die {1}; für das Brett zählt die Partie, die hier eröffnet wird. Der Server hat eine '
-    + 'Zeit für beide Seiten: {2}{3}.',
-  ', so both get the greater of the two': ', also bekommen beide die größere von beiden',
+    + 'Zeit für beide Seiten: {2}.',
+  'Both sides get': 'Beide Seiten bekommen',
+  'the greater time, {0} ({1})': 'die größere Zeit, {0} ({1})',
+  'the mean, {0} ({1})': 'das Mittel, {0} ({1})',
+  'the smaller time, {0} ({1})': 'die kleinere Zeit, {0} ({1})',
+  '{0} gains {1}': '{0} bekommt {1} mehr',
+  '{0} loses {1}': '{0} bekommt {1} weniger',
+  'Goes on with': 'Geht weiter mit',
   'The game has ended meanwhile.': 'Die Partie ist inzwischen zu Ende.',
   ['A draw can be agreed on once both sides have made a move, so this game cannot be closed yet. Have both make '
     + 'their first move; or enter a resignation, which ends it too, and pair the two anew.']:
@@ -880,16 +886,18 @@ export const WORDS = {
     '{0} Führe ihn auf dem Rechner des Vereins aus, im Ordner mit den Dateien der Runde: er sagt „board {1}: {2} is '
     + 'decided“.',
   '{0} did not come in time': '{0} ist nicht rechtzeitig gekommen',
+  'neither player came in time': 'keiner der beiden ist rechtzeitig gekommen',
   '{0} cannot mate by any legal moves': '{0} kann durch keine regelgemäßen Züge matt setzen',
   ['By 6.7 who comes after the default time loses, unless the arbiter decides otherwise. The game goes on until it '
     + 'is ended here, by “By mistake” or “Flag”.']:
     'Nach 6.7 verliert, wer nach der Wartezeit kommt, wenn der Schiedsrichter nicht anders entscheidet. Die Partie '
     + 'läuft weiter, bis sie hier beendet wird, durch „Versehentlich“ oder „Zeit“.',
-  ['By {0} it is a draw where {1} cannot mate by any legal moves. {2} has: {3}. The server draws by 6.9 against a '
-    + 'king alone; of the rest the note of “chess-club results” says what the Laws say.']:
-    'Nach {0} ist es remis, wenn {1} durch keine regelgemäßen Züge matt setzen kann. {2} hat: {3}. Der Server gibt '
-    + 'nach 6.9 remis gegen einen König allein; was die Regeln sonst sagen, steht in der Anmerkung von „chess-club '
-    + 'results“.',
+  'By {0} it is a draw: {1} cannot mate by any legal moves. {2} has: {3}; {4} has: {5}.':
+    'Nach {0} ist es remis: {1} kann durch keine regelgemäßen Züge matt setzen. {2} hat: {3}; {4} hat: {5}.',
+  ['By {0} it is a draw where {1} cannot mate by any legal moves. {2} has: {3}. Whether that is so depends on the '
+    + 'position: the note of “chess-club results” says what the Laws say.']:
+    'Nach {0} ist es remis, wenn {1} durch keine regelgemäßen Züge matt setzen kann. {2} hat: {3}. Ob das so ist, '
+    + 'hängt von der Stellung ab: was die Regeln sagen, steht in der Anmerkung von „chess-club results“.',
   '1–0: White wins': '1–0: Weiß gewinnt',
   '½–½: a draw': '½–½: remis',
   '0–1: Black wins': '0–1: Schwarz gewinnt',
@@ -909,5 +917,8 @@ export const WORDS = {
   'The game’s number': 'Nummer der Partie',
   'Game {0} goes on: first its result is entered.': 'Partie {0} läuft noch: zuerst wird ihr Ergebnis eingetragen.',
   'Default time, min': 'Wartezeit, min',
-  '{0} has not moved within the default time, {1} min': '{0} hat in der Wartezeit nicht gezogen, {1} min',
+  '{0} has not come within the default time, {1} min': '{0} ist in der Wartezeit nicht gekommen, {1} min',
+  '{0} has come after the default time, {1} min': '{0} ist nach der Wartezeit gekommen, {1} min',
+  'Neither player has come within the default time, {0} min':
+    'Keiner der beiden ist in der Wartezeit gekommen, {0} min',
 };

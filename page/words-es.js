@@ -47,10 +47,16 @@ export const WORDS = {
   'is on the table no more': 'ya no está en la lista',
   '{0} had {1}': '{0} tenían {1}',
   ['This goes on with game {0}, which {1}; the game that is opened here is the board’s. The server has one time for '
-    + 'both sides: {2}{3}.']:
+    + 'both sides: {2}.']:
     'Esto reanuda la partida {0}, que {1}; para el tablero cuenta la partida que se abre aquí. El servidor tiene un '
-    + 'solo tiempo para ambos bandos: {2}{3}.',
-  ', so both get the greater of the two': ', así que ambos reciben el mayor de los dos',
+    + 'solo tiempo para ambos bandos: {2}.',
+  'Both sides get': 'Ambos bandos reciben',
+  'the greater time, {0} ({1})': 'el tiempo mayor, {0} ({1})',
+  'the mean, {0} ({1})': 'la media, {0} ({1})',
+  'the smaller time, {0} ({1})': 'el tiempo menor, {0} ({1})',
+  '{0} gains {1}': '{0}: {1} más',
+  '{0} loses {1}': '{0}: {1} menos',
+  'Goes on with': 'Sigue con',
   'The game has ended meanwhile.': 'La partida ha terminado entretanto.',
   ['A draw can be agreed on once both sides have made a move, so this game cannot be closed yet. Have both make '
     + 'their first move; or enter a resignation, which ends it too, and pair the two anew.']:
@@ -872,16 +878,19 @@ export const WORDS = {
     '{0} Ejecútala en la máquina del club, en la carpeta con los archivos de la ronda: dice «board {1}: {2} is '
     + 'decided».',
   '{0} did not come in time': '{0}: no se presentaron a tiempo',
+  'neither player came in time': 'ninguno de los dos se presentó a tiempo',
   '{0} cannot mate by any legal moves': '{0} no pueden dar mate con ninguna serie de jugadas legales',
   ['By 6.7 who comes after the default time loses, unless the arbiter decides otherwise. The game goes on until it '
     + 'is ended here, by “By mistake” or “Flag”.']:
     'Según 6.7 pierde quien llega después del tiempo de espera, salvo que el árbitro decida otra cosa. La partida '
     + 'sigue hasta que se termine aquí, con «Por error» o «Bandera».',
-  ['By {0} it is a draw where {1} cannot mate by any legal moves. {2} has: {3}. The server draws by 6.9 against a '
-    + 'king alone; of the rest the note of “chess-club results” says what the Laws say.']:
-    'Según {0} son tablas si {1} no pueden dar mate con ninguna serie de jugadas legales. {2} tienen: {3}. El '
-    + 'servidor da tablas por 6.9 contra un rey solo; de lo demás, la nota de «chess-club results» dice lo que dicen '
-    + 'las Leyes.',
+  'By {0} it is a draw: {1} cannot mate by any legal moves. {2} has: {3}; {4} has: {5}.':
+    'Según {0} son tablas: {1} no pueden dar mate con ninguna serie de jugadas legales. {2} tienen: {3}; {4} '
+    + 'tienen: {5}.',
+  ['By {0} it is a draw where {1} cannot mate by any legal moves. {2} has: {3}. Whether that is so depends on the '
+    + 'position: the note of “chess-club results” says what the Laws say.']:
+    'Según {0} son tablas si {1} no pueden dar mate con ninguna serie de jugadas legales. {2} tienen: {3}. Que sea '
+    + 'así depende de la posición: la nota de «chess-club results» dice lo que dicen las Leyes.',
   '1–0: White wins': '1–0: ganan blancas',
   '½–½: a draw': '½–½: tablas',
   '0–1: Black wins': '0–1: ganan negras',
@@ -900,5 +909,8 @@ export const WORDS = {
   'The game’s number': 'Número de la partida',
   'Game {0} goes on: first its result is entered.': 'La partida {0} sigue: primero se anota su resultado.',
   'Default time, min': 'Tiempo de espera, min',
-  '{0} has not moved within the default time, {1} min': '{0}: ninguna jugada en el tiempo de espera, {1} min',
+  '{0} has not come within the default time, {1} min': '{0}: no se presentaron en el tiempo de espera, {1} min',
+  '{0} has come after the default time, {1} min': '{0}: llegaron después del tiempo de espera, {1} min',
+  'Neither player has come within the default time, {0} min':
+    'Ninguno de los dos se presentó en el tiempo de espera, {0} min',
 };

@@ -51,10 +51,16 @@ export const WORDS = {
   'is on the table no more': 'n’est plus dans la liste',
   '{0} had {1}': '{0} : {1}',
   ['This goes on with game {0}, which {1}; the game that is opened here is the board’s. The server has one time for '
-    + 'both sides: {2}{3}.']:
+    + 'both sides: {2}.']:
     'Ceci reprend la partie {0}, qui {1} ; c’est la partie ouverte ici qui compte pour l’échiquier. Le serveur n’a '
-    + 'qu’un temps pour les deux camps. Pendules – {2}{3}.',
-  ', so both get the greater of the two': ' ; les deux reçoivent donc le plus grand des deux temps',
+    + 'qu’un temps pour les deux camps. Pendules – {2}.',
+  'Both sides get': 'Les deux camps reçoivent',
+  'the greater time, {0} ({1})': 'le plus grand temps, {0} ({1})',
+  'the mean, {0} ({1})': 'la moyenne, {0} ({1})',
+  'the smaller time, {0} ({1})': 'le plus petit temps, {0} ({1})',
+  '{0} gains {1}': '{0} : {1} de plus',
+  '{0} loses {1}': '{0} : {1} de moins',
+  'Goes on with': 'Reprise avec',
   'The game has ended meanwhile.': 'La partie s’est terminée entre-temps.',
   ['A draw can be agreed on once both sides have made a move, so this game cannot be closed yet. Have both make '
     + 'their first move; or enter a resignation, which ends it too, and pair the two anew.']:
@@ -886,16 +892,19 @@ export const WORDS = {
     '{0} Lancez-la sur la machine du club, dans le dossier des fichiers de la ronde : elle affiche « board {1}: {2} '
     + 'is decided ».',
   '{0} did not come in time': '{0} : absence à l’heure limite',
+  'neither player came in time': 'aucun des deux n’est venu à temps',
   '{0} cannot mate by any legal moves': 'Les {0} ne peuvent mater par aucune suite de coups légaux',
   ['By 6.7 who comes after the default time loses, unless the arbiter decides otherwise. The game goes on until it '
     + 'is ended here, by “By mistake” or “Flag”.']:
     'Selon 6.7, qui arrive après le délai d’attente perd, sauf décision contraire de l’arbitre. La partie continue '
     + 'jusqu’à ce qu’elle soit terminée ici, par « Par erreur » ou « Drapeau ».',
-  ['By {0} it is a draw where {1} cannot mate by any legal moves. {2} has: {3}. The server draws by 6.9 against a '
-    + 'king alone; of the rest the note of “chess-club results” says what the Laws say.']:
-    'Selon {0}, la partie est nulle si les {1} ne peuvent mater par aucune suite de coups légaux. Les {2} ont : {3}. '
-    + 'Le serveur donne nulle par 6.9 contre un roi seul ; pour le reste, la note de « chess-club results » dit ce '
-    + 'que disent les Règles.',
+  'By {0} it is a draw: {1} cannot mate by any legal moves. {2} has: {3}; {4} has: {5}.':
+    'Selon {0}, la partie est nulle : les {1} ne peuvent mater par aucune suite de coups légaux. Les {2} ont : '
+    + '{3} ; les {4} ont : {5}.',
+  ['By {0} it is a draw where {1} cannot mate by any legal moves. {2} has: {3}. Whether that is so depends on the '
+    + 'position: the note of “chess-club results” says what the Laws say.']:
+    'Selon {0}, la partie est nulle si les {1} ne peuvent mater par aucune suite de coups légaux. Les {2} ont : '
+    + '{3}. Cela dépend de la position : la note de « chess-club results » dit ce que disent les Règles.',
   '1–0: White wins': '1–0 : les Blancs gagnent',
   '½–½: a draw': '½–½ : nulle',
   '0–1: Black wins': '0–1 : les Noirs gagnent',
@@ -915,5 +924,8 @@ export const WORDS = {
   'The game’s number': 'Numéro de la partie',
   'Game {0} goes on: first its result is entered.': 'La partie {0} continue : son résultat est d’abord à inscrire.',
   'Default time, min': 'Délai d’attente, min',
-  '{0} has not moved within the default time, {1} min': '{0} : aucun coup joué dans le délai d’attente, {1} min',
+  '{0} has not come within the default time, {1} min': '{0} : absence pendant tout le délai d’attente, {1} min',
+  '{0} has come after the default time, {1} min': '{0} : arrivée après le délai d’attente, {1} min',
+  'Neither player has come within the default time, {0} min':
+    'Aucun des deux n’est venu dans le délai d’attente, {0} min',
 };

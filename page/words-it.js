@@ -48,10 +48,16 @@ export const WORDS = {
   'is on the table no more': 'non è più in elenco',
   '{0} had {1}': '{0} aveva {1}',
   ['This goes on with game {0}, which {1}; the game that is opened here is the board’s. The server has one time for '
-    + 'both sides: {2}{3}.']:
+    + 'both sides: {2}.']:
     'Questa riprende la partita {0}, che {1}; per la scacchiera vale la partita che si apre qui. Il server ha un '
-    + 'solo tempo per entrambi: {2}{3}.',
-  ', so both get the greater of the two': ', quindi entrambi ricevono il maggiore dei due',
+    + 'solo tempo per entrambi: {2}.',
+  'Both sides get': 'Entrambi ricevono',
+  'the greater time, {0} ({1})': 'il tempo maggiore, {0} ({1})',
+  'the mean, {0} ({1})': 'la media, {0} ({1})',
+  'the smaller time, {0} ({1})': 'il tempo minore, {0} ({1})',
+  '{0} gains {1}': '{0}: {1} in più',
+  '{0} loses {1}': '{0}: {1} in meno',
+  'Goes on with': 'Riprende con',
   'The game has ended meanwhile.': 'Nel frattempo la partita è finita.',
   ['A draw can be agreed on once both sides have made a move, so this game cannot be closed yet. Have both make '
     + 'their first move; or enter a resignation, which ends it too, and pair the two anew.']:
@@ -876,15 +882,19 @@ export const WORDS = {
   '{0} Run it on the club’s machine, in the folder with the round’s files: it prints “board {1}: {2} is decided”.':
     '{0} Eseguilo sulla macchina del circolo, nella cartella con i file del turno: scrive «board {1}: {2} is decided».',
   '{0} did not come in time': 'Il {0} non è venuto in tempo',
+  'neither player came in time': 'nessuno dei due è venuto in tempo',
   '{0} cannot mate by any legal moves': 'Il {0} non può dare matto con alcuna serie di mosse legali',
   ['By 6.7 who comes after the default time loses, unless the arbiter decides otherwise. The game goes on until it '
     + 'is ended here, by “By mistake” or “Flag”.']:
     'Secondo 6.7 perde chi arriva dopo il tempo di attesa, se l’arbitro non decide altrimenti. La partita continua '
     + 'finché non è chiusa qui, con «Per errore» o «Bandierina».',
-  ['By {0} it is a draw where {1} cannot mate by any legal moves. {2} has: {3}. The server draws by 6.9 against a '
-    + 'king alone; of the rest the note of “chess-club results” says what the Laws say.']:
-    'Secondo {0} è patta se il {1} non può dare matto con alcuna serie di mosse legali. Il {2} ha: {3}. Il server dà '
-    + 'patta per 6.9 contro un re solo; del resto, la nota di «chess-club results» dice ciò che dicono le Regole.',
+  'By {0} it is a draw: {1} cannot mate by any legal moves. {2} has: {3}; {4} has: {5}.':
+    'Secondo {0} è patta: il {1} non può dare matto con alcuna serie di mosse legali. Il {2} ha: {3}; il {4} ha: '
+    + '{5}.',
+  ['By {0} it is a draw where {1} cannot mate by any legal moves. {2} has: {3}. Whether that is so depends on the '
+    + 'position: the note of “chess-club results” says what the Laws say.']:
+    'Secondo {0} è patta se il {1} non può dare matto con alcuna serie di mosse legali. Il {2} ha: {3}. Se sia così '
+    + 'dipende dalla posizione: la nota di «chess-club results» dice ciò che dicono le Regole.',
   '1–0: White wins': '1–0: il Bianco vince',
   '½–½: a draw': '½–½: patta',
   '0–1: Black wins': '0–1: il Nero vince',
@@ -903,5 +913,7 @@ export const WORDS = {
   'The game’s number': 'Numero della partita',
   'Game {0} goes on: first its result is entered.': 'La partita {0} continua: prima si registra il suo risultato.',
   'Default time, min': 'Tempo di attesa, min',
-  '{0} has not moved within the default time, {1} min': 'Il {0} non ha mosso nel tempo di attesa, {1} min',
+  '{0} has not come within the default time, {1} min': 'Il {0} non è venuto nel tempo di attesa, {1} min',
+  '{0} has come after the default time, {1} min': 'Il {0} è venuto dopo il tempo di attesa, {1} min',
+  'Neither player has come within the default time, {0} min': 'Nessuno dei due è venuto nel tempo di attesa, {0} min',
 };

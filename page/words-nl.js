@@ -48,10 +48,16 @@ export const WORDS = {
   'is on the table no more': 'niet meer op de lijst staat',
   '{0} had {1}': '{0} had {1}',
   ['This goes on with game {0}, which {1}; the game that is opened here is the board’s. The server has one time for '
-    + 'both sides: {2}{3}.']:
+    + 'both sides: {2}.']:
     'Dit is het vervolg van partij {0}, die {1}; voor het bord telt de partij die hier wordt geopend. De server '
-    + 'heeft één tijd voor beide spelers: {2}{3}.',
-  ', so both get the greater of the two': ', dus krijgen beide de grootste van de twee',
+    + 'heeft één tijd voor beide spelers: {2}.',
+  'Both sides get': 'Beide spelers krijgen',
+  'the greater time, {0} ({1})': 'de grootste tijd, {0} ({1})',
+  'the mean, {0} ({1})': 'het gemiddelde, {0} ({1})',
+  'the smaller time, {0} ({1})': 'de kleinste tijd, {0} ({1})',
+  '{0} gains {1}': '{0} krijgt {1} meer',
+  '{0} loses {1}': '{0} krijgt {1} minder',
+  'Goes on with': 'Gaat verder met',
   'The game has ended meanwhile.': 'De partij is intussen afgelopen.',
   ['A draw can be agreed on once both sides have made a move, so this game cannot be closed yet. Have both make '
     + 'their first move; or enter a resignation, which ends it too, and pair the two anew.']:
@@ -878,16 +884,19 @@ export const WORDS = {
     '{0} Voer ze uit op de machine van de club, in de map met de bestanden van de ronde: ze zegt ‘board {1}: {2} is '
     + 'decided’.',
   '{0} did not come in time': '{0} is niet op tijd gekomen',
+  'neither player came in time': 'geen van beiden is op tijd gekomen',
   '{0} cannot mate by any legal moves': '{0} kan met geen enkele reglementaire zettenreeks mat zetten',
   ['By 6.7 who comes after the default time loses, unless the arbiter decides otherwise. The game goes on until it '
     + 'is ended here, by “By mistake” or “Flag”.']:
     'Volgens 6.7 verliest wie na de wachttijd komt, tenzij de arbiter anders beslist. De partij gaat door tot ze '
     + 'hier wordt beëindigd, met ‘Vergissing’ of ‘Vlag’.',
-  ['By {0} it is a draw where {1} cannot mate by any legal moves. {2} has: {3}. The server draws by 6.9 against a '
-    + 'king alone; of the rest the note of “chess-club results” says what the Laws say.']:
-    'Volgens {0} is het remise als {1} met geen enkele reglementaire zettenreeks mat kan zetten. {2} heeft: {3}. De '
-    + 'server geeft volgens 6.9 remise tegen een kale koning; van de rest zegt de opmerking van ‘chess-club results’ '
-    + 'wat de Regels zeggen.',
+  'By {0} it is a draw: {1} cannot mate by any legal moves. {2} has: {3}; {4} has: {5}.':
+    'Volgens {0} is het remise: {1} kan met geen enkele reglementaire zettenreeks mat zetten. {2} heeft: {3}; {4} '
+    + 'heeft: {5}.',
+  ['By {0} it is a draw where {1} cannot mate by any legal moves. {2} has: {3}. Whether that is so depends on the '
+    + 'position: the note of “chess-club results” says what the Laws say.']:
+    'Volgens {0} is het remise als {1} met geen enkele reglementaire zettenreeks mat kan zetten. {2} heeft: {3}. Of '
+    + 'dat zo is, hangt van de stelling af: de opmerking van ‘chess-club results’ zegt wat de Regels zeggen.',
   '1–0: White wins': '1–0: Wit wint',
   '½–½: a draw': '½–½: remise',
   '0–1: Black wins': '0–1: Zwart wint',
@@ -906,5 +915,7 @@ export const WORDS = {
   'The game’s number': 'Nummer van de partij',
   'Game {0} goes on: first its result is entered.': 'Partij {0} gaat door: eerst wordt haar uitslag ingevoerd.',
   'Default time, min': 'Wachttijd, min',
-  '{0} has not moved within the default time, {1} min': '{0} heeft binnen de wachttijd niet gezet, {1} min',
+  '{0} has not come within the default time, {1} min': '{0} is niet binnen de wachttijd gekomen, {1} min',
+  '{0} has come after the default time, {1} min': '{0} is na de wachttijd gekomen, {1} min',
+  'Neither player has come within the default time, {0} min': 'Geen van beiden is binnen de wachttijd gekomen, {0} min',
 };

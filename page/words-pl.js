@@ -48,10 +48,16 @@ export const WORDS = {
   'is on the table no more': 'nie jest już na liście',
   '{0} had {1}': '{0} miały {1}',
   ['This goes on with game {0}, which {1}; the game that is opened here is the board’s. The server has one time for '
-    + 'both sides: {2}{3}.']:
+    + 'both sides: {2}.']:
     'To wznowienie partii {0}, która {1}; dla szachownicy liczy się partia otwierana tutaj. Serwer ma jeden czas dla '
-    + 'obu stron: {2}{3}.',
-  ', so both get the greater of the two': ', więc obie dostają większy z nich',
+    + 'obu stron: {2}.',
+  'Both sides get': 'Obie strony dostają',
+  'the greater time, {0} ({1})': 'większy czas, {0} ({1})',
+  'the mean, {0} ({1})': 'średnią, {0} ({1})',
+  'the smaller time, {0} ({1})': 'mniejszy czas, {0} ({1})',
+  '{0} gains {1}': '{0}: o {1} więcej',
+  '{0} loses {1}': '{0}: o {1} mniej',
+  'Goes on with': 'Wznowiona z czasem',
   'The game has ended meanwhile.': 'W międzyczasie partia się skończyła.',
   ['A draw can be agreed on once both sides have made a move, so this game cannot be closed yet. Have both make '
     + 'their first move; or enter a resignation, which ends it too, and pair the two anew.']:
@@ -868,15 +874,18 @@ export const WORDS = {
   '{0} Run it on the club’s machine, in the folder with the round’s files: it prints “board {1}: {2} is decided”.':
     '{0} Uruchom je na komputerze klubu, w folderze z plikami rundy: wypisze „board {1}: {2} is decided”.',
   '{0} did not come in time': '{0}: nieobecność po czasie oczekiwania',
+  'neither player came in time': 'nikt z obojga nie przyszedł na czas',
   '{0} cannot mate by any legal moves': '{0} nie mogą zamatować żadną serią prawidłowych posunięć',
   ['By 6.7 who comes after the default time loses, unless the arbiter decides otherwise. The game goes on until it '
     + 'is ended here, by “By mistake” or “Flag”.']:
     'Według 6.7 przegrywa ten, kto przychodzi po czasie oczekiwania, o ile sędzia nie zdecyduje inaczej. Partia '
     + 'trwa, aż zakończy się ją tutaj przez „Pomyłka” lub „Czas”.',
-  ['By {0} it is a draw where {1} cannot mate by any legal moves. {2} has: {3}. The server draws by 6.9 against a '
-    + 'king alone; of the rest the note of “chess-club results” says what the Laws say.']:
-    'Według {0} jest remis, jeśli {1} nie mogą zamatować żadną serią prawidłowych posunięć. {2} mają: {3}. Serwer '
-    + 'daje remis według 6.9 przeciw samemu królowi; o reszcie uwaga „chess-club results” mówi, co mówią Przepisy.',
+  'By {0} it is a draw: {1} cannot mate by any legal moves. {2} has: {3}; {4} has: {5}.':
+    'Według {0} jest remis: {1} nie mogą zamatować żadną serią prawidłowych posunięć. {2} mają: {3}; {4} mają: {5}.',
+  ['By {0} it is a draw where {1} cannot mate by any legal moves. {2} has: {3}. Whether that is so depends on the '
+    + 'position: the note of “chess-club results” says what the Laws say.']:
+    'Według {0} jest remis, jeśli {1} nie mogą zamatować żadną serią prawidłowych posunięć. {2} mają: {3}. Czy tak '
+    + 'jest, zależy od pozycji: uwaga „chess-club results” mówi, co mówią Przepisy.',
   '1–0: White wins': '1–0: białe wygrywają',
   '½–½: a draw': '½–½: remis',
   '0–1: Black wins': '0–1: czarne wygrywają',
@@ -895,5 +904,8 @@ export const WORDS = {
   'The game’s number': 'Numer partii',
   'Game {0} goes on: first its result is entered.': 'Partia {0} trwa: najpierw zapisuje się jej wynik.',
   'Default time, min': 'Czas oczekiwania, min',
-  '{0} has not moved within the default time, {1} min': '{0}: bez ruchu w czasie oczekiwania, {1} min',
+  '{0} has not come within the default time, {1} min': '{0}: nieobecność przez cały czas oczekiwania, {1} min',
+  '{0} has come after the default time, {1} min': '{0}: przyjście po czasie oczekiwania, {1} min',
+  'Neither player has come within the default time, {0} min':
+    'Nikt z obojga nie przyszedł w czasie oczekiwania, {0} min',
 };

@@ -47,10 +47,16 @@ export const WORDS = {
   'is on the table no more': 'já não está na lista',
   '{0} had {1}': '{0} tinham {1}',
   ['This goes on with game {0}, which {1}; the game that is opened here is the board’s. The server has one time for '
-    + 'both sides: {2}{3}.']:
+    + 'both sides: {2}.']:
     'Isto retoma a partida {0}, que {1}; para o tabuleiro vale a partida aberta aqui. O servidor tem um só tempo '
-    + 'para os dois lados: {2}{3}.',
-  ', so both get the greater of the two': ', por isso os dois recebem o maior deles',
+    + 'para os dois lados: {2}.',
+  'Both sides get': 'Os dois lados recebem',
+  'the greater time, {0} ({1})': 'o tempo maior, {0} ({1})',
+  'the mean, {0} ({1})': 'a média, {0} ({1})',
+  'the smaller time, {0} ({1})': 'o tempo menor, {0} ({1})',
+  '{0} gains {1}': '{0}: mais {1}',
+  '{0} loses {1}': '{0}: menos {1}',
+  'Goes on with': 'Continua com',
   'The game has ended meanwhile.': 'Nesse meio-tempo a partida terminou.',
   ['A draw can be agreed on once both sides have made a move, so this game cannot be closed yet. Have both make '
     + 'their first move; or enter a resignation, which ends it too, and pair the two anew.']:
@@ -866,15 +872,18 @@ export const WORDS = {
   '{0} Run it on the club’s machine, in the folder with the round’s files: it prints “board {1}: {2} is decided”.':
     '{0} Execute-o na máquina do clube, na pasta com os arquivos da ronda: ele diz “board {1}: {2} is decided”.',
   '{0} did not come in time': '{0}: não chegaram a tempo',
+  'neither player came in time': 'nenhum dos dois chegou a tempo',
   '{0} cannot mate by any legal moves': '{0} não podem dar mate por nenhuma série de lances legais',
   ['By 6.7 who comes after the default time loses, unless the arbiter decides otherwise. The game goes on until it '
     + 'is ended here, by “By mistake” or “Flag”.']:
     'Por 6.7 perde quem chega depois do tempo de tolerância, salvo decisão do árbitro. A partida continua até ser '
     + 'encerrada aqui, por “Por engano” ou “Seta”.',
-  ['By {0} it is a draw where {1} cannot mate by any legal moves. {2} has: {3}. The server draws by 6.9 against a '
-    + 'king alone; of the rest the note of “chess-club results” says what the Laws say.']:
-    'Por {0} é empate se {1} não podem dar mate por nenhuma série de lances legais. {2} têm: {3}. O servidor dá '
-    + 'empate por 6.9 contra um rei sozinho; do resto, a nota de “chess-club results” diz o que dizem as Leis.',
+  'By {0} it is a draw: {1} cannot mate by any legal moves. {2} has: {3}; {4} has: {5}.':
+    'Por {0} é empate: {1} não podem dar mate por nenhuma série de lances legais. {2} têm: {3}; {4} têm: {5}.',
+  ['By {0} it is a draw where {1} cannot mate by any legal moves. {2} has: {3}. Whether that is so depends on the '
+    + 'position: the note of “chess-club results” says what the Laws say.']:
+    'Por {0} é empate se {1} não podem dar mate por nenhuma série de lances legais. {2} têm: {3}. Se é assim '
+    + 'depende da posição: a nota de “chess-club results” diz o que dizem as Leis.',
   '1–0: White wins': '1–0: brancas vencem',
   '½–½: a draw': '½–½: empate',
   '0–1: Black wins': '0–1: pretas vencem',
@@ -893,5 +902,7 @@ export const WORDS = {
   'The game’s number': 'Número da partida',
   'Game {0} goes on: first its result is entered.': 'A partida {0} continua: primeiro se registra o resultado.',
   'Default time, min': 'Tolerância, min',
-  '{0} has not moved within the default time, {1} min': '{0}: nenhum lance no tempo de tolerância, {1} min',
+  '{0} has not come within the default time, {1} min': '{0}: não chegaram no tempo de tolerância, {1} min',
+  '{0} has come after the default time, {1} min': '{0}: chegaram depois do tempo de tolerância, {1} min',
+  'Neither player has come within the default time, {0} min': 'Nenhum dos dois chegou no tempo de tolerância, {0} min',
 };

@@ -5,13 +5,14 @@ import os
 import shlex
 import subprocess
 
-from evening import SCREENS
 from lib.program import put
 from page_lines import by_lines
-from readable import keys_go_round, reads_well
+from readable import well_on_screens
 from round import round_told, serves
 
 PAIRINGS = 'board,white,black,times,start\n1,ann,bob,20,\n2,cid,dee,300,\n'
+# Black's knight never mates a king that has a queen alone.
+KNIGHT = '8/8/4k3/8/8/2n5/8/4KQ2 w - - 0 1'
 KEPT = '''[Event "Club night"]
 [Site "?"]
 [Date "2026.11.27"]
@@ -57,46 +58,54 @@ def value(person, name):
 
 
 def a_decision(hall):
-    """The desk has the command that decides a board: of a game that ended by a flag, of one whose player has not come,
-    which waits once the default time is over, and of one that has left the table. It is as the program takes it."""
-    _, _, sue = hall.sit()
-    lost = paired(hall, 'ann', 'bob', '20 0')
-    entered(hall, 'as ann move %s 0 e2e4' % lost, 'as bob move %s 1 e7e5' % lost)
-    serves(hall, json.dumps(round_told(lost)))
+    """The desk has the command that decides a board: of a game that ended by a flag, with a draw where the winner's men
+    never mate, of one whose player has not come, which waits once the default time is over, and of one that has left
+    the table. It is as the program takes it."""
+    _, bob, sue = hall.sit()
+    lost, drawn = paired(hall, 'ann', 'bob', '20 0'), paired(hall, 'ann', 'bob', '20 0 ' + KNIGHT)
+    entered(hall, 'as ann move %s 0 e2e4' % lost, 'as bob move %s 1 e7e5' % lost, 'as ann move %s 0 f1f2' % drawn,
+            'as bob move %s 1 e6d6' % drawn)
+    serves(hall, json.dumps(round_told(drawn)))
     for number in (1, 2):
         put(os.path.join(hall.lobby.folder, 'round%d.csv' % number), PAIRINGS)
     hall.signs_in(sue, 'eve', 'an arbiter')
     sue.click('#to-arbiter').finds('#arbiter-desk', 'the desk')
-    sue.reads('#waits-list', 'White’s flag has fallen')
+    sue.until(lambda: sue.text('#waits-list').count('White’s flag has fallen') == 2, 'both flags have fallen', 40)
     sue.lacks(on_card(lost, '[data-key^=decide-]'), 'while a game goes on the button is not there')
-    entered(hall, 'as bob flag ' + lost)
+    entered(hall, 'as bob flag ' + lost, 'as bob flag ' + drawn)
     sue.click(on_card(lost, '[data-key^=decide-]')).reads('#decide-title', 'game %s: Ann Lee – Bob' % lost)
     sue.reads('#decide-stands', 'The server says 0–1: Black wins on time.')
-    sue.reads('#decide-law', 'By 6.9 it is a draw where Black cannot mate', 'Black has: king, queen, 2 rooks')
+    sue.reads('#decide-law', 'By 6.9 it is a draw where Black cannot mate', 'Black has: king, queen, 2 rooks',
+              'depends on the position').is_so(value(sue, 'result') == '', 'which the page does not know')
+    sue.click('#decide-leave', on_card(drawn, '[data-key^=decide-]'))
+    sue.reads('#decide-law', 'By 6.9 it is a draw: Black cannot mate', 'Black has: king, knight; White has: king, queen')
     sue.until(lambda: (value(sue, 'round'), value(sue, 'board'), value(sue, 'result')) == ('2', '1', '1/2-1/2'),
               'board and result are filled in')
-    for width, height, phone in SCREENS:
-        sue.screen(width, height, 1, phone)
-        sue.is_so(sue.width() <= width, 'nothing is beyond the side at %d' % width)
-        reads_well(sue, 'the question at %d' % width)
-    keys_go_round(sue, 'the question')
-    sue.screen(1280, 800)
+    well_on_screens(sue, 'the decision')
     decides(hall, 'round2.csv', 'round2.decisions', '6.9', 'Eve Arbiter', 'Black cannot mate by any legal moves',
             prints='board 1: 1/2-1/2')
     sue.click('#decide-leave').loses('#decide-dialog', 'the question is over')
+    here = paired(hall, 'ann', 'cid', '300 0')
+    sue.click(on_card(here, '[data-key^=decide-]')).reads('#decide-stands', 'White has not made a move')
+    sue.is_so(value(sue, 'result') == '+/-', 'White sits there').click('#decide-leave')
     absent = paired(hall, 'cid', 'dee', '300 0')
     sue.click(on_card(absent, '[data-key^=decide-]'))
     sue.reads('#decide-stands', 'White has not made a move; the clocks have run for 0 min.')
     sue.reads('#decide-law', 'By 6.7 who comes after the default time loses')
     sue.reads('#decide-board', 'look at the pairings')
-    sue.is_so(value(sue, 'result') == '-/+' and sue.text('#decide-command') == '', 'no board, and no command')
+    sue.is_so(value(sue, 'reason') == 'neither player came in time', 'neither is there')
+    sue.is_so(value(sue, 'result') == '-/-' and sue.text('#decide-command') == '', 'no board, and no command')
     sue.reads('#decide-copied', 'Fill in the board').type('#decide-form [name=round]', '1')
     sue.type('#decide-form [name=board]', '2').type('#decide-form [name=reason]', 'Cid’s train, "late", cost $1')
-    decides(hall, '--result=-/+', '6.7', 'Cid’s train, "late", cost $1', prints='board 2: -/+')
+    decides(hall, '--result=-/-', '6.7', 'Cid’s train, "late", cost $1', prints='board 2: -/-')
     sue.click('#decide-leave')
     sue.lacks('.wait.late', 'nothing waits').type('#default-time', '1')
     sue.run('const now = performance.now.bind(performance); performance.now = () => now() + 61000')
-    sue.reads('#waits-list', 'White has not moved within the default time, 1 min')
+    sue.reads('#waits-list', 'Neither player has come within the default time, 1 min')
+    sue.reads('#waits-list', 'Black has not come within the default time, 1 min')
+    hall.signs_in(bob, 'cid', 'who comes now')
+    sue.reads('#waits-list', 'Black has come after the default time, 1 min')
+    entered(hall, 'as ann resign ' + here)
     sue.reload().finds('.wait.late', 'the time is kept', patience=90)
     entered(hall, 'as cid move %s 0 e2e4' % absent, 'as dee move %s 1 e7e5' % absent)
     sue.loses('.wait.late', 'until both have moved').click('#decide-a-result summary')

@@ -11,10 +11,8 @@ from lib.browser import Keys
 from lib.net import Door
 from lib.program import content, laid_out, path_of, put
 from page_lines import by_lines, truth
-from readable import COORDINATES, keys_go_round, reads_well
+from readable import COORDINATES, on_screens, reads_well, well_on_screens
 
-SCREENS = ((1280, 800, False), (1024, 768, False), (1080, 810, False), (900, 700, False), (1024, 600, False),
-           (768, 1024, True), (360, 740, True))
 FOOLS = ['f2f3', 'e7e5', 'g2g4', 'd8h4']
 ROOK_AND_KING = '4k3/8/8/8/8/8/8/R3K3 w - - 0 1'
 
@@ -335,6 +333,7 @@ def foreign_links(hall):
     tokens, full = hall.lobby.tokens, hall.lobby.full
     sue.go('about:blank').go(hall.lobby.address + '#' + tokens['bob'][:20])
     sue.reads('#told', 'This link is cut short: 20 of its 32')
+    well_on_screens(sue, 'what is told of a link')
     sue.is_so(sue.text('#who-name') == 'Not signed in', 'and not that one watches')
     sue.is_so(tokens['bob'][:20] not in sue.driver.current_url, 'it is out of the address bar')
     ann.takes(tokens['bob'][:31]).reads('#told', 'This link is cut short: 31 of its 32')
@@ -344,6 +343,7 @@ def foreign_links(hall):
     ann.reads('#other-title', 'You are %s here. Play as %s instead?' % (full['ann'], full['bob']))
     kept = ann.run('return sessionStorage.getItem("token")')
     ann.is_so(ann.text('#who-name') == full['ann'] and kept == tokens['ann'], 'Ann until then')
+    well_on_screens(ann, 'another player’s link', '#other-dialog')
     ann.click('#other-no').loses('#other-dialog', 'who stays')
     ann.goes('game/' + number).until(lambda: ann.sees('#resign') and ann.lit('.movable'), 'has the seat still')
     ann.click_move('e2e4')
@@ -376,24 +376,6 @@ ROOM = '''const [list, row] = ['#moves', '#moves li'].map((css) => document.quer
   return list.height / row.height;'''
 
 
-def on_screens(person, what):
-    """Each screen: what is looked at there, its width and height, and whether it is a phone's. Nothing may be beyond
-    its side."""
-    for width, height, phone in SCREENS:
-        person.screen(width, height, 1, phone)
-        time.sleep(0.3)
-        told = '%s, %d x %d' % (what, width, height)
-        person.is_so(person.width() <= width, '%s: nothing is beyond the side: %d' % (told, person.width()))
-        yield told, width, height, phone
-    person.media().screen(1280, 800)
-
-
-def in_order(person, what):
-    """Nothing is beyond the side, pale, nameless or stumbled over, on every screen, light and dark."""
-    for told, *_ in on_screens(person, what):
-        reads_well(person, told)
-
-
 def room_for_all(hall):
     """Screens of seven sizes: nothing lies over anything, the list of moves has room, the board is in sight."""
     number, ann, bob, sue = hall.begin(minutes='90', increment='30', second=('40', '30'))
@@ -415,20 +397,10 @@ def room_for_all(hall):
 
 
 def read_by_all(hall):
-    """Coordinates of 4.5 to 1 on every board; each view, menu and question can be read, light and dark, has names, and
-    is gone through by Tab, on a wide screen and on a phone."""
+    """Coordinates of 4.5 to 1 on every board; each view, menu and question fits, can be read, light and dark, has names,
+    and is gone through by Tab, on every screen."""
     ann, bob, sue = hall.sit()
-    number = hall.set_up(minutes='20')
-
-    def well(person, what, css=''):
-        if css:
-            person.finds(css, what)
-        for width, height, phone in ((1280, 800, False), (360, 740, True)):
-            person.screen(width, height, 1, phone)
-            time.sleep(0.2)
-            keys_go_round(reads_well(person, '%s at %d' % (what, width)), '%s at %d' % (what, width))
-        person.media().screen(1280, 800)
-
+    number, well = hall.set_up(minutes='20'), well_on_screens
     for person, view, css in ((ann, '', '#open-game'), (sue, '', '#only-watching'), (sue, 'hall', '#hall-none'),
                               (sue, 'again', '#again-board'), (sue, 'games', '#finished-save'),
                               (sue, 'arbiter', '#arbiter-only'), (sue, 'game/9999', '#no-game'),
@@ -452,6 +424,9 @@ def read_by_all(hall):
     ann.click_move('d2d4').until(lambda: planned(ann), 'a move ahead')
     well(ann, 'a move ahead')
     ann.tap('a5').until(lambda: not planned(ann), 'taken back')
+    other = by_lines(hall, 'eve', 'pair ann cid 1200 0')[0].split(' ')[2]
+    well(ann, 'another game of one’s own', '#invited')
+    by_lines(hall, 'eve', 'as cid resign ' + other)
     bob.click('#offer')
     well(ann, 'an offer', '#offered')
     hall.play(['b8c6'], 3)
@@ -755,7 +730,8 @@ def the_first_minutes(hall):
         link = player().stdout.strip()
         sue.is_so(link.startswith(address + '#'), 'so are links')
         sue.go('about:blank').go(link).shows('#who-name', 'Ann Lee', 'a player’s')
-        sue.go('about:blank').go(content(os.path.join(top, 'friday', 'arbiter.link')).strip()).click('#other-yes')
+        desk = content(os.path.join(top, 'friday', 'arbiter.link')).strip()
+        sue.go('about:blank').go(desk).click('#other-yes')
         sue.click('#to-arbiter').reads('#unencrypted', 'This page is not encrypted')
         taken = club('evening', 'saturday', '--port', port, '--lan')
         says = taken.stderr.strip().splitlines()[-1]
@@ -768,6 +744,9 @@ def the_first_minutes(hall):
         sue.until(lambda: 'Control-C ends' in evening.told(), 'what to do next')
         sue.is_so(evening.told().count('NOT PROVED') == 1 and 'tab of its own' not in evening.told(),
                   'it says once that nothing is proved, and makes no players where there are some')
+        again = content(os.path.join(top, 'friday', 'arbiter.link')).strip()
+        sue.is_so(again == 'http://127.0.0.1:%s/#%s' % (port, desk.split('#')[1]),
+                  'the arbiter’s link has the address of this start: ' + again)
     with Evening(top, 'try', 'evening', 'sunday', '--port', port) as evening:
         sue.until(lambda: 'Control-C ends' in evening.told(), 'what to do next')
         links = re.findall(r'(\w+ \w+): +(http\S+)', evening.told())

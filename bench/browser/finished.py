@@ -3,9 +3,9 @@
 import os
 import time
 
-from evening import FOOLS, in_languages, in_order, is_in, on_screens
+from evening import FOOLS, in_languages, is_in
 from lib.program import put
-from readable import reads_well
+from readable import keys_go_round, on_screens, reads_well, well_on_screens
 
 ANN, BOB, ZOE = 'Ann Lee', 'Bob <b>Stone</b> & Sons', 'Zoë "Zed" O\\Brien'
 MATE = '1. f3 {[%clk 0:04:59]} 1... e5 {[%clk 0:04:58]} 2. g4 {[%clk 0:04:51]} 2... Qh4# {[%clk 0:04:47]} 0-1'
@@ -71,6 +71,7 @@ def finished_games(hall):
     sue.shows('#finished-score', 'Score: 1 of 1 (1 won, 0 drawn, 0 lost)', 'with the score')
     sue.goes('player/' + ANN.replace(' ', '%20')).shows('#finished-score',
                                                         'Score: 1½ of 4 (1 won, 1 drawn, 2 lost)', 'of all games')
+    well_on_screens(sue, 'a player’s games')
     sue.cdp('Browser.setDownloadBehavior', behavior='allow', downloadPath=hall.folder)
     path = os.path.join(hall.folder, 'games-Ann-Lee.pgn')
     lists(looks_for(sue, day='2026-11-27'), NUMBERS[1:3], 'of a day').click('#finished-save')
@@ -82,7 +83,7 @@ def finished_games(hall):
         person.goes('games')
         lists(person, NUMBERS, 'all again')
         looks_for(person, player='stone')
-        in_order(person, 'games')
+        well_on_screens(person, 'games')
         person.is_quiet()
 
 
@@ -137,7 +138,7 @@ def a_kept_game(hall):
     for what, _, height, _ in on_screens(sue, 'a kept game'):
         sue.is_so(sue.box('#board .board')['bottom'] <= height, '%s: the board is in sight' % what)
         reads_well(sue, what)
-    sue.is_quiet()
+    keys_go_round(sue, 'a kept game').is_quiet()
 
 
 def many_kept_games(hall):

@@ -1,6 +1,7 @@
 """Scenes of bench/browser/page: a PGN that is put on the board on which a game is looked at again."""
 
-from evening import SCREENS, paste
+from evening import paste
+from readable import on_screens
 
 LICHESS = '''[Event "Rated blitz game"]
 [Site "https://lichess.org/abcdefgh"]
@@ -110,10 +111,9 @@ def pasted_games(hall):
     paste(sue, '1. Sf3 d5 2. Nc3 Sf6')
     sue.shows(TREE, '1.Sf3d52.Sc3Sf6', 'there the letters of German are read too')
     paste(sue, LICHESS)
-    for width, height, phone in SCREENS:
-        sue.screen(width, height, 1, phone)
-        sue.is_so(sue.width() <= width, 'nothing is beyond the side at %d' % width)
-    sue.screen(1280, 800).run('localStorage.removeItem("language"); localStorage.removeItem("again")')
+    for _ in on_screens(sue, 'a PGN'):
+        pass
+    sue.run('localStorage.removeItem("language"); localStorage.removeItem("again")')
     sue.is_so(sue.complaints() == [], 'and the console is quiet')
 
 

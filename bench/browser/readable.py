@@ -4,6 +4,8 @@ import time
 
 from lib.browser import Keys
 
+SCREENS = ((1280, 800, False), (1024, 768, False), (1080, 810, False), (900, 700, False), (1024, 600, False),
+           (768, 1024, True), (360, 740, True))
 LIGHT = '''const light = (text) => { const [r, g, b] = text.match(/[\\d.]+/g).map((n) => { const c = n / 255;
     return c <= 0.03928 ? c / 12.92 : ((c + 0.055) / 1.055) ** 2.4; }); return 0.2126 * r + 0.7152 * g + 0.0722 * b; };
   const ratio = (a, b) => { const [x, y] = [light(a), light(b)].sort((one, other) => one - other);
@@ -112,6 +114,30 @@ def reads_well(person, what, scripts=(PALE, NAMELESS, TWICE, STUMBLES, MISPLACED
         for script in scripts:
             found = person.run(script)
             person.is_so(found == [], '%s: %s' % (what, found))
+    return person
+
+
+def on_screens(person, what):
+    """Each screen: what is looked at there, its width and height, and whether it is a phone's. Nothing may be beyond
+    its side."""
+    for width, height, phone in SCREENS:
+        person.screen(width, height, 1, phone)
+        time.sleep(0.3)
+        told = '%s, %d x %d' % (what, width, height)
+        person.is_so(person.width() <= width, '%s: nothing is beyond the side: %d' % (told, person.width()))
+        yield told, width, height, phone
+    person.media().screen(1280, 800)
+
+
+def well_on_screens(person, what, css=''):
+    """Nothing is beyond the side, pale, nameless or stumbled over, on every screen, light and dark; Tab goes through it
+    on the first and on the last."""
+    if css:
+        person.finds(css, what)
+    for told, *screen in on_screens(person, what):
+        reads_well(person, told)
+        if tuple(screen) in (SCREENS[0], SCREENS[-1]):
+            keys_go_round(person, told)
     return person
 
 

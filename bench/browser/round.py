@@ -2,8 +2,9 @@
 
 import json
 
-from evening import in_languages, in_order, is_in
+from evening import in_languages, is_in
 from lib.program import put
+from readable import well_on_screens
 
 NAMES = (('ann', 'Ann Lee'), ('bob', 'Bob <b>Stone</b> & Sons'), ('cid', 'Cid Okonkwo'), ('dee', 'Dee van der Meer'),
          ('fay', 'Wilhelmina Featherstonehaugh-Cholmondeley'))
@@ -55,7 +56,7 @@ def the_round(hall):
     sue.until(lambda: cells(sue, '#round-cross') == [
         ['1', lee, '4w1', '2b*'], ['2', dee, '3b½', '1w*'], ['3', cid, '2w½', '½'], ['4', bob, '1b0', '5w+'],
         ['5', fay, '1', '4b–']], 'who met whom: %s' % cells(sue, '#round-cross'))
-    in_order(sue, 'the round')
+    well_on_screens(sue, 'the round')
     sue.click('#round-others a').shows('#round-title', 'Round 1', 'an earlier round')
     sue.until(lambda: cells(sue, '#round-boards')[0] == ['1', lee, '1–0', bob], 'its boards')
     sue.click('#to-round').shows('#round-title', 'Round 2', 'the newest again')
