@@ -8,5 +8,6 @@ pub mod Counted
 pub mod Logged
 pub mod Paired
 pub mod Named
+pub mod Tokens
 pub mod Alike
 pub mod Lost
