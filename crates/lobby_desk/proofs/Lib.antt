@@ -10,3 +10,4 @@ pub mod Paired
 pub mod Named
 pub mod Alike
 pub mod Lost
+pub mod Left
