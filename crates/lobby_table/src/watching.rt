@@ -1,5 +1,5 @@
 //! Who is told of what.
-ghost use Rattle.std.specs.Prelude.{◌≡◌, ◌==◌, ◌&&◌, not, nat_le, length, filter, OnOk, IfOk};
+ghost use Rattle.std.specs.Prelude.{◌≡◌, ◌==◌, nat_le, length, filter, OnOk, IfOk};
 ghost use Rattle.lobby_table.specs.Watching.{is_watch, watched, watches_any, games_of, at_table, watch_if, sit_if};
 ghost use Rattle.lobby_table.specs.Watching.{unwatched};
 ghost use Rattle.lobby_table.specs.Watching.{none_watched, risen, followers};
@@ -109,13 +109,6 @@ pub fn rise(table: &mut Vec<u64>, by: u64)
     table.retain(|one| *one != by);
 }
 
-// Whether who is told of the table is told of an act by that alone, where the table is told of it or not.
-fn follows_by_table(watches: &[Watch], by: u64, game: u32, is_table: bool) -> bool
-    ensures { result ≡ (is_table && not (watched watches.now by game)) }
-{
-    is_table && !is_watched(watches, by, game)
-}
-
 /// The connections that watch a game, and perhaps those that are told of the table; each once.
 pub fn followers(
     alloc: Global,
@@ -130,9 +123,12 @@ pub fn followers(
     for watch in watches {
         add_if(&mut to, watch.game == game, watch.by)?;
     }
+    if !is_table {
+        return Ok(to);
+    }
     for one in table {
-        let follows = follows_by_table(watches, *one, game, is_table);
-        add_if(&mut to, follows, *one)?;
+        let is_told = is_watched(watches, *one, game);
+        add_if(&mut to, !is_told, *one)?;
     }
     Ok(to)
 }
