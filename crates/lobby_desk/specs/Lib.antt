@@ -7,6 +7,6 @@ pub mod Tellings
 pub mod Halts
 pub mod Who
 pub mod Strangers
-pub mod Initials
 pub mod History
+pub mod Tokens
 pub mod Roles

@@ -5,11 +5,12 @@ use Rattle.lobby_words.specs.declared.planning.Identity.{Identity}
 use Rattle.lobby_desk.specs.declared.desk.Desk.{Desk}
 use Rattle.lobby_table.specs.Owed.{owed_of}
 use Rattle.lobby_table.specs.Owed.{waiter}
+use Rattle.lobby_table.specs.Visitors.{acting}
 use Rattle.lobby_desk.specs.Who.{who_of}
 
 -- whether a connection acts for a player
 abbrev pub acts : Desk → ℕ → Bool
-acts desk c = is_some (who_of desk c)
+acts desk c = acting (who_of desk) c
 
 -- the name of that player
 abbrev pub name_if : Option Identity → Option (List ℕ)

@@ -22,7 +22,8 @@ mod telling;
 pub use desk::Desk;
 pub use halts::Halts;
 pub use law::{
-    law_of_initials, law_of_lines, law_of_logs, law_of_names, law_of_pairings, law_of_tellings,
+    law_of_full_names, law_of_lines, law_of_logs, law_of_names, law_of_pairings, law_of_tellings,
+    law_of_tokens,
 };
 pub use limits::Limits;
 pub use lobby_words::Order;

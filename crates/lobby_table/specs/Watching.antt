@@ -48,6 +48,13 @@ none_watched c watches = filter (λ (w : Watch). not (w.by == c)) watches
 abbrev pub risen : ℕ → List ℕ → List ℕ
 risen c table = filter (λ one. not (one == c)) table
 
+-- Of who watches, and of who is told of the table, those alone who act for a player.
+abbrev pub watches_kept : (ℕ → Bool) → List Watch → List Watch
+watches_kept acts watches = filter (λ (w : Watch). acts w.by) watches
+
+abbrev pub table_kept : (ℕ → Bool) → List ℕ → List ℕ
+table_kept acts table = filter (λ c. acts c) table
+
 -- All who watch a game, and where the table is told all who are told of that, but nobody twice.
 abbrev pub followers : List Watch → List ℕ → ℕ → Bool → List ℕ
 followers watches table game is_table =

@@ -1,11 +1,14 @@
 //! Who is told of what.
 ghost use Rattle.std.specs.Prelude.{◌≡◌, ◌==◌, nat_le, length, filter, OnOk, IfOk};
 ghost use Rattle.lobby_table.specs.Watching.{is_watch, watched, watches_any, games_of, at_table, watch_if, sit_if};
-ghost use Rattle.lobby_table.specs.Watching.{unwatched};
+ghost use Rattle.lobby_table.specs.Watching.{unwatched, watches_kept, table_kept};
 ghost use Rattle.lobby_table.specs.Watching.{none_watched, risen, followers};
+ghost use Rattle.lobby_table.specs.Visitors.{who_in, acting};
 
 use crate::adding::add_if;
+use crate::visitors::{Visitor, who_acts};
 use std::alloc::{AllocError, Global};
+use std::collections::BTreeMap;
 
 // The most games that a connection watches.
 const WATCH_ROOM: usize = 16;
@@ -63,26 +66,21 @@ pub fn is_at_table(table: &[u64], by: u64) -> bool
     table.iter().any(|one| *one == by)
 }
 
-/// A connection is told of a game from now on, if it is open.
-pub fn add_watch(
-    watches: &mut Vec<Watch>,
-    is_open: bool,
-    by: u64,
-    game: u32,
-) -> Result<(), AllocError>
-    ensures { OnOk result (watches.new.items ≡ watch_if is_open by game watches.old.items) }
+/// A connection is told of a game from now on, if it may be.
+pub fn add_watch(watches: &mut Vec<Watch>, may: bool, by: u64, game: u32) -> Result<(), AllocError>
+    ensures { OnOk result (watches.new.items ≡ watch_if may by game watches.old.items) }
 {
-    if is_open && !is_watched(watches.as_slice(), by, game) {
+    if may && !is_watched(watches.as_slice(), by, game) {
         watches.push(Watch { by, game })?;
     }
     Ok(())
 }
 
-/// A connection is told of the table from now on, if it is open.
-pub fn sit(table: &mut Vec<u64>, is_open: bool, by: u64) -> Result<(), AllocError>
-    ensures { OnOk result (table.new.items ≡ sit_if is_open by table.old.items) }
+/// A connection is told of the table from now on, if it may be.
+pub fn sit(table: &mut Vec<u64>, may: bool, by: u64) -> Result<(), AllocError>
+    ensures { OnOk result (table.new.items ≡ sit_if may by table.old.items) }
 {
-    if is_open && !is_at_table(table.as_slice(), by) {
+    if may && !is_at_table(table.as_slice(), by) {
         table.push(by)?;
     }
     Ok(())
@@ -107,6 +105,20 @@ pub fn rise(table: &mut Vec<u64>, by: u64)
     ensures { table.new.items ≡ risen by table.old.items }
 {
     table.retain(|one| *one != by);
+}
+
+/// Of games those alone are told from now on who act for a player.
+pub fn keep_watches(watches: &mut Vec<Watch>, visitors: &BTreeMap<u64, Visitor>)
+    ensures { watches.new.items ≡ watches_kept (acting (who_in visitors.now)) watches.old.items }
+{
+    watches.retain(|watch| who_acts(visitors, watch.by).is_some());
+}
+
+/// Of the table those alone are told from now on who act for a player.
+pub fn keep_table(table: &mut Vec<u64>, visitors: &BTreeMap<u64, Visitor>)
+    ensures { table.new.items ≡ table_kept (acting (who_in visitors.now)) table.old.items }
+{
+    table.retain(|one| who_acts(visitors, *one).is_some());
 }
 
 /// The connections that watch a game, and perhaps those that are told of the table; each once.
