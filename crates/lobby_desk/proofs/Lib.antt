@@ -11,3 +11,4 @@ pub mod Named
 pub mod Tokens
 pub mod Alike
 pub mod Lost
+pub mod Left

@@ -50,7 +50,7 @@ use Rattle.lobby_table.specs.Owed.{owes}
 use Rattle.lobby_desk.specs.Tellings.{IsToldNext, offers_notice, AreToldCall, moves_told}
 pub use Rattle.lobby_desk.specs.Tellings.{name_of}
 use Rattle.lobby_table.specs.declared.rooms.Attendance.{Attendance}
-use Rattle.lobby_table.specs.Rooms.{Gathering, IsRoom, attended, gone}
+use Rattle.lobby_table.specs.Rooms.{Gathering, IsRoom, AreLeft, attended, left_by}
 use Rattle.lobby_offers.specs.Offers.{Offered, offered, accord_of, offers_said, offers_text}
 use Rattle.lobby_table.specs.Visitors.{who_in, acting, until_in, open_in_map, IsPresence}
 
@@ -534,12 +534,18 @@ offers_now players who (Said c text at) offers =
     offers_said (accord_of players who c text at offers) (who c) c text at offers
 offers_now players who _ offers = offers
 
--- Who was there when, after an event: who acts for a player and says something is known from then on, and at each
--- message all that was closed before it counts as closed.
-abbrev pub attendances_now : (ℕ → Option Identity) → DeskInput → List Attendance → List Attendance
-attendances_now who (Said c text at) all = attended (who c) at all
-attendances_now who (Closed c) all = gone (who c) all
-attendances_now who _ all = all
+-- Who was there when, after an event: for whomever a connection acts is known from then on; whoever's connection is
+-- closed, acts for another, or acts for nobody since the players are others, is left by it, and counts as left from the
+-- next message on.
+abbrev pub IsAttended : List Player → View → DeskInput → View → Type 0
+IsAttended players old (Said c text at) new =
+    new.attendances ≡ attended (old.who c) (new.who c) at old.attendances
+IsAttended players old (Closed c) new = new.attendances ≡ left_by (old.who c) None old.attendances
+IsAttended players old (Renewed later) new =
+    AreLeft old.is_open old.who (λ c. renewed players later (old.who c)) old.attendances new.attendances
+IsAttended players old (Linked c text later token) new =
+    AreLeft old.is_open old.who (λ d. renewed players later (old.who d)) old.attendances new.attendances
+IsAttended players old _ new = new.attendances ≡ old.attendances
 
 -- a step: what comes in, the lines that go to the server, and what connections are told; the limits stay
 pub record IsStep (players : List Player) (old : View) (event : DeskInput) (lines : List (List ℕ))
@@ -548,7 +554,7 @@ pub record IsStep (players : List Player) (old : View) (event : DeskInput) (line
   pub opens : (c : ℕ) → new.is_open c ≡ open_now event c (old.is_open c)
   pub limits : new.limits ≡ old.limits
   pub offers : new.offers ≡ offers_now players old.who event old.offers
-  pub attendances : new.attendances ≡ attendances_now old.who event old.attendances
+  pub attendances : IsAttended players old event new
   pub known : IsKnown event (speaker old.who event) lines (acting new.who) old.known new.known
   pub told : IsTold event lines tells old.is_open old.who old.known
 

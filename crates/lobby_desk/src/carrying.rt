@@ -17,9 +17,7 @@ use lobby_table::{
     Due, ServerLine, Visitor, Watch, present_rows, put, rise, room_text, unwatch, waiting_act,
     who_acts,
 };
-use lobby_words::{
-    Call, Identity, Order, Plan, Refusal, as_line, headed, login_line, player_rows,
-};
+use lobby_words::{Call, Identity, Order, Plan, Refusal, as_line, headed, login_line, player_rows};
 use std::alloc::{AllocError, Global};
 use std::collections::BTreeMap;
 
@@ -104,12 +102,17 @@ pub fn send(
 {
     match plan {
         Plan::Read => line.pass(text, Due::Reply(from), wire),
-        Plan::Act(who) => line.pass_act(alloc, from, who.name, text, who.name, text, wire),
+        Plan::Act(who) => {
+            let act = waiting_act(alloc, from, who.name, text)?;
+            line.pass_act(act, who.name, text, wire)
+        }
         Plan::ActAs(who, name) => {
-            line.pass_act(alloc, from, who.name, text, *name, as_line(text), wire)
+            let act = waiting_act(alloc, from, who.name, text)?;
+            line.pass_act(act, *name, as_line(text), wire)
         }
         Plan::Pair(who, white, black) => {
-            line.open_pair(alloc, from, who.name, text, *white, *black, wire)
+            let act = waiting_act(alloc, from, who.name, text)?;
+            line.open_pair(act, text, *white, *black, wire)
         }
         Plan::Drop(who, game) => {
             let act = waiting_act(alloc, from, who.name, text)?;

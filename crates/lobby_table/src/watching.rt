@@ -1,5 +1,5 @@
 //! Who is told of what.
-ghost use Rattle.std.specs.Prelude.{◌≡◌, ◌==◌, ◌&&◌, not, nat_le, length, filter, OnOk, IfOk};
+ghost use Rattle.std.specs.Prelude.{◌≡◌, ◌==◌, nat_le, length, filter, OnOk, IfOk};
 ghost use Rattle.lobby_table.specs.Watching.{is_watch, watched, games_of, at_table, watch_if, sit_if};
 ghost use Rattle.lobby_table.specs.Watching.{unwatched, watches_kept, table_kept};
 ghost use Rattle.lobby_table.specs.Watching.{none_watched, risen, followers};
@@ -60,12 +60,7 @@ pub fn is_at_table(table: &[u64], by: u64) -> bool
 }
 
 /// A connection is told of a game from now on, if it may be.
-pub fn add_watch(
-    watches: &mut Vec<Watch>,
-    may: bool,
-    by: u64,
-    game: u32,
-) -> Result<(), AllocError>
+pub fn add_watch(watches: &mut Vec<Watch>, may: bool, by: u64, game: u32) -> Result<(), AllocError>
     ensures { OnOk result (watches.new.items ≡ watch_if may by game watches.old.items) }
 {
     if may && !is_watched(watches.as_slice(), by, game) {
@@ -119,13 +114,6 @@ pub fn keep_table(table: &mut Vec<u64>, visitors: &BTreeMap<u64, Visitor>)
     table.retain(|one| who_acts(visitors, *one).is_some());
 }
 
-// Whether who is told of the table is told of an act by that alone, where the table is told of it or not.
-fn follows_by_table(watches: &[Watch], by: u64, game: u32, is_table: bool) -> bool
-    ensures { result ≡ (is_table && not (watched watches.now by game)) }
-{
-    is_table && !is_watched(watches, by, game)
-}
-
 /// The connections that watch a game, and perhaps those that are told of the table; each once.
 pub fn followers(
     alloc: Global,
@@ -140,9 +128,12 @@ pub fn followers(
     for watch in watches {
         add_if(&mut to, watch.game == game, watch.by)?;
     }
+    if !is_table {
+        return Ok(to);
+    }
     for one in table {
-        let follows = follows_by_table(watches, *one, game, is_table);
-        add_if(&mut to, follows, *one)?;
+        let is_told = is_watched(watches, *one, game);
+        add_if(&mut to, !is_told, *one)?;
     }
     Ok(to)
 }

@@ -23,8 +23,8 @@ pub fn is_same_sum(a: &[u8; 32], b: &[u8; 32]) -> bool
     ensures { result ≡ bytes_eq a.now b.now }
 {
     let mut same = true;
-    for i in 0..32 {
-        same &= a[i] == b[i];
+    for (one, other) in a.iter().zip(b) {
+        same &= one == other;
     }
     same
 }
