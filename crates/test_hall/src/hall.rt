@@ -648,7 +648,8 @@ fn who_has_no_token_asks_the_server_nothing(rt: &impl Abort, lab: &mut Lab) {
 }
 
 // One who shows ann's token and asks for a game of 40 plies, and its server.
-const LINE_ASKER: &[u8] = b"UP~\x81\xa6\0\0\0\0login aaaaaaaaaaaaaaaaaaaaaaaaaaaaaaaa\x81\x86\0\0\0\0line \
+const LINE_ASKER: &[u8] =
+    b"UP~\x81\xa6\0\0\0\0login aaaaaaaaaaaaaaaaaaaaaaaaaaaaaaaa\x81\x86\0\0\0\0line \
     1\x81\x83\0\0\0\0who";
 
 const GAME: &[u8] = b"~~~~~~~~ok pgn 1 2\n\
