@@ -43,14 +43,14 @@ loop-one-preserved c =
     ∙ (append_assoc (watching g ws) (filter test (take i t)) (if test one then one ∷ [] else [])
     ∙ ap (λ (xs : List ℕ). watching g ws ++ xs) (sym (filter_more test t i 0 c.loop-one-test.true)))))
 
-pub returns-then-is_table : goal.returns-then-is_table
-returns-then-is_table c =
+pub returns-then-not-is_table : goal.returns-then-not-is_table
+returns-then-not-is_table c =
     let test = λ (q : ℕ). not (watched c.args.watches.now q c.args.game) in
     c.loop-watch.invariant
     ∙ (ap (watching c.args.game) (take_all c.loop-watch.watch-index c.args.watches.now c.loop-watch-test.false)
     ∙ (sym (append-nil (watching c.args.game c.args.watches.now))
     ∙ (ap (λ (xs : List ℕ). watching c.args.game c.args.watches.now ++ xs) (sym (none_of test c.args.table.now))
-    ∙ ap (λ (b : Bool). followers c.args.watches.now c.args.table.now c.args.game b) (sym c.if-is_table.false))))
+    ∙ ap (λ (b : Bool). followers c.args.watches.now c.args.table.now c.args.game b) (sym c.if-not-is_table.true))))
 
 pub returns : goal.returns
 returns c =
@@ -58,4 +58,4 @@ returns c =
     c.loop-one.invariant
     ∙ (ap (λ (ts : List ℕ). watching c.args.game c.args.watches.now ++ filter test ts)
     (take_all c.loop-one.one-index c.args.table.now c.loop-one-test.false)
-    ∙ ap (λ (b : Bool). followers c.args.watches.now c.args.table.now c.args.game b) (sym c.if-is_table.true))
+    ∙ ap (λ (b : Bool). followers c.args.watches.now c.args.table.now c.args.game b) (sym c.if-not-is_table.false))
