@@ -17,8 +17,8 @@ use Rattle.lobby_words.specs.declared.planning.Standing.{Standing}
 use Rattle.lobby_words.specs.declared.planning.Identity.{Identity}
 use Rattle.lobby_words.specs.declared.players.Player.{Player}
 use Rattle.lobby_table.specs.declared.watching.Watch.{Watch}
-use Rattle.lobby_words.specs.Words.{rest_of, as_name, as_line, black_name, pair_line, is_message, sort_of, is_pair_sort, is_unpair_sort, is_link_sort, is_close_sort, is_leave_sort, is_leave_lobby_sort, or_0}
-use Rattle.lobby_words.specs.Plans.{asked, barred, entered_plan, act_plan, named_plan, as_plan, black_plan, white_plan, agreed_plan, offered_plan, pair_plan, offers_plan, drop_plan, token_plan, arbiter_plan, players_plan, order_plan, login_plan, order_of, numbered_plan, plan_of}
+use Rattle.lobby_words.specs.Words.{rest_of, as_name, as_line, black_name, pair_line, is_message, sort_of, is_pair_sort, is_unpair_sort, is_link_sort, is_close_sort, is_login_sort, is_leave_sort, is_leave_lobby_sort, or_0}
+use Rattle.lobby_words.specs.Plans.{asked, barred, entered_plan, act_plan, named_plan, as_plan, black_plan, white_plan, agreed_plan, offered_plan, pair_plan, arbiter_plan, order_plan, login_plan, order_of, numbered_plan, sort_plan, stranger_plan, who_plan, plan_of}
 use Rattle.lobby_desk.specs.Lines.{lines_of, is_said}
 use Rattle.lobby_table.specs.Sending.{act_lines, name_line, notice_lines}
 use Rattle.lobby_table.specs.Refusals.{game_named}
@@ -28,7 +28,7 @@ use Rattle.lobby_table.specs.Owed.{owed_lines}
 use Rattle.lobby_table.specs.Watching.{risen}
 use Rattle.lobby_desk.specs.Tellings.{left_game, IsToldOrSent}
 use Rattle.lobby_offers.specs.Offers.{Offered, is_party, other_party, is_agreed, may_offer, accord_by, but_by, parted, accord_noted, ends_offers, pairs_at_once, offers_said}
-use Rattle.lobby_desk.specs.Who.{View, name_of, plan_watches, plan_table, IsAnswered, offers_now}
+use Rattle.lobby_desk.specs.Who.{View, name_of, who_noted, plan_watches, plan_table, IsAnswered, offers_now}
 use Rattle.lobby_words.specs.Players.{known_name}
 use Rattle.lobby_desk.specs.History.{IsArbiter}
 use Rattle.lobby_words.proofs.ByName.{named_is}
@@ -51,9 +51,8 @@ entered_last : (s : Standing) (plan : Plan) (said : Option (List ℕ)) (text : L
     LastIs (entered_plan s plan) said text c o
 entered_last s plan said text c o h = asked_last s (barred s.bar plan) said text c o (barred_last s.bar plan said text c o h)
 
-act_last : (s : Standing) (who : Option Identity) (said : Option (List ℕ)) (text : List ℕ) (c : ℕ) → LastIs (act_plan s who) said text c (Asker c (ForAct (name_of who) text))
-act_last s None said text c = refl
-act_last s (Some who) said text c =
+act_last : (s : Standing) (who : Identity) (said : Option (List ℕ)) (text : List ℕ) (c : ℕ) → LastIs (act_plan s who) said text c (Asker c (ForAct who.name text))
+act_last s who said text c =
     elim (s.is_paused && not who.is_arbiter) as (λ b. LastIs (if b then plans.Refuse refusals.EntriesPaused else entered_plan s (plans.Act who)) said text c (Asker c (ForAct who.name text))) [
       | true ↦ refl
       | false ↦ entered_last s (plans.Act who) said text c (Asker c (ForAct who.name text)) refl
@@ -64,9 +63,8 @@ named_last : (s : Standing) (who : Identity) (named : Option (List ℕ)) (said :
 named_last s who None said text c = refl
 named_last s who (Some name) said text c = entered_last s (plans.ActAs who name) said text c (Asker c (ForAct who.name text)) refl
 
-as_last : (s : Standing) (who : Option Identity) (said : Option (List ℕ)) (text : List ℕ) (c : ℕ) → LastIs (as_plan s who) said text c (Asker c (ForAct (name_of who) text))
-as_last s None said text c = refl
-as_last s (Some who) said text c =
+as_last : (s : Standing) (who : Identity) (said : Option (List ℕ)) (text : List ℕ) (c : ℕ) → LastIs (as_plan s who) said text c (Asker c (ForAct who.name text))
+as_last s who said text c =
     elim who.is_arbiter as (λ b. LastIs (if b then named_plan s who s.named else plans.Refuse refusals.NotArbiter) said text c (Asker c (ForAct who.name text))) [
       | true ↦ named_last s who s.named said text c
       | false ↦ refl
@@ -101,36 +99,17 @@ offered_last players s who accords.Nothing said text c same = refl
 offered_last players s who accords.Offered said text c same = refl
 offered_last players s who accords.Agreed said text c same = agreed_last players s who said text c same
 
-pair_last : (players : List Player) (s : Standing) (who : Option Identity) (said : Option (List ℕ)) (text : List ℕ) (c : ℕ) →
-    s.black ≡ known_name players (black_name text) → LastIs (pair_plan s who) said text c (Pairer c (name_of who) (black_name text) text)
-pair_last players s None said text c same = refl
-pair_last players s (Some who) said text c same =
+pair_last : (players : List Player) (s : Standing) (who : Identity) (said : Option (List ℕ)) (text : List ℕ) (c : ℕ) →
+    s.black ≡ known_name players (black_name text) → LastIs (pair_plan s who) said text c (Pairer c who.name (black_name text) text)
+pair_last players s who said text c same =
     elim who.is_arbiter as (λ b. LastIs (if b then white_plan s who s.named else offered_plan s who s.accord) said text c (Pairer c who.name (black_name text) text)) [
       | true ↦ white_last players s who s.named said text c same
       | false ↦ offered_last players s who s.accord said text c same
     ]
 
--- what is asked of the offers
-offers_last : (ends : Bool) (at : ℕ) (who : Option Identity) (said : Option (List ℕ)) (text : List ℕ) (c : ℕ) →
-    LastIs (offers_plan ends at who) said text c (Asker c ForItself)
-offers_last ends at None said text c = refl
-offers_last true at (Some who) said text c = refl
-offers_last false at (Some who) said text c = refl
-
-drop_last : (s : Standing) (who : Option Identity) (game : ℕ) (said : Option (List ℕ)) (text : List ℕ) (c : ℕ) →
-    LastIs (drop_plan s who game) said text c (Dropper c (name_of who) text)
-drop_last s None game said text c = refl
-drop_last s (Some who) game said text c = asked_last s (plans.Drop who game) said text c (Dropper c who.name text) refl
-
-token_last : (who : Option Identity) (plan : Plan) (said : Option (List ℕ)) (text : List ℕ) (c : ℕ) → LastIs plan said text c (Asker c ForItself) →
-    LastIs (token_plan who plan) said text c (Asker c ForItself)
-token_last None plan said text c h = refl
-token_last (Some who) plan said text c h = h
-
-arbiter_last : (who : Option Identity) (plan : Plan) (said : Option (List ℕ)) (text : List ℕ) (c : ℕ) → LastIs plan said text c (Asker c ForItself) →
+arbiter_last : (who : Identity) (plan : Plan) (said : Option (List ℕ)) (text : List ℕ) (c : ℕ) → LastIs plan said text c (Asker c ForItself) →
     LastIs (arbiter_plan who plan) said text c (Asker c ForItself)
-arbiter_last None plan said text c h = refl
-arbiter_last (Some who) plan said text c h =
+arbiter_last who plan said text c h =
     elim who.is_arbiter as (λ b. LastIs (if b then plan else plans.Refuse refusals.NotArbiter) said text c (Asker c ForItself)) [ true ↦ h | false ↦ refl ]
 
 order_last : (closes : Bool) (linked : Option (List ℕ)) (said : Option (List ℕ)) (text : List ℕ) (c : ℕ) →
@@ -138,75 +117,85 @@ order_last : (closes : Bool) (linked : Option (List ℕ)) (said : Option (List �
 order_last closes None said text c = refl
 order_last closes (Some name) said text c = refl
 
-players_last : (s : Standing) (who : Option Identity) (said : Option (List ℕ)) (text : List ℕ) (c : ℕ) →
-    LastIs (players_plan s who) said text c (Asker c ForItself)
-players_last s None said text c = refl
-players_last s (Some who) said text c = refl
+login_last : (holder : Option Identity) (said : Option (List ℕ)) (text : List ℕ) (c : ℕ) (o : Owed) → LastIs (login_plan holder) said text c o
+login_last None said text c o = refl
+login_last (Some who) said text c o = refl
 
-login_last : (holder : Option Identity) (said : Option (List ℕ)) (text : List ℕ) (c : ℕ) → LastIs (login_plan holder) said text c (Asker c ForItself)
-login_last None said text c = refl
-login_last (Some who) said text c = refl
+numbered_last : (s : Standing) (who : Identity) (game : Option ℕ) (said : Option (List ℕ)) (text : List ℕ) (c : ℕ) →
+    LastIs (numbered_plan sorts.Drop s who game) said text c (Dropper c who.name text)
+numbered_last s who None said text c = refl
+numbered_last s who (Some game) said text c = asked_last s (plans.Drop who game) said text c (Dropper c who.name text) refl
 
-numbered_last : (s : Standing) (game : Option ℕ) (said : Option (List ℕ)) (text : List ℕ) (c : ℕ) →
-    LastIs (numbered_plan sorts.Drop s game) said text c (Dropper c (name_of s.who) text)
-numbered_last s None said text c = refl
-numbered_last s (Some game) said text c = drop_last s s.who game said text c
-
-watch_last : (s : Standing) (game : Option ℕ) (said : Option (List ℕ)) (text : List ℕ) (c : ℕ) →
-    LastIs (numbered_plan sorts.Watch s game) said text c (Asker c (ForGame (or_0 game)))
-watch_last s None said text c = refl
-watch_last s (Some game) said text c =
+watch_last : (s : Standing) (who : Identity) (game : Option ℕ) (said : Option (List ℕ)) (text : List ℕ) (c : ℕ) →
+    LastIs (numbered_plan sorts.Watch s who game) said text c (Asker c (ForGame (or_0 game)))
+watch_last s who None said text c = refl
+watch_last s who (Some game) said text c =
     elim s.is_full as (λ b. LastIs (if b then asked s (plans.Refuse refusals.TooManyWatched) else asked s (plans.Watch game)) said text c (Asker c (ForGame game))) [
       | true ↦ asked_last s (plans.Refuse refusals.TooManyWatched) said text c (Asker c (ForGame game)) refl
       | false ↦ asked_last s (plans.Watch game) said text c (Asker c (ForGame game)) refl
     ]
 
-leave_last : (s : Standing) (game : Option ℕ) (said : Option (List ℕ)) (text : List ℕ) (c : ℕ) →
-    LastIs (numbered_plan sorts.Leave s game) said text c (Asker c ForItself)
-leave_last s None said text c = refl
-leave_last s (Some game) said text c = refl
+leave_last : (s : Standing) (who : Identity) (game : Option ℕ) (said : Option (List ℕ)) (text : List ℕ) (c : ℕ) →
+    LastIs (numbered_plan sorts.Leave s who game) said text c (Asker c ForItself)
+leave_last s who None said text c = refl
+leave_last s who (Some game) said text c = refl
 
-room_last : (s : Standing) (game : Option ℕ) (said : Option (List ℕ)) (text : List ℕ) (c : ℕ) →
-    LastIs (numbered_plan sorts.Room s game) said text c (Asker c ForItself)
-room_last s None said text c = refl
-room_last s (Some game) said text c = refl
+room_last : (s : Standing) (who : Identity) (game : Option ℕ) (said : Option (List ℕ)) (text : List ℕ) (c : ℕ) →
+    LastIs (numbered_plan sorts.Room s who game) said text c (Asker c ForItself)
+room_last s who None said text c = refl
+room_last s who (Some game) said text c = refl
 
-line_last : (s : Standing) (game : Option ℕ) (said : Option (List ℕ)) (text : List ℕ) (c : ℕ) →
-    LastIs (numbered_plan sorts.Line s game) said text c (Asker c ForPositions)
-line_last s None said text c = refl
-line_last s (Some game) said text c = asked_last s (plans.Line game) said text c (Asker c ForPositions) refl
+line_last : (s : Standing) (who : Identity) (game : Option ℕ) (said : Option (List ℕ)) (text : List ℕ) (c : ℕ) →
+    LastIs (numbered_plan sorts.Line s who game) said text c (Asker c ForPositions)
+line_last s who None said text c = refl
+line_last s who (Some game) said text c = asked_last s (plans.Line game) said text c (Asker c ForPositions) refl
+
+sorted_last : (players : List Player) (sort : Sort) (s : Standing) (who : Identity) (game : Option ℕ) (said : Option (List ℕ)) (text : List ℕ) (c : ℕ) →
+    s.black ≡ known_name players (black_name text) → LastIs (sort_plan sort s who game) said text c (sort_asker sort game c who.name text)
+sorted_last players sorts.Read s who game said text c same = asked_last s plans.Read said text c (Asker c ForItself) refl
+sorted_last players sorts.Act s who game said text c same = act_last s who said text c
+sorted_last players sorts.As s who game said text c same = as_last s who said text c
+sorted_last players sorts.Pair s who game said text c same = pair_last players s who said text c same
+sorted_last players sorts.Unpair s who game said text c same = refl
+sorted_last players sorts.Offers s who game said text c same = refl
+sorted_last players sorts.Drop s who game said text c same = numbered_last s who game said text c
+sorted_last players sorts.Login s who game said text c same = login_last s.holder said text c (Asker c ForItself)
+sorted_last players sorts.Players s who game said text c same = refl
+sorted_last players sorts.Who s who game said text c same = arbiter_last who plans.Who said text c refl
+sorted_last players sorts.Pause s who game said text c same = arbiter_last who plans.Pause said text c refl
+sorted_last players sorts.Resume s who game said text c same = arbiter_last who plans.Resume said text c refl
+sorted_last players (sorts.Call call) s who game said text c same =
+    arbiter_last who (barred s.bar (plans.Call call)) said text c
+    (barred_last s.bar (plans.Call call) said text c (Asker c ForItself) refl)
+sorted_last players sorts.Link s who game said text c same =
+    arbiter_last who (order_plan false s.linked) said text c (order_last false s.linked said text c)
+sorted_last players sorts.Close s who game said text c same =
+    arbiter_last who (order_plan true s.linked) said text c (order_last true s.linked said text c)
+sorted_last players sorts.Lobby s who game said text c same = asked_last s plans.Lobby said text c (Asker c ForTable) refl
+sorted_last players sorts.LeaveLobby s who game said text c same = refl
+sorted_last players sorts.Watch s who game said text c same = watch_last s who game said text c
+sorted_last players sorts.Leave s who game said text c same = leave_last s who game said text c
+sorted_last players sorts.Line s who game said text c same = line_last s who game said text c
+sorted_last players sorts.Room s who game said text c same = room_last s who game said text c
+sorted_last players sorts.Moves s who game said text c same = refl
+sorted_last players sorts.Name s who game said text c same = refl
+sorted_last players sorts.Nothing s who game said text c same = refl
+
+-- nothing goes out for who acts for nobody
+stranger_last : (b : Bool) (s : Standing) (said : Option (List ℕ)) (text : List ℕ) (c : ℕ) (o : Owed) → LastIs (stranger_plan b s) said text c o
+stranger_last true s said text c o = login_last s.holder said text c o
+stranger_last false s said text c o = refl
+
+who_last : (players : List Player) (who : Option Identity) (sort : Sort) (s : Standing) (game : Option ℕ) (said : Option (List ℕ)) (text : List ℕ) (c : ℕ) →
+    s.black ≡ known_name players (black_name text) → LastIs (who_plan who sort s game) said text c (sort_asker sort game c (name_of who) text)
+who_last players None sort s game said text c same =
+    stranger_last (is_login_sort sort) s said text c (sort_asker sort game c (name_of None) text)
+who_last players (Some who) sort s game said text c same = sorted_last players sort s who game said text c same
 
 pub planned_last : (players : List Player) (m : Bool) (sort : Sort) (s : Standing) (game : Option ℕ) (said : Option (List ℕ)) (text : List ℕ) (c : ℕ) →
     s.black ≡ known_name players (black_name text) → LastIs (plan_of m sort s game) said text c (sort_asker sort game c (name_of s.who) text)
 planned_last players false sort s game said text c same = refl
-planned_last players true sorts.Read s game said text c same = asked_last s plans.Read said text c (Asker c ForItself) refl
-planned_last players true sorts.Act s game said text c same = act_last s s.who said text c
-planned_last players true sorts.As s game said text c same = as_last s s.who said text c
-planned_last players true sorts.Pair s game said text c same = pair_last players s s.who said text c same
-planned_last players true sorts.Unpair s game said text c same = offers_last true s.at s.who said text c
-planned_last players true sorts.Offers s game said text c same = offers_last false s.at s.who said text c
-planned_last players true sorts.Drop s game said text c same = numbered_last s game said text c
-planned_last players true sorts.Login s game said text c same = login_last s.holder said text c
-planned_last players true sorts.Players s game said text c same = players_last s s.who said text c
-planned_last players true sorts.Who s game said text c same = arbiter_last s.who plans.Who said text c refl
-planned_last players true sorts.Pause s game said text c same = arbiter_last s.who plans.Pause said text c refl
-planned_last players true sorts.Resume s game said text c same = arbiter_last s.who plans.Resume said text c refl
-planned_last players true (sorts.Call call) s game said text c same =
-    arbiter_last s.who (barred s.bar (plans.Call call)) said text c
-    (barred_last s.bar (plans.Call call) said text c (Asker c ForItself) refl)
-planned_last players true sorts.Link s game said text c same =
-    arbiter_last s.who (order_plan false s.linked) said text c (order_last false s.linked said text c)
-planned_last players true sorts.Close s game said text c same =
-    arbiter_last s.who (order_plan true s.linked) said text c (order_last true s.linked said text c)
-planned_last players true sorts.Lobby s game said text c same = asked_last s plans.Lobby said text c (Asker c ForTable) refl
-planned_last players true sorts.LeaveLobby s game said text c same = refl
-planned_last players true sorts.Watch s game said text c same = watch_last s game said text c
-planned_last players true sorts.Leave s game said text c same = leave_last s game said text c
-planned_last players true sorts.Line s game said text c same = line_last s game said text c
-planned_last players true sorts.Room s game said text c same = room_last s game said text c
-planned_last players true sorts.Moves s game said text c same = token_last s.who plans.Moves said text c refl
-planned_last players true sorts.Name s game said text c same = refl
-planned_last players true sorts.Nothing s game said text c same = refl
+planned_last players true sort s game said text c same = who_last players s.who sort s game said text c same
 
 -- what each plan does that may be for a message
 pub asked_does : (P : Plan → Type 0) (s : Standing) (plan : Plan) → P (plans.Refuse refusals.NoServer) → P plan → P (asked s plan)
@@ -219,10 +208,9 @@ barred_does P (Some refusal) plan none h = none refusal
 pub entered_does : (P : Plan → Type 0) (s : Standing) (plan : Plan) → ((r : Refusal) → P (plans.Refuse r)) → P plan → P (entered_plan s plan)
 entered_does P s plan none h = asked_does P s (barred s.bar plan) (none refusals.NoServer) (barred_does P s.bar plan none h)
 
-pub act_does : (P : Plan → Type 0) (s : Standing) (who : Option Identity) → ((r : Refusal) → P (plans.Refuse r)) → ((one : Identity) → P (plans.Act one)) →
+pub act_does : (P : Plan → Type 0) (s : Standing) (who : Identity) → ((r : Refusal) → P (plans.Refuse r)) → ((one : Identity) → P (plans.Act one)) →
     P (act_plan s who)
-act_does P s None none h = none refusals.NoToken
-act_does P s (Some who) none h =
+act_does P s who none h =
     elim (s.is_paused && not who.is_arbiter) as (λ b. P (if b then plans.Refuse refusals.EntriesPaused else entered_plan s (plans.Act who))) [
       | true ↦ none refusals.EntriesPaused
       | false ↦ entered_does P s (plans.Act who) none (h who)
@@ -233,10 +221,9 @@ named_does : (P : Plan → Type 0) (s : Standing) (who : Identity) (named : Opti
 named_does P s who None none h = none refusals.NoPlayer
 named_does P s who (Some name) none h = entered_does P s (plans.ActAs who name) none (h name)
 
-pub as_does : (P : Plan → Type 0) (s : Standing) (who : Option Identity) → ((r : Refusal) → P (plans.Refuse r)) →
+pub as_does : (P : Plan → Type 0) (s : Standing) (who : Identity) → ((r : Refusal) → P (plans.Refuse r)) →
     ((one : Identity) (name : List ℕ) → P (plans.ActAs one name)) → P (as_plan s who)
-as_does P s None none h = none refusals.NoToken
-as_does P s (Some who) none h =
+as_does P s who none h =
     elim who.is_arbiter as (λ b. P (if b then named_plan s who s.named else plans.Refuse refusals.NotArbiter)) [
       | true ↦ named_does P s who s.named none (h who)
       | false ↦ none refusals.NotArbiter
@@ -266,38 +253,21 @@ offered_does P s who accords.Nothing none offer h = none refusals.NotArbiter
 offered_does P s who accords.Offered none offer h = offer
 offered_does P s who accords.Agreed none offer h = agreed_does P s who none h
 
-pub pair_does : (P : Plan → Type 0) (s : Standing) (who : Option Identity) → ((r : Refusal) → P (plans.Refuse r)) →
+pub pair_does : (P : Plan → Type 0) (s : Standing) (who : Identity) → ((r : Refusal) → P (plans.Refuse r)) →
     ((by : Identity) → P (plans.Offer by)) → ((by : Identity) (one other : List ℕ) → P (plans.Pair by one other)) → P (pair_plan s who)
-pair_does P s None none offer h = none refusals.NoToken
-pair_does P s (Some who) none offer h =
+pair_does P s who none offer h =
     elim who.is_arbiter as (λ b. P (if b then white_plan s who s.named else offered_plan s who s.accord)) [
       | true ↦ white_does P s who s.named none (h who)
       | false ↦ offered_does P s who s.accord none (offer who) (h who)
     ]
 
-pub offers_does : (P : Plan → Type 0) (ends : Bool) (at : ℕ) (who : Option Identity) → ((r : Refusal) → P (plans.Refuse r)) →
-    ((by : Identity) → P (plans.Unpair by)) → ((by : Identity) → P (plans.Offers by at)) → P (offers_plan ends at who)
-offers_does P ends at None none ended told = none refusals.NoToken
-offers_does P true at (Some who) none ended told = ended who
-offers_does P false at (Some who) none ended told = told who
+pub dropped_does : (P : Plan → Type 0) (s : Standing) (who : Identity) (game : Option ℕ) → ((r : Refusal) → P (plans.Refuse r)) →
+    ((g : ℕ) → P (plans.Drop who g)) → P (numbered_plan sorts.Drop s who game)
+dropped_does P s who None none h = none refusals.BadLine
+dropped_does P s who (Some game) none h = asked_does P s (plans.Drop who game) (none refusals.NoServer) (h game)
 
-drop_does : (P : Plan → Type 0) (s : Standing) (who : Option Identity) (game : ℕ) → ((r : Refusal) → P (plans.Refuse r)) →
-    ((one : Identity) → P (plans.Drop one game)) → P (drop_plan s who game)
-drop_does P s None game none h = none refusals.NoToken
-drop_does P s (Some who) game none h = asked_does P s (plans.Drop who game) (none refusals.NoServer) (h who)
-
-pub dropped_does : (P : Plan → Type 0) (s : Standing) (game : Option ℕ) → ((r : Refusal) → P (plans.Refuse r)) →
-    ((one : Identity) (g : ℕ) → P (plans.Drop one g)) → P (numbered_plan sorts.Drop s game)
-dropped_does P s None none h = none refusals.BadLine
-dropped_does P s (Some game) none h = drop_does P s s.who game none (λ one. h one game)
-
-pub token_does : (P : Plan → Type 0) (who : Option Identity) (plan : Plan) → ((r : Refusal) → P (plans.Refuse r)) → P plan → P (token_plan who plan)
-token_does P None plan none h = none refusals.NoToken
-token_does P (Some who) plan none h = h
-
-pub arbiter_does : (P : Plan → Type 0) (who : Option Identity) (plan : Plan) → ((r : Refusal) → P (plans.Refuse r)) → P plan → P (arbiter_plan who plan)
-arbiter_does P None plan none h = none refusals.NoToken
-arbiter_does P (Some who) plan none h =
+pub arbiter_does : (P : Plan → Type 0) (who : Identity) (plan : Plan) → ((r : Refusal) → P (plans.Refuse r)) → P plan → P (arbiter_plan who plan)
+arbiter_does P who plan none h =
     elim who.is_arbiter as (λ b. P (if b then plan else plans.Refuse refusals.NotArbiter)) [ true ↦ h | false ↦ none refusals.NotArbiter ]
 
 order_does : (P : Plan → Type 0) (closes : Bool) (linked : Option (List ℕ)) → ((r : Refusal) → P (plans.Refuse r)) →
@@ -305,95 +275,115 @@ order_does : (P : Plan → Type 0) (closes : Bool) (linked : Option (List ℕ)) 
 order_does P closes None none h = none refusals.NoPlayer
 order_does P closes (Some name) none h = h (record { name = name; closes = closes })
 
-pub link_does : (P : Plan → Type 0) (who : Option Identity) (closes : Bool) (linked : Option (List ℕ)) → ((r : Refusal) → P (plans.Refuse r)) →
+pub link_does : (P : Plan → Type 0) (who : Identity) (closes : Bool) (linked : Option (List ℕ)) → ((r : Refusal) → P (plans.Refuse r)) →
     ((o : Order) → P (plans.Order o)) → P (arbiter_plan who (order_plan closes linked))
 link_does P who closes linked none h = arbiter_does P who (order_plan closes linked) none (order_does P closes linked none h)
-
-pub players_does : (P : Plan → Type 0) (s : Standing) (who : Option Identity) → P (plans.Seated s.names) → P plans.Players → P (players_plan s who)
-players_does P s None seated h = seated
-players_does P s (Some who) seated h = h
 
 pub login_does : (P : Plan → Type 0) (holder : Option Identity) → ((r : Refusal) → P (plans.Refuse r)) → ((one : Identity) → P (plans.Login one)) →
     P (login_plan holder)
 login_does P None none h = none refusals.BadToken
 login_does P (Some who) none h = h who
 
-pub watch_does : (P : Plan → Type 0) (s : Standing) (game : Option ℕ) → ((r : Refusal) → P (plans.Refuse r)) → ((g : ℕ) → P (plans.Watch g)) →
-    P (numbered_plan sorts.Watch s game)
-watch_does P s None none h = none refusals.BadLine
-watch_does P s (Some game) none h =
+-- and each for one of who acts for nobody
+pub stranger_does : (P : Plan → Type 0) (b : Bool) (s : Standing) → ((r : Refusal) → P (plans.Refuse r)) → ((one : Identity) → P (plans.Login one)) →
+    P (stranger_plan b s)
+stranger_does P true s none h = login_does P s.holder none h
+stranger_does P false s none h = none refusals.NoToken
+
+pub watch_does : (P : Plan → Type 0) (s : Standing) (who : Identity) (game : Option ℕ) → ((r : Refusal) → P (plans.Refuse r)) → ((g : ℕ) → P (plans.Watch g)) →
+    P (numbered_plan sorts.Watch s who game)
+watch_does P s who None none h = none refusals.BadLine
+watch_does P s who (Some game) none h =
     elim s.is_full as (λ b. P (if b then asked s (plans.Refuse refusals.TooManyWatched) else asked s (plans.Watch game))) [
       | true ↦ asked_does P s (plans.Refuse refusals.TooManyWatched) (none refusals.NoServer) (none refusals.TooManyWatched)
       | false ↦ asked_does P s (plans.Watch game) (none refusals.NoServer) (h game)
     ]
 
-pub room_does : (P : Plan → Type 0) (s : Standing) (game : Option ℕ) → ((r : Refusal) → P (plans.Refuse r)) → ((g : ℕ) → P (plans.Room g s.at)) →
-    P (numbered_plan sorts.Room s game)
-room_does P s None none h = none refusals.BadLine
-room_does P s (Some game) none h = h game
+pub room_does : (P : Plan → Type 0) (s : Standing) (who : Identity) (game : Option ℕ) → ((r : Refusal) → P (plans.Refuse r)) → ((g : ℕ) → P (plans.Room g s.at)) →
+    P (numbered_plan sorts.Room s who game)
+room_does P s who None none h = none refusals.BadLine
+room_does P s who (Some game) none h = h game
 
-pub line_does : (P : Plan → Type 0) (s : Standing) (game : Option ℕ) → ((r : Refusal) → P (plans.Refuse r)) → ((g : ℕ) → P (plans.Line g)) →
-    P (numbered_plan sorts.Line s game)
-line_does P s None none h = none refusals.BadLine
-line_does P s (Some game) none h = asked_does P s (plans.Line game) (none refusals.NoServer) (h game)
+pub line_does : (P : Plan → Type 0) (s : Standing) (who : Identity) (game : Option ℕ) → ((r : Refusal) → P (plans.Refuse r)) → ((g : ℕ) → P (plans.Line g)) →
+    P (numbered_plan sorts.Line s who game)
+line_does P s who None none h = none refusals.BadLine
+line_does P s who (Some game) none h = asked_does P s (plans.Line game) (none refusals.NoServer) (h game)
 
 -- who watches and who is told of the table is as before
 abbrev Stays : ℕ → List Watch → List ℕ → Plan → Type 0
 Stays c watches table plan = (plan_watches plan c watches ≡ watches) × (plan_table plan c table ≡ table)
 
-leave_watches : (s : Standing) (game : Option ℕ) (c : ℕ) (watches : List Watch) →
-    plan_watches (numbered_plan sorts.Leave s game) c watches ≡ left_game c game watches
-leave_watches s None c watches = refl
-leave_watches s (Some game) c watches = refl
+-- who watches after a plan, and who is told of the table, for whom the connection acts before it
+abbrev IsLeft : Sort → Option ℕ → ℕ → List Watch → List ℕ → Option Identity → Plan → Type 0
+IsLeft sort game c watches table who plan =
+    (plan_watches plan c watches ≡ (if is_leave_sort sort && is_some (who_noted plan who) then left_game c game watches else watches))
+    × (plan_table plan c table ≡ (if is_leave_lobby_sort sort && is_some (who_noted plan who) then risen c table else table))
 
-leave_table : (s : Standing) (game : Option ℕ) (c : ℕ) (table : List ℕ) → plan_table (numbered_plan sorts.Leave s game) c table ≡ table
-leave_table s None c table = refl
-leave_table s (Some game) c table = refl
+leave_left : (s : Standing) (who : Identity) (game : Option ℕ) (c : ℕ) (watches : List Watch) (table : List ℕ) →
+    IsLeft sorts.Leave game c watches table (Some who) (numbered_plan sorts.Leave s who game)
+leave_left s who None c watches table = (refl, refl)
+leave_left s who (Some game) c watches table = (refl, refl)
+
+sorted : (sort : Sort) (s : Standing) (who : Identity) (game : Option ℕ) (c : ℕ) (watches : List Watch) (table : List ℕ) →
+    IsLeft sort game c watches table (Some who) (sort_plan sort s who game)
+sorted sorts.Read s who game c watches table = asked_does (Stays c watches table) s plans.Read (refl, refl) (refl, refl)
+sorted sorts.Act s who game c watches table = act_does (Stays c watches table) s who (λ _. (refl, refl)) (λ _. (refl, refl))
+sorted sorts.As s who game c watches table = as_does (Stays c watches table) s who (λ _. (refl, refl)) (λ _ _. (refl, refl))
+sorted sorts.Pair s who game c watches table =
+    pair_does (Stays c watches table) s who (λ _. (refl, refl)) (λ _. (refl, refl)) (λ _ _ _. (refl, refl))
+sorted sorts.Unpair s who game c watches table = (refl, refl)
+sorted sorts.Offers s who game c watches table = (refl, refl)
+sorted sorts.Drop s who game c watches table = dropped_does (Stays c watches table) s who game (λ _. (refl, refl)) (λ _. (refl, refl))
+sorted sorts.Login s who game c watches table = login_does (Stays c watches table) s.holder (λ _. (refl, refl)) (λ _. (refl, refl))
+sorted sorts.Players s who game c watches table = (refl, refl)
+sorted sorts.Who s who game c watches table = arbiter_does (Stays c watches table) who plans.Who (λ _. (refl, refl)) (refl, refl)
+sorted sorts.Pause s who game c watches table = arbiter_does (Stays c watches table) who plans.Pause (λ _. (refl, refl)) (refl, refl)
+sorted sorts.Resume s who game c watches table = arbiter_does (Stays c watches table) who plans.Resume (λ _. (refl, refl)) (refl, refl)
+sorted (sorts.Call call) s who game c watches table =
+    arbiter_does (Stays c watches table) who (barred s.bar (plans.Call call)) (λ _. (refl, refl))
+    (barred_does (Stays c watches table) s.bar (plans.Call call) (λ _. (refl, refl)) (refl, refl))
+sorted sorts.Link s who game c watches table =
+    link_does (Stays c watches table) who false s.linked (λ _. (refl, refl)) (λ _. (refl, refl))
+sorted sorts.Close s who game c watches table =
+    link_does (Stays c watches table) who true s.linked (λ _. (refl, refl)) (λ _. (refl, refl))
+sorted sorts.Lobby s who game c watches table = asked_does (Stays c watches table) s plans.Lobby (refl, refl) (refl, refl)
+sorted sorts.LeaveLobby s who game c watches table = (refl, refl)
+sorted sorts.Watch s who game c watches table = watch_does (Stays c watches table) s who game (λ _. (refl, refl)) (λ _. (refl, refl))
+sorted sorts.Leave s who game c watches table = leave_left s who game c watches table
+sorted sorts.Line s who game c watches table = line_does (Stays c watches table) s who game (λ _. (refl, refl)) (λ _. (refl, refl))
+sorted sorts.Room s who game c watches table = room_does (Stays c watches table) s who game (λ _. (refl, refl)) (λ _. (refl, refl))
+sorted sorts.Moves s who game c watches table = (refl, refl)
+sorted sorts.Name s who game c watches table = (refl, refl)
+sorted sorts.Nothing s who game c watches table = (refl, refl)
+
+strange : (sort : Sort) (s : Standing) (game : Option ℕ) (c : ℕ) (watches : List Watch) (table : List ℕ) →
+    IsLeft sort game c watches table None (stranger_plan (is_login_sort sort) s)
+strange sorts.Login s game c watches table = login_does (Stays c watches table) s.holder (λ _. (refl, refl)) (λ _. (refl, refl))
+strange _ s game c watches table = (refl, refl)
+
+who_left : (who : Option Identity) (sort : Sort) (s : Standing) (game : Option ℕ) (c : ℕ) (watches : List Watch) (table : List ℕ) →
+    IsLeft sort game c watches table who (who_plan who sort s game)
+who_left None sort s game c watches table = strange sort s game c watches table
+who_left (Some who) sort s game c watches table = sorted sort s who game c watches table
 
 planned : (m : Bool) (sort : Sort) (s : Standing) (game : Option ℕ) (c : ℕ) (watches : List Watch) (table : List ℕ) →
-    (plan_watches (plan_of m sort s game) c watches ≡ (if m && is_leave_sort sort then left_game c game watches else watches))
-    × (plan_table (plan_of m sort s game) c table ≡ (if m && is_leave_lobby_sort sort then risen c table else table))
+    (plan_watches (plan_of m sort s game) c watches
+    ≡ (if m && is_leave_sort sort && is_some (who_noted (plan_of m sort s game) s.who) then left_game c game watches else watches))
+    × (plan_table (plan_of m sort s game) c table
+    ≡ (if m && is_leave_lobby_sort sort && is_some (who_noted (plan_of m sort s game) s.who) then risen c table else table))
 planned false sort s game c watches table = (refl, refl)
-planned true sorts.Read s game c watches table = asked_does (Stays c watches table) s plans.Read (refl, refl) (refl, refl)
-planned true sorts.Act s game c watches table = act_does (Stays c watches table) s s.who (λ _. (refl, refl)) (λ _. (refl, refl))
-planned true sorts.As s game c watches table = as_does (Stays c watches table) s s.who (λ _. (refl, refl)) (λ _ _. (refl, refl))
-planned true sorts.Pair s game c watches table =
-    pair_does (Stays c watches table) s s.who (λ _. (refl, refl)) (λ _. (refl, refl)) (λ _ _ _. (refl, refl))
-planned true sorts.Unpair s game c watches table =
-    offers_does (Stays c watches table) true s.at s.who (λ _. (refl, refl)) (λ _. (refl, refl)) (λ _. (refl, refl))
-planned true sorts.Offers s game c watches table =
-    offers_does (Stays c watches table) false s.at s.who (λ _. (refl, refl)) (λ _. (refl, refl)) (λ _. (refl, refl))
-planned true sorts.Drop s game c watches table = dropped_does (Stays c watches table) s game (λ _. (refl, refl)) (λ _ _. (refl, refl))
-planned true sorts.Login s game c watches table = login_does (Stays c watches table) s.holder (λ _. (refl, refl)) (λ _. (refl, refl))
-planned true sorts.Players s game c watches table = players_does (Stays c watches table) s s.who (refl, refl) (refl, refl)
-planned true sorts.Who s game c watches table = arbiter_does (Stays c watches table) s.who plans.Who (λ _. (refl, refl)) (refl, refl)
-planned true sorts.Pause s game c watches table = arbiter_does (Stays c watches table) s.who plans.Pause (λ _. (refl, refl)) (refl, refl)
-planned true sorts.Resume s game c watches table = arbiter_does (Stays c watches table) s.who plans.Resume (λ _. (refl, refl)) (refl, refl)
-planned true (sorts.Call call) s game c watches table =
-    arbiter_does (Stays c watches table) s.who (barred s.bar (plans.Call call)) (λ _. (refl, refl))
-    (barred_does (Stays c watches table) s.bar (plans.Call call) (λ _. (refl, refl)) (refl, refl))
-planned true sorts.Link s game c watches table =
-    link_does (Stays c watches table) s.who false s.linked (λ _. (refl, refl)) (λ _. (refl, refl))
-planned true sorts.Close s game c watches table =
-    link_does (Stays c watches table) s.who true s.linked (λ _. (refl, refl)) (λ _. (refl, refl))
-planned true sorts.Lobby s game c watches table = asked_does (Stays c watches table) s plans.Lobby (refl, refl) (refl, refl)
-planned true sorts.LeaveLobby s game c watches table = (refl, refl)
-planned true sorts.Watch s game c watches table = watch_does (Stays c watches table) s game (λ _. (refl, refl)) (λ _. (refl, refl))
-planned true sorts.Leave s game c watches table = (leave_watches s game c watches, leave_table s game c table)
-planned true sorts.Line s game c watches table = line_does (Stays c watches table) s game (λ _. (refl, refl)) (λ _. (refl, refl))
-planned true sorts.Room s game c watches table = room_does (Stays c watches table) s game (λ _. (refl, refl)) (λ _. (refl, refl))
-planned true sorts.Moves s game c watches table = token_does (Stays c watches table) s.who plans.Moves (λ _. (refl, refl)) (refl, refl)
-planned true sorts.Name s game c watches table = (refl, refl)
-planned true sorts.Nothing s game c watches table = (refl, refl)
+planned true sort s game c watches table = who_left s.who sort s game c watches table
 
 -- who watches after the plan for a message
 pub planned_watches : (m : Bool) (sort : Sort) (s : Standing) (game : Option ℕ) (c : ℕ) (watches : List Watch) →
-    plan_watches (plan_of m sort s game) c watches ≡ (if m && is_leave_sort sort then left_game c game watches else watches)
+    plan_watches (plan_of m sort s game) c watches
+    ≡ (if m && is_leave_sort sort && is_some (who_noted (plan_of m sort s game) s.who) then left_game c game watches else watches)
 planned_watches m sort s game c watches = (planned m sort s game c watches []).0
 
 -- who is told of the table after it
 pub planned_table : (m : Bool) (sort : Sort) (s : Standing) (game : Option ℕ) (c : ℕ) (table : List ℕ) →
-    plan_table (plan_of m sort s game) c table ≡ (if m && is_leave_lobby_sort sort then risen c table else table)
+    plan_table (plan_of m sort s game) c table
+    ≡ (if m && is_leave_lobby_sort sort && is_some (who_noted (plan_of m sort s game) s.who) then risen c table else table)
 planned_table m sort s game c table = (planned m sort s game c [] table).1
 
 -- ---- of whom everybody is told something
@@ -409,50 +399,52 @@ pub record Calls (sort : Sort) (who : Option Identity) (call : Call) : Type 0 wh
   pub asked : sort ≡ sorts.Call call
   pub arbiter : IsArbiter who
 
-abbrev Tells : Sort → Standing → Plan → Type 0
-Tells sort s plan = OfTold (Calls sort s.who) (sort ≡ sorts.Moves) plan
+abbrev Tells : Sort → Option Identity → Plan → Type 0
+Tells sort who plan = OfTold (Calls sort who) (sort ≡ sorts.Moves) plan
 
-called_at : (s : Standing) (call : Call) (who : Identity) → s.who ≡ Some who → (b : Bool) → who.is_arbiter ≡ b →
-    Tells (sorts.Call call) s (if b then barred s.bar (plans.Call call) else plans.Refuse refusals.NotArbiter)
-called_at s call who is true arbiter =
-    barred_does (Tells (sorts.Call call) s) s.bar (plans.Call call) (λ _. tt) (record { asked = refl; arbiter = subst IsArbiter (sym is) arbiter })
-called_at s call who is false arbiter = tt
+called_at : (s : Standing) (call : Call) (who : Identity) (b : Bool) → who.is_arbiter ≡ b →
+    Tells (sorts.Call call) (Some who) (if b then barred s.bar (plans.Call call) else plans.Refuse refusals.NotArbiter)
+called_at s call who true arbiter =
+    barred_does (Tells (sorts.Call call) (Some who)) s.bar (plans.Call call) (λ _. tt) (record { asked = refl; arbiter = arbiter })
+called_at s call who false arbiter = tt
 
-calls_at : (s : Standing) (call : Call) (who : Option Identity) → s.who ≡ who →
-    Tells (sorts.Call call) s (arbiter_plan who (barred s.bar (plans.Call call)))
-calls_at s call None is = tt
-calls_at s call (Some who) is = called_at s call who is who.is_arbiter refl
+leave_tells : (s : Standing) (who : Identity) (game : Option ℕ) → Tells sorts.Leave (Some who) (numbered_plan sorts.Leave s who game)
+leave_tells s who None = tt
+leave_tells s who (Some game) = tt
 
-leave_tells : (s : Standing) (game : Option ℕ) → Tells sorts.Leave s (numbered_plan sorts.Leave s game)
-leave_tells s None = tt
-leave_tells s (Some game) = tt
+sorted_tells : (sort : Sort) (s : Standing) (who : Identity) (game : Option ℕ) → Tells sort (Some who) (sort_plan sort s who game)
+sorted_tells sorts.Read s who game = asked_does (Tells sorts.Read (Some who)) s plans.Read tt tt
+sorted_tells sorts.Act s who game = act_does (Tells sorts.Act (Some who)) s who (λ _. tt) (λ _. tt)
+sorted_tells sorts.As s who game = as_does (Tells sorts.As (Some who)) s who (λ _. tt) (λ _ _. tt)
+sorted_tells sorts.Pair s who game = pair_does (Tells sorts.Pair (Some who)) s who (λ _. tt) (λ _. tt) (λ _ _ _. tt)
+sorted_tells sorts.Unpair s who game = tt
+sorted_tells sorts.Offers s who game = tt
+sorted_tells sorts.Drop s who game = dropped_does (Tells sorts.Drop (Some who)) s who game (λ _. tt) (λ _. tt)
+sorted_tells sorts.Login s who game = login_does (Tells sorts.Login (Some who)) s.holder (λ _. tt) (λ _. tt)
+sorted_tells sorts.Players s who game = tt
+sorted_tells sorts.Who s who game = arbiter_does (Tells sorts.Who (Some who)) who plans.Who (λ _. tt) tt
+sorted_tells sorts.Pause s who game = arbiter_does (Tells sorts.Pause (Some who)) who plans.Pause (λ _. tt) tt
+sorted_tells sorts.Resume s who game = arbiter_does (Tells sorts.Resume (Some who)) who plans.Resume (λ _. tt) tt
+sorted_tells (sorts.Call call) s who game = called_at s call who who.is_arbiter refl
+sorted_tells sorts.Link s who game = link_does (Tells sorts.Link (Some who)) who false s.linked (λ _. tt) (λ _. tt)
+sorted_tells sorts.Close s who game = link_does (Tells sorts.Close (Some who)) who true s.linked (λ _. tt) (λ _. tt)
+sorted_tells sorts.Lobby s who game = asked_does (Tells sorts.Lobby (Some who)) s plans.Lobby tt tt
+sorted_tells sorts.LeaveLobby s who game = tt
+sorted_tells sorts.Watch s who game = watch_does (Tells sorts.Watch (Some who)) s who game (λ _. tt) (λ _. tt)
+sorted_tells sorts.Leave s who game = leave_tells s who game
+sorted_tells sorts.Line s who game = line_does (Tells sorts.Line (Some who)) s who game (λ _. tt) (λ _. tt)
+sorted_tells sorts.Room s who game = room_does (Tells sorts.Room (Some who)) s who game (λ _. tt) (λ _. tt)
+sorted_tells sorts.Moves s who game = refl
+sorted_tells sorts.Name s who game = tt
+sorted_tells sorts.Nothing s who game = tt
 
-pub planned_tells : (m : Bool) (sort : Sort) (s : Standing) (game : Option ℕ) → Tells sort s (plan_of m sort s game)
+who_tells : (who : Option Identity) (sort : Sort) (s : Standing) (game : Option ℕ) → Tells sort who (who_plan who sort s game)
+who_tells None sort s game = stranger_does (Tells sort None) (is_login_sort sort) s (λ _. tt) (λ _. tt)
+who_tells (Some who) sort s game = sorted_tells sort s who game
+
+pub planned_tells : (m : Bool) (sort : Sort) (s : Standing) (game : Option ℕ) → Tells sort s.who (plan_of m sort s game)
 planned_tells false sort s game = tt
-planned_tells true sorts.Read s game = asked_does (Tells sorts.Read s) s plans.Read tt tt
-planned_tells true sorts.Act s game = act_does (Tells sorts.Act s) s s.who (λ _. tt) (λ _. tt)
-planned_tells true sorts.As s game = as_does (Tells sorts.As s) s s.who (λ _. tt) (λ _ _. tt)
-planned_tells true sorts.Pair s game = pair_does (Tells sorts.Pair s) s s.who (λ _. tt) (λ _. tt) (λ _ _ _. tt)
-planned_tells true sorts.Unpair s game = offers_does (Tells sorts.Unpair s) true s.at s.who (λ _. tt) (λ _. tt) (λ _. tt)
-planned_tells true sorts.Offers s game = offers_does (Tells sorts.Offers s) false s.at s.who (λ _. tt) (λ _. tt) (λ _. tt)
-planned_tells true sorts.Drop s game = dropped_does (Tells sorts.Drop s) s game (λ _. tt) (λ _ _. tt)
-planned_tells true sorts.Login s game = login_does (Tells sorts.Login s) s.holder (λ _. tt) (λ _. tt)
-planned_tells true sorts.Players s game = players_does (Tells sorts.Players s) s s.who tt tt
-planned_tells true sorts.Who s game = arbiter_does (Tells sorts.Who s) s.who plans.Who (λ _. tt) tt
-planned_tells true sorts.Pause s game = arbiter_does (Tells sorts.Pause s) s.who plans.Pause (λ _. tt) tt
-planned_tells true sorts.Resume s game = arbiter_does (Tells sorts.Resume s) s.who plans.Resume (λ _. tt) tt
-planned_tells true (sorts.Call call) s game = calls_at s call s.who refl
-planned_tells true sorts.Link s game = link_does (Tells sorts.Link s) s.who false s.linked (λ _. tt) (λ _. tt)
-planned_tells true sorts.Close s game = link_does (Tells sorts.Close s) s.who true s.linked (λ _. tt) (λ _. tt)
-planned_tells true sorts.Lobby s game = asked_does (Tells sorts.Lobby s) s plans.Lobby tt tt
-planned_tells true sorts.LeaveLobby s game = tt
-planned_tells true sorts.Watch s game = watch_does (Tells sorts.Watch s) s game (λ _. tt) (λ _. tt)
-planned_tells true sorts.Leave s game = leave_tells s game
-planned_tells true sorts.Line s game = line_does (Tells sorts.Line s) s game (λ _. tt) (λ _. tt)
-planned_tells true sorts.Room s game = room_does (Tells sorts.Room s) s game (λ _. tt) (λ _. tt)
-planned_tells true sorts.Moves s game = token_does (Tells sorts.Moves s) s.who plans.Moves (λ _. tt) refl
-planned_tells true sorts.Name s game = tt
-planned_tells true sorts.Nothing s game = tt
+planned_tells true sort s game = who_tells s.who sort s game
 
 -- a message is answered at once where nothing goes out by its plan
 act_sent : (is_open : ℕ → Bool) (table : List ℕ) (who : Option Identity) (said : List ℕ) (b : Bool) (name text : List ℕ) (rest : List (List ℕ)) (c : ℕ) (tells : List MessageValue) → tells ≡ [] →
@@ -475,7 +467,6 @@ answered_or_sent players v (plans.Pair who white black) said text c tells asks h
 answered_or_sent players v (plans.Drop who game) said text c tells asks h = h
 answered_or_sent players v (plans.Login who) said text c tells asks h = inl (h.0, h.2)
 answered_or_sent players v plans.Players said text c tells asks h = inl (h.0, h.2)
-answered_or_sent players v (plans.Seated form) said text c tells asks h = inl (h.0, h.2)
 answered_or_sent players v plans.Who said text c tells asks h = inl (h.0, h.2)
 answered_or_sent players v plans.Pause said text c tells asks h = inl (h.0, h.2)
 answered_or_sent players v plans.Resume said text c tells asks h = inl (h.0, h.2)
@@ -515,43 +506,45 @@ allowed_at : (closes : Bool) (sort : Sort) (s : Standing) (who : Identity) → s
 allowed_at closes sort s who is link same true arbiter = order_orders closes sort s s.linked (subst IsArbiter (sym is) arbiter) link same refl
 allowed_at closes sort s who is link same false arbiter = tt
 
-arbiter_at : (closes : Bool) (sort : Sort) (s : Standing) (who : Option Identity) → s.who ≡ who → is_link_sort sort ≡ true →
-    is_close_sort sort ≡ closes → OfOrder (Orders true sort s) (arbiter_plan who (order_plan closes s.linked))
-arbiter_at closes sort s None is link same = tt
-arbiter_at closes sort s (Some who) is link same = allowed_at closes sort s who is link same who.is_arbiter refl
+leave_orders : (s : Standing) (who : Identity) (game : Option ℕ) → OfOrder (Orders true sorts.Leave s) (numbered_plan sorts.Leave s who game)
+leave_orders s who None = tt
+leave_orders s who (Some game) = tt
 
-leave_orders : (s : Standing) (game : Option ℕ) → OfOrder (Orders true sorts.Leave s) (numbered_plan sorts.Leave s game)
-leave_orders s None = tt
-leave_orders s (Some game) = tt
+sorted_orders : (sort : Sort) (s : Standing) (who : Identity) → s.who ≡ Some who → (game : Option ℕ) → OfOrder (Orders true sort s) (sort_plan sort s who game)
+sorted_orders sorts.Read s who is game = asked_does (OfOrder (Orders true sorts.Read s)) s plans.Read tt tt
+sorted_orders sorts.Act s who is game = act_does (OfOrder (Orders true sorts.Act s)) s who (λ _. tt) (λ _. tt)
+sorted_orders sorts.As s who is game = as_does (OfOrder (Orders true sorts.As s)) s who (λ _. tt) (λ _ _. tt)
+sorted_orders sorts.Pair s who is game = pair_does (OfOrder (Orders true sorts.Pair s)) s who (λ _. tt) (λ _. tt) (λ _ _ _. tt)
+sorted_orders sorts.Unpair s who is game = tt
+sorted_orders sorts.Offers s who is game = tt
+sorted_orders sorts.Drop s who is game = dropped_does (OfOrder (Orders true sorts.Drop s)) s who game (λ _. tt) (λ _. tt)
+sorted_orders sorts.Login s who is game = login_does (OfOrder (Orders true sorts.Login s)) s.holder (λ _. tt) (λ _. tt)
+sorted_orders sorts.Players s who is game = tt
+sorted_orders sorts.Who s who is game = arbiter_does (OfOrder (Orders true sorts.Who s)) who plans.Who (λ _. tt) tt
+sorted_orders sorts.Pause s who is game = arbiter_does (OfOrder (Orders true sorts.Pause s)) who plans.Pause (λ _. tt) tt
+sorted_orders sorts.Resume s who is game = arbiter_does (OfOrder (Orders true sorts.Resume s)) who plans.Resume (λ _. tt) tt
+sorted_orders (sorts.Call call) s who is game =
+    arbiter_does (OfOrder (Orders true (sorts.Call call) s)) who (barred s.bar (plans.Call call)) (λ _. tt)
+    (barred_does (OfOrder (Orders true (sorts.Call call) s)) s.bar (plans.Call call) (λ _. tt) tt)
+sorted_orders sorts.Link s who is game = allowed_at false sorts.Link s who is refl refl who.is_arbiter refl
+sorted_orders sorts.Close s who is game = allowed_at true sorts.Close s who is refl refl who.is_arbiter refl
+sorted_orders sorts.Lobby s who is game = asked_does (OfOrder (Orders true sorts.Lobby s)) s plans.Lobby tt tt
+sorted_orders sorts.LeaveLobby s who is game = tt
+sorted_orders sorts.Watch s who is game = watch_does (OfOrder (Orders true sorts.Watch s)) s who game (λ _. tt) (λ _. tt)
+sorted_orders sorts.Leave s who is game = leave_orders s who game
+sorted_orders sorts.Line s who is game = line_does (OfOrder (Orders true sorts.Line s)) s who game (λ _. tt) (λ _. tt)
+sorted_orders sorts.Room s who is game = room_does (OfOrder (Orders true sorts.Room s)) s who game (λ _. tt) (λ _. tt)
+sorted_orders sorts.Moves s who is game = tt
+sorted_orders sorts.Name s who is game = tt
+sorted_orders sorts.Nothing s who is game = tt
+
+who_orders : (who : Option Identity) (sort : Sort) (s : Standing) → s.who ≡ who → (game : Option ℕ) → OfOrder (Orders true sort s) (who_plan who sort s game)
+who_orders None sort s is game = stranger_does (OfOrder (Orders true sort s)) (is_login_sort sort) s (λ _. tt) (λ _. tt)
+who_orders (Some who) sort s is game = sorted_orders sort s who is game
 
 pub planned_orders : (m : Bool) (sort : Sort) (s : Standing) (game : Option ℕ) → OfOrder (Orders m sort s) (plan_of m sort s game)
 planned_orders false sort s game = tt
-planned_orders true sorts.Read s game = asked_does (OfOrder (Orders true sorts.Read s)) s plans.Read tt tt
-planned_orders true sorts.Act s game = act_does (OfOrder (Orders true sorts.Act s)) s s.who (λ _. tt) (λ _. tt)
-planned_orders true sorts.As s game = as_does (OfOrder (Orders true sorts.As s)) s s.who (λ _. tt) (λ _ _. tt)
-planned_orders true sorts.Pair s game = pair_does (OfOrder (Orders true sorts.Pair s)) s s.who (λ _. tt) (λ _. tt) (λ _ _ _. tt)
-planned_orders true sorts.Unpair s game = offers_does (OfOrder (Orders true sorts.Unpair s)) true s.at s.who (λ _. tt) (λ _. tt) (λ _. tt)
-planned_orders true sorts.Offers s game = offers_does (OfOrder (Orders true sorts.Offers s)) false s.at s.who (λ _. tt) (λ _. tt) (λ _. tt)
-planned_orders true sorts.Drop s game = dropped_does (OfOrder (Orders true sorts.Drop s)) s game (λ _. tt) (λ _ _. tt)
-planned_orders true sorts.Login s game = login_does (OfOrder (Orders true sorts.Login s)) s.holder (λ _. tt) (λ _. tt)
-planned_orders true sorts.Players s game = players_does (OfOrder (Orders true sorts.Players s)) s s.who tt tt
-planned_orders true sorts.Who s game = arbiter_does (OfOrder (Orders true sorts.Who s)) s.who plans.Who (λ _. tt) tt
-planned_orders true sorts.Pause s game = arbiter_does (OfOrder (Orders true sorts.Pause s)) s.who plans.Pause (λ _. tt) tt
-planned_orders true sorts.Resume s game = arbiter_does (OfOrder (Orders true sorts.Resume s)) s.who plans.Resume (λ _. tt) tt
-planned_orders true (sorts.Call call) s game =
-    arbiter_does (OfOrder (Orders true (sorts.Call call) s)) s.who (barred s.bar (plans.Call call)) (λ _. tt)
-    (barred_does (OfOrder (Orders true (sorts.Call call) s)) s.bar (plans.Call call) (λ _. tt) tt)
-planned_orders true sorts.Link s game = arbiter_at false sorts.Link s s.who refl refl refl
-planned_orders true sorts.Close s game = arbiter_at true sorts.Close s s.who refl refl refl
-planned_orders true sorts.Lobby s game = asked_does (OfOrder (Orders true sorts.Lobby s)) s plans.Lobby tt tt
-planned_orders true sorts.LeaveLobby s game = tt
-planned_orders true sorts.Watch s game = watch_does (OfOrder (Orders true sorts.Watch s)) s game (λ _. tt) (λ _. tt)
-planned_orders true sorts.Leave s game = leave_orders s game
-planned_orders true sorts.Line s game = line_does (OfOrder (Orders true sorts.Line s)) s game (λ _. tt) (λ _. tt)
-planned_orders true sorts.Room s game = room_does (OfOrder (Orders true sorts.Room s)) s game (λ _. tt) (λ _. tt)
-planned_orders true sorts.Moves s game = token_does (OfOrder (Orders true sorts.Moves s)) s.who plans.Moves (λ _. tt) tt
-planned_orders true sorts.Name s game = tt
-planned_orders true sorts.Nothing s game = tt
+planned_orders true sort s game = who_orders s.who sort s refl game
 
 -- a message that asks for a link changes nothing that is offered
 link_no_pair : (sort : Sort) → is_link_sort sort ≡ true → is_pair_sort sort ≡ false
@@ -608,7 +601,6 @@ is_order (plans.Pair who white black) order is = absurd (false≢true (ap is_som
 is_order (plans.Drop who game) order is = absurd (false≢true (ap is_some is))
 is_order (plans.Login who) order is = absurd (false≢true (ap is_some is))
 is_order plans.Players order is = absurd (false≢true (ap is_some is))
-is_order (plans.Seated form) order is = absurd (false≢true (ap is_some is))
 is_order plans.Who order is = absurd (false≢true (ap is_some is))
 is_order plans.Pause order is = absurd (false≢true (ap is_some is))
 is_order plans.Resume order is = absurd (false≢true (ap is_some is))

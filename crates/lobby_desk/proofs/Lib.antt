@@ -8,5 +8,8 @@ pub mod Counted
 pub mod Logged
 pub mod Paired
 pub mod Named
+pub mod Watchers
+pub mod Tokens
 pub mod Alike
 pub mod Lost
+pub mod Left

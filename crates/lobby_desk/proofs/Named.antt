@@ -14,11 +14,11 @@ use Rattle.lobby_words.specs.declared.planning.Standing.{Standing}
 use Rattle.lobby_words.specs.declared.planning.Identity.{Identity}
 use Rattle.lobby_words.specs.declared.players.Player.{Player}
 use Rattle.lobby_words.specs.Players.{known_name}
-use Rattle.lobby_words.specs.Words.{rest_of, as_name, as_line, black_name, pair_line, line_said, actor, is_message, sort_of, is_act_sort, is_pair_sort, is_drop_sort, is_name_sort, is_act_word, is_play_word, is_digit, are_digits, is_show_word, is_read, u32_in, or_0}
+use Rattle.lobby_words.specs.Words.{rest_of, as_name, as_line, black_name, pair_line, line_said, actor, is_message, sort_of, is_act_sort, is_pair_sort, is_drop_sort, is_name_sort, is_login_sort, is_act_word, is_play_word, is_digit, are_digits, is_show_word, is_read, u32_in, or_0}
 use Rattle.lobby_words.specs.Naming.{takes_name}
 use Rattle.lobby_words.specs.declared.planning.Accord.{Accord}
 use Rattle.lobby_words.specs.declared.planning.Accord.TheVariants as accords
-use Rattle.lobby_words.specs.Plans.{barred, entered_plan, act_plan, named_plan, as_plan, black_plan, white_plan, offered_plan, pair_plan, offers_plan, numbered_plan, plan_of}
+use Rattle.lobby_words.specs.Plans.{barred, entered_plan, act_plan, named_plan, as_plan, black_plan, white_plan, offered_plan, pair_plan, numbered_plan, sort_plan, who_plan, plan_of}
 use Rattle.lobby_words.specs.Answers.{is_whole, act_game, answer}
 use Rattle.lobby_desk.specs.Lines.{lines_of, is_said}
 use Rattle.lobby_table.specs.Sending.{act_lines, join_line, name_line, game_line, notice_lines}
@@ -33,7 +33,7 @@ use Rattle.lobby_desk.specs.History.{Step, player_in, players_in, says_name, is_
 use Rattle.lobby_table.proofs.Sent.{is_said_same}
 use Rattle.lobby_desk.proofs.Lines.{join_line_acts, list_reads, name_names}
 use Rattle.lobby_desk.proofs.As.{as_acts, as_word, plain_word, pair_acts}
-use Rattle.lobby_desk.proofs.Carry.{asked_does, entered_does, dropped_does, token_does, room_does, arbiter_does, barred_does, players_does, link_does, login_does, watch_does, line_does}
+use Rattle.lobby_desk.proofs.Carry.{asked_does, entered_does, dropped_does, room_does, arbiter_does, barred_does, link_does, login_does, stranger_does, watch_does, line_does}
 use Rattle.lobby_desk.proofs.Runs.{AreAsked, IsAsked, Agrees, was_asked, run_good}
 
 -- ---- each line that waits, and for whom its answer is
@@ -191,10 +191,9 @@ joins_fit c by text black game said pairs named =
 abbrev FitsPlan : Option (List ℕ) → List ℕ → Owed → Plan → Type 0
 FitsPlan said text o plan = AreFor (owed_lines o (lines_of plan said text)) (sent_under said (lines_of plan said text))
 
-own_fits : (s : Standing) (who : Option Identity) (said : Option (List ℕ)) (text : List ℕ) (c : ℕ) → sort_of text ≡ sorts.Act →
-    FitsPlan said text (Asker c (ForAct (name_of who) text)) (act_plan s who)
-own_fits s None said text c is = tt
-own_fits s (Some who) said text c is =
+own_fits : (s : Standing) (who : Identity) (said : Option (List ℕ)) (text : List ℕ) (c : ℕ) → sort_of text ≡ sorts.Act →
+    FitsPlan said text (Asker c (ForAct who.name text)) (act_plan s who)
+own_fits s who said text c is =
     let o = Asker c (ForAct who.name text) in
     let acts : is_act text ≡ true = ap is_act_sort is in
     elim (s.is_paused && not who.is_arbiter) as (λ b. FitsPlan said text (Asker c (ForAct who.name text)) (if b then plans.Refuse refusals.EntriesPaused else entered_plan s (plans.Act who))) [
@@ -224,11 +223,10 @@ named_fits players s who (Some name) said text c is other =
     (act_fits c who.name text name (as_line text) said (ap is_act_sort (as_acts text is)) (plain_is text (as_line text) (ap is_pair_sort is) (as_said text is))
     (plain_named who.name text name (ap is_pair_sort is) (λ _. known_is players (as_name text) name other ∙ as_actor who.name text is)))
 
-as_fits : (players : List Player) (s : Standing) (who : Option Identity) (said : Option (List ℕ)) (text : List ℕ) (c : ℕ) →
+as_fits : (players : List Player) (s : Standing) (who : Identity) (said : Option (List ℕ)) (text : List ℕ) (c : ℕ) →
     sort_of text ≡ sorts.As → s.named ≡ known_name players (as_name text) →
-    FitsPlan said text (Asker c (ForAct (name_of who) text)) (as_plan s who)
-as_fits players s None said text c is other = tt
-as_fits players s (Some who) said text c is other =
+    FitsPlan said text (Asker c (ForAct who.name text)) (as_plan s who)
+as_fits players s who said text c is other =
     elim who.is_arbiter as (λ b. FitsPlan said text (Asker c (ForAct who.name text)) (if b then named_plan s who s.named else plans.Refuse refusals.NotArbiter)) [
       | true ↦ named_fits players s who s.named said text c is (sym other)
       | false ↦ tt
@@ -262,68 +260,71 @@ offered_fits players s who accords.Agreed said text c other =
           (white_fits players s who s.named said text c (sym other))
     ]
 
-pair_fits : (players : List Player) (s : Standing) (who : Option Identity) (said : Option (List ℕ)) (text : List ℕ) (c : ℕ) →
-    s.named ≡ known_name players (as_name text) → FitsPlan said text (Pairer c (name_of who) (black_name text) text) (pair_plan s who)
-pair_fits players s None said text c other = tt
-pair_fits players s (Some who) said text c other =
+pair_fits : (players : List Player) (s : Standing) (who : Identity) (said : Option (List ℕ)) (text : List ℕ) (c : ℕ) →
+    s.named ≡ known_name players (as_name text) → FitsPlan said text (Pairer c who.name (black_name text) text) (pair_plan s who)
+pair_fits players s who said text c other =
     elim who.is_arbiter as (λ b. FitsPlan said text (Pairer c who.name (black_name text) text) (if b then white_plan s who s.named else offered_plan s who s.accord)) [
       | true ↦ white_fits players s who s.named said text c (sym other)
       | false ↦ offered_fits players s who s.accord said text c other
     ]
 
--- what is asked of the offers
-offers_fits : (ends : Bool) (at : ℕ) (who : Option Identity) (said : Option (List ℕ)) (text : List ℕ) (o : Owed) →
-    FitsPlan said text o (offers_plan ends at who)
-offers_fits ends at None said text o = tt
-offers_fits true at (Some who) said text o = tt
-offers_fits false at (Some who) said text o = tt
+leave_fits : (s : Standing) (who : Identity) (game : Option ℕ) (said : Option (List ℕ)) (text : List ℕ) (o : Owed) →
+    FitsPlan said text o (numbered_plan sorts.Leave s who game)
+leave_fits s who None said text o = tt
+leave_fits s who (Some game) said text o = tt
 
-leave_fits : (s : Standing) (game : Option ℕ) (said : Option (List ℕ)) (text : List ℕ) (o : Owed) →
-    FitsPlan said text o (numbered_plan sorts.Leave s game)
-leave_fits s None said text o = tt
-leave_fits s (Some game) said text o = tt
+sorted_fits : (players : List Player) (sort : Sort) (s : Standing) (who : Identity) (game : Option ℕ) (said : Option (List ℕ)) (text : List ℕ) (c : ℕ) →
+    sort_of text ≡ sort → s.named ≡ known_name players (as_name text) →
+    FitsPlan said text (sort_asker sort game c who.name text) (sort_plan sort s who game)
+sorted_fits players sorts.Read s who game said text c is other =
+    asked_does (FitsPlan said text (Asker c ForItself)) s plans.Read tt (no_name text is, tt)
+sorted_fits players sorts.Act s who game said text c is other = own_fits s who said text c is
+sorted_fits players sorts.As s who game said text c is other = as_fits players s who said text c is other
+sorted_fits players sorts.Pair s who game said text c is other = pair_fits players s who said text c other
+sorted_fits players sorts.Unpair s who game said text c is other = tt
+sorted_fits players sorts.Offers s who game said text c is other = tt
+sorted_fits players sorts.Drop s who game said text c is other =
+    dropped_does (FitsPlan said text (Dropper c who.name text)) s who game (λ _. tt)
+    (λ g. (show_silent g, tt))
+sorted_fits players sorts.Login s who game said text c is other = login_does (FitsPlan said text (Asker c ForItself)) s.holder (λ _. tt) (λ _. tt)
+sorted_fits players sorts.Players s who game said text c is other = tt
+sorted_fits players sorts.Who s who game said text c is other = arbiter_does (FitsPlan said text (Asker c ForItself)) who plans.Who (λ _. tt) tt
+sorted_fits players sorts.Pause s who game said text c is other = arbiter_does (FitsPlan said text (Asker c ForItself)) who plans.Pause (λ _. tt) tt
+sorted_fits players sorts.Resume s who game said text c is other = arbiter_does (FitsPlan said text (Asker c ForItself)) who plans.Resume (λ _. tt) tt
+sorted_fits players (sorts.Call call) s who game said text c is other =
+    arbiter_does (FitsPlan said text (Asker c ForItself)) who (barred s.bar (plans.Call call)) (λ _. tt)
+    (barred_does (FitsPlan said text (Asker c ForItself)) s.bar (plans.Call call) (λ _. tt) tt)
+sorted_fits players sorts.Link s who game said text c is other =
+    link_does (FitsPlan said text (Asker c ForItself)) who false s.linked (λ _. tt) (λ _. tt)
+sorted_fits players sorts.Close s who game said text c is other =
+    link_does (FitsPlan said text (Asker c ForItself)) who true s.linked (λ _. tt) (λ _. tt)
+sorted_fits players sorts.Lobby s who game said text c is other =
+    asked_does (FitsPlan said text (Asker c ForTable)) s plans.Lobby tt (no_name (codes "list") list_reads, tt)
+sorted_fits players sorts.LeaveLobby s who game said text c is other = tt
+sorted_fits players sorts.Watch s who game said text c is other =
+    watch_does (FitsPlan said text (Asker c (ForGame (or_0 game)))) s who game (λ _. tt)
+    (λ g. (show_silent g, (fen_silent g, tt)))
+sorted_fits players sorts.Leave s who game said text c is other = leave_fits s who game said text (Asker c ForItself)
+sorted_fits players sorts.Line s who game said text c is other =
+    line_does (FitsPlan said text (Asker c ForPositions)) s who game (λ _. tt) (λ g. (pgn_silent g, tt))
+sorted_fits players sorts.Room s who game said text c is other =
+    room_does (FitsPlan said text (Asker c ForItself)) s who game (λ _. tt) (λ _. tt)
+sorted_fits players sorts.Moves s who game said text c is other = tt
+sorted_fits players sorts.Name s who game said text c is other = tt
+sorted_fits players sorts.Nothing s who game said text c is other = tt
+
+who_fits : (players : List Player) (who : Option Identity) (sort : Sort) (s : Standing) (game : Option ℕ) (said : Option (List ℕ)) (text : List ℕ) (c : ℕ) →
+    sort_of text ≡ sort → s.named ≡ known_name players (as_name text) →
+    FitsPlan said text (sort_asker sort game c (name_of who) text) (who_plan who sort s game)
+who_fits players None sort s game said text c is other =
+    stranger_does (FitsPlan said text (sort_asker sort game c (name_of None) text)) (is_login_sort sort) s (λ _. tt) (λ _. tt)
+who_fits players (Some who) sort s game said text c is other = sorted_fits players sort s who game said text c is other
 
 planned_fits : (players : List Player) (m : Bool) (sort : Sort) (s : Standing) (game : Option ℕ) (said : Option (List ℕ)) (text : List ℕ) (c : ℕ) →
     sort_of text ≡ sort → s.named ≡ known_name players (as_name text) →
     FitsPlan said text (sort_asker sort game c (name_of s.who) text) (plan_of m sort s game)
 planned_fits players false sort s game said text c is other = tt
-planned_fits players true sorts.Read s game said text c is other =
-    asked_does (FitsPlan said text (Asker c ForItself)) s plans.Read tt (no_name text is, tt)
-planned_fits players true sorts.Act s game said text c is other = own_fits s s.who said text c is
-planned_fits players true sorts.As s game said text c is other = as_fits players s s.who said text c is other
-planned_fits players true sorts.Pair s game said text c is other = pair_fits players s s.who said text c other
-planned_fits players true sorts.Unpair s game said text c is other = offers_fits true s.at s.who said text (Asker c ForItself)
-planned_fits players true sorts.Offers s game said text c is other = offers_fits false s.at s.who said text (Asker c ForItself)
-planned_fits players true sorts.Drop s game said text c is other =
-    dropped_does (FitsPlan said text (Dropper c (name_of s.who) text)) s game (λ _. tt)
-    (λ one g. (show_silent g, tt))
-planned_fits players true sorts.Login s game said text c is other = login_does (FitsPlan said text (Asker c ForItself)) s.holder (λ _. tt) (λ _. tt)
-planned_fits players true sorts.Players s game said text c is other = players_does (FitsPlan said text (Asker c ForItself)) s s.who tt tt
-planned_fits players true sorts.Who s game said text c is other = arbiter_does (FitsPlan said text (Asker c ForItself)) s.who plans.Who (λ _. tt) tt
-planned_fits players true sorts.Pause s game said text c is other = arbiter_does (FitsPlan said text (Asker c ForItself)) s.who plans.Pause (λ _. tt) tt
-planned_fits players true sorts.Resume s game said text c is other = arbiter_does (FitsPlan said text (Asker c ForItself)) s.who plans.Resume (λ _. tt) tt
-planned_fits players true (sorts.Call call) s game said text c is other =
-    arbiter_does (FitsPlan said text (Asker c ForItself)) s.who (barred s.bar (plans.Call call)) (λ _. tt)
-    (barred_does (FitsPlan said text (Asker c ForItself)) s.bar (plans.Call call) (λ _. tt) tt)
-planned_fits players true sorts.Link s game said text c is other =
-    link_does (FitsPlan said text (Asker c ForItself)) s.who false s.linked (λ _. tt) (λ _. tt)
-planned_fits players true sorts.Close s game said text c is other =
-    link_does (FitsPlan said text (Asker c ForItself)) s.who true s.linked (λ _. tt) (λ _. tt)
-planned_fits players true sorts.Lobby s game said text c is other =
-    asked_does (FitsPlan said text (Asker c ForTable)) s plans.Lobby tt (no_name (codes "list") list_reads, tt)
-planned_fits players true sorts.LeaveLobby s game said text c is other = tt
-planned_fits players true sorts.Watch s game said text c is other =
-    watch_does (FitsPlan said text (Asker c (ForGame (or_0 game)))) s game (λ _. tt)
-    (λ g. (show_silent g, (fen_silent g, tt)))
-planned_fits players true sorts.Leave s game said text c is other = leave_fits s game said text (Asker c ForItself)
-planned_fits players true sorts.Line s game said text c is other =
-    line_does (FitsPlan said text (Asker c ForPositions)) s game (λ _. tt) (λ g. (pgn_silent g, tt))
-planned_fits players true sorts.Room s game said text c is other =
-    room_does (FitsPlan said text (Asker c ForItself)) s game (λ _. tt) (λ _. tt)
-planned_fits players true sorts.Moves s game said text c is other =
-    token_does (FitsPlan said text (Asker c ForItself)) s.who plans.Moves (λ _. tt) tt
-planned_fits players true sorts.Name s game said text c is other = tt
-planned_fits players true sorts.Nothing s game said text c is other = tt
+planned_fits players true sort s game said text c is other = who_fits players s.who sort s game said text c is other
 
 -- a message
 said_fits : (players : List Player) (old : View) (c : ℕ) (text : List ℕ) (lines : List (List ℕ)) (tells : List MessageValue) (new : View) →

@@ -1,5 +1,5 @@
 -- What is promised holds of each run.
-use Rattle.std.proofs.Common.{ℕ, ◌≡◌, ◌<◌, ◌+◌, ◌^◌, ◌⊎◌, inl, inr, Bool, true, false, ◌&&◌, ◌||◌, ◌==◌, not, List, [], ◌∷◌, ◌++◌, Option, None, Some, IfSome, codes, refl, sym, ap, ◌∙◌, subst, arith}
+use Rattle.std.proofs.Common.{ℕ, ◌≡◌, ◌<◌, ◌+◌, ◌^◌, ◌⊎◌, inl, inr, Bool, true, false, ◌&&◌, ◌||◌, ◌==◌, not, List, [], ◌∷◌, ◌++◌, Option, None, Some, IfSome, codes, cond, refl, sym, ap, ◌∙◌, subst, arith}
 use Rattle.std.specs.Prelude.{if◌then◌else◌, option_map, is_some, nat_le, ◌-◌}
 use Rattle.std.specs.List.{AllByRecursion}
 use Rattle.std.specs.Str.{bytes_eq}
@@ -21,19 +21,20 @@ use Rattle.lobby_words.specs.declared.listing.Seat.{Seat}
 use Rattle.lobby_table.specs.declared.refusals.RefusedActs.{RefusedActs}
 use Rattle.lobby_table.specs.declared.pairings.Pairing.{Pairing}
 use Rattle.lobby_table.specs.declared.watching.Watch.{Watch}
-use Rattle.lobby_words.specs.Words.{word_of, rest_of, as_name, as_line, black_name, pair_line, is_pair, line_said, is_message, sort_of, is_act_sort, is_as_sort, is_pair_sort, is_drop_sort, is_name_sort, is_login_sort, u32_in, or_0}
-use Rattle.lobby_words.specs.Plans.{asked, barred, entered_plan, act_plan, named_plan, as_plan, black_plan, white_plan, agreed_plan, offered_plan, pair_plan, offers_plan, arbiter_plan, order_plan, drop_plan, login_plan, numbered_plan, plan_of}
+use Rattle.lobby_words.specs.Words.{word_of, rest_of, as_name, as_line, black_name, pair_line, is_pair, line_said, is_message, sort_of, is_act_sort, is_as_sort, is_pair_sort, is_drop_sort, is_name_sort, is_login_sort, is_leave_sort, u32_in, or_0}
+use Rattle.lobby_words.specs.Plans.{asked, barred, entered_plan, act_plan, named_plan, as_plan, black_plan, white_plan, agreed_plan, offered_plan, pair_plan, arbiter_plan, order_plan, login_plan, numbered_plan, sort_plan, stranger_plan, who_plan, plan_of}
 use Rattle.lobby_desk.specs.Lines.{lines_of, said_after, is_said, IsNamed}
 use Rattle.lobby_table.specs.Sending.{act_lines, name_line, game_line, join_line, notice_lines}
 use Rattle.lobby_words.specs.Answers.{is_shown, first_line, act_game, answer}
 use Rattle.lobby_table.specs.Refusals.{game_named}
-use Rattle.lobby_table.specs.Watching.{watch_if, sit_if}
+use Rattle.lobby_table.specs.Watching.{watch_if, sit_if, watches_kept, table_kept, risen}
+use Rattle.lobby_table.specs.Visitors.{acting}
 use Rattle.lobby_desk.specs.Events.{DeskInput, Opened, Closed, Said, Hurried, Heard, ServerTurned, Renewed, Linked}
 use Rattle.lobby_desk.specs.Events.{MessageValue, sort_asker, asker, followers_of, follower, Following}
 use Rattle.lobby_desk.specs.Events.{is_asked_behind, game_if, asked_after}
 use Rattle.lobby_table.specs.Owed.{ForItself, ForPositions, ForTable, ForGame, ForAct, Owed, Nobody, Naming, Asker}
 use Rattle.lobby_table.specs.Owed.{Dropper, Pairer, Followers, Behind, owed_last, owed_acted, owed_some, owed_lines}
-use Rattle.lobby_desk.specs.Tellings.{IsToldOrSent, Known, is_counted, open_now, watch_heard, watch_next, watches_now, table_heard, table_next, table_now, owed_answered, owed_now, known_now, presence, lost, AreToldAll, IsTold}
+use Rattle.lobby_desk.specs.Tellings.{IsToldOrSent, Known, is_counted, open_now, left_game, leaves_table, watch_heard, watch_next, watches_now, table_heard, table_next, table_now, owed_answered, owed_now, known_now, presence, lost, AreToldAll, IsTold}
 use Rattle.lobby_desk.specs.Who.{View, BeginsView, IsSaid, IsHeard, IsDropped, IsPaired, IsSentFor, IsSentNext, IsSentHeard, IsDone, IsRenewed, IsLinked, IsKnown, who_noted, name_of, speaker, offers_now}
 use Rattle.lobby_words.specs.Players.{known_name, is_named, renewed, holder_of}
 use Rattle.lobby_offers.specs.Offers.{Offered, is_answered, is_agreed, other_party, may_offer, accord_by, accord_of, offers_said}
@@ -43,7 +44,7 @@ use Rattle.lobby_words.proofs.ByName.{named_is}
 use Rattle.lobby_table.proofs.Sent.{is_said_same}
 use Rattle.server_answers.specs.Entered.{Entered, entered_in}
 use Rattle.server_answers.proofs.DoneActs.{entered_only}
-use Rattle.lobby_desk.proofs.Carry.{act_does, as_does, pair_does, offers_does, token_does, room_does, arbiter_does, barred_does, players_does, link_does, OfOrder, Orders, planned_orders}
+use Rattle.lobby_desk.proofs.Carry.{act_does, as_does, pair_does, room_does, dropped_does, arbiter_does, barred_does, link_does, stranger_does, OfOrder, Orders, planned_orders}
 use Rattle.lobby_desk.proofs.As.{as_whole, as_acts, pair_whole, pair_acts}
 use Rattle.lobby_desk.proofs.Lines.{show_whole, fen_whole, pgn_whole, join_whole, join_line_acts, list_whole, name_whole, show_reads, fen_reads, pgn_reads, list_reads, name_names}
 
@@ -52,72 +53,73 @@ asked_who : (s : Standing) (plan : Plan) (before : Option Identity) → who_note
 asked_who s plan before h =
     elim s.is_here as (λ b. who_noted (if b then plan else plans.Refuse refusals.NoServer) before ≡ before) [ true ↦ h | false ↦ refl ]
 
-act_who : (s : Standing) (who : Option Identity) (before : Option Identity) → who_noted (act_plan s who) before ≡ before
-act_who s who before = act_does (λ plan. who_noted plan before ≡ before) s who (λ _. refl) (λ _. refl)
-
-as_who : (s : Standing) (who : Option Identity) (before : Option Identity) → who_noted (as_plan s who) before ≡ before
-as_who s who before = as_does (λ plan. who_noted plan before ≡ before) s who (λ _. refl) (λ _ _. refl)
-
-drop_who : (s : Standing) (who : Option Identity) (game : ℕ) (before : Option Identity) → who_noted (drop_plan s who game) before ≡ before
-drop_who s None game before = refl
-drop_who s (Some who) game before = asked_who s (plans.Drop who game) before refl
-
-dropped_who : (s : Standing) (game : Option ℕ) (before : Option Identity) → who_noted (numbered_plan sorts.Drop s game) before ≡ before
-dropped_who s None before = refl
-dropped_who s (Some game) before = drop_who s s.who game before
-
 login_who : (holder before : Option Identity) → who_noted (login_plan holder) before ≡ shown_by holder before
 login_who None before = refl
 login_who (Some who) before = refl
 
-watch_who : (s : Standing) (game : Option ℕ) (before : Option Identity) → who_noted (numbered_plan sorts.Watch s game) before ≡ before
-watch_who s None before = refl
-watch_who s (Some game) before =
+watch_who : (s : Standing) (who : Identity) (game : Option ℕ) (before : Option Identity) → who_noted (numbered_plan sorts.Watch s who game) before ≡ before
+watch_who s who None before = refl
+watch_who s who (Some game) before =
     elim s.is_full as (λ b. who_noted (if b then asked s (plans.Refuse refusals.TooManyWatched) else asked s (plans.Watch game)) before ≡ before) [
       | true ↦ asked_who s (plans.Refuse refusals.TooManyWatched) before refl
       | false ↦ asked_who s (plans.Watch game) before refl
     ]
 
-leave_who : (s : Standing) (game : Option ℕ) (before : Option Identity) → who_noted (numbered_plan sorts.Leave s game) before ≡ before
-leave_who s None before = refl
-leave_who s (Some game) before = refl
+leave_who : (s : Standing) (who : Identity) (game : Option ℕ) (before : Option Identity) → who_noted (numbered_plan sorts.Leave s who game) before ≡ before
+leave_who s who None before = refl
+leave_who s who (Some game) before = refl
 
-line_who : (s : Standing) (game : Option ℕ) (before : Option Identity) → who_noted (numbered_plan sorts.Line s game) before ≡ before
-line_who s None before = refl
-line_who s (Some game) before = asked_who s (plans.Line game) before refl
+line_who : (s : Standing) (who : Identity) (game : Option ℕ) (before : Option Identity) → who_noted (numbered_plan sorts.Line s who game) before ≡ before
+line_who s who None before = refl
+line_who s who (Some game) before = asked_who s (plans.Line game) before refl
+
+-- that it acts for whom it did
+abbrev Notes : Option Identity → Plan → Type 0
+Notes before plan = who_noted plan before ≡ before
+
+sorted_who : (sort : Sort) (s : Standing) (who : Identity) (game : Option ℕ) (before : Option Identity) →
+    who_noted (sort_plan sort s who game) before ≡ (if is_login_sort sort then shown_by s.holder before else before)
+sorted_who sorts.Read s who game before = asked_who s plans.Read before refl
+sorted_who sorts.Act s who game before = act_does (Notes before) s who (λ _. refl) (λ _. refl)
+sorted_who sorts.As s who game before = as_does (Notes before) s who (λ _. refl) (λ _ _. refl)
+sorted_who sorts.Pair s who game before = pair_does (Notes before) s who (λ _. refl) (λ _. refl) (λ _ _ _. refl)
+sorted_who sorts.Unpair s who game before = refl
+sorted_who sorts.Offers s who game before = refl
+sorted_who sorts.Drop s who game before = dropped_does (Notes before) s who game (λ _. refl) (λ _. refl)
+sorted_who sorts.Login s who game before = login_who s.holder before
+sorted_who sorts.Players s who game before = refl
+sorted_who sorts.Who s who game before = arbiter_does (Notes before) who plans.Who (λ _. refl) refl
+sorted_who sorts.Pause s who game before = arbiter_does (Notes before) who plans.Pause (λ _. refl) refl
+sorted_who sorts.Resume s who game before = arbiter_does (Notes before) who plans.Resume (λ _. refl) refl
+sorted_who (sorts.Call call) s who game before =
+    arbiter_does (Notes before) who (barred s.bar (plans.Call call)) (λ _. refl)
+    (barred_does (Notes before) s.bar (plans.Call call) (λ _. refl) refl)
+sorted_who sorts.Link s who game before = link_does (Notes before) who false s.linked (λ _. refl) (λ _. refl)
+sorted_who sorts.Close s who game before = link_does (Notes before) who true s.linked (λ _. refl) (λ _. refl)
+sorted_who sorts.Lobby s who game before = asked_who s plans.Lobby before refl
+sorted_who sorts.LeaveLobby s who game before = refl
+sorted_who sorts.Watch s who game before = watch_who s who game before
+sorted_who sorts.Leave s who game before = leave_who s who game before
+sorted_who sorts.Line s who game before = line_who s who game before
+sorted_who sorts.Room s who game before = room_does (Notes before) s who game (λ _. refl) (λ _. refl)
+sorted_who sorts.Moves s who game before = refl
+sorted_who sorts.Name s who game before = refl
+sorted_who sorts.Nothing s who game before = refl
+
+strange_who : (b : Bool) (s : Standing) (before : Option Identity) →
+    who_noted (stranger_plan b s) before ≡ (if b then shown_by s.holder before else before)
+strange_who true s before = login_who s.holder before
+strange_who false s before = refl
+
+who_who : (who : Option Identity) (sort : Sort) (s : Standing) (game : Option ℕ) (before : Option Identity) →
+    who_noted (who_plan who sort s game) before ≡ (if is_login_sort sort then shown_by s.holder before else before)
+who_who None sort s game before = strange_who (is_login_sort sort) s before
+who_who (Some who) sort s game before = sorted_who sort s who game before
 
 planned_who : (m : Bool) (sort : Sort) (s : Standing) (game : Option ℕ) (before : Option Identity) →
     who_noted (plan_of m sort s game) before ≡ (if m && is_login_sort sort then shown_by s.holder before else before)
 planned_who false sort s game before = refl
-planned_who true sorts.Read s game before = asked_who s plans.Read before refl
-planned_who true sorts.Act s game before = act_who s s.who before
-planned_who true sorts.As s game before = as_who s s.who before
-planned_who true sorts.Pair s game before =
-    pair_does (λ plan. who_noted plan before ≡ before) s s.who (λ _. refl) (λ _. refl) (λ _ _ _. refl)
-planned_who true sorts.Unpair s game before =
-    offers_does (λ plan. who_noted plan before ≡ before) true s.at s.who (λ _. refl) (λ _. refl) (λ _. refl)
-planned_who true sorts.Offers s game before =
-    offers_does (λ plan. who_noted plan before ≡ before) false s.at s.who (λ _. refl) (λ _. refl) (λ _. refl)
-planned_who true sorts.Drop s game before = dropped_who s game before
-planned_who true sorts.Login s game before = login_who s.holder before
-planned_who true sorts.Players s game before = players_does (λ plan. who_noted plan before ≡ before) s s.who refl refl
-planned_who true sorts.Who s game before = arbiter_does (λ plan. who_noted plan before ≡ before) s.who plans.Who (λ _. refl) refl
-planned_who true sorts.Pause s game before = arbiter_does (λ plan. who_noted plan before ≡ before) s.who plans.Pause (λ _. refl) refl
-planned_who true sorts.Resume s game before = arbiter_does (λ plan. who_noted plan before ≡ before) s.who plans.Resume (λ _. refl) refl
-planned_who true (sorts.Call call) s game before =
-    arbiter_does (λ plan. who_noted plan before ≡ before) s.who (barred s.bar (plans.Call call)) (λ _. refl)
-    (barred_does (λ plan. who_noted plan before ≡ before) s.bar (plans.Call call) (λ _. refl) refl)
-planned_who true sorts.Link s game before = link_does (λ plan. who_noted plan before ≡ before) s.who false s.linked (λ _. refl) (λ _. refl)
-planned_who true sorts.Close s game before = link_does (λ plan. who_noted plan before ≡ before) s.who true s.linked (λ _. refl) (λ _. refl)
-planned_who true sorts.Lobby s game before = asked_who s plans.Lobby before refl
-planned_who true sorts.LeaveLobby s game before = refl
-planned_who true sorts.Watch s game before = watch_who s game before
-planned_who true sorts.Leave s game before = leave_who s game before
-planned_who true sorts.Line s game before = line_who s game before
-planned_who true sorts.Room s game before = room_does (λ plan. who_noted plan before ≡ before) s game (λ _. refl) (λ _. refl)
-planned_who true sorts.Moves s game before = token_does (λ plan. who_noted plan before ≡ before) s.who plans.Moves (λ _. refl) refl
-planned_who true sorts.Name s game before = refl
-planned_who true sorts.Nothing s game before = refl
+planned_who true sort s game before = who_who s.who sort s game before
 
 -- lines that change nothing
 abbrev pub AllRead : List (List ℕ) → Type 0
@@ -282,11 +284,10 @@ entered_good asks text s under said plan h =
     asked_good asks text s under said (barred s.bar plan) (barred_good asks text s.bar under said plan h)
 
 -- the plan for an act
-act_good : (players : List Player) (agreed : Bool) (text : List ℕ) (s : Standing) (said : Option (List ℕ)) (who : Option Identity) → is_message text ≡ true →
+act_good : (players : List Player) (agreed : Bool) (text : List ℕ) (s : Standing) (said : Option (List ℕ)) (who : Identity) → is_message text ≡ true →
     sort_of text ≡ sorts.Act → IsNamed (act_plan s who) →
-    Good (text ∷ notice_lines (game_named text)) (name_for players agreed who text) said (lines_of (act_plan s who) said text) (said_after (act_plan s who) said)
-act_good players agreed text s said None message is = λ named. none_good (text ∷ notice_lines (game_named text)) None said
-act_good players agreed text s said (Some who) message is =
+    Good (text ∷ notice_lines (game_named text)) (name_for players agreed (Some who) text) said (lines_of (act_plan s who) said text) (said_after (act_plan s who) said)
+act_good players agreed text s said who message is =
     elim (s.is_paused && not who.is_arbiter) as (λ b. IsNamed (if b then plans.Refuse refusals.EntriesPaused else entered_plan s (plans.Act who)) →
     Good (text ∷ notice_lines (game_named text)) (name_for players agreed (Some who) text) said (lines_of (if b then plans.Refuse refusals.EntriesPaused else entered_plan s (plans.Act who)) said text)
     (said_after (if b then plans.Refuse refusals.EntriesPaused else entered_plan s (plans.Act who)) said)) [
@@ -316,11 +317,10 @@ arbiter_good players agreed text s said who other message is true arbiter =
     ∙ (ap (λ (b : Bool). name_as players b text) arbiter ∙ sym other)) message is
 arbiter_good players agreed text s said who other message is false arbiter = λ named. none_good (as_line text ∷ notice_lines (game_named text)) (name_for players agreed (Some who) text) said
 
-as_good : (players : List Player) (agreed : Bool) (text : List ℕ) (s : Standing) (said : Option (List ℕ)) (who : Option Identity) → s.named ≡ known_name players (as_name text) →
+as_good : (players : List Player) (agreed : Bool) (text : List ℕ) (s : Standing) (said : Option (List ℕ)) (who : Identity) → s.named ≡ known_name players (as_name text) →
     is_message text ≡ true → sort_of text ≡ sorts.As → IsNamed (as_plan s who) →
-    Good (as_line text ∷ notice_lines (game_named text)) (name_for players agreed who text) said (lines_of (as_plan s who) said text) (said_after (as_plan s who) said)
-as_good players agreed text s said None other message is = λ named. none_good (as_line text ∷ notice_lines (game_named text)) None said
-as_good players agreed text s said (Some who) other message is = arbiter_good players agreed text s said who other message is who.is_arbiter refl
+    Good (as_line text ∷ notice_lines (game_named text)) (name_for players agreed (Some who) text) said (lines_of (as_plan s who) said text) (said_after (as_plan s who) said)
+as_good players agreed text s said who other message is = arbiter_good players agreed text s said who other message is who.is_arbiter refl
 
 -- the plan for a pairing
 black_good : (text : List ℕ) (s : Standing) (who : Identity) (white : List ℕ) (black under said : Option (List ℕ)) → under ≡ Some white → is_message text ≡ true →
@@ -384,11 +384,10 @@ paired_good players text s said who other message is true arbiter =
 paired_good players text s said who other message is false player =
     offered_good players text s said who other message is player s.accord refl
 
-pair_good : (players : List Player) (text : List ℕ) (s : Standing) (said : Option (List ℕ)) (who : Option Identity) → s.named ≡ known_name players (as_name text) →
+pair_good : (players : List Player) (text : List ℕ) (s : Standing) (said : Option (List ℕ)) (who : Identity) → s.named ≡ known_name players (as_name text) →
     is_message text ≡ true → sort_of text ≡ sorts.Pair → IsNamed (pair_plan s who) →
-    Good (pair_line text ∷ []) (name_for players (is_agreement s.accord) who text) said (lines_of (pair_plan s who) said text) (said_after (pair_plan s who) said)
-pair_good players text s said None other message is = λ _. none_good (pair_line text ∷ []) None said
-pair_good players text s said (Some who) other message is = paired_good players text s said who other message is who.is_arbiter refl
+    Good (pair_line text ∷ []) (name_for players (is_agreement s.accord) (Some who) text) said (lines_of (pair_plan s who) said text) (said_after (pair_plan s who) said)
+pair_good players text s said who other message is = paired_good players text s said who other message is who.is_arbiter refl
 
 -- the plan for a drop asks who is seated
 show_good : (under said : Option (List ℕ)) (game : ℕ) → game < 2 ^ 32 →
@@ -396,29 +395,23 @@ show_good : (under said : Option (List ℕ)) (game : ℕ) → game < 2 ^ 32 →
 show_good under said game small =
     reads_good under said (game_line (codes "show ") game ∷ []) (show_reads game small, tt) (show_whole game small, tt)
 
-drop_good : (text : List ℕ) (s : Standing) (under said : Option (List ℕ)) (who : Option Identity) (game : ℕ) → game < 2 ^ 32 →
-    IsNamed (drop_plan s who game) →
-    Good (game_line (codes "show ") game ∷ []) under said (lines_of (drop_plan s who game) said text) (said_after (drop_plan s who game) said)
-drop_good text s under said None game small = λ named. none_good (game_line (codes "show ") game ∷ []) under said
-drop_good text s under said (Some who) game small =
+dropped_good : (text : List ℕ) (s : Standing) (who : Identity) (under said : Option (List ℕ)) (game : Option ℕ) → IfSome game (λ g. g < 2 ^ 32) →
+    IsNamed (numbered_plan sorts.Drop s who game) →
+    Good (sort_asks sorts.Drop (or_0 game) text) under said (lines_of (numbered_plan sorts.Drop s who game) said text) (said_after (numbered_plan sorts.Drop s who game) said)
+dropped_good text s who under said None small = λ named. none_good (sort_asks sorts.Drop 0 text) under said
+dropped_good text s who under said (Some game) small =
     asked_good (game_line (codes "show ") game ∷ []) text s under said (plans.Drop who game) (λ _. show_good under said game small)
 
-dropped_good : (text : List ℕ) (s : Standing) (under said : Option (List ℕ)) (game : Option ℕ) → IfSome game (λ g. g < 2 ^ 32) →
-    IsNamed (numbered_plan sorts.Drop s game) →
-    Good (sort_asks sorts.Drop (or_0 game) text) under said (lines_of (numbered_plan sorts.Drop s game) said text) (said_after (numbered_plan sorts.Drop s game) said)
-dropped_good text s under said None small = λ named. none_good (sort_asks sorts.Drop 0 text) under said
-dropped_good text s under said (Some game) small = drop_good text s under said s.who game small
+login_good : (asks : List (List ℕ)) (text : List ℕ) (under said : Option (List ℕ)) (holder : Option Identity) →
+    Good asks under said (lines_of (login_plan holder) said text) (said_after (login_plan holder) said)
+login_good asks text under said None = none_good asks under said
+login_good asks text under said (Some one) = none_good asks under said
 
-login_good : (text : List ℕ) (under said : Option (List ℕ)) (holder : Option Identity) →
-    Good [] under said (lines_of (login_plan holder) said text) (said_after (login_plan holder) said)
-login_good text under said None = none_good [] under said
-login_good text under said (Some one) = none_good [] under said
-
-watch_good : (text : List ℕ) (s : Standing) (under said : Option (List ℕ)) (game : Option ℕ) → IfSome game (λ g. g < 2 ^ 32) →
-    IsNamed (numbered_plan sorts.Watch s game) →
-    Good (sort_asks sorts.Watch (or_0 game) text) under said (lines_of (numbered_plan sorts.Watch s game) said text) (said_after (numbered_plan sorts.Watch s game) said)
-watch_good text s under said None small = λ named. none_good (sort_asks sorts.Watch 0 text) under said
-watch_good text s under said (Some game) small =
+watch_good : (text : List ℕ) (s : Standing) (who : Identity) (under said : Option (List ℕ)) (game : Option ℕ) → IfSome game (λ g. g < 2 ^ 32) →
+    IsNamed (numbered_plan sorts.Watch s who game) →
+    Good (sort_asks sorts.Watch (or_0 game) text) under said (lines_of (numbered_plan sorts.Watch s who game) said text) (said_after (numbered_plan sorts.Watch s who game) said)
+watch_good text s who under said None small = λ named. none_good (sort_asks sorts.Watch 0 text) under said
+watch_good text s who under said (Some game) small =
     elim s.is_full as (λ b. IsNamed (if b then asked s (plans.Refuse refusals.TooManyWatched) else asked s (plans.Watch game)) →
     Good (sort_asks sorts.Watch game text) under said (lines_of (if b then asked s (plans.Refuse refusals.TooManyWatched) else asked s (plans.Watch game)) said text)
     (said_after (if b then asked s (plans.Refuse refusals.TooManyWatched) else asked s (plans.Watch game)) said)) [
@@ -429,86 +422,97 @@ watch_good text s under said (Some game) small =
     ]
 
 -- a plan of an arbiter's by which nothing goes out
-silent_good : (text : List ℕ) (who : Option Identity) (under said : Option (List ℕ)) (plan : Plan) →
+silent_good : (text : List ℕ) (who : Identity) (under said : Option (List ℕ)) (plan : Plan) →
     Good [] under said (lines_of plan said text) (said_after plan said) →
     Good [] under said (lines_of (arbiter_plan who plan) said text) (said_after (arbiter_plan who plan) said)
 silent_good text who under said plan h =
     arbiter_does (λ p. Good [] under said (lines_of p said text) (said_after p said)) who plan (λ _. none_good [] under said) h
 
-order_good : (text : List ℕ) (s : Standing) (under said : Option (List ℕ)) (closes : Bool) →
-    Good [] under said (lines_of (arbiter_plan s.who (order_plan closes s.linked)) said text)
-    (said_after (arbiter_plan s.who (order_plan closes s.linked)) said)
-order_good text s under said closes =
-    link_does (λ p. Good [] under said (lines_of p said text) (said_after p said)) s.who closes s.linked (λ _. none_good [] under said)
+order_good : (text : List ℕ) (s : Standing) (who : Identity) (under said : Option (List ℕ)) (closes : Bool) →
+    Good [] under said (lines_of (arbiter_plan who (order_plan closes s.linked)) said text)
+    (said_after (arbiter_plan who (order_plan closes s.linked)) said)
+order_good text s who under said closes =
+    link_does (λ p. Good [] under said (lines_of p said text) (said_after p said)) who closes s.linked (λ _. none_good [] under said)
     (λ _. none_good [] under said)
 
-leave_good : (text : List ℕ) (s : Standing) (under said : Option (List ℕ)) (game : Option ℕ) →
-    Good [] under said (lines_of (numbered_plan sorts.Leave s game) said text) (said_after (numbered_plan sorts.Leave s game) said)
-leave_good text s under said None = none_good [] under said
-leave_good text s under said (Some game) = none_good [] under said
+leave_good : (text : List ℕ) (s : Standing) (who : Identity) (under said : Option (List ℕ)) (game : Option ℕ) →
+    Good [] under said (lines_of (numbered_plan sorts.Leave s who game) said text) (said_after (numbered_plan sorts.Leave s who game) said)
+leave_good text s who under said None = none_good [] under said
+leave_good text s who under said (Some game) = none_good [] under said
 
-line_good : (text : List ℕ) (s : Standing) (under said : Option (List ℕ)) (game : Option ℕ) → IfSome game (λ g. g < 2 ^ 32) →
-    IsNamed (numbered_plan sorts.Line s game) →
-    Good (sort_asks sorts.Line (or_0 game) text) under said (lines_of (numbered_plan sorts.Line s game) said text) (said_after (numbered_plan sorts.Line s game) said)
-line_good text s under said None small named = none_good (sort_asks sorts.Line 0 text) under said
-line_good text s under said (Some game) small named =
-    asked_good (sort_asks sorts.Line game text) text s under said (plans.Line game)
+line_good : (text : List ℕ) (s : Standing) (who : Identity) (under said : Option (List ℕ)) (game : Option ℕ) → IfSome game (λ g. g < 2 ^ 32) →
+    IsNamed (numbered_plan sorts.Line s who game) →
+    Good (sort_asks sorts.Line (or_0 game) text) under said (lines_of (numbered_plan sorts.Line s who game) said text) (said_after (numbered_plan sorts.Line s who game) said)
+line_good text s who under said None small named = none_good (sort_asks sorts.Line 0 text) under said
+line_good text s who under said (Some game) small named =
+    asked_good (game_line (codes "pgn ") game ∷ []) text s under said (plans.Line game)
     (λ _. reads_good under said (game_line (codes "pgn ") game ∷ []) (pgn_reads game small, tt) (pgn_whole game small, tt)) named
 
--- what is asked of the offers
-offers_good : (text : List ℕ) (s : Standing) (under said : Option (List ℕ)) (ends : Bool) →
-    Good [] under said (lines_of (offers_plan ends s.at s.who) said text) (said_after (offers_plan ends s.at s.who) said)
-offers_good text s under said ends =
-    offers_does (λ p. Good [] under said (lines_of p said text) (said_after p said)) ends s.at s.who (λ _. none_good [] under said)
-    (λ _. none_good [] under said) (λ _. none_good [] under said)
+-- each plan for a message of who acts for a player
+sorted_good : (players : List Player) (text : List ℕ) (s : Standing) (said : Option (List ℕ)) (who : Identity) (game : Option ℕ) (sort : Sort) →
+    s.named ≡ known_name players (as_name text) → is_message text ≡ true → sort_of text ≡ sort → IfSome game (λ g. g < 2 ^ 32) →
+    IsNamed (sort_plan sort s who game) →
+    Good (sort_asks sort (or_0 game) text) (name_for players (is_agreement s.accord) (Some who) text) said (lines_of (sort_plan sort s who game) said text) (said_after (sort_plan sort s who game) said)
+sorted_good players text s said who game sorts.Read other message is small named =
+    asked_good (text ∷ []) text s (name_for players (is_agreement s.accord) (Some who) text) said plans.Read
+    (λ _. reads_good (name_for players (is_agreement s.accord) (Some who) text) said (text ∷ []) (is, tt) (message, tt)) named
+sorted_good players text s said who game sorts.Act other message is small named = act_good players (is_agreement s.accord) text s said who message is named
+sorted_good players text s said who game sorts.As other message is small named = as_good players (is_agreement s.accord) text s said who other message is named
+sorted_good players text s said who game sorts.Pair other message is small named = pair_good players text s said who other message is named
+sorted_good players text s said who game sorts.Unpair other message is small named = none_good [] (name_for players (is_agreement s.accord) (Some who) text) said
+sorted_good players text s said who game sorts.Offers other message is small named = none_good [] (name_for players (is_agreement s.accord) (Some who) text) said
+sorted_good players text s said who game sorts.Drop other message is small named = dropped_good text s who (name_for players (is_agreement s.accord) (Some who) text) said game small named
+sorted_good players text s said who game sorts.Login other message is small named = login_good [] text (name_for players (is_agreement s.accord) (Some who) text) said s.holder
+sorted_good players text s said who game sorts.Players other message is small named = none_good [] (name_for players (is_agreement s.accord) (Some who) text) said
+sorted_good players text s said who game sorts.Who other message is small named =
+    silent_good text who (name_for players (is_agreement s.accord) (Some who) text) said plans.Who (none_good [] (name_for players (is_agreement s.accord) (Some who) text) said)
+sorted_good players text s said who game sorts.Pause other message is small named =
+    silent_good text who (name_for players (is_agreement s.accord) (Some who) text) said plans.Pause (none_good [] (name_for players (is_agreement s.accord) (Some who) text) said)
+sorted_good players text s said who game sorts.Resume other message is small named =
+    silent_good text who (name_for players (is_agreement s.accord) (Some who) text) said plans.Resume (none_good [] (name_for players (is_agreement s.accord) (Some who) text) said)
+sorted_good players text s said who game (sorts.Call call) other message is small named =
+    let under = name_for players (is_agreement s.accord) (Some who) text in
+    silent_good text who under said (barred s.bar (plans.Call call))
+    (barred_does (λ p. Good [] under said (lines_of p said text) (said_after p said)) s.bar (plans.Call call)
+    (λ _. none_good [] under said) (none_good [] under said))
+sorted_good players text s said who game sorts.Link other message is small named = order_good text s who (name_for players (is_agreement s.accord) (Some who) text) said false
+sorted_good players text s said who game sorts.Close other message is small named = order_good text s who (name_for players (is_agreement s.accord) (Some who) text) said true
+sorted_good players text s said who game sorts.Lobby other message is small named =
+    asked_good (codes "list" ∷ []) text s (name_for players (is_agreement s.accord) (Some who) text) said plans.Lobby
+    (λ _. reads_good (name_for players (is_agreement s.accord) (Some who) text) said (codes "list" ∷ []) (list_reads, tt) (list_whole, tt)) named
+sorted_good players text s said who game sorts.LeaveLobby other message is small named = none_good [] (name_for players (is_agreement s.accord) (Some who) text) said
+sorted_good players text s said who game sorts.Watch other message is small named = watch_good text s who (name_for players (is_agreement s.accord) (Some who) text) said game small named
+sorted_good players text s said who game sorts.Leave other message is small named = leave_good text s who (name_for players (is_agreement s.accord) (Some who) text) said game
+sorted_good players text s said who game sorts.Line other message is small named = line_good text s who (name_for players (is_agreement s.accord) (Some who) text) said game small named
+sorted_good players text s said who game sorts.Room other message is small named =
+    let under = name_for players (is_agreement s.accord) (Some who) text in
+    room_does (λ p. Good [] under said (lines_of p said text) (said_after p said)) s who game (λ _. none_good [] under said) (λ _. none_good [] under said)
+sorted_good players text s said who game sorts.Moves other message is small named = none_good [] (name_for players (is_agreement s.accord) (Some who) text) said
+sorted_good players text s said who game sorts.Name other message is small named = none_good [] (name_for players (is_agreement s.accord) (Some who) text) said
+sorted_good players text s said who game sorts.Nothing other message is small named = none_good [] (name_for players (is_agreement s.accord) (Some who) text) said
 
--- each plan for a message
+-- and each of who acts for nobody
+strange_good : (asks : List (List ℕ)) (text : List ℕ) (under said : Option (List ℕ)) (b : Bool) (s : Standing) →
+    Good asks under said (lines_of (stranger_plan b s) said text) (said_after (stranger_plan b s) said)
+strange_good asks text under said true s = login_good asks text under said s.holder
+strange_good asks text under said false s = none_good asks under said
+
+who_good : (players : List Player) (text : List ℕ) (s : Standing) (said : Option (List ℕ)) (who : Option Identity) (game : Option ℕ) (sort : Sort) →
+    s.named ≡ known_name players (as_name text) → is_message text ≡ true → sort_of text ≡ sort → IfSome game (λ g. g < 2 ^ 32) →
+    IsNamed (who_plan who sort s game) →
+    Good (sort_asks sort (or_0 game) text) (name_for players (is_agreement s.accord) who text) said (lines_of (who_plan who sort s game) said text) (said_after (who_plan who sort s game) said)
+who_good players text s said None game sort other message is small named =
+    strange_good (sort_asks sort (or_0 game) text) text (name_for players (is_agreement s.accord) None text) said (is_login_sort sort) s
+who_good players text s said (Some who) game sort other message is small named =
+    sorted_good players text s said who game sort other message is small named
+
 plan_good : (players : List Player) (text : List ℕ) (s : Standing) (said : Option (List ℕ)) (game : Option ℕ) (m : Bool) (sort : Sort) →
     s.named ≡ known_name players (as_name text) → is_message text ≡ m → sort_of text ≡ sort → IfSome game (λ g. g < 2 ^ 32) →
     IsNamed (plan_of m sort s game) →
     Good (sort_asks sort (or_0 game) text) (name_for players (is_agreement s.accord) s.who text) said (lines_of (plan_of m sort s game) said text) (said_after (plan_of m sort s game) said)
 plan_good players text s said game false sort other message is small named = none_good (sort_asks sort (or_0 game) text) (name_for players (is_agreement s.accord) s.who text) said
-plan_good players text s said game true sorts.Read other message is small named =
-    asked_good (text ∷ []) text s (name_for players (is_agreement s.accord) s.who text) said plans.Read
-    (λ _. reads_good (name_for players (is_agreement s.accord) s.who text) said (text ∷ []) (is, tt) (message, tt)) named
-plan_good players text s said game true sorts.Act other message is small named = act_good players (is_agreement s.accord) text s said s.who message is named
-plan_good players text s said game true sorts.As other message is small named = as_good players (is_agreement s.accord) text s said s.who other message is named
-plan_good players text s said game true sorts.Pair other message is small named = pair_good players text s said s.who other message is named
-plan_good players text s said game true sorts.Unpair other message is small named = offers_good text s (name_for players (is_agreement s.accord) s.who text) said true
-plan_good players text s said game true sorts.Offers other message is small named = offers_good text s (name_for players (is_agreement s.accord) s.who text) said false
-plan_good players text s said game true sorts.Drop other message is small named = dropped_good text s (name_for players (is_agreement s.accord) s.who text) said game small named
-plan_good players text s said game true sorts.Login other message is small named = login_good text (name_for players (is_agreement s.accord) s.who text) said s.holder
-plan_good players text s said game true sorts.Players other message is small named =
-    players_does (λ p. Good [] (name_for players (is_agreement s.accord) s.who text) said (lines_of p said text) (said_after p said)) s s.who
-    (none_good [] (name_for players (is_agreement s.accord) s.who text) said) (none_good [] (name_for players (is_agreement s.accord) s.who text) said)
-plan_good players text s said game true sorts.Who other message is small named =
-    silent_good text s.who (name_for players (is_agreement s.accord) s.who text) said plans.Who (none_good [] (name_for players (is_agreement s.accord) s.who text) said)
-plan_good players text s said game true sorts.Pause other message is small named =
-    silent_good text s.who (name_for players (is_agreement s.accord) s.who text) said plans.Pause (none_good [] (name_for players (is_agreement s.accord) s.who text) said)
-plan_good players text s said game true sorts.Resume other message is small named =
-    silent_good text s.who (name_for players (is_agreement s.accord) s.who text) said plans.Resume (none_good [] (name_for players (is_agreement s.accord) s.who text) said)
-plan_good players text s said game true (sorts.Call call) other message is small named =
-    let under = name_for players (is_agreement s.accord) s.who text in
-    silent_good text s.who under said (barred s.bar (plans.Call call))
-    (barred_does (λ p. Good [] under said (lines_of p said text) (said_after p said)) s.bar (plans.Call call)
-    (λ _. none_good [] under said) (none_good [] under said))
-plan_good players text s said game true sorts.Link other message is small named = order_good text s (name_for players (is_agreement s.accord) s.who text) said false
-plan_good players text s said game true sorts.Close other message is small named = order_good text s (name_for players (is_agreement s.accord) s.who text) said true
-plan_good players text s said game true sorts.Lobby other message is small named =
-    asked_good (codes "list" ∷ []) text s (name_for players (is_agreement s.accord) s.who text) said plans.Lobby
-    (λ _. reads_good (name_for players (is_agreement s.accord) s.who text) said (codes "list" ∷ []) (list_reads, tt) (list_whole, tt)) named
-plan_good players text s said game true sorts.LeaveLobby other message is small named = none_good [] (name_for players (is_agreement s.accord) s.who text) said
-plan_good players text s said game true sorts.Watch other message is small named = watch_good text s (name_for players (is_agreement s.accord) s.who text) said game small named
-plan_good players text s said game true sorts.Leave other message is small named = leave_good text s (name_for players (is_agreement s.accord) s.who text) said game
-plan_good players text s said game true sorts.Line other message is small named = line_good text s (name_for players (is_agreement s.accord) s.who text) said game small named
-plan_good players text s said game true sorts.Room other message is small named =
-    let under = name_for players (is_agreement s.accord) s.who text in
-    room_does (λ p. Good [] under said (lines_of p said text) (said_after p said)) s game (λ _. none_good [] under said) (λ _. none_good [] under said)
-plan_good players text s said game true sorts.Moves other message is small named =
-    let under = name_for players (is_agreement s.accord) s.who text in
-    token_does (λ p. Good [] under said (lines_of p said text) (said_after p said)) s.who plans.Moves (λ _. none_good [] under said) (none_good [] under said)
-plan_good players text s said game true sorts.Name other message is small named = none_good [] (name_for players (is_agreement s.accord) s.who text) said
-plan_good players text s said game true sorts.Nothing other message is small named = none_good [] (name_for players (is_agreement s.accord) s.who text) said
+plan_good players text s said game true sort other message is small named =
+    who_good players text s said s.who game sort other message is small named
 
 -- a message
 said_good : (players : List Player) (old : View) (c : ℕ) (text : List ℕ) (lines : List (List ℕ)) (tells : List MessageValue) (new : View) →
@@ -554,7 +558,7 @@ same_known a b owed left begun last watches table seats pairings refused follows
     ∙ (ap (λ (x : Option Following). known_of b.owed b.left b.begun b.last b.watches b.table b.seats b.pairings b.refused x a.misnamed) follows
     ∙ ap (λ (x : Bool). known_of b.owed b.left b.begun b.last b.watches b.table b.seats b.pairings b.refused b.follows x) misnamed)))))))))
 
--- who watches depends on who is open alone
+-- who watches depends on who acts for a player alone
 watch_alike : (f g : ℕ → Bool) → ((c : ℕ) → f c ≡ g c) → (before : List ℕ) (o : Owed) (watches : List Watch) →
     watch_heard f before o watches ≡ watch_heard g before o watches
 watch_alike f g same before Nobody watches = refl
@@ -574,15 +578,22 @@ watch_next_alike : (f g : ℕ → Bool) → ((c : ℕ) → f c ≡ g c) → (bef
 watch_next_alike f g same before [] watches = refl
 watch_next_alike f g same before (o ∷ owed) watches = watch_alike f g same before o watches
 
+watches_kept_alike : (f g : ℕ → Bool) → ((c : ℕ) → f c ≡ g c) → (watches : List Watch) → watches_kept f watches ≡ watches_kept g watches
+watches_kept_alike f g same [] = refl
+watches_kept_alike f g same (w ∷ watches) =
+    ap (λ (b : Bool). cond b (w ∷ watches_kept f watches) (watches_kept f watches)) (same w.by)
+    ∙ ap (λ (rest : List Watch). cond (g w.by) (w ∷ rest) rest) (watches_kept_alike f g same watches)
+
 watches_alike : (event : DeskInput) (f g : ℕ → Bool) → ((c : ℕ) → f c ≡ g c) → (k : Known) → watches_now event f k ≡ watches_now event g k
 watches_alike (Opened c) f g same k = refl
 watches_alike (Closed c) f g same k = refl
-watches_alike (Said c text at) f g same k = refl
+watches_alike (Said c text at) f g same k =
+    ap (λ (b : Bool). if is_message text && is_leave_sort (sort_of text) && b then left_game c (u32_in (rest_of text)) k.watches else k.watches) (same c)
 watches_alike (Hurried c) f g same k = refl
 watches_alike (Heard line) f g same k =
     ap (λ (watches : List Watch). if is_counted k line then watches else k.watches) (watch_next_alike f g same k.last k.owed k.watches)
-watches_alike (Renewed later) f g same k = refl
-watches_alike (Linked c text later token) f g same k = refl
+watches_alike (Renewed later) f g same k = watches_kept_alike f g same k.watches
+watches_alike (Linked c text later token) f g same k = watches_kept_alike f g same k.watches
 watches_alike (ServerTurned is_here) f g same k = refl
 
 -- and so does who is told of the table
@@ -603,15 +614,22 @@ table_next_alike : (f g : ℕ → Bool) → ((c : ℕ) → f c ≡ g c) → (owe
 table_next_alike f g same [] table = refl
 table_next_alike f g same (o ∷ owed) table = table_alike f g same o table
 
+table_kept_alike : (f g : ℕ → Bool) → ((c : ℕ) → f c ≡ g c) → (table : List ℕ) → table_kept f table ≡ table_kept g table
+table_kept_alike f g same [] = refl
+table_kept_alike f g same (c ∷ table) =
+    ap (λ (b : Bool). cond b (c ∷ table_kept f table) (table_kept f table)) (same c)
+    ∙ ap (λ (rest : List ℕ). cond (g c) (c ∷ rest) rest) (table_kept_alike f g same table)
+
 tables_alike : (event : DeskInput) (f g : ℕ → Bool) → ((c : ℕ) → f c ≡ g c) → (k : Known) → table_now event f k ≡ table_now event g k
 tables_alike (Opened c) f g same k = refl
 tables_alike (Closed c) f g same k = refl
-tables_alike (Said c text at) f g same k = refl
+tables_alike (Said c text at) f g same k =
+    ap (λ (b : Bool). if leaves_table text && b then risen c k.table else k.table) (same c)
 tables_alike (Hurried c) f g same k = refl
 tables_alike (Heard line) f g same k =
     ap (λ (table : List ℕ). if is_counted k line then table else k.table) (table_next_alike f g same k.owed k.table)
-tables_alike (Renewed later) f g same k = refl
-tables_alike (Linked c text later token) f g same k = refl
+tables_alike (Renewed later) f g same k = table_kept_alike f g same k.table
+tables_alike (Linked c text later token) f g same k = table_kept_alike f g same k.table
 tables_alike (ServerTurned is_here) f g same k = refl
 
 known_alike : (event : DeskInput) (by : List ℕ) (lines : List (List ℕ)) (f g : ℕ → Bool) → ((c : ℕ) → f c ≡ g c) → (k : Known) →
@@ -775,47 +793,55 @@ asks_none : (b : Bool) (who : Option Identity) (m : Bool) → AsksDrop b [] who 
 asks_none true who m = tt
 asks_none false who m = tt
 
-drop_asks : (s : Standing) (who : Option Identity) (game : ℕ) (said : Option (List ℕ)) (text : List ℕ) →
-    AsksDrop true (lines_of (drop_plan s who game) said text) who true
-drop_asks s None game said text = tt
-drop_asks s (Some who) game said text =
+dropped_asks : (s : Standing) (who : Identity) (game : Option ℕ) (said : Option (List ℕ)) (text : List ℕ) →
+    AsksDrop true (lines_of (numbered_plan sorts.Drop s who game) said text) (Some who) true
+dropped_asks s who None said text = tt
+dropped_asks s who (Some game) said text =
     elim s.is_here as (λ h. AsksDrop true (lines_of (if h then plans.Drop who game else plans.Refuse refusals.NoServer) said text) (Some who) true) [
       | true ↦ (refl, refl)
       | false ↦ tt
     ]
 
-dropped_asks : (s : Standing) (game : Option ℕ) (said : Option (List ℕ)) (text : List ℕ) →
-    AsksDrop true (lines_of (numbered_plan sorts.Drop s game) said text) s.who true
-dropped_asks s None said text = tt
-dropped_asks s (Some game) said text = drop_asks s s.who game said text
+sorted_asks : (sort : Sort) (s : Standing) (who : Identity) (game : Option ℕ) (said : Option (List ℕ)) (text : List ℕ) →
+    AsksDrop (is_drop_sort sort) (lines_of (sort_plan sort s who game) said text) (Some who) true
+sorted_asks sorts.Read s who game said text = tt
+sorted_asks sorts.Act s who game said text = tt
+sorted_asks sorts.As s who game said text = tt
+sorted_asks sorts.Pair s who game said text = tt
+sorted_asks sorts.Unpair s who game said text = tt
+sorted_asks sorts.Offers s who game said text = tt
+sorted_asks sorts.Drop s who game said text = dropped_asks s who game said text
+sorted_asks sorts.Login s who game said text = tt
+sorted_asks sorts.Players s who game said text = tt
+sorted_asks sorts.Who s who game said text = tt
+sorted_asks sorts.Pause s who game said text = tt
+sorted_asks sorts.Resume s who game said text = tt
+sorted_asks (sorts.Call call) s who game said text = tt
+sorted_asks sorts.Link s who game said text = tt
+sorted_asks sorts.Close s who game said text = tt
+sorted_asks sorts.Lobby s who game said text = tt
+sorted_asks sorts.LeaveLobby s who game said text = tt
+sorted_asks sorts.Watch s who game said text = tt
+sorted_asks sorts.Leave s who game said text = tt
+sorted_asks sorts.Line s who game said text = tt
+sorted_asks sorts.Room s who game said text = tt
+sorted_asks sorts.Moves s who game said text = tt
+sorted_asks sorts.Name s who game said text = tt
+sorted_asks sorts.Nothing s who game said text = tt
+
+strange_asks : (drops b : Bool) (s : Standing) (said : Option (List ℕ)) (text : List ℕ) → AsksDrop drops (lines_of (stranger_plan b s) said text) None true
+strange_asks drops b s said text =
+    stranger_does (λ p. AsksDrop drops (lines_of p said text) None true) b s (λ _. asks_none drops None true) (λ _. asks_none drops None true)
+
+who_asks : (who : Option Identity) (sort : Sort) (s : Standing) (game : Option ℕ) (said : Option (List ℕ)) (text : List ℕ) →
+    AsksDrop (is_drop_sort sort) (lines_of (who_plan who sort s game) said text) who true
+who_asks None sort s game said text = strange_asks (is_drop_sort sort) (is_login_sort sort) s said text
+who_asks (Some who) sort s game said text = sorted_asks sort s who game said text
 
 asks_at : (m : Bool) (sort : Sort) (s : Standing) (game : Option ℕ) (said : Option (List ℕ)) (text : List ℕ) →
     AsksDrop (is_drop_sort sort) (lines_of (plan_of m sort s game) said text) s.who m
 asks_at false sort s game said text = asks_none (is_drop_sort sort) s.who false
-asks_at true sorts.Read s game said text = tt
-asks_at true sorts.Act s game said text = tt
-asks_at true sorts.As s game said text = tt
-asks_at true sorts.Pair s game said text = tt
-asks_at true sorts.Unpair s game said text = tt
-asks_at true sorts.Offers s game said text = tt
-asks_at true sorts.Drop s game said text = dropped_asks s game said text
-asks_at true sorts.Login s game said text = tt
-asks_at true sorts.Players s game said text = tt
-asks_at true sorts.Who s game said text = tt
-asks_at true sorts.Pause s game said text = tt
-asks_at true sorts.Resume s game said text = tt
-asks_at true (sorts.Call call) s game said text = tt
-asks_at true sorts.Link s game said text = tt
-asks_at true sorts.Close s game said text = tt
-asks_at true sorts.Lobby s game said text = tt
-asks_at true sorts.LeaveLobby s game said text = tt
-asks_at true sorts.Watch s game said text = tt
-asks_at true sorts.Leave s game said text = tt
-asks_at true sorts.Line s game said text = tt
-asks_at true sorts.Room s game said text = tt
-asks_at true sorts.Moves s game said text = tt
-asks_at true sorts.Name s game said text = tt
-asks_at true sorts.Nothing s game said text = tt
+asks_at true sort s game said text = who_asks s.who sort s game said text
 
 said_asks : (players : List Player) (old : View) (c : ℕ) (text : List ℕ) (lines : List (List ℕ)) (tells : List MessageValue) (new : View) →
     IsSaid players old c text lines tells new → AsksDrop (is_drop text) lines (old.who c) (is_message text)
@@ -881,40 +907,57 @@ pair_asks_at : (players : List Player) (s : Standing) (who : Identity) (said : O
 pair_asks_at players s who said text same true arbiter = white_asks players (is_agreement s.accord) s who s.named said text (inl arbiter) same
 pair_asks_at players s who said text same false arbiter = offered_asks players s who said text same s.accord refl
 
-pair_asks : (players : List Player) (s : Standing) (who : Option Identity) (said : Option (List ℕ)) (text : List ℕ) → s.black ≡ known_name players (black_name text) →
-    PairsBy players (is_agreement s.accord) who said text (pair_plan s who)
-pair_asks players s None said text same = tt
-pair_asks players s (Some who) said text same = pair_asks_at players s who said text same who.is_arbiter refl
+pair_asks : (players : List Player) (s : Standing) (who : Identity) (said : Option (List ℕ)) (text : List ℕ) → s.black ≡ known_name players (black_name text) →
+    PairsBy players (is_agreement s.accord) (Some who) said text (pair_plan s who)
+pair_asks players s who said text same = pair_asks_at players s who said text same who.is_arbiter refl
+
+sorted_pairs : (players : List Player) (sort : Sort) (s : Standing) (who : Identity) (game : Option ℕ) (said : Option (List ℕ)) (text : List ℕ) →
+    s.black ≡ known_name players (black_name text) →
+    AsksPair (is_pair_sort sort) (lines_of (sort_plan sort s who game) said text) (is_agreement s.accord) (Some who) true (known_name players (black_name text)) (black_name text)
+sorted_pairs players sorts.Read s who game said text same = tt
+sorted_pairs players sorts.Act s who game said text same = tt
+sorted_pairs players sorts.As s who game said text same = tt
+sorted_pairs players sorts.Pair s who game said text same = pair_asks players s who said text same
+sorted_pairs players sorts.Unpair s who game said text same = tt
+sorted_pairs players sorts.Offers s who game said text same = tt
+sorted_pairs players sorts.Drop s who game said text same = tt
+sorted_pairs players sorts.Login s who game said text same = tt
+sorted_pairs players sorts.Players s who game said text same = tt
+sorted_pairs players sorts.Who s who game said text same = tt
+sorted_pairs players sorts.Pause s who game said text same = tt
+sorted_pairs players sorts.Resume s who game said text same = tt
+sorted_pairs players (sorts.Call call) s who game said text same = tt
+sorted_pairs players sorts.Link s who game said text same = tt
+sorted_pairs players sorts.Close s who game said text same = tt
+sorted_pairs players sorts.Lobby s who game said text same = tt
+sorted_pairs players sorts.LeaveLobby s who game said text same = tt
+sorted_pairs players sorts.Watch s who game said text same = tt
+sorted_pairs players sorts.Leave s who game said text same = tt
+sorted_pairs players sorts.Line s who game said text same = tt
+sorted_pairs players sorts.Room s who game said text same = tt
+sorted_pairs players sorts.Moves s who game said text same = tt
+sorted_pairs players sorts.Name s who game said text same = tt
+sorted_pairs players sorts.Nothing s who game said text same = tt
+
+strange_pairs : (pairs agreed b : Bool) (s : Standing) (said : Option (List ℕ)) (text : List ℕ) (known : Option (List ℕ)) (black : List ℕ) →
+    AsksPair pairs (lines_of (stranger_plan b s) said text) agreed None true known black
+strange_pairs pairs agreed b s said text known black =
+    stranger_does (λ p. AsksPair pairs (lines_of p said text) agreed None true known black) b s
+    (λ _. pair_none pairs agreed None true known black) (λ _. pair_none pairs agreed None true known black)
+
+who_pairs : (players : List Player) (who : Option Identity) (sort : Sort) (s : Standing) (game : Option ℕ) (said : Option (List ℕ)) (text : List ℕ) →
+    s.black ≡ known_name players (black_name text) →
+    AsksPair (is_pair_sort sort) (lines_of (who_plan who sort s game) said text) (is_agreement s.accord) who true (known_name players (black_name text)) (black_name text)
+who_pairs players None sort s game said text same =
+    strange_pairs (is_pair_sort sort) (is_agreement s.accord) (is_login_sort sort) s said text (known_name players (black_name text)) (black_name text)
+who_pairs players (Some who) sort s game said text same = sorted_pairs players sort s who game said text same
 
 pairs_at : (players : List Player) (m : Bool) (sort : Sort) (s : Standing) (game : Option ℕ) (said : Option (List ℕ)) (text : List ℕ) →
     s.black ≡ known_name players (black_name text) →
     AsksPair (is_pair_sort sort) (lines_of (plan_of m sort s game) said text) (is_agreement s.accord) s.who m (known_name players (black_name text)) (black_name text)
 pairs_at players false sort s game said text same =
     pair_none (is_pair_sort sort) (is_agreement s.accord) s.who false (known_name players (black_name text)) (black_name text)
-pairs_at players true sorts.Read s game said text same = tt
-pairs_at players true sorts.Act s game said text same = tt
-pairs_at players true sorts.As s game said text same = tt
-pairs_at players true sorts.Pair s game said text same = pair_asks players s s.who said text same
-pairs_at players true sorts.Unpair s game said text same = tt
-pairs_at players true sorts.Offers s game said text same = tt
-pairs_at players true sorts.Drop s game said text same = tt
-pairs_at players true sorts.Login s game said text same = tt
-pairs_at players true sorts.Players s game said text same = tt
-pairs_at players true sorts.Who s game said text same = tt
-pairs_at players true sorts.Pause s game said text same = tt
-pairs_at players true sorts.Resume s game said text same = tt
-pairs_at players true (sorts.Call call) s game said text same = tt
-pairs_at players true sorts.Link s game said text same = tt
-pairs_at players true sorts.Close s game said text same = tt
-pairs_at players true sorts.Lobby s game said text same = tt
-pairs_at players true sorts.LeaveLobby s game said text same = tt
-pairs_at players true sorts.Watch s game said text same = tt
-pairs_at players true sorts.Leave s game said text same = tt
-pairs_at players true sorts.Line s game said text same = tt
-pairs_at players true sorts.Room s game said text same = tt
-pairs_at players true sorts.Moves s game said text same = tt
-pairs_at players true sorts.Name s game said text same = tt
-pairs_at players true sorts.Nothing s game said text same = tt
+pairs_at players true sort s game said text same = who_pairs players s.who sort s game said text same
 
 said_pairs : (players : List Player) (old : View) (c : ℕ) (text : List ℕ) (lines : List (List ℕ)) (tells : List MessageValue) (new : View) →
     (h : IsSaid players old c text lines tells new) →
@@ -1388,9 +1431,9 @@ run_good players is_paused (s ∷ past) now run =
         who = good.who;
         said = good.said;
         opens = λ c. step.opens c ∙ ap (open_now s.event c) (before.agrees.opens c);
-        known = known_then s.event (speaker run.0.who s.event) s.lines run.0.is_open (open_in past) before.agrees.opens run.0.known now.known
-            (known_in players past) step.known before.agrees.known
-            ∙ ap (λ (by : List ℕ). known_now s.event by s.lines (open_in past) (known_in players past))
+        known = known_then s.event (speaker run.0.who s.event) s.lines (acting now.who) (acting (player_in players (s ∷ past)))
+            (λ c. ap is_some (good.who c)) run.0.known now.known (known_in players past) step.known before.agrees.known
+            ∙ ap (λ (by : List ℕ). known_now s.event by s.lines (acting (player_in players (s ∷ past))) (known_in players past))
             (speaker_alike run.0.who (player_in players past) before.agrees.who s.event);
         offers = offers_then players past s.event run.0 now before.agrees step.offers;
         asked = subst (AreAsked players (s ∷ past)) (sym step.known.owed) (asked_then players past run.0 s.event s.lines s.tells now before.agrees step.done);

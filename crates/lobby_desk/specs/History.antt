@@ -25,6 +25,7 @@ use Rattle.lobby_desk.specs.Logging.{act_logged, is_of_act, one_if, log_texts}
 use Rattle.lobby_desk.specs.Tellings.{Known, is_counted, known_now, pairings_now, open_now, IsTold}
 pub use Rattle.lobby_desk.specs.Tellings.{IsArbiter}
 use Rattle.lobby_table.specs.Owed.{is_number}
+use Rattle.lobby_table.specs.Visitors.{acting}
 use Rattle.lobby_desk.specs.Who.{View, BeginsView, IsStep, may_drop, speaker, players_now, offers_now}
 use Rattle.lobby_offers.specs.Offers.{Offered, accord_of}
 use Rattle.lobby_words.specs.declared.planning.Accord.{Accord}
@@ -191,7 +192,8 @@ known_in players [] =
       misnamed = false;
     }
 known_in players (s ∷ past) =
-    known_now s.event (speaker (player_in players past) s.event) s.lines (open_in past) (known_in players past)
+    known_now s.event (speaker (player_in players past) s.event) s.lines (acting (player_in players (s ∷ past)))
+    (known_in players past)
 
 -- Who acts so, an arbiter or one who agrees with the other player, may have a pairing made.
 abbrev pub MayPair : Bool → Option Identity → Type 0

@@ -7,6 +7,5 @@ pub mod Tellings
 pub mod Halts
 pub mod Who
 pub mod Strangers
-pub mod Initials
 pub mod History
-pub mod Roles
+pub mod Tokens

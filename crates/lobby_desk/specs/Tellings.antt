@@ -20,6 +20,7 @@ use Rattle.lobby_words.specs.Naming.{takes_name}
 use Rattle.lobby_words.specs.Answers.{left_after, is_whole, answer, is_shown, is_position, is_pgn, is_over, act_game}
 use Rattle.lobby_words.specs.Answers.{tells_end, lone_player}
 use Rattle.lobby_table.specs.Watching.{at_table, watch_if, sit_if, unwatched, none_watched, risen, followers}
+use Rattle.lobby_table.specs.Watching.{watches_kept, table_kept}
 use Rattle.lobby_desk.specs.Events.{DeskInput, Opened, Closed, Said, Hurried, Heard, ServerTurned, Renewed, Linked}
 use Rattle.lobby_desk.specs.Events.{MessageValue, to_one, to_one_as, to_log}
 use Rattle.lobby_table.specs.Owed.{Ask, ForPositions, ForGame, ForTable, ForAct, Owed}
@@ -77,38 +78,45 @@ abbrev pub left_game : ℕ → Option ℕ → List Watch → List Watch
 left_game c None watches = watches
 left_game c (Some game) watches = unwatched c game watches
 
--- Who watches after an answer, by whose it is: whose `watch` it is, if its connection is open and the answer before it
--- shows the game.
+-- Who watches after an answer, by whose it is: whose `watch` it is, if its connection acts for a player and the answer
+-- before it shows the game.
 abbrev pub watch_heard : (ℕ → Bool) → List ℕ → Owed → List Watch → List Watch
-watch_heard is_open before (Asker c (ForGame game)) watches = watch_if (is_shown before && is_open c) c game watches
-watch_heard is_open before _ watches = watches
+watch_heard acts before (Asker c (ForGame game)) watches = watch_if (is_shown before && acts c) c game watches
+watch_heard acts before _ watches = watches
 
 abbrev pub watch_next : (ℕ → Bool) → List ℕ → List Owed → List Watch → List Watch
-watch_next is_open before [] watches = watches
-watch_next is_open before (o ∷ owed) watches = watch_heard is_open before o watches
+watch_next acts before [] watches = watches
+watch_next acts before (o ∷ owed) watches = watch_heard acts before o watches
 
--- A connection watches a game from the answer to its `watch G` until it says `leave G` or is gone.
+-- A connection watches a game from the answer to its `watch G` until it says `leave G`, acts for nobody, or is gone;
+-- `acts` tells who acts for a player after the event.
 abbrev pub watches_now : DeskInput → (ℕ → Bool) → Known → List Watch
-watches_now (Closed c) is_open k = none_watched c k.watches
-watches_now (Said c text at) is_open k =
-    if is_message text && is_leave_sort (sort_of text) then left_game c (u32_in (rest_of text)) k.watches else k.watches
-watches_now (Heard line) is_open k = if is_counted k line then watch_next is_open k.last k.owed k.watches else k.watches
-watches_now _ is_open k = k.watches
+watches_now (Closed c) acts k = none_watched c k.watches
+watches_now (Said c text at) acts k =
+    if is_message text && is_leave_sort (sort_of text) && acts c then left_game c (u32_in (rest_of text)) k.watches
+    else k.watches
+watches_now (Heard line) acts k = if is_counted k line then watch_next acts k.last k.owed k.watches else k.watches
+watches_now (Renewed players) acts k = watches_kept acts k.watches
+watches_now (Linked c text players token) acts k = watches_kept acts k.watches
+watches_now _ acts k = k.watches
 
--- A connection is told of the table from the answer to its `lobby` until it says `leave lobby` or is gone.
+-- A connection is told of the table from the answer to its `lobby` until it says `leave lobby`, acts for nobody, or is
+-- gone.
 abbrev pub table_heard : (ℕ → Bool) → Owed → List ℕ → List ℕ
-table_heard is_open (Asker c ForTable) table = sit_if (is_open c) c table
-table_heard is_open _ table = table
+table_heard acts (Asker c ForTable) table = sit_if (acts c) c table
+table_heard acts _ table = table
 
 abbrev pub table_next : (ℕ → Bool) → List Owed → List ℕ → List ℕ
-table_next is_open [] table = table
-table_next is_open (o ∷ owed) table = table_heard is_open o table
+table_next acts [] table = table
+table_next acts (o ∷ owed) table = table_heard acts o table
 
 abbrev pub table_now : DeskInput → (ℕ → Bool) → Known → List ℕ
-table_now (Closed c) is_open k = risen c k.table
-table_now (Said c text at) is_open k = if leaves_table text then risen c k.table else k.table
-table_now (Heard line) is_open k = if is_counted k line then table_next is_open k.owed k.table else k.table
-table_now _ is_open k = k.table
+table_now (Closed c) acts k = risen c k.table
+table_now (Said c text at) acts k = if leaves_table text && acts c then risen c k.table else k.table
+table_now (Heard line) acts k = if is_counted k line then table_next acts k.owed k.table else k.table
+table_now (Renewed players) acts k = table_kept acts k.table
+table_now (Linked c text players token) acts k = table_kept acts k.table
+table_now _ acts k = k.table
 
 -- Who has a seat in which game after an answer, by whose it is: an act was done in the game that its answer names; and
 -- whoever asked for it, the answer to `list` tells all.
@@ -213,15 +221,15 @@ last_now (Heard line) k = if is_counted k line then answer k.begun line else k.l
 last_now _ k = k.last
 
 -- What is known after an event, for which these lines went out; `by` is the name of the player for whom a connection
--- acts that has spoken.
+-- acts that has spoken, and `acts` tells who acts for a player then.
 abbrev pub known_now : DeskInput → List ℕ → List (List ℕ) → (ℕ → Bool) → Known → Known
-known_now event by lines is_open k = record {
+known_now event by lines acts k = record {
   owed = owed_now event by lines k;
   left = left_now event k;
   begun = begun_now event k;
   last = last_now event k;
-  watches = watches_now event is_open k;
-  table = table_now event is_open k;
+  watches = watches_now event acts k;
+  table = table_now event acts k;
   seats = seats_now event k;
   pairings = pairings_now event k;
   refused = refused_now event k;

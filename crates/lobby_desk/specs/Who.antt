@@ -14,7 +14,6 @@ use Rattle.lobby_words.specs.declared.refusals.Refusal.{Refusal}
 use Rattle.lobby_words.specs.declared.refusals.Refusal.TheVariants as refusals
 use Rattle.lobby_words.specs.declared.listing.Seat.{Seat}
 use Rattle.lobby_words.specs.declared.planning.Order.{Order}
-use Rattle.lobby_words.specs.declared.initials.NameForm.TheVariants as forms
 use Rattle.lobby_words.specs.declared.planning.Standing.{Standing}
 use Rattle.lobby_words.specs.declared.planning.Identity.{Identity}
 use Rattle.lobby_words.specs.declared.players.Player.{Player}
@@ -25,7 +24,7 @@ use Rattle.lobby_desk.specs.Halts.{Halted, halted, halted_after, halts_bar, stop
 use Rattle.lobby_words.specs.Words.{rest_of, as_name, black_name, is_pair, actor, is_message, sort_of, u32_in}
 use Rattle.lobby_words.specs.Words.{is_login_sort}
 use Rattle.lobby_words.specs.Waiting.{opens_game, joins_game}
-use Rattle.lobby_words.specs.Players.{holder_of, known_name, renewed, login_text, players_text, seated_text}
+use Rattle.lobby_words.specs.Players.{holder_of, known_name, renewed, login_text, players_text}
 use Rattle.lobby_words.specs.Players.{present_names, who_text, IsRelinked}
 use Rattle.lobby_words.specs.Plans.{refusal_text, plan_of, order_of}
 use Rattle.lobby_desk.specs.Lines.{bytes_of, lines_of, said_after, IsNamed}
@@ -51,9 +50,9 @@ use Rattle.lobby_table.specs.Owed.{owes}
 use Rattle.lobby_desk.specs.Tellings.{IsToldNext, offers_notice, AreToldCall, moves_told}
 pub use Rattle.lobby_desk.specs.Tellings.{name_of}
 use Rattle.lobby_table.specs.declared.rooms.Attendance.{Attendance}
-use Rattle.lobby_table.specs.Rooms.{Gathering, IsRoom, attended, gone}
+use Rattle.lobby_table.specs.Rooms.{Gathering, IsRoom, AreLeft, attended, left_by}
 use Rattle.lobby_offers.specs.Offers.{Offered, offered, accord_of, offers_said, offers_text}
-use Rattle.lobby_table.specs.Visitors.{who_in, until_in, open_in_map, IsPresence}
+use Rattle.lobby_table.specs.Visitors.{who_in, acting, until_in, open_in_map, IsPresence}
 
 abbrev pub who_of : Desk → ℕ → Option Identity
 who_of desk c = who_in desk.visitors c
@@ -109,7 +108,6 @@ is_own (plans.Unpair who) = true
 is_own (plans.Offers who at) = true
 is_own (plans.Login who) = true
 is_own plans.Players = true
-is_own (plans.Seated form) = true
 is_own plans.Who = true
 is_own plans.Pause = true
 is_own plans.Resume = true
@@ -147,17 +145,16 @@ gathering seen = record {
   acts_for = seen.acts_for;
 }
 
--- Such an answer: a refusal says why; the player is told, or all players are, or those who have a seat, or are there,
--- or what is offered to him and by him, or who of a game is there; what is left is named. An order is not carried out
--- here, and the answer to `moves` is not made here.
+-- Such an answer: a refusal says why; the player is told, or all players are, or those who are there, or what is
+-- offered to him and by him, or who of a game is there; what is left is named. An order is not carried out here, and
+-- the answer to `moves` is not made here.
 abbrev pub IsOwnText : Seen → List Player → Plan → List ℕ → Type 0
 IsOwnText seen players (plans.Refuse refusal) text = text ≡ refusal_text refusal
 IsOwnText seen players (plans.Offer who) text = text ≡ codes "ok offered\n"
 IsOwnText seen players (plans.Unpair who) text = text ≡ codes "ok unpair\n"
 IsOwnText seen players (plans.Offers who at) text = text ≡ offers_text seen.acts_for who.name at seen.offers
 IsOwnText seen players (plans.Login who) text = text ≡ login_text players who
-IsOwnText seen players plans.Players text = text ≡ players_text forms.Full players
-IsOwnText seen players (plans.Seated form) text = text ≡ seated_text form seen.seats players
+IsOwnText seen players plans.Players text = text ≡ players_text players
 IsOwnText seen players plans.Who text = IsPresence seen.paused players seen.is_open seen.acts_for text
 IsOwnText seen players plans.Pause text = text ≡ codes "ok pause entries\n"
 IsOwnText seen players plans.Resume text = text ≡ codes "ok resume entries\n"
@@ -338,7 +335,6 @@ standing_of desk c text at = record {
   pair_bar = pair_bar_of desk.limits (known desk) (halted desk.halts) text;
   is_paused = (opens_game text || is_pair text) && desk.halts.is_paused;
   at = at;
-  names = desk.limits.names;
 }
 
 -- what a message at this moment has done with a player's link; nothing where it comes too fast
@@ -364,7 +360,6 @@ pub record IsSaid (players : List Player) (old : View) (c : ℕ) (text : List �
   pub accord : standing.accord ≡ accord_of players old.who c text standing.at old.offers
   pub pair_bar : standing.pair_bar ≡ pair_bar_of old.limits old.known old.halts text
   pub paused : standing.is_paused ≡ ((opens_game text || is_pair text) && old.halts.paused)
-  pub names : standing.names ≡ old.limits.names
   pub plan : Plan
   pub planned : plan ≡ plan_of (is_message text) (sort_of text) standing (u32_in (rest_of text))
   pub named : IsNamed plan
@@ -482,8 +477,8 @@ pub record IsTurned (old : View) (here : Bool) (lines : List (List ℕ)) (new : 
   pub halts_is : new.halts ≡ old.halts
   pub who_is : (d : ℕ) → new.who d ≡ old.who d
 
--- The players are others from now on: a connection acts for a player on just where his sum is the same. Nothing else
--- changes.
+-- The players are others from now on: a connection acts for a player on just where his sum is the same. Who acts for
+-- nobody then watches nothing more, and is told of the table no more (`watches_now`, `table_now`). Nothing else changes.
 pub record IsRenewed (players : List Player) (old : View) (later : List Player) (lines : List (List ℕ))
     (new : View) : Type 0 where
   pub none : lines ≡ []
@@ -517,16 +512,16 @@ IsDone players old (Linked c text later token) lines tells new =
     IsRenewed players old later lines new × IsLinked players old c text later token
 IsDone players old (ServerTurned is_here) lines tells new = IsTurned old is_here lines new
 
--- What is known then, where these connections are open before, and the one that has spoken acts for the player of this
+-- What is known then, where these connections act for a player then, and the one that has spoken for the one of this
 -- name.
-pub record IsKnown (event : DeskInput) (by : List ℕ) (lines : List (List ℕ)) (is_open : ℕ → Bool)
+pub record IsKnown (event : DeskInput) (by : List ℕ) (lines : List (List ℕ)) (acts : ℕ → Bool)
     (old new : Known) : Type 0 where
   pub owed : new.owed ≡ owed_now event by lines old
   pub left : new.left ≡ left_now event old
   pub begun : new.begun ≡ begun_now event old
   pub last : new.last ≡ last_now event old
-  pub watches : new.watches ≡ watches_now event is_open old
-  pub table : new.table ≡ table_now event is_open old
+  pub watches : new.watches ≡ watches_now event acts old
+  pub table : new.table ≡ table_now event acts old
   pub seats : new.seats ≡ seats_now event old
   pub pairings : new.pairings ≡ pairings_now event old
   pub refused : new.refused ≡ refused_now event old
@@ -539,12 +534,18 @@ offers_now players who (Said c text at) offers =
     offers_said (accord_of players who c text at offers) (who c) c text at offers
 offers_now players who _ offers = offers
 
--- Who was there when, after an event: who acts for a player and says something is known from then on, and at each
--- message all that was closed before it counts as closed.
-abbrev pub attendances_now : (ℕ → Option Identity) → DeskInput → List Attendance → List Attendance
-attendances_now who (Said c text at) all = attended (who c) at all
-attendances_now who (Closed c) all = gone (who c) all
-attendances_now who _ all = all
+-- Who was there when, after an event: for whomever a connection acts is known from then on; whoever's connection is
+-- closed, acts for another, or acts for nobody since the players are others, is left by it, and counts as left from the
+-- next message on.
+abbrev pub IsAttended : List Player → View → DeskInput → View → Type 0
+IsAttended players old (Said c text at) new =
+    new.attendances ≡ attended (old.who c) (new.who c) at old.attendances
+IsAttended players old (Closed c) new = new.attendances ≡ left_by (old.who c) None old.attendances
+IsAttended players old (Renewed later) new =
+    AreLeft old.is_open old.who (λ c. renewed players later (old.who c)) old.attendances new.attendances
+IsAttended players old (Linked c text later token) new =
+    AreLeft old.is_open old.who (λ d. renewed players later (old.who d)) old.attendances new.attendances
+IsAttended players old _ new = new.attendances ≡ old.attendances
 
 -- a step: what comes in, the lines that go to the server, and what connections are told; the limits stay
 pub record IsStep (players : List Player) (old : View) (event : DeskInput) (lines : List (List ℕ))
@@ -553,8 +554,8 @@ pub record IsStep (players : List Player) (old : View) (event : DeskInput) (line
   pub opens : (c : ℕ) → new.is_open c ≡ open_now event c (old.is_open c)
   pub limits : new.limits ≡ old.limits
   pub offers : new.offers ≡ offers_now players old.who event old.offers
-  pub attendances : new.attendances ≡ attendances_now old.who event old.attendances
-  pub known : IsKnown event (speaker old.who event) lines old.is_open old.known new.known
+  pub attendances : IsAttended players old event new
+  pub known : IsKnown event (speaker old.who event) lines (acting new.who) old.known new.known
   pub told : IsTold event lines tells old.is_open old.who old.known
 
 -- A step of the desk, with the bytes that go to the server and what connections are told. The time of no other
@@ -629,8 +630,8 @@ pub record AnswersTo (o : Owed) (now : List ℕ) (old : Desk) (before after : Ou
   pub for_whom : IsSentFor (who_of old) o old.line.said now lines new.line.said
   pub told_whom : IsToldFor (known old) (told_as (following old.line.acted) o) now lines tells
   pub owed : (known new).owed ≡ (known old).owed ++ owed_lines (follower o now) lines
-  pub watches : new.watches.items ≡ watch_heard (open_of old) (string_bytes old.line.last) o old.watches.items
-  pub table : new.table.items ≡ table_heard (open_of old) o old.table.items
+  pub watches : new.watches.items ≡ watch_heard (acting (who_of old)) (string_bytes old.line.last) o old.watches.items
+  pub table : new.table.items ≡ table_heard (acting (who_of old)) o old.table.items
   pub seats : new.line.seats.items ≡ seats_heard o now old.line.seats.items
   pub pairings : new.line.pairings.items ≡ pairings_heard o now old.line.pairings.items
   pub refused : new.line.refused.items ≡ refused_heard o now old.line.refused.items
@@ -647,9 +648,9 @@ pub record Answered (now : List ℕ) (old : Desk) (before after : Outgoing) (new
   pub for_whom : IsSentNext (who_of old) (known old).owed old.line.said now lines new.line.said
   pub told_whom : IsToldNext (known old) (known old).owed now lines tells
   pub owed : (known new).owed ≡ owed_answered (known old).owed now lines
-  pub watches : new.watches.items ≡ watch_next (open_of old) (string_bytes old.line.last)
+  pub watches : new.watches.items ≡ watch_next (acting (who_of old)) (string_bytes old.line.last)
       (known old).owed old.watches.items
-  pub table : new.table.items ≡ table_next (open_of old) (known old).owed old.table.items
+  pub table : new.table.items ≡ table_next (acting (who_of old)) (known old).owed old.table.items
   pub seats : new.line.seats.items ≡ seats_next (known old).owed now old.line.seats.items
   pub pairings : new.line.pairings.items ≡ pairings_next (known old).owed now old.line.pairings.items
   pub refused : new.line.refused.items ≡ refused_next (known old).owed now old.line.refused.items

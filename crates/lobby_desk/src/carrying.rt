@@ -17,9 +17,7 @@ use lobby_table::{
     Due, ServerLine, Visitor, Watch, present_rows, put, rise, room_text, unwatch, waiting_act,
     who_acts,
 };
-use lobby_words::{
-    Call, Identity, Order, Plan, Refusal, as_line, headed, login_line, player_rows, seated_rows,
-};
+use lobby_words::{Call, Identity, Order, Plan, Refusal, as_line, headed, login_line, player_rows};
 use std::alloc::{AllocError, Global};
 use std::collections::BTreeMap;
 
@@ -45,7 +43,6 @@ impl Desk {
     {
         let alloc = self.alloc;
         let players = self.players.as_slice();
-        let seats = self.line.seats.as_slice();
         let visitors = &self.visitors;
         match plan {
             Plan::Refuse(refusal) => Ok(Some(String::from_str(alloc, refusal.line())?)),
@@ -57,7 +54,6 @@ impl Desk {
             }
             Plan::Login(who) => Ok(Some(login_line(alloc, who, players)?)),
             Plan::Players => Ok(Some(player_rows(alloc, players)?)),
-            Plan::Seated(form) => Ok(Some(seated_rows(alloc, *form, players, seats)?)),
             Plan::Who => {
                 let is_paused = self.halts.is_paused;
                 Ok(Some(present_rows(alloc, is_paused, players, visitors)?))
@@ -73,6 +69,7 @@ impl Desk {
             Plan::LeaveLobby => Ok(Some(String::from_str(alloc, "ok leave lobby\n")?)),
             Plan::Leave(game) => Ok(Some(headed(alloc, "ok leave ", u64::from(*game))?)),
             Plan::Room(game, at) => {
+                let seats = self.line.seats.as_slice();
                 let watches = self.watches.as_slice();
                 let attendances = self.attendances.as_slice();
                 let text = room_text(alloc, *game, *at, seats, watches, attendances, visitors)?;
@@ -105,12 +102,17 @@ pub fn send(
 {
     match plan {
         Plan::Read => line.pass(text, Due::Reply(from), wire),
-        Plan::Act(who) => line.pass_act(alloc, from, who.name, text, who.name, text, wire),
+        Plan::Act(who) => {
+            let act = waiting_act(alloc, from, who.name, text)?;
+            line.pass_act(act, who.name, text, wire)
+        }
         Plan::ActAs(who, name) => {
-            line.pass_act(alloc, from, who.name, text, *name, as_line(text), wire)
+            let act = waiting_act(alloc, from, who.name, text)?;
+            line.pass_act(act, *name, as_line(text), wire)
         }
         Plan::Pair(who, white, black) => {
-            line.open_pair(alloc, from, who.name, text, *white, *black, wire)
+            let act = waiting_act(alloc, from, who.name, text)?;
+            line.open_pair(act, text, *white, *black, wire)
         }
         Plan::Drop(who, game) => {
             let act = waiting_act(alloc, from, who.name, text)?;

@@ -4,9 +4,9 @@ ghost use Rattle.lobby_table.specs.Owed.{owed_of};
 ghost use Rattle.lobby_desk.specs.Limits as spec;
 
 use lobby_table::ServerLine;
-use lobby_words::{NameForm, Stage};
+use lobby_words::Stage;
 
-/// How many games there may be, and how much of a player's name is told.
+/// How many games there may be.
 #[derive(Clone, Copy)]
 pub struct Limits {
     /// Of a player's that wait for a second one, that go on, and that are over and still on the table.
@@ -15,8 +15,6 @@ pub struct Limits {
     pub over: usize,
     /// The places on the server's table, where they are known.
     pub places: Option<u32>,
-    /// What who acts for nobody is told of a full name.
-    pub names: NameForm,
 }
 
 impl Limits {

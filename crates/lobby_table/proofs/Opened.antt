@@ -1,5 +1,5 @@
 -- For whom connections act.
-use Rattle.std.proofs.Common.{ℕ, ◌≡◌, ◌==◌, ◌||◌, Bool, true, false, List, [], ◌∷◌, Option, None, Some, refl, ap, sym, ◌∙◌}
+use Rattle.std.proofs.Common.{ℕ, ◌≡◌, ◌==◌, ◌||◌, true, false, List, [], ◌∷◌, Option, None, Some, refl, ap, sym, ◌∙◌}
 use Rattle.std.specs.Prelude.{is_some, if◌then◌else◌, option_and_then, cond}
 use Rattle.std.specs.Cmp.{nat_cmp_is, both_ways}
 use Rattle.std.specs.Ordering.{is_eq, nat_cmp, eq_by_cmp}

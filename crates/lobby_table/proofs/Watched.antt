@@ -1,10 +1,9 @@
 -- Who is told of what.
-use Rattle.std.proofs.Common.{ℕ, ◌≡◌, ◌<◌, ◌+◌, Bool, true, false, ◌||◌, ◌==◌, List, [], ◌∷◌, ◌++◌, length, get_or, take, map, filter, Option, Some, refl, sym, ap, ◌∙◌, append_assoc}
-use Rattle.std.specs.Prelude.{if◌then◌else◌, option_to_list}
+use Rattle.std.proofs.Common.{ℕ, ◌≡◌, ◌<◌, ◌+◌, Bool, true, false, ◌||◌, ◌==◌, List, [], ◌∷◌, ◌++◌, length, get_or, take, map, filter, refl, ap, ◌∙◌}
+use Rattle.std.specs.Prelude.{if◌then◌else◌}
 use Rattle.std.specs.List.{list_any}
 use Rattle.std.proofs.lemmas.List.{map-append}
 use Rattle.std.proofs.lemmas.List.Elements.{filter_more}
-use Rattle.std.proofs.lemmas.List.Folds.{list_any-append}
 use Rattle.lobby_table.specs.declared.watching.Watch.{Watch}
 use Rattle.lobby_table.specs.declared.server_line.Due.{Due}
 use Rattle.lobby_table.specs.Owed.{owed_of}
@@ -27,15 +26,7 @@ watching_more watches game i d short =
     (if (get_or watches i d).game == game then get_or watches i d ∷ [] else [])
     ∙ ap (λ (xs : List ℕ). watching game (take i watches) ++ xs) (one_more (get_or watches i d) ((get_or watches i d).game == game)))
 
--- the answers that are owed, in two parts
-owes_map : (dues : List Due) (c : ℕ) → owes (map owed_of dues) c ≡ list_any (λ due. is_number c (waiter (owed_of due))) dues
+-- whose answers are owed, by what the desk keeps of them
+pub owes_map : (dues : List Due) (c : ℕ) → owes (map owed_of dues) c ≡ list_any (λ due. is_number c (waiter (owed_of due))) dues
 owes_map [] c = refl
 owes_map (d ∷ ds) c = ap (λ t. is_number c (waiter (owed_of d)) || t) (owes_map ds c)
-
-pub owes_both : (dues first second : List Due) (c : ℕ) → first ++ second ≡ dues →
-    owes (map owed_of dues) c
-    ≡ (list_any (λ due. is_number c (waiter (owed_of due))) first || list_any (λ due. is_number c (waiter (owed_of due))) second)
-owes_both dues first second c is =
-    owes_map dues c
-    ∙ (ap (list_any (λ (due : Due). is_number c (waiter (owed_of due)))) (sym is)
-    ∙ list_any-append (λ (due : Due). is_number c (waiter (owed_of due))) first second)

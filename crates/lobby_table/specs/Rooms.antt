@@ -1,11 +1,11 @@
 -- Who of a game's players is there, how many watch it, and since when a player is away.
 use Rattle.std.specs.Prelude.{ℕ, ◌≡◌, ◌-◌, ◌/◌, ◌==◌, Bool, true, false, List, [], ◌∷◌, ◌++◌, length, codes, decimal}
-use Rattle.std.specs.Prelude.{map, filter, find, Option, None, Some, if◌then◌else◌}
+use Rattle.std.specs.Prelude.{map, filter, find, not, ◌&&◌, Option, None, Some, if◌then◌else◌}
 use Rattle.std.specs.List.{flat_map, list_any}
 use Rattle.std.specs.Str.{bytes_eq}
 use Rattle.lobby_words.specs.declared.listing.Seat.{Seat}
 use Rattle.lobby_words.specs.declared.planning.Identity.{Identity}
-use Rattle.lobby_words.specs.Players.{is_present}
+use Rattle.lobby_words.specs.Players.{is_named, is_present}
 use Rattle.lobby_table.specs.declared.rooms.Attendance.{Attendance}
 use Rattle.lobby_table.specs.declared.rooms.Left.{Left}
 use Rattle.lobby_table.specs.declared.rooms.Left.TheVariants as lefts
@@ -18,21 +18,35 @@ is_of name a = bytes_eq a.name name
 abbrev pub is_met : List ℕ → List Attendance → Bool
 is_met name all = list_any (is_of name) all
 
--- A player is known from the first message on that a connection says which acts for him.
+-- A player is known from the moment on at which a connection acts for him.
 abbrev pub met : Option Identity → List Attendance → List Attendance
 met None all = all
 met (Some who) all =
     if is_met who.name all then all else all ++ record { name = who.name; left = lefts.Never } ∷ []
 
--- A connection that acts for a player is closed.
-abbrev pub gone_if : List ℕ → Attendance → Attendance
-gone_if name a = if is_of name a then record { name = a.name; left = lefts.Lately } else a
+-- A connection that acted for one player acts for another from now on, or for nobody: the one is left by it.
+abbrev pub left_if : Option Identity → Option Identity → Attendance → Attendance
+left_if before after a =
+    if is_named before a.name && not (is_named after a.name)
+    then record { name = a.name; left = lefts.Lately } else a
 
-abbrev pub gone : Option Identity → List Attendance → List Attendance
-gone None all = all
-gone (Some who) all = map (gone_if who.name) all
+abbrev pub left_by : Option Identity → Option Identity → List Attendance → List Attendance
+left_by before after all = map (left_if before after) all
 
--- It counts as closed from the next message on that somebody says: this is the moment of one.
+-- the same of these connections, and of all that are open
+abbrev pub left_by_each : (ℕ → Option Identity) → (ℕ → Option Identity) → List ℕ → List Attendance → List Attendance
+left_by_each before after [] all = all
+left_by_each before after (c ∷ connections) all =
+    left_by_each before after connections (left_by (before c) (after c) all)
+
+abbrev pub AreLeft : (ℕ → Bool) → (ℕ → Option Identity) → (ℕ → Option Identity) → List Attendance → List Attendance
+    → Type 0
+AreLeft is_open before after old new =
+    (connections : List ℕ) × ((c : ℕ) → at_table connections c ≡ is_open c)
+    × (new ≡ left_by_each before after connections old)
+
+-- He counts as left from the next message on that somebody says, or from the very one that makes it so: this is the
+-- moment of one.
 abbrev pub dated : ℕ → Left → Left
 dated at lefts.Lately = lefts.At at
 dated at lefts.Never = lefts.Never
@@ -41,11 +55,11 @@ dated at (lefts.At since) = lefts.At since
 abbrev pub dated_of : ℕ → Attendance → Attendance
 dated_of at a = record { name = a.name; left = dated at a.left }
 
--- what is known behind a message at this moment of a connection that acts so
-abbrev pub attended : Option Identity → ℕ → List Attendance → List Attendance
-attended who at all = map (dated_of at) (met who all)
+-- what is known behind a message at this moment of a connection that acted so before, and acts so behind it
+abbrev pub attended : Option Identity → Option Identity → ℕ → List Attendance → List Attendance
+attended before after at all = map (dated_of at) (met after (left_by before after all))
 
--- what is known of the last connection of a player's that was closed
+-- what is known of the last connection by which a player was left
 abbrev pub left_at : Option Attendance → Left
 left_at None = lefts.Never
 left_at (Some a) = a.left

@@ -12,6 +12,10 @@ use Rattle.lobby_table.specs.Watching.{at_table}
 abbrev pub who_in : BTreeMap ℕ Visitor → ℕ → Option Identity
 who_in visitors c = option_and_then (λ (v : Visitor). v.who) (get nat_cmp visitors c)
 
+-- whether a connection acts for a player, by for whom each does
+abbrev pub acting : (ℕ → Option Identity) → ℕ → Bool
+acting who c = is_some (who c)
+
 -- until when the time of a connection is taken
 abbrev pub until_at : Option Visitor → ℕ
 until_at None = 0

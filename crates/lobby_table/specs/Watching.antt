@@ -11,10 +11,6 @@ is_watch c game w = w.by == c && w.game == game
 abbrev pub watched : List Watch → ℕ → ℕ → Bool
 watched watches c game = list_any (is_watch c game) watches
 
--- whether a connection watches any game
-abbrev pub watches_any : List Watch → ℕ → Bool
-watches_any watches c = list_any (λ (w : Watch). w.by == c) watches
-
 -- whether a connection is told of the table
 abbrev pub at_table : List ℕ → ℕ → Bool
 at_table table c = list_any (λ one. one == c) table
@@ -47,6 +43,13 @@ none_watched c watches = filter (λ (w : Watch). not (w.by == c)) watches
 
 abbrev pub risen : ℕ → List ℕ → List ℕ
 risen c table = filter (λ one. not (one == c)) table
+
+-- Of who watches, and of who is told of the table, those alone who act for a player.
+abbrev pub watches_kept : (ℕ → Bool) → List Watch → List Watch
+watches_kept acts watches = filter (λ (w : Watch). acts w.by) watches
+
+abbrev pub table_kept : (ℕ → Bool) → List ℕ → List ℕ
+table_kept acts table = filter (λ c. acts c) table
 
 -- All who watch a game, and where the table is told all who are told of that, but nobody twice.
 abbrev pub followers : List Watch → List ℕ → ℕ → Bool → List ℕ

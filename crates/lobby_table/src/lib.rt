@@ -25,12 +25,12 @@ pub use owing::asker;
 pub use pairings::{Pairing, game_bar, join_bar, keep, note_pairing, open_bar};
 pub use present::present_rows;
 pub use refusals::{RefusedActs, count_of, game_named, note_refused};
-pub use renewing::renew_all;
-pub use rooms::{Attendance, Left, attend, note_gone, room_text};
+pub use renewing::{note_renewed, renew_all};
+pub use rooms::{Attendance, Left, attend, note_left, room_text};
 pub use server_line::{Acting, Due, Notice, ServerLine, waiting_act};
 pub use visitors::{Visitor, is_named, open_ones, put, who_acts};
 pub use waiting::{note_act, note_list, note_opened};
 pub use watching::{
-    Watch, add_watch, followers, games_of, is_at_table, is_full, is_watched, rise, sit, unwatch,
-    unwatch_all, watches_any,
+    Watch, add_watch, followers, games_of, is_at_table, is_full, is_watched, keep_table,
+    keep_watches, rise, sit, unwatch, unwatch_all,
 };

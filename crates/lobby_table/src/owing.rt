@@ -1,6 +1,5 @@
 //! For whom the answers of the server are.
 ghost use Rattle.std.specs.Prelude.{◌≡◌, map};
-ghost use Rattle.std.specs.List.{list_any};
 ghost use Rattle.lobby_table.specs.Owed.{is_number, owed_of, owes, waiter};
 
 use crate::server_line::{Due, ServerLine};
@@ -23,18 +22,11 @@ fn is_for(due: &Due, connection: u64) -> bool
     asker(due).is_some_and(|to| connection == to)
 }
 
-fn is_among(dues: &[Due], connection: u64) -> bool
-    ensures { result ≡ list_any (λ due. is_number connection (waiter (owed_of due))) dues.now }
-{
-    dues.iter().any(|due| is_for(due, connection))
-}
-
 impl ServerLine {
     /// Whether a line of a connection waits for the server's answer.
     pub fn is_owed(&self, connection: u64) -> bool
         ensures { result ≡ owes (map owed_of self.now.queue.items) connection }
     {
-        let (first, second) = self.queue.as_slices();
-        is_among(first, connection) || is_among(second, connection)
+        self.queue.iter().any(|due| is_for(due, connection))
     }
 }

@@ -21,13 +21,10 @@ fn note_name(
     ensures { OnOk result ((name : List ℕ) →
         contains_text names.new name ≡ (contains_text names.old name || is_named who.now name)) }
 {
-    match who {
-        None => Ok(()),
-        Some(who) => {
-            names.insert(String::from_str(alloc, who.name.as_str())?)?;
-            Ok(())
-        }
+    if let Some(who) = who {
+        names.insert(String::from_str(alloc, who.name.as_str())?)?;
     }
+    Ok(())
 }
 
 // The names of the players for whom these connections act. Each connection is looked at once, and then each player.

@@ -1,7 +1,5 @@
 //! The acts that the server refused, of each game since it accepted one there.
-ghost use Rattle.std.specs.Prelude.{◌≡◌, ◌==◌, find, OnOk};
-ghost use Rattle.std.specs.Option.{option_copied};
-ghost use Rattle.lobby_table.specs.declared.refusals.RefusedActs.{RefusedActs};
+ghost use Rattle.std.specs.Prelude.{◌≡◌, OnOk};
 ghost use Rattle.lobby_table.specs.Refusals as spec;
 
 use crate::adding::number_after;
@@ -59,18 +57,14 @@ fn refused_game(text: &str, answer: &str) -> Option<u32>
     }
 }
 
-// What is known of a game.
-fn acts_in(refused: &[RefusedActs], game: u32) -> Option<&RefusedActs>
-    ensures { option_copied result ≡ find (λ (r : RefusedActs). r.game == game) refused.now }
-{
-    refused.iter().find(|one| one.game == game)
-}
-
 // How many acts were refused in a game.
 fn count_in(refused: &[RefusedActs], game: u32) -> u64
     ensures { result ≡ spec.count_in game refused.now }
 {
-    acts_in(refused, game).map_or(0, |one| one.count)
+    refused
+        .iter()
+        .find(|one| one.game == game)
+        .map_or(0, |one| one.count)
 }
 
 /// How many acts were refused in a game, if one is named.
@@ -85,15 +79,6 @@ fn take_off(refused: &mut Vec<RefusedActs>, game: u32)
     ensures { refused.new.items ≡ spec.without game refused.old.items }
 {
     refused.retain(|one| one.game != game);
-}
-
-// No refusal counts any more in a game, if one is named.
-fn clear(refused: &mut Vec<RefusedActs>, game: Option<u32>)
-    ensures { refused.new.items ≡ spec.cleared game refused.old.items }
-{
-    if let Some(game) = game {
-        take_off(refused, game);
-    }
 }
 
 // One more was refused in a game, if one is named.
@@ -117,7 +102,9 @@ pub fn note_refused(
     ensures { OnOk result (refused.new.items ≡ spec.refused_told text.now answer.now refused.old.items) }
 {
     if is_entered(answer) {
-        clear(refused, game_told(answer));
+        if let Some(game) = game_told(answer) {
+            take_off(refused, game);
+        }
         Ok(())
     } else {
         add_one(refused, refused_game(text, answer))

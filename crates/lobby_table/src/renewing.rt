@@ -1,10 +1,12 @@
-//! For whom connections act when the players are others.
+//! For whom connections act when the players are others, and whom they leave.
 ghost use Rattle.std.specs.Prelude.{ℕ, ◌≡◌, true};
 ghost use Rattle.std.specs.Option.{option_copied};
 ghost use Rattle.lobby_words.specs.Players.{goes_on, renewed};
+ghost use Rattle.lobby_table.specs.Rooms.{AreLeft};
 ghost use Rattle.lobby_table.specs.Visitors.{who_in, open_in_map, until_in, visitor_renewed};
 
-use crate::visitors::Visitor;
+use crate::rooms::{Attendance, note_left};
+use crate::visitors::{Visitor, who_acts};
 use lobby_words::{Identity, Player, is_same_sum, player_by_name};
 use std::collections::BTreeMap;
 
@@ -51,4 +53,21 @@ pub fn renew_all(visitors: &mut BTreeMap<u64, Visitor>, before: &[Player], later
     ensures untils { (c : ℕ) → until_in visitors.new c ≡ until_in visitors.old c }
 {
     visitors.retain(|_, visitor| renew(visitor, before, later));
+}
+
+/// Notes whom connections leave that act for whom they do when the players are others.
+pub fn note_renewed(
+    all: &mut [Attendance],
+    visitors: &BTreeMap<u64, Visitor>,
+    before: &[Player],
+    later: &[Player],
+)
+    ensures { AreLeft (open_in_map visitors.now) (who_in visitors.now)
+        (λ c. renewed before.now later.now (who_in visitors.now c)) all.old all.new }
+{
+    for connection in visitors.keys() {
+        let who = who_acts(visitors, *connection);
+        let after = renewed(before, later, who);
+        note_left(all, &who, &after);
+    }
 }

@@ -15,18 +15,18 @@ use player_name::Name;
 use std::alloc::{AllocError, Global};
 use std::collections::BTreeMap;
 
-/// What is known of the last connection of a player's that was closed.
+/// What is known of the last connection that acted for a player and acts for him no more.
 #[derive(Clone, Copy)]
 pub enum Left {
-    /// None was.
+    /// There was none.
     Never,
-    /// It was, and nobody has said anything since.
+    /// There was one, and nobody has said anything since.
     Lately,
-    /// The first message after that came at this moment, in milliseconds.
+    /// There was one, and the first message since then came at this moment, in milliseconds.
     At(u64),
 }
 
-/// A player who has said something.
+/// A player for whom a connection has acted.
 #[derive(Clone, Copy)]
 pub struct Attendance {
     pub name: Name,
@@ -62,11 +62,12 @@ fn meet(all: &mut Vec<Attendance>, who: &Option<Identity>) -> Result<(), AllocEr
     Ok(())
 }
 
-// A player, one of whose connections is closed, if he has this name.
-fn gone_if(one: &Attendance, name: &str) -> Attendance
-    ensures { result ≡ spec.gone_if name.now one.now }
+// What is known of a player when a connection that acted so acts so from now on.
+fn left_if(one: &Attendance, before: &Option<Identity>, after: &Option<Identity>) -> Attendance
+    ensures { result ≡ spec.left_if before.now after.now one.now }
 {
-    if one.name.as_str() == name {
+    let name = one.name.as_str();
+    if is_named(before, name) && !is_named(after, name) {
         Attendance {
             name: one.name,
             left: Left::Lately,
@@ -76,25 +77,16 @@ fn gone_if(one: &Attendance, name: &str) -> Attendance
     }
 }
 
-// A connection of the player of this name is closed.
-fn mark_gone(all: &mut [Attendance], name: &str)
-    ensures { all.new ≡ map (spec.gone_if name.now) all.old }
+/// Notes that a connection that acted so acts so from now on.
+pub fn note_left(all: &mut [Attendance], before: &Option<Identity>, after: &Option<Identity>)
+    ensures { all.new ≡ spec.left_by before.now after.now all.old }
 {
     for one in all.iter_mut() {
-        *one = gone_if(one, name);
+        *one = left_if(one, before, after);
     }
 }
 
-/// Notes that a connection is closed that acted so.
-pub fn note_gone(all: &mut Vec<Attendance>, who: &Option<Identity>)
-    ensures { all.new.items ≡ spec.gone who.now all.old.items }
-{
-    if let Some(who) = who {
-        mark_gone(all.as_mut_slice(), who.name.as_str());
-    }
-}
-
-// What is known of a player at the moment of a message: a connection that was closed before it counts as closed.
+// What is known of a player at the moment of a message: who was left before it counts as left.
 fn dated_of(one: &Attendance, at: u64) -> Attendance
     ensures { result ≡ spec.dated_of at one.now }
 {
@@ -117,17 +109,23 @@ fn date_all(all: &mut [Attendance], at: u64)
     }
 }
 
-/// Notes that a connection says something at a moment that acts so: its player is known from then on, and what was
-/// closed before counts as closed.
-pub fn attend(all: &mut Vec<Attendance>, who: &Option<Identity>, at: u64) -> Result<(), AllocError>
-    ensures { OnOk result (all.new.items ≡ spec.attended who.now at all.old.items) }
+/// Notes that a connection says something at a moment, which acted so before, and acts so from then on: whom it left,
+/// and who was left before, counts as left.
+pub fn attend(
+    all: &mut Vec<Attendance>,
+    before: &Option<Identity>,
+    after: &Option<Identity>,
+    at: u64,
+) -> Result<(), AllocError>
+    ensures { OnOk result (all.new.items ≡ spec.attended before.now after.now at all.old.items) }
 {
-    meet(all, who)?;
+    note_left(all.as_mut_slice(), before, after);
+    meet(all, after)?;
     date_all(all.as_mut_slice(), at);
     Ok(())
 }
 
-// What is known of the last connection of his that was closed.
+// What is known of the last connection by which he was left.
 fn left_of(all: &[Attendance], name: &str) -> Left
     ensures { result ≡ spec.left_of name.now all.now }
 {

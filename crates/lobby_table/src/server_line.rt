@@ -262,63 +262,36 @@ impl ServerLine {
         }
     }
 
-    // Passes an act on under a name, which is said first where another was said last, and asks right behind it how its
-    // game stands, if it names one.
-    fn act(
+    /// Passes an act on by this line and under this name, which is said first where another was said last, and asks
+    /// right behind it how its game stands, if it names one.
+    pub fn pass_act(
         &mut self,
+        act: Acting,
         name: Name,
         line: &str,
-        game: Option<u32>,
-        act: Acting,
         wire: &mut Vec<u8>,
     ) -> Result<(), AllocError>
         ensures sent { OnOk result (wire.new.items ≡ wire.old.items
-            ++ bytes_of (act_lines self.old.said name line.now game)) }
+            ++ bytes_of (act_lines self.old.said name line.now (game_named (string_bytes act.text)))) }
         ensures owed { OnOk result (map owed_of self.new.queue.items ≡ map owed_of self.old.queue.items
             ++ owed_lines (Asker act.from (ForAct act.who (string_bytes act.text)))
-            (act_lines self.old.said name line.now game)) }
+            (act_lines self.old.said name line.now (game_named (string_bytes act.text)))) }
         ensures said { OnOk result (self.new.said ≡ Some name) }
         ensures here { self.new.is_here ≡ self.old.is_here }
         ensures heard { IsHeardSame self.old self.new }
         ensures named { OnOk result (IsName name) }
     {
+        let game = game_named(act.text.as_str());
         self.say_name(name, wire)?;
         self.pass(line, Due::Act(act), wire)?;
         self.ask_behind(game, wire)
     }
 
-    /// Passes the message of a connection on as an act, by this line and under this name, as `act` does.
-    pub fn pass_act(
-        &mut self,
-        alloc: Global,
-        from: u64,
-        who: Name,
-        text: &str,
-        name: Name,
-        line: &str,
-        wire: &mut Vec<u8>,
-    ) -> Result<(), AllocError>
-        ensures sent { OnOk result (wire.new.items ≡ wire.old.items
-            ++ bytes_of (act_lines self.old.said name line.now (game_named text.now))) }
-        ensures owed { OnOk result (map owed_of self.new.queue.items ≡ map owed_of self.old.queue.items
-            ++ owed_lines (Asker from (ForAct who text.now))
-            (act_lines self.old.said name line.now (game_named text.now))) }
-        ensures said { OnOk result (self.new.said ≡ Some name) }
-        ensures here { self.new.is_here ≡ self.old.is_here }
-        ensures heard { IsHeardSame self.old self.new }
-        ensures named { OnOk result (IsName name) }
-    {
-        let sent = waiting_act(alloc, from, who, text)?;
-        self.act(name, line, game_named(text), sent, wire)
-    }
-
-    /// Opens the game of a connection's pairing under the name of White, which is said first where another was said
-    /// last.
+    /// Opens the game of a pairing, the act of this message, under the name of White, which is said first where another
+    /// was said last.
     pub fn open_pair(
         &mut self,
-        alloc: Global,
-        from: u64,
-        who: Name,
+        act: Acting,
         text: &str,
         white: Name,
         black: Name,
@@ -327,13 +300,13 @@ impl ServerLine {
         ensures sent { OnOk result (wire.new.items ≡ wire.old.items
             ++ bytes_of (act_lines self.old.said white (pair_line text.now) None)) }
         ensures owed { OnOk result (map owed_of self.new.queue.items ≡ map owed_of self.old.queue.items
-            ++ owed_lines (Pairer from who black text.now) (act_lines self.old.said white (pair_line text.now) None)) }
+            ++ owed_lines (Pairer act.from act.who black (string_bytes act.text))
+            (act_lines self.old.said white (pair_line text.now) None)) }
         ensures said { OnOk result (self.new.said ≡ Some white) }
         ensures here { self.new.is_here ≡ self.old.is_here }
         ensures heard { IsHeardSame self.old self.new }
         ensures named { OnOk result (IsName white) }
     {
-        let act = waiting_act(alloc, from, who, text)?;
         self.say_name(white, wire)?;
         self.send("open white ", pair_times(text), Due::Pair(act, black), wire)
     }
@@ -383,6 +356,7 @@ impl ServerLine {
         ensures named { OnOk result (IsName name) }
     {
         let text = act.text.as_str();
-        self.pass_act(alloc, act.from, act.who, text, name, text, wire)
+        let later = waiting_act(alloc, act.from, act.who, text)?;
+        self.pass_act(later, name, text, wire)
     }
 }

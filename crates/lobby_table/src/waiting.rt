@@ -1,8 +1,6 @@
 //! The seats of players in the games on the server's table, as far as its answers have told.
 ghost use Rattle.std.specs.Prelude.{◌≡◌, ◌==◌, ◌&&◌, ◌||◌, ◌+◌, ◌-◌, ◌*◌, ◌/◌, true, false, not, nat_le, map, OnOk};
-ghost use Rattle.std.specs.Prelude.{find};
 ghost use Rattle.std.specs.List.{count_by};
-ghost use Rattle.std.specs.Option.{option_copied};
 ghost use Rattle.std.specs.String.{string_bytes};
 ghost use Rattle.lobby_words.specs.declared.listing.Seat.{Seat};
 ghost use Rattle.lobby_table.specs.Owed.{owed_of};
@@ -17,6 +15,7 @@ use lobby_words::{
 };
 use player_name::Name;
 use std::alloc::{AllocError, Global};
+use std::collections::VecDeque;
 
 // Whether it is a seat of this player in a game that stands so.
 fn is_seat(one: &Seat, stage: Stage, name: &str) -> bool
@@ -85,10 +84,13 @@ fn is_entry(due: &Due, stage: Stage, name: &str) -> bool
 }
 
 // How many such answers are due.
-fn entries(dues: &[Due], stage: Stage, name: &str) -> usize
-    ensures { result ≡ count_by (λ due. spec.is_entry stage name.now (owed_of due)) dues.now }
+fn entries(queue: &VecDeque<Due>, stage: Stage, name: &str) -> usize
+    ensures { result ≡ count_by (spec.is_entry stage name.now) (map owed_of queue.now.items) }
 {
-    dues.iter().filter(|due| is_entry(due, stage, name)).count()
+    queue
+        .iter()
+        .filter(|due| is_entry(due, stage, name))
+        .count()
 }
 
 // How many seats are in games that wait.
@@ -113,10 +115,10 @@ fn is_opening(due: &Due) -> bool
 }
 
 // How many such answers are due.
-fn openings(dues: &[Due]) -> usize
-    ensures { result ≡ count_by (λ due. spec.is_opening (owed_of due)) dues.now }
+fn openings(queue: &VecDeque<Due>) -> usize
+    ensures { result ≡ count_by spec.is_opening (map owed_of queue.now.items) }
 {
-    dues.iter().filter(|due| is_opening(due)).count()
+    queue.iter().filter(|due| is_opening(due)).count()
 }
 
 // So many halves of places are taken where the rest is for arbiters and pairings.
@@ -128,20 +130,11 @@ fn own_halves(places: u32) -> usize
 
 // Whether so many halves are taken by seats, by those in games that wait once more, and by openings, of which each
 // takes two.
-fn are_taken(most: usize, seats: usize, waiting: usize, first: usize, second: usize) -> bool
-    ensures { result ≡ nat_le most (seats + (waiting + 2 * (first + second))) }
+fn are_taken(most: usize, seats: usize, waiting: usize, openings: usize) -> bool
+    ensures { result ≡ nat_le most (seats + (waiting + 2 * openings)) }
 {
     let left = most.saturating_sub(seats).saturating_sub(waiting);
-    let left = left.saturating_sub(first).saturating_sub(first);
-    let left = left.saturating_sub(second).saturating_sub(second);
-    left == 0
-}
-
-// Whether three numbers are as many as this.
-fn are_many(most: usize, a: usize, b: usize, c: usize) -> bool
-    ensures { result ≡ nat_le most (a + (b + c)) }
-{
-    most.saturating_sub(a).saturating_sub(b).saturating_sub(c) == 0
+    left.saturating_sub(openings) <= openings
 }
 
 impl ServerLine {
@@ -149,13 +142,8 @@ impl ServerLine {
     pub fn has_many(&self, most: usize, stage: Stage, name: &str) -> bool
         ensures { result ≡ spec.has_many most stage self.now.seats.items (map owed_of self.now.queue.items) name.now }
     {
-        let (first, second) = self.queue.as_slices();
-        are_many(
-            most,
-            seats_by(self.seats.as_slice(), stage, name),
-            entries(first, stage, name),
-            entries(second, stage, name),
-        )
+        let seats = seats_by(self.seats.as_slice(), stage, name);
+        most.saturating_sub(seats) <= entries(&self.queue, stage, name)
     }
 
     /// Whether of a table of so many places but those for arbiters and pairings are taken.
@@ -163,14 +151,12 @@ impl ServerLine {
         ensures { result ≡ nat_le (2 * (places - places / 8))
             (spec.halves_taken self.now.seats.items (map owed_of self.now.queue.items)) }
     {
-        let (first, second) = self.queue.as_slices();
         let seats = self.seats.as_slice();
         are_taken(
             own_halves(places),
             seats.len(),
             waiting_seats(seats),
-            openings(first),
-            openings(second),
+            openings(&self.queue),
         )
     }
 }
@@ -192,18 +178,11 @@ fn add_seat(seats: &mut Vec<Seat>, one: Option<Seat>) -> Result<(), AllocError>
     Ok(())
 }
 
-// The first seat in a game.
-fn first_in(seats: &[Seat], game: u32) -> Option<&Seat>
-    ensures { option_copied result ≡ find (λ (s : Seat). s.game == game) seats.now }
-{
-    seats.iter().find(|one| one.game == game)
-}
-
 // Who has the first seat in a game.
 fn first_by(seats: &[Seat], game: u32) -> Option<Name>
     ensures { result ≡ spec.first_by game seats.now }
 {
-    first_in(seats, game).map(|one| one.by)
+    seats.iter().find(|one| one.game == game).map(|one| one.by)
 }
 
 // That seat, in the game that goes on.
@@ -251,15 +230,6 @@ fn end_all(seats: &mut [Seat], game: u32)
     }
 }
 
-// Notes that a game is over, if it is so.
-fn note_ended(seats: &mut Vec<Seat>, is_over: bool, game: u32)
-    ensures { seats.new.items ≡ spec.seats_ended is_over game seats.old.items }
-{
-    if is_over {
-        end_all(seats.as_mut_slice(), game);
-    }
-}
-
 // Notes an act that was done in a game, which is over then, or not.
 fn note_game(
     seats: &mut Vec<Seat>,
@@ -282,7 +252,9 @@ fn note_game(
         take_off(seats, game);
         Ok(())
     } else {
-        note_ended(seats, is_over, game);
+        if is_over {
+            end_all(seats.as_mut_slice(), game);
+        }
         Ok(())
     }
 }

@@ -1,11 +1,14 @@
 //! Who is told of what.
-ghost use Rattle.std.specs.Prelude.{◌≡◌, ◌==◌, ◌&&◌, not, nat_le, length, filter, OnOk, IfOk};
-ghost use Rattle.lobby_table.specs.Watching.{is_watch, watched, watches_any, games_of, at_table, watch_if, sit_if};
-ghost use Rattle.lobby_table.specs.Watching.{unwatched};
+ghost use Rattle.std.specs.Prelude.{◌≡◌, ◌==◌, nat_le, length, filter, OnOk, IfOk};
+ghost use Rattle.lobby_table.specs.Watching.{is_watch, watched, games_of, at_table, watch_if, sit_if};
+ghost use Rattle.lobby_table.specs.Watching.{unwatched, watches_kept, table_kept};
 ghost use Rattle.lobby_table.specs.Watching.{none_watched, risen, followers};
+ghost use Rattle.lobby_table.specs.Visitors.{who_in, acting};
 
 use crate::adding::add_if;
+use crate::visitors::{Visitor, who_acts};
 use std::alloc::{AllocError, Global};
+use std::collections::BTreeMap;
 
 // The most games that a connection watches.
 const WATCH_ROOM: usize = 16;
@@ -29,13 +32,6 @@ pub fn is_watched(watches: &[Watch], by: u64, game: u32) -> bool
     ensures { result ≡ watched watches.now by game }
 {
     watches.iter().any(|watch| is_watch(watch, by, game))
-}
-
-/// Whether a connection watches a game, whichever.
-pub fn watches_any(watches: &[Watch], by: u64) -> bool
-    ensures { result ≡ watches_any watches.now by }
-{
-    watches.iter().any(|watch| watch.by == by)
 }
 
 /// The games that are watched, each once for each connection that watches it.
@@ -63,26 +59,21 @@ pub fn is_at_table(table: &[u64], by: u64) -> bool
     table.iter().any(|one| *one == by)
 }
 
-/// A connection is told of a game from now on, if it is open.
-pub fn add_watch(
-    watches: &mut Vec<Watch>,
-    is_open: bool,
-    by: u64,
-    game: u32,
-) -> Result<(), AllocError>
-    ensures { OnOk result (watches.new.items ≡ watch_if is_open by game watches.old.items) }
+/// A connection is told of a game from now on, if it may be.
+pub fn add_watch(watches: &mut Vec<Watch>, may: bool, by: u64, game: u32) -> Result<(), AllocError>
+    ensures { OnOk result (watches.new.items ≡ watch_if may by game watches.old.items) }
 {
-    if is_open && !is_watched(watches.as_slice(), by, game) {
+    if may && !is_watched(watches.as_slice(), by, game) {
         watches.push(Watch { by, game })?;
     }
     Ok(())
 }
 
-/// A connection is told of the table from now on, if it is open.
-pub fn sit(table: &mut Vec<u64>, is_open: bool, by: u64) -> Result<(), AllocError>
-    ensures { OnOk result (table.new.items ≡ sit_if is_open by table.old.items) }
+/// A connection is told of the table from now on, if it may be.
+pub fn sit(table: &mut Vec<u64>, may: bool, by: u64) -> Result<(), AllocError>
+    ensures { OnOk result (table.new.items ≡ sit_if may by table.old.items) }
 {
-    if is_open && !is_at_table(table.as_slice(), by) {
+    if may && !is_at_table(table.as_slice(), by) {
         table.push(by)?;
     }
     Ok(())
@@ -109,11 +100,18 @@ pub fn rise(table: &mut Vec<u64>, by: u64)
     table.retain(|one| *one != by);
 }
 
-// Whether who is told of the table is told of an act by that alone, where the table is told of it or not.
-fn follows_by_table(watches: &[Watch], by: u64, game: u32, is_table: bool) -> bool
-    ensures { result ≡ (is_table && not (watched watches.now by game)) }
+/// Of games those alone are told from now on who act for a player.
+pub fn keep_watches(watches: &mut Vec<Watch>, visitors: &BTreeMap<u64, Visitor>)
+    ensures { watches.new.items ≡ watches_kept (acting (who_in visitors.now)) watches.old.items }
 {
-    is_table && !is_watched(watches, by, game)
+    watches.retain(|watch| who_acts(visitors, watch.by).is_some());
+}
+
+/// Of the table those alone are told from now on who act for a player.
+pub fn keep_table(table: &mut Vec<u64>, visitors: &BTreeMap<u64, Visitor>)
+    ensures { table.new.items ≡ table_kept (acting (who_in visitors.now)) table.old.items }
+{
+    table.retain(|one| who_acts(visitors, *one).is_some());
 }
 
 /// The connections that watch a game, and perhaps those that are told of the table; each once.
@@ -130,9 +128,12 @@ pub fn followers(
     for watch in watches {
         add_if(&mut to, watch.game == game, watch.by)?;
     }
+    if !is_table {
+        return Ok(to);
+    }
     for one in table {
-        let follows = follows_by_table(watches, *one, game, is_table);
-        add_if(&mut to, follows, *one)?;
+        let is_told = is_watched(watches, *one, game);
+        add_if(&mut to, !is_told, *one)?;
     }
     Ok(to)
 }

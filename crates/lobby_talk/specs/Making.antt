@@ -38,8 +38,8 @@ pub record IsWithMoves (text new : List ℕ) : Type 0 where
       (moves : List ℕ) × TellsMoves moves p × (new ≡ text ++ moves ++ 10 ∷ [])
   pub none : ((p : Position) → IsValid p → IsFenOf (fen_in text) p → ⊥) → new ≡ text
 
--- The text is `moves FEN`: instead of it the legal moves of the position of this FEN, in the line that tells them, behind
--- `ok`; and where the FEN is none, that the message has no form.
+-- The text is `moves FEN`: instead of it the legal moves of the position of this FEN, in the line that tells them,
+-- behind `ok`; and where the FEN is none, that the message has no form.
 pub record IsOfMoves (text new : List ℕ) : Type 0 where
   pub told : (p : Position) → IsValid p → IsFenOf (rest_of text) p →
       (moves : List ℕ) × TellsMoves moves p × (new ≡ codes "ok " ++ moves ++ 10 ∷ [])

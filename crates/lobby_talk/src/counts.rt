@@ -63,18 +63,14 @@ fn count(number: &mut u64)
 
 // The word in front of a text.
 fn first_word(text: &str) -> &str {
-    match text.split_once(' ') {
-        Some((word, _)) => word,
-        None => text.trim_end(),
-    }
+    text.split_once(' ')
+        .map_or_else(|| text.trim_end(), |(word, _)| word)
 }
 
 // The word behind that.
 fn second_word(text: &str) -> &str {
-    match text.split_once(' ') {
-        Some((_, rest)) => first_word(rest),
-        None => "",
-    }
+    text.split_once(' ')
+        .map_or("", |(_, rest)| first_word(rest))
 }
 
 // An act was accepted, if it is one.

@@ -33,7 +33,7 @@ fn let_go_beyond(answers: &mut Vec<KeptAnswer>, most: usize)
     requires { most ≤ kept_most }
     ensures { size_of_all answers.new.items ≤ most }
 {
-    while answers.len() > 0 && size_of_all(answers.as_slice()) > most {
+    while !answers.is_empty() && size_of_all(answers.as_slice()) > most {
         answers.remove(0);
     }
 }
@@ -83,14 +83,12 @@ impl KeptAnswers {
     pub fn copy_of(&self, game: u32, pgn: &str) -> Result<Option<KeptAnswer>, AllocError>
         ensures { IfOk result (λ found. IfSome found (λ answer. string_bytes answer.pgn ≡ pgn.now)) }
     {
-        match self.find(pgn) {
-            None => Ok(None),
-            Some(answer) => {
-                let answer = String::from_str(self.alloc, answer)?;
-                let pgn = String::from_str(self.alloc, pgn)?;
-                Ok(Some(KeptAnswer::new(game, pgn, answer)))
-            }
-        }
+        let Some(answer) = self.find(pgn) else {
+            return Ok(None);
+        };
+        let answer = String::from_str(self.alloc, answer)?;
+        let pgn = String::from_str(self.alloc, pgn)?;
+        Ok(Some(KeptAnswer::new(game, pgn, answer)))
     }
 
     /// Keeps an answer, in the place of the one that was kept of its game. The oldest go where there are too many

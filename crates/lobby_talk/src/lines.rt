@@ -15,13 +15,11 @@ fn hear_line(talk: &mut Talk, line: &[u8]) -> Result<bool, AllocError>
     ensures told { IfOk result (λ is_text. OnTrue is_text (Moves talk.old (Heard line.now) talk.new)) }
     ensures none { IfOk result (λ is_text. OnFalse is_text ((talk.new ≡ talk.old) × ¬ IsUtf8 line.now)) }
 {
-    match str::from_utf8(line) {
-        Ok(line) => {
-            talk.heard(line)?;
-            Ok(true)
-        }
-        Err(_) => Ok(false),
-    }
+    let Ok(line) = str::from_utf8(line) else {
+        return Ok(false);
+    };
+    talk.heard(line)?;
+    Ok(true)
 }
 
 // Tells the desk each whole line, up to the first that is no text; so many bytes were told, and whether there was none

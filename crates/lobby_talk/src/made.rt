@@ -98,10 +98,7 @@ pub(crate) fn game_in(text: &str) -> u32
     ensures { IsNumberIn text.now result }
 {
     let word = before(rest_of(rest_of(text)), ' ');
-    match word.parse::<u32>() {
-        Ok(number) => number,
-        Err(_) => 0,
-    }
+    word.parse().unwrap_or(0)
 }
 
 // A message whose answer to `line G` was made before is whole by that; another is left as it is.
@@ -109,14 +106,11 @@ fn finish_line(alloc: Global, one: &mut Message, kept: &KeptAnswers) -> Result<(
     requires { one.old.kind ≡ Line }
     ensures { OnOk result (IsMadeOf kept.now.answers.items one.old one.new) }
 {
-    match kept.find(one.text.as_str()) {
-        None => Ok(()),
-        Some(answer) => {
-            one.text = String::from_str(alloc, answer)?;
-            one.kind = Kind::Whole;
-            Ok(())
-        }
+    if let Some(answer) = kept.find(one.text.as_str()) {
+        one.text = String::from_str(alloc, answer)?;
+        one.kind = Kind::Whole;
     }
+    Ok(())
 }
 
 // A message, as it goes out, or as it waits for its answer.

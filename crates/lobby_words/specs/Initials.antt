@@ -3,7 +3,7 @@ use Rattle.std.specs.Prelude.{ℕ, Bool, true, false, ◌==◌, List, [], ◌∷
 use Rattle.lobby_words.specs.declared.initials.NameForm.{NameForm}
 use Rattle.lobby_words.specs.declared.initials.NameForm.TheVariants as forms
 
--- the form in which strangers are told full names, where initials are asked for or not
+-- the form in which full names are told, where initials are asked for or not
 abbrev pub form_asked : Bool → NameForm
 form_asked true = forms.Initials
 form_asked false = forms.Full

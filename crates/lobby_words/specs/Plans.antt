@@ -2,6 +2,7 @@
 use Rattle.std.specs.Prelude.{ℕ, Bool, true, false, ◌&&◌, not, List, codes, Option, None, Some, if◌then◌else◌}
 use Rattle.lobby_words.specs.declared.words.Sort.{Sort}
 use Rattle.lobby_words.specs.declared.words.Sort.TheVariants as sorts
+use Rattle.lobby_words.specs.Words.{is_login_sort}
 use Rattle.lobby_words.specs.declared.planning.Identity.{Identity}
 use Rattle.lobby_words.specs.declared.planning.Order.{Order}
 use Rattle.lobby_words.specs.declared.planning.Accord.{Accord}
@@ -44,11 +45,9 @@ barred (Some refusal) plan = plans.Refuse refusal
 abbrev pub entered_plan : Standing → Plan → Plan
 entered_plan s plan = asked s (barred s.bar plan)
 
--- An act of a connection that acts for this player: not without a token; no game is opened while entries are paused,
--- but by an arbiter.
-abbrev pub act_plan : Standing → Option Identity → Plan
-act_plan s None = plans.Refuse refusals.NoToken
-act_plan s (Some who) =
+-- An act of who acts for this player: no game is opened while entries are paused, but by an arbiter.
+abbrev pub act_plan : Standing → Identity → Plan
+act_plan s who =
     if s.is_paused && not who.is_arbiter then plans.Refuse refusals.EntriesPaused else entered_plan s (plans.Act who)
 
 -- an act of an arbiter under the name of another: not where no player has it
@@ -56,12 +55,11 @@ abbrev pub named_plan : Standing → Identity → Option (List ℕ) → Plan
 named_plan s who None = plans.Refuse refusals.NoPlayer
 named_plan s who (Some name) = entered_plan s (plans.ActAs who name)
 
--- an act under the name of another: not without an arbiter's token
-abbrev pub as_plan : Standing → Option Identity → Plan
-as_plan s None = plans.Refuse refusals.NoToken
-as_plan s (Some who) = if who.is_arbiter then named_plan s who s.named else plans.Refuse refusals.NotArbiter
+-- an act under the name of another: not of who is no arbiter
+abbrev pub as_plan : Standing → Identity → Plan
+as_plan s who = if who.is_arbiter then named_plan s who s.named else plans.Refuse refusals.NotArbiter
 
--- a pairing: not without a token, and not where one of the two names is no player's
+-- a pairing: not where one of the two names is no player's
 abbrev pub black_plan : Standing → Identity → List ℕ → Option (List ℕ) → Plan
 black_plan s who white None = plans.Refuse refusals.NoPlayer
 black_plan s who white (Some black) = asked s (plans.Pair who white black)
@@ -81,34 +79,12 @@ offered_plan s who accords.Nothing = plans.Refuse refusals.NotArbiter
 offered_plan s who accords.Offered = plans.Offer who
 offered_plan s who accords.Agreed = agreed_plan s who
 
-abbrev pub pair_plan : Standing → Option Identity → Plan
-pair_plan s None = plans.Refuse refusals.NoToken
-pair_plan s (Some who) = if who.is_arbiter then white_plan s who s.named else offered_plan s who s.accord
-
--- what is asked of the offers, an end of some or which there are: not without a token
-abbrev pub offers_plan : Bool → ℕ → Option Identity → Plan
-offers_plan ends at None = plans.Refuse refusals.NoToken
-offers_plan ends at (Some who) = if ends then plans.Unpair who else plans.Offers who at
-
--- a drop: not without a token; whether who asks may drop the game, the server's answer to `show` tells
-abbrev pub drop_plan : Standing → Option Identity → ℕ → Plan
-drop_plan s None game = plans.Refuse refusals.NoToken
-drop_plan s (Some who) game = asked s (plans.Drop who game)
-
--- what all may ask for who have shown a token
-abbrev pub token_plan : Option Identity → Plan → Plan
-token_plan None plan = plans.Refuse refusals.NoToken
-token_plan (Some who) plan = plan
+abbrev pub pair_plan : Standing → Identity → Plan
+pair_plan s who = if who.is_arbiter then white_plan s who s.named else offered_plan s who s.accord
 
 -- what an arbiter alone may ask for
-abbrev pub arbiter_plan : Option Identity → Plan → Plan
-arbiter_plan None plan = plans.Refuse refusals.NoToken
-arbiter_plan (Some who) plan = if who.is_arbiter then plan else plans.Refuse refusals.NotArbiter
-
--- who the players are; without a token who of them sits in a game on the table, in the form that is told to strangers
-abbrev pub players_plan : Standing → Option Identity → Plan
-players_plan s None = plans.Seated s.names
-players_plan s (Some who) = plans.Players
+abbrev pub arbiter_plan : Identity → Plan → Plan
+arbiter_plan who plan = if who.is_arbiter then plan else plans.Refuse refusals.NotArbiter
 
 -- the link of a player is changed, or closed: not where no player has the name
 abbrev pub order_plan : Bool → Option (List ℕ) → Plan
@@ -125,47 +101,56 @@ abbrev pub login_plan : Option Identity → Plan
 login_plan None = plans.Refuse refusals.BadToken
 login_plan (Some who) = plans.Login who
 
--- a word with the number of a game
-abbrev pub game_plan : Sort → Standing → ℕ → Plan
-game_plan sorts.Watch s game =
+-- A word with the number of a game. Whether who asks for a drop may drop the game, the server's answer to `show` tells.
+abbrev pub game_plan : Sort → Standing → Identity → ℕ → Plan
+game_plan sorts.Watch s who game =
     if s.is_full then asked s (plans.Refuse refusals.TooManyWatched) else asked s (plans.Watch game)
-game_plan sorts.Line s game = asked s (plans.Line game)
-game_plan sorts.Drop s game = drop_plan s s.who game
-game_plan sorts.Room s game = plans.Room game s.at
-game_plan _ s game = plans.Leave game
+game_plan sorts.Line s who game = asked s (plans.Line game)
+game_plan sorts.Drop s who game = asked s (plans.Drop who game)
+game_plan sorts.Room s who game = plans.Room game s.at
+game_plan _ s who game = plans.Leave game
 
-abbrev pub numbered_plan : Sort → Standing → Option ℕ → Plan
-numbered_plan sort s None = plans.Refuse refusals.BadLine
-numbered_plan sort s (Some game) = game_plan sort s game
+abbrev pub numbered_plan : Sort → Standing → Identity → Option ℕ → Plan
+numbered_plan sort s who None = plans.Refuse refusals.BadLine
+numbered_plan sort s who (Some game) = game_plan sort s who game
 
--- a message of this sort, behind whose word this number stands, if any does
-abbrev pub sort_plan : Sort → Standing → Option ℕ → Plan
-sort_plan sorts.Read s game = asked s plans.Read
-sort_plan sorts.Act s game = act_plan s s.who
-sort_plan sorts.As s game = as_plan s s.who
-sort_plan sorts.Pair s game = pair_plan s s.who
-sort_plan sorts.Unpair s game = offers_plan true s.at s.who
-sort_plan sorts.Offers s game = offers_plan false s.at s.who
-sort_plan sorts.Drop s game = numbered_plan sorts.Drop s game
-sort_plan sorts.Login s game = login_plan s.holder
-sort_plan sorts.Players s game = players_plan s s.who
-sort_plan sorts.Who s game = arbiter_plan s.who plans.Who
-sort_plan sorts.Pause s game = arbiter_plan s.who plans.Pause
-sort_plan sorts.Resume s game = arbiter_plan s.who plans.Resume
-sort_plan (sorts.Call call) s game = arbiter_plan s.who (barred s.bar (plans.Call call))
-sort_plan sorts.Link s game = arbiter_plan s.who (order_plan false s.linked)
-sort_plan sorts.Close s game = arbiter_plan s.who (order_plan true s.linked)
-sort_plan sorts.Lobby s game = asked s plans.Lobby
-sort_plan sorts.LeaveLobby s game = plans.LeaveLobby
-sort_plan sorts.Name s game = plans.Refuse refusals.BadLine
-sort_plan sorts.Nothing s game = plans.Refuse refusals.BadLine
-sort_plan sorts.Watch s game = numbered_plan sorts.Watch s game
-sort_plan sorts.Leave s game = numbered_plan sorts.Leave s game
-sort_plan sorts.Line s game = numbered_plan sorts.Line s game
-sort_plan sorts.Room s game = numbered_plan sorts.Room s game
-sort_plan sorts.Moves s game = token_plan s.who plans.Moves
+-- a message of this sort of who acts for this player, behind whose word this number stands, if any does
+abbrev pub sort_plan : Sort → Standing → Identity → Option ℕ → Plan
+sort_plan sorts.Read s who game = asked s plans.Read
+sort_plan sorts.Act s who game = act_plan s who
+sort_plan sorts.As s who game = as_plan s who
+sort_plan sorts.Pair s who game = pair_plan s who
+sort_plan sorts.Unpair s who game = plans.Unpair who
+sort_plan sorts.Offers s who game = plans.Offers who s.at
+sort_plan sorts.Drop s who game = numbered_plan sorts.Drop s who game
+sort_plan sorts.Login s who game = login_plan s.holder
+sort_plan sorts.Players s who game = plans.Players
+sort_plan sorts.Who s who game = arbiter_plan who plans.Who
+sort_plan sorts.Pause s who game = arbiter_plan who plans.Pause
+sort_plan sorts.Resume s who game = arbiter_plan who plans.Resume
+sort_plan (sorts.Call call) s who game = arbiter_plan who (barred s.bar (plans.Call call))
+sort_plan sorts.Link s who game = arbiter_plan who (order_plan false s.linked)
+sort_plan sorts.Close s who game = arbiter_plan who (order_plan true s.linked)
+sort_plan sorts.Lobby s who game = asked s plans.Lobby
+sort_plan sorts.LeaveLobby s who game = plans.LeaveLobby
+sort_plan sorts.Name s who game = plans.Refuse refusals.BadLine
+sort_plan sorts.Nothing s who game = plans.Refuse refusals.BadLine
+sort_plan sorts.Watch s who game = numbered_plan sorts.Watch s who game
+sort_plan sorts.Leave s who game = numbered_plan sorts.Leave s who game
+sort_plan sorts.Line s who game = numbered_plan sorts.Line s who game
+sort_plan sorts.Room s who game = numbered_plan sorts.Room s who game
+sort_plan sorts.Moves s who game = plans.Moves
+
+-- A message of who acts for nobody: a token may be shown, and nothing else may be said.
+abbrev pub stranger_plan : Bool → Standing → Plan
+stranger_plan true s = login_plan s.holder
+stranger_plan false s = plans.Refuse refusals.NoToken
+
+abbrev pub who_plan : Option Identity → Sort → Standing → Option ℕ → Plan
+who_plan None sort s game = stranger_plan (is_login_sort sort) s
+who_plan (Some who) sort s game = sort_plan sort s who game
 
 -- a message, and whether it may be a line
 abbrev pub plan_of : Bool → Sort → Standing → Option ℕ → Plan
-plan_of true sort s game = sort_plan sort s game
+plan_of true sort s game = who_plan s.who sort s game
 plan_of false sort s game = plans.Refuse refusals.BadLine

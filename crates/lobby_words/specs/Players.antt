@@ -7,10 +7,7 @@ use Rattle.std.specs.Str.{bytes_eq}
 use Rattle.sha2.specs.Sha256.{sha256}
 use Rattle.lobby_words.specs.declared.players.Player.{Player}
 use Rattle.lobby_words.specs.declared.planning.Identity.{Identity}
-use Rattle.lobby_words.specs.declared.listing.Seat.{Seat}
 use Rattle.lobby_words.specs.Answers.{ended}
-use Rattle.lobby_words.specs.declared.initials.NameForm.{NameForm}
-use Rattle.lobby_words.specs.Initials.{initials, name_told}
 
 abbrev pub identity_of : Player → Identity
 identity_of player = record { name = player.name; is_arbiter = player.is_arbiter }
@@ -64,9 +61,8 @@ role_text is_arbiter = if is_arbiter then codes " arbiter " else codes " player 
 abbrev pub player_row : List ℕ → Bool → List ℕ → List ℕ
 player_row name is_arbiter full_name = name ++ role_text is_arbiter ++ full_name ++ codes "\n"
 
--- the row of a player, with the full name in this form
-abbrev pub row_in : NameForm → Player → List ℕ
-row_in form player = player_row player.name player.is_arbiter (name_told form (string_bytes player.full_name))
+abbrev pub row_of : Player → List ℕ
+row_of player = player_row player.name player.is_arbiter (string_bytes player.full_name)
 
 -- the full name of the first player of this name
 abbrev pub full_name_or_none : Option Player → List ℕ
@@ -76,20 +72,12 @@ full_name_or_none (Some player) = string_bytes player.full_name
 abbrev pub full_name_of : List Player → List ℕ → List ℕ
 full_name_of players name = full_name_or_none (find (λ player. bytes_eq player.name name) players)
 
--- the answer to a `login` of this player, and that to `players` with their full names in this form
+-- the answer to a `login` of this player, and that to `players`
 abbrev pub login_text : List Player → Identity → List ℕ
 login_text players who = codes "ok login " ++ player_row who.name who.is_arbiter (full_name_of players who.name)
 
-abbrev pub players_text : NameForm → List Player → List ℕ
-players_text form players =
-    codes "ok players " ++ decimal (length players) ++ codes "\n" ++ flat_map (row_in form) players
-
--- those of the players who have one of these seats
-abbrev pub is_seated : List Seat → Player → Bool
-is_seated seats player = list_any (λ (s : Seat). bytes_eq s.by player.name) seats
-
-abbrev pub seated_text : NameForm → List Seat → List Player → List ℕ
-seated_text form seats players = players_text form (filter (is_seated seats) players)
+abbrev pub players_text : List Player → List ℕ
+players_text players = codes "ok players " ++ decimal (length players) ++ codes "\n" ++ flat_map row_of players
 
 -- whether it is the player of this name
 abbrev pub is_named : Option Identity → List ℕ → Bool
@@ -136,13 +124,11 @@ pub record IsRelinked (name token : List ℕ) (before after : List Player) : Typ
   pub fresh : list_any (has_sum (sha256 token)) before ≡ false
   pub holds : is_token_of after token name ≡ true
 
--- two players whom a stranger cannot tell apart by their names: they differ in no more than their full names, of which
--- the initials are the same
+-- two players who differ in no more than their full names
 pub record IsAlike (a b : Player) : Type 0 where
   pub name : b.name ≡ a.name
   pub is_arbiter : b.is_arbiter ≡ a.is_arbiter
   pub sum_is : b.sum ≡ a.sum
-  pub initials_are : initials (string_bytes b.full_name) ≡ initials (string_bytes a.full_name)
 
 abbrev pub AreAlike : List Player → List Player → Type 0
 AreAlike players others = AllZip IsAlike players others

@@ -5,7 +5,7 @@ ghost use Rattle.lobby_words.specs.Initials.{form_asked, initial_at, initials, n
 
 use std::alloc::{AllocError, Global};
 
-/// How full names are told to who acts for nobody.
+/// How full names are told.
 #[derive(Clone, Copy, PartialEq, Eq)]
 pub enum NameForm {
     /// Whole.
@@ -14,7 +14,7 @@ pub enum NameForm {
     Initials,
 }
 
-/// The form in which strangers are told full names, where initials are asked for or not.
+/// The form in which full names are told, where initials are asked for or not.
 pub fn name_form(by_initials: bool) -> NameForm
     ensures { result ≡ form_asked by_initials }
 {
@@ -51,21 +51,16 @@ fn push_initials(text: &mut String, full_name: &str) -> Result<(), AllocError>
     Ok(())
 }
 
-/// Appends a full name as it is told in a form. Nothing else chooses what is told of a full name.
-pub fn push_full_name(text: &mut String, form: NameForm, full_name: &str) -> Result<(), AllocError>
-    ensures { OnOk result (string_bytes text.new ≡ string_bytes text.old ++ name_told form full_name.now) }
-{
-    match form {
-        NameForm::Full => text.push_str(full_name),
-        NameForm::Initials => push_initials(text, full_name),
-    }
-}
-
 /// A full name as it is told in a form.
 pub fn name_told(alloc: Global, form: NameForm, full_name: &str) -> Result<String, AllocError>
     ensures { IfOk result (λ text. string_bytes text ≡ name_told form full_name.now) }
 {
-    let mut text = String::new(alloc);
-    push_full_name(&mut text, form, full_name)?;
-    Ok(text)
+    match form {
+        NameForm::Full => String::from_str(alloc, full_name),
+        NameForm::Initials => {
+            let mut text = String::new(alloc);
+            push_initials(&mut text, full_name)?;
+            Ok(text)
+        }
+    }
 }

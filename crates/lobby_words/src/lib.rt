@@ -5,7 +5,7 @@
 //! what the lobby itself refuses, `naming` under which name a line goes. `coming` takes the server's answers line by
 //! line, `answers` tells what they say by `server_answers`, and `listing` which games wait by them. `players` has a
 //! player and who holds a token, `linked` who has a new one, `rows` how players are told, and `initials` what of their
-//! full names.
+//! full names where that is by initials.
 #![tactic(auto)]
 
 mod answers;
@@ -24,7 +24,7 @@ pub use answers::{
     first_line, game_told, is_entered, is_over, is_shown, is_table_act, lone_player, tells_end,
 };
 pub use coming::Coming;
-pub use initials::{NameForm, name_form, name_told, push_full_name};
+pub use initials::{NameForm, name_form, name_told};
 pub use linked::Linked;
 pub use listing::{
     Seat, Stage, ends_wait, is_list, is_stage, joins_game, opens_game, seat_of, seats_in,
@@ -36,7 +36,7 @@ pub use planning::{
 pub use players::{Player, holder_of, is_same_sum, is_token};
 pub use refusals::Refusal;
 pub use rows::{
-    headed, is_among, known_name, login_line, player_by_name, player_rows, seated_rows, who_text,
+    headed, is_among, known_name, login_line, player_by_name, player_rows, who_text,
 };
 pub use words::{
     Call, Sort, actor, are_message_bytes, as_line, as_name, black_name, cut_word, is_message,

@@ -3,7 +3,6 @@ ghost use Rattle.std.specs.Prelude.{◌≡◌};
 ghost use Rattle.lobby_words.specs.Words as words;
 ghost use Rattle.lobby_words.specs.Plans as plans;
 
-use crate::initials::NameForm;
 use crate::refusals::Refusal;
 use crate::words::{Call, Sort, cut_word, is_message, number_named, sort_of};
 use player_name::Name;
@@ -57,8 +56,6 @@ pub enum Plan {
     Login(Identity),
     /// Who the players are.
     Players,
-    /// Which of them sit in a game on the table, with their full names told in this form.
-    Seated(NameForm),
     /// Which players are there.
     Who,
     /// No games are opened from now on, and games are again.
@@ -106,8 +103,6 @@ pub struct Standing {
     pub is_paused: bool,
     /// The moment of the message, in milliseconds of a clock that does not go back.
     pub at: u64,
-    /// How full names are told to who acts for nobody.
-    pub names: NameForm,
 }
 
 /// Whether a message shows a token.
@@ -150,18 +145,13 @@ fn entered_plan(standing: &Standing, plan: Plan) -> Plan
 }
 
 // An act but a drop.
-fn act_plan(standing: &Standing) -> Plan
-    ensures { result ≡ plans.act_plan standing.now standing.now.who }
+fn act_plan(standing: &Standing, who: Identity) -> Plan
+    ensures { result ≡ plans.act_plan standing.now who }
 {
-    match standing.who {
-        None => Plan::Refuse(Refusal::NoToken),
-        Some(who) => {
-            if standing.is_paused && !who.is_arbiter {
-                Plan::Refuse(Refusal::EntriesPaused)
-            } else {
-                entered_plan(standing, Plan::Act(who))
-            }
-        }
+    if standing.is_paused && !who.is_arbiter {
+        Plan::Refuse(Refusal::EntriesPaused)
+    } else {
+        entered_plan(standing, Plan::Act(who))
     }
 }
 
@@ -176,18 +166,13 @@ fn named_plan(standing: &Standing, who: Identity, named: Option<Name>) -> Plan
 }
 
 // An act under the name of another.
-fn as_plan(standing: &Standing) -> Plan
-    ensures { result ≡ plans.as_plan standing.now standing.now.who }
+fn as_plan(standing: &Standing, who: Identity) -> Plan
+    ensures { result ≡ plans.as_plan standing.now who }
 {
-    match standing.who {
-        None => Plan::Refuse(Refusal::NoToken),
-        Some(who) => {
-            if !who.is_arbiter {
-                Plan::Refuse(Refusal::NotArbiter)
-            } else {
-                named_plan(standing, who, standing.named)
-            }
-        }
+    if who.is_arbiter {
+        named_plan(standing, who, standing.named)
+    } else {
+        Plan::Refuse(Refusal::NotArbiter)
     }
 }
 
@@ -234,80 +219,24 @@ fn offered_plan(standing: &Standing, who: Identity) -> Plan
 }
 
 // A pairing.
-fn pair_plan(standing: &Standing) -> Plan
-    ensures { result ≡ plans.pair_plan standing.now standing.now.who }
+fn pair_plan(standing: &Standing, who: Identity) -> Plan
+    ensures { result ≡ plans.pair_plan standing.now who }
 {
-    match standing.who {
-        None => Plan::Refuse(Refusal::NoToken),
-        Some(who) => {
-            if !who.is_arbiter {
-                offered_plan(standing, who)
-            } else {
-                white_plan(standing, who, standing.named)
-            }
-        }
-    }
-}
-
-// What is asked of the offers: an end of some, or which there are.
-fn offers_plan(ends: bool, standing: &Standing) -> Plan
-    ensures { result ≡ plans.offers_plan ends standing.now.at standing.now.who }
-{
-    match standing.who {
-        None => Plan::Refuse(Refusal::NoToken),
-        Some(who) => {
-            if ends {
-                Plan::Unpair(who)
-            } else {
-                Plan::Offers(who, standing.at)
-            }
-        }
-    }
-}
-
-// A drop.
-fn drop_plan(standing: &Standing, game: u32) -> Plan
-    ensures { result ≡ plans.drop_plan standing.now standing.now.who game }
-{
-    match standing.who {
-        None => Plan::Refuse(Refusal::NoToken),
-        Some(who) => asked(standing, Plan::Drop(who, game)),
-    }
-}
-
-// What all may ask for who have shown a token.
-fn token_plan(standing: &Standing, plan: Plan) -> Plan
-    ensures { result ≡ plans.token_plan standing.now.who plan }
-{
-    match standing.who {
-        None => Plan::Refuse(Refusal::NoToken),
-        Some(_) => plan,
+    if who.is_arbiter {
+        white_plan(standing, who, standing.named)
+    } else {
+        offered_plan(standing, who)
     }
 }
 
 // What an arbiter alone may ask for.
-fn arbiter_plan(standing: &Standing, plan: Plan) -> Plan
-    ensures { result ≡ plans.arbiter_plan standing.now.who plan }
+fn arbiter_plan(who: Identity, plan: Plan) -> Plan
+    ensures { result ≡ plans.arbiter_plan who plan }
 {
-    match standing.who {
-        None => Plan::Refuse(Refusal::NoToken),
-        Some(who) => {
-            if who.is_arbiter {
-                plan
-            } else {
-                Plan::Refuse(Refusal::NotArbiter)
-            }
-        }
-    }
-}
-
-// Who the players are.
-fn players_plan(standing: &Standing) -> Plan
-    ensures { result ≡ plans.players_plan standing.now standing.now.who }
-{
-    match standing.who {
-        None => Plan::Seated(standing.names),
-        Some(_) => Plan::Players,
+    if who.is_arbiter {
+        plan
+    } else {
+        Plan::Refuse(Refusal::NotArbiter)
     }
 }
 
@@ -342,8 +271,8 @@ fn login_plan(holder: Option<Identity>) -> Plan
 }
 
 // A word with the number of a game.
-fn game_plan(sort: Sort, standing: &Standing, game: u32) -> Plan
-    ensures { result ≡ plans.game_plan sort standing.now game }
+fn game_plan(sort: Sort, standing: &Standing, who: Identity, game: u32) -> Plan
+    ensures { result ≡ plans.game_plan sort standing.now who game }
 {
     match sort {
         Sort::Watch => {
@@ -354,39 +283,49 @@ fn game_plan(sort: Sort, standing: &Standing, game: u32) -> Plan
             }
         }
         Sort::Line => asked(standing, Plan::Line(game)),
-        Sort::Drop => drop_plan(standing, game),
+        Sort::Drop => asked(standing, Plan::Drop(who, game)),
         Sort::Room => Plan::Room(game, standing.at),
         _ => Plan::Leave(game),
     }
 }
 
-// What is done about a message of a sort.
-fn sort_plan(sort: Sort, standing: &Standing, game: Option<u32>) -> Plan
-    ensures { result ≡ plans.sort_plan sort standing.now game }
+// What is done about a message of a sort of who acts for this player.
+fn sort_plan(sort: Sort, standing: &Standing, who: Identity, game: Option<u32>) -> Plan
+    ensures { result ≡ plans.sort_plan sort standing.now who game }
 {
     match sort {
         Sort::Read => asked(standing, Plan::Read),
-        Sort::Act => act_plan(standing),
-        Sort::As => as_plan(standing),
-        Sort::Pair => pair_plan(standing),
-        Sort::Unpair => offers_plan(true, standing),
-        Sort::Offers => offers_plan(false, standing),
+        Sort::Act => act_plan(standing, who),
+        Sort::As => as_plan(standing, who),
+        Sort::Pair => pair_plan(standing, who),
+        Sort::Unpair => Plan::Unpair(who),
+        Sort::Offers => Plan::Offers(who, standing.at),
         Sort::Login => login_plan(standing.holder),
-        Sort::Players => players_plan(standing),
-        Sort::Who => arbiter_plan(standing, Plan::Who),
-        Sort::Pause => arbiter_plan(standing, Plan::Pause),
-        Sort::Resume => arbiter_plan(standing, Plan::Resume),
-        Sort::Call(call) => arbiter_plan(standing, barred(standing.bar, Plan::Call(call))),
-        Sort::Link => arbiter_plan(standing, order_plan(false, standing.linked)),
-        Sort::Close => arbiter_plan(standing, order_plan(true, standing.linked)),
+        Sort::Players => Plan::Players,
+        Sort::Who => arbiter_plan(who, Plan::Who),
+        Sort::Pause => arbiter_plan(who, Plan::Pause),
+        Sort::Resume => arbiter_plan(who, Plan::Resume),
+        Sort::Call(call) => arbiter_plan(who, barred(standing.bar, Plan::Call(call))),
+        Sort::Link => arbiter_plan(who, order_plan(false, standing.linked)),
+        Sort::Close => arbiter_plan(who, order_plan(true, standing.linked)),
         Sort::Lobby => asked(standing, Plan::Lobby),
         Sort::LeaveLobby => Plan::LeaveLobby,
-        Sort::Moves => token_plan(standing, Plan::Moves),
+        Sort::Moves => Plan::Moves,
         Sort::Name | Sort::Nothing => Plan::Refuse(Refusal::BadLine),
         Sort::Watch | Sort::Leave | Sort::Line | Sort::Room | Sort::Drop => match game {
             None => Plan::Refuse(Refusal::BadLine),
-            Some(game) => game_plan(sort, standing, game),
+            Some(game) => game_plan(sort, standing, who, game),
         },
+    }
+}
+
+// What is done about a message of who acts for nobody: a token may be shown, and nothing else may be said.
+fn stranger_plan(sort: Sort, standing: &Standing) -> Plan
+    ensures { result ≡ plans.stranger_plan (words.is_login_sort sort) standing.now }
+{
+    match sort {
+        Sort::Login => login_plan(standing.holder),
+        _ => Plan::Refuse(Refusal::NoToken),
     }
 }
 
@@ -398,10 +337,11 @@ pub fn plan_of(standing: &Standing, text: &str) -> Plan
     let (_, rest) = cut_word(text);
     let game = number_named(rest);
     let sort = sort_of(text);
-    let is_line = is_message(text);
-    if is_line {
-        sort_plan(sort, standing, game)
-    } else {
-        Plan::Refuse(Refusal::BadLine)
+    if !is_message(text) {
+        return Plan::Refuse(Refusal::BadLine);
+    }
+    match standing.who {
+        None => stranger_plan(sort, standing),
+        Some(who) => sort_plan(sort, standing, who, game),
     }
 }

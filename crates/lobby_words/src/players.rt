@@ -22,11 +22,9 @@ pub struct Player {
 pub fn is_same_sum(a: &[u8; 32], b: &[u8; 32]) -> bool
     ensures { result ≡ bytes_eq a.now b.now }
 {
-    let mut same = true;
-    for i in 0..32 {
-        same &= a[i] == b[i];
-    }
-    same
+    a.iter()
+        .zip(b.iter())
+        .fold(true, |same, (one, other)| same & (one == other))
 }
 
 // Who was found before, and else the player, if he has the token.

@@ -1,20 +1,15 @@
 //! How players are told.
-ghost use Rattle.std.specs.Prelude.{◌≡◌, ◌++◌, ◌∷◌, [], codes, decimal, length, filter, IfOk, OnOk, find};
-ghost use Rattle.std.specs.Prelude.{ℕ, List, if◌then◌else◌};
+ghost use Rattle.std.specs.Prelude.{◌≡◌, ◌++◌, codes, decimal, IfOk, OnOk, find};
 ghost use Rattle.std.specs.HashSet.{contains_text};
-ghost use Rattle.std.specs.List.{flat_map, list_any};
 ghost use Rattle.std.specs.Option.{option_copied};
 ghost use Rattle.std.specs.Str.{bytes_eq};
 ghost use Rattle.std.specs.String.{string_bytes};
 ghost use Rattle.lobby_words.specs.Answers.{ended};
-ghost use Rattle.lobby_words.specs.declared.initials.NameForm.TheVariants as forms;
-ghost use Rattle.lobby_words.specs.declared.listing.Seat.{Seat};
-ghost use Rattle.lobby_words.specs.declared.players.Player.{Player};
-ghost use Rattle.lobby_words.specs.Players.{role_text, row_in, known_name, full_name_of, login_text, players_text};
-ghost use Rattle.lobby_words.specs.Players.{seated_text, who_front, who_text};
+ghost use Rattle.lobby_words.specs.Players.{role_text, row_of, known_name, full_name_of, login_text, players_text};
+ghost use Rattle.lobby_words.specs.Players.{who_front, who_text};
 
+use crate::Identity;
 use crate::players::Player;
-use crate::{Identity, NameForm, Seat, push_full_name};
 use itoa::Buffer;
 use player_name::Name;
 use std::alloc::{AllocError, Global};
@@ -34,12 +29,12 @@ fn push_front(text: &mut String, name: &str, is_arbiter: bool) -> Result<(), All
     text.push_str(role_text(is_arbiter))
 }
 
-// The row of a player, with the full name in a form.
-fn push_player(text: &mut String, form: NameForm, player: &Player) -> Result<(), AllocError>
-    ensures { OnOk result (string_bytes text.new ≡ string_bytes text.old ++ row_in form player.now) }
+// The row of a player.
+fn push_player(text: &mut String, player: &Player) -> Result<(), AllocError>
+    ensures { OnOk result (string_bytes text.new ≡ string_bytes text.old ++ row_of player.now) }
 {
     push_front(text, player.name.as_str(), player.is_arbiter)?;
-    push_full_name(text, form, player.full_name.as_str())?;
+    text.push_str(player.full_name.as_str())?;
     text.push('\n')
 }
 
@@ -89,25 +84,13 @@ pub fn headed(alloc: Global, word: &str, number: u64) -> Result<String, AllocErr
 
 /// The answer to `players`.
 pub fn player_rows(alloc: Global, players: &[Player]) -> Result<String, AllocError>
-    ensures { IfOk result (λ text. string_bytes text ≡ players_text forms.Full players.now) }
+    ensures { IfOk result (λ text. string_bytes text ≡ players_text players.now) }
 {
     let mut text = headed(alloc, "ok players ", players.len() as u64)?;
     for player in players {
-        push_player(&mut text, NameForm::Full, player)?;
+        push_player(&mut text, player)?;
     }
     Ok(text)
-}
-
-// The names of those who have these seats. Each seat is looked at once, and then each player.
-fn names_seated(alloc: Global, seats: &[Seat]) -> Result<HashSet<String>, AllocError>
-    ensures { IfOk result (λ names. (one : List ℕ) →
-        contains_text names one ≡ list_any (λ (s : Seat). bytes_eq s.by one) seats.now) }
-{
-    let mut names = HashSet::new(alloc);
-    for seat in seats {
-        names.insert(String::from_str(alloc, seat.by.as_str())?)?;
-    }
-    Ok(names)
 }
 
 /// Whether a player is one of these.
@@ -115,50 +98,6 @@ pub fn is_among(names: &HashSet<String>, player: &Player) -> bool
     ensures { result ≡ contains_text names.now player.now.name }
 {
     names.contains(player.name.as_str())
-}
-
-// How many players are among these.
-fn count_among(names: &HashSet<String>, players: &[Player]) -> usize
-    ensures { result ≡ length (filter (λ (p : Player). contains_text names.now p.name) players.now) }
-{
-    players
-        .iter()
-        .filter(|player| is_among(names, player))
-        .count()
-}
-
-// The row of a player, if it is to be there.
-fn push_if(
-    text: &mut String,
-    form: NameForm,
-    is_so: bool,
-    player: &Player,
-) -> Result<(), AllocError>
-    ensures { OnOk result (string_bytes text.new
-        ≡ string_bytes text.old ++ flat_map (row_in form) (if is_so then player.now ∷ [] else [])) }
-{
-    if is_so {
-        push_player(text, form, player)
-    } else {
-        Ok(())
-    }
-}
-
-/// The answer to `players` that tells those alone who have one of these seats, with their full names in a form.
-pub fn seated_rows(
-    alloc: Global,
-    form: NameForm,
-    players: &[Player],
-    seats: &[Seat],
-) -> Result<String, AllocError>
-    ensures { IfOk result (λ text. string_bytes text ≡ seated_text form seats.now players.now) }
-{
-    let names = names_seated(alloc, seats)?;
-    let mut text = headed(alloc, "ok players ", count_among(&names, players) as u64)?;
-    for player in players {
-        push_if(&mut text, form, is_among(&names, player), player)?;
-    }
-    Ok(text)
 }
 
 // A name, and a line feed.

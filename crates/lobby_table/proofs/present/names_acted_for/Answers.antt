@@ -1,4 +1,4 @@
-use Rattle.std.proofs.Common.{ℕ, ◌||◌, Bool, List, Option, get_or, take, ap, sym, ◌∙◌}
+use Rattle.std.proofs.Common.{ℕ, ◌||◌, Bool, List, Option, get_or, ap, sym, ◌∙◌}
 use Rattle.std.specs.HashSet.{contains_text}
 use Rattle.std.proofs.lemmas.List.{take_all}
 use Rattle.std.proofs.lemmas.List.Folds.{list_any_more}

@@ -13,19 +13,10 @@ added true false = refl
 added false true = refl
 added false false = refl
 
-nobody : (b : Bool) → b ≡ (b || false)
-nobody true = refl
-nobody false = refl
-
-pub returns-in-None : goal.returns-in-None
-returns-in-None c = λ name.
+pub returns-in_ok-insert : goal.returns-in_ok-insert
+returns-in_ok-insert c = λ name.
     let before = contains_text c.args.names.now name in
-    nobody before ∙ sym (ap (λ (w : Option Identity). before || is_named w name) c.in-None.is)
-
-pub returns-in_ok-insert-in-Some : goal.returns-in_ok-insert-in-Some
-returns-in_ok-insert-in-Some c = λ name.
-    let before = contains_text c.args.names.now name in
-    hash_set_updates_text (string_bytes c.in_ok-from_str-in-Some.field-0) c.args.names.now c.insert.new.self true c.in_ok-insert-in-Some.ensures.updates name
-    ∙ (ap (λ (n : List ℕ). cond (bytes_eq n name) true before) (c.in_ok-from_str-in-Some.ensures.ok ∙ c.as_str.ensures.text)
+    hash_set_updates_text (string_bytes c.in_ok-from_str.field-0) c.args.names.now c.insert.new.self true c.in_ok-insert.ensures.updates name
+    ∙ (ap (λ (n : List ℕ). cond (bytes_eq n name) true before) (c.in_ok-from_str.ensures.ok ∙ c.as_str.ensures.text)
     ∙ (added (bytes_eq c.in-Some.who.name name) before
     ∙ sym (ap (λ (w : Option Identity). before || is_named w name) c.in-Some.is)))

@@ -1,4 +1,4 @@
-use Rattle.std.proofs.Common.{◌≡◌, ◌++◌, ◌&&◌, not, take, filter}
+use Rattle.std.proofs.Common.{◌≡◌, ◌++◌, not, take, filter}
 use Rattle.lobby_table.specs.Watching.{watched}
 use Rattle.lobby_table.proofs.Watched.{watching}
 use Rattle.lobby_table.proofs.watching.followers.Given as goal
@@ -8,4 +8,4 @@ invariant-loop-watch l = l.to.items ≡ watching l.game (take l.watch-index l.wa
 
 abbrev pub invariant-loop-one : goal.invariant-loop-one
 invariant-loop-one l =
-    l.to.items ≡ watching l.game l.watches ++ filter (λ c. l.is_table && not (watched l.watches c l.game)) (take l.one-index l.table)
+    l.to.items ≡ watching l.game l.watches ++ filter (λ c. not (watched l.watches c l.game)) (take l.one-index l.table)

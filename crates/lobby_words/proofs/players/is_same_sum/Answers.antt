@@ -1,30 +1,33 @@
-use Rattle.std.proofs.Common.{ℕ, ◌≡◌, List, get_or, sym, ap, ◌∙◌, arith}
-use Rattle.std.specs.Cmp.{both_ways}
-use Rattle.std.proofs.lemmas.Bool.{and_from, and_parts}
-use Rattle.std.proofs.lemmas.Bool.Decides.{Decides-eqb}
-use Rattle.std.proofs.lemmas.Grind.{same_number_lists}
-use Rattle.std.proofs.lemmas.Slice.Eq.{bytes_eq-Decides}
+use Rattle.std.proofs.Common.{ℕ, ◌≡◌, ◌==◌, ◌&&◌, Bool, true, false, List, [], ◌∷◌, length, fold, refl, sym, ap, ◌∙◌, rules, tests, arith}
+use Rattle.std.specs.List.{zip}
 use Rattle.std.specs.Str.{bytes_eq}
-use borrow.Author.Count.{below_more}
+use Rattle.std.proofs.lemmas.Iterator.{YieldsList-from_slice, YieldsList-from_zip}
+use Rattle.std.proofs.lemmas.Iterator.Consumers.{fold_from_yields_List}
 use Rattle.lobby_words.proofs.players.is_same_sum.Goals as goal
 
-pub loop-i-preserved : goal.loop-i-preserved
-loop-i-preserved c =
-    let a = c.args.a.now in
-    let b = c.args.b.now in
-    let i = c.loop-i.i in
-    record {
-      forward = λ both. below_more (λ (k : ℕ). get_or c.args.a.now k 0 ≡ get_or c.args.b.now k 0) i
-          (c.loop-i.invariant.forward (and_parts c.loop-i.same _ both).0)
-          ((Decides-eqb (get_or a i 0) (get_or b i 0)).0 (and_parts c.loop-i.same _ both).1);
-      back = λ same. and_from c.loop-i.same _ (c.loop-i.invariant.back (λ k below. same k (omega arith)))
-          ((Decides-eqb (get_or a i 0) (get_or b i 0)).1 (same i (omega arith)));
-    }
+-- two bytes that stand at one place, behind those before them
+abbrev both : Bool → (ℕ × ℕ) → Bool
+both same p = same && (p.0 == p.1)
+
+still : (same : Bool) → same ≡ (same && true)
+still true = refl
+still false = refl
+
+further : (same first others : Bool) → ((same && first) && others) ≡ (same && (first && others))
+further true first others = refl
+further false first others = refl
+
+same_all : (xs ys : List ℕ) (same : Bool) → length xs ≡ length ys → fold both same (zip xs ys) ≡ (same && bytes_eq xs ys)
+same_all [] [] same long = still same
+same_all [] (y ∷ ys) same long = absurd (omega (arith, long))
+same_all (x ∷ xs) [] same long = absurd (omega (arith, long))
+same_all (x ∷ xs) (y ∷ ys) same long =
+    same_all xs ys (same && (x == y)) (omega (arith, long)) ∙ further same (x == y) (bytes_eq xs ys)
 
 pub returns : goal.returns
 returns c =
     let a = c.args.a.now in
     let b = c.args.b.now in
-    both_ways c.loop-i.same (bytes_eq a b)
-    (λ is. (bytes_eq-Decides a b).1 (same_number_lists a b (c.told-a ∙ sym c.told-b) (λ k below. c.loop-i.invariant.forward is k (omega arith))))
-    (λ same. c.loop-i.invariant.back (λ k below. ap (λ (xs : List ℕ). get_or xs k 0) ((bytes_eq-Decides a b).0 same)))
+    fold_from_yields_List _ both true c.fold.result c.fold.ensures.ran (YieldsList-from_zip (YieldsList-from_slice a cc) (YieldsList-from_slice b cc))
+    (λ s x r q k. search (rules, tests))
+    ∙ same_all a b true (c.told-a ∙ sym c.told-b)

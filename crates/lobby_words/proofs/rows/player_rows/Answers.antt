@@ -1,6 +1,5 @@
 use Rattle.std.proofs.Common.{ℕ, ◌++◌, List, length, codes, decimal, ap, ◌∙◌}
-use Rattle.lobby_words.specs.declared.initials.NameForm.TheVariants as forms
-use Rattle.lobby_words.specs.Players.{row_in}
+use Rattle.lobby_words.specs.Players.{row_of}
 use Rattle.lobby_words.proofs.PlayerRows.{rows_more}
 use Rattle.lobby_words.proofs.rows.player_rows.Goals as goal
 
@@ -9,5 +8,5 @@ loop-player-preserved c =
     let players = c.args.players.now in
     let item = c.player-item.result in
     c.in_ok-push_player.ensures
-    ∙ (ap (λ (t : List ℕ). t ++ row_in forms.Full item) c.loop-player.invariant
-    ∙ rows_more forms.Full (codes "ok players " ++ decimal (length players) ++ codes "\n") players c.loop-player.player-index item c.loop-player-test.true c.player-item.is)
+    ∙ (ap (λ (t : List ℕ). t ++ row_of item) c.loop-player.invariant
+    ∙ rows_more (codes "ok players " ++ decimal (length players) ++ codes "\n") players c.loop-player.player-index item c.loop-player-test.true c.player-item.is)
