@@ -1,11 +1,10 @@
-//! What the options of `lobby` say of a player's games, and of what strangers are told of names.
+//! What the options of `lobby` say of a player's games.
 ghost use Rattle.std.specs.Prelude.{codes};
 ghost use Rattle.clap.specs.Words.{found_of};
-ghost use Rattle.club_words.specs.Options.{SaysNumber, MaySayNumber, SaysForm};
+ghost use Rattle.club_words.specs.Options.{SaysNumber, MaySayNumber};
 
 use clap::ArgMatches;
 use lobby_desk::Limits;
-use lobby_words::{NameForm, name_form};
 
 // The number of an option, and this one where the option is not given.
 fn number_or(values: &ArgMatches<'_>, option: &str, default: u32) -> u32
@@ -21,26 +20,17 @@ fn number_if(values: &ArgMatches<'_>, option: &str) -> Option<u32>
     values.get_one(option)
 }
 
-// The form of names that a flag asks for.
-fn form_by(values: &ArgMatches<'_>, flag: &str) -> NameForm
-    ensures { SaysForm (found_of values.now) flag.now result }
-{
-    name_form(values.get_flag(flag))
-}
-
 /// The limits of a lobby, by the options of `lobby`.
 pub fn limits_of(values: &ArgMatches<'_>) -> Limits
     ensures waiting { SaysNumber (found_of values.now) (codes "waiting-most") 4 result.waiting }
     ensures playing { SaysNumber (found_of values.now) (codes "playing-most") 8 result.playing }
     ensures over { SaysNumber (found_of values.now) (codes "over-most") 32 result.over }
     ensures places { MaySayNumber (found_of values.now) (codes "games") result.places }
-    ensures names { SaysForm (found_of values.now) (codes "initials") result.names }
 {
     Limits {
         waiting: number_or(values, "waiting-most", 4) as usize,
         playing: number_or(values, "playing-most", 8) as usize,
         over: number_or(values, "over-most", 32) as usize,
         places: number_if(values, "games"),
-        names: form_by(values, "initials"),
     }
 }

@@ -37,12 +37,12 @@ The line is not encrypted. On an address other than 127.0.0.1 whoever is on the 
 along, links too: docs/client/LOBBY.md has how to put nginx in front. Name nginx's address by
 --proxy then, and have it tell each browser's own by X-Forwarded-For.
 
-With --initials who has shown no link gets the initials of players in place of their full
-names, as for a club with minors: give it to chess-club live too.
+Who has shown no link watches by the files of --games-files alone. As for a club with minors
+they have initials in place of full names: give --initials to chess-club live.
 
-Limits: 1,000 browsers at a time, of them 600 that have shown no link, 500 that watch, and
-32 of an address. Whoever comes when they are reached has another one closed: of those
-without a link who came first, and nobody who has shown one.
+Limits: 1,000 browsers at a time, of them 600 that have shown no link, and 32 of an address;
+they have 20 seconds to show one. Whoever comes when these are reached has another one
+closed: of those without a link who came first, and nobody who has shown one.
 
 Exit status: 1 with what is wrong on standard error; 2 for words that the program does not
 know.
@@ -160,13 +160,6 @@ const GAMES: OptionText = OptionText {
     is_required: false,
 };
 
-const INITIALS: OptionText = OptionText {
-    name: "initials",
-    value: OptionValue::Nothing,
-    help: "Tells who has shown no link the initials of players in place of their full names",
-    is_required: false,
-};
-
 const LIVE: OptionText = OptionText {
     name: "live",
     value: OptionValue::Text("FILE"),
@@ -271,7 +264,6 @@ pub const LOBBY: WordText = WordText {
         PLAYING_MOST,
         OVER_MOST,
         GAMES,
-        INITIALS,
     ],
 };
 

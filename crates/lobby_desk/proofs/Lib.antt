@@ -8,6 +8,7 @@ pub mod Counted
 pub mod Logged
 pub mod Paired
 pub mod Named
+pub mod Watchers
 pub mod Tokens
 pub mod Alike
 pub mod Lost

@@ -9,4 +9,3 @@ pub mod Who
 pub mod Strangers
 pub mod History
 pub mod Tokens
-pub mod Roles

@@ -4,8 +4,8 @@
 //!
 //! Modules: `desk` is what comes in; what is done about it is in `carrying` for a message and in `answering` for an
 //! answer of the server, and `telling` says messages to connections. `halts` has what an arbiter halts, `limits` how
-//! many games there may be, `pace` how fast a connection may say messages, `strangers` and `roles` what a connection
-//! is, `law` the laws. What the desk knows is in `lobby_table`, and what players offer each other in `lobby_offers`.
+//! many games there may be, `pace` how fast a connection may say messages, `strangers` for whom it acts, `law` the
+//! laws. What the desk knows is in `lobby_table`, and what players offer each other in `lobby_offers`.
 #![tactic(auto)]
 
 mod answering;
@@ -15,7 +15,6 @@ mod halts;
 mod law;
 mod limits;
 mod pace;
-mod roles;
 mod strangers;
 mod telling;
 

@@ -3,9 +3,8 @@ use Rattle.std.proofs.Common.{◌≡◌, ℕ, ◌&&◌, Bool, true, false, List,
 use Rattle.std.specs.Io.KnownBytes.{Consumes}
 use Rattle.lobby_web.specs.declared.site.Site.{Site}
 use Rattle.lobby_guests.specs.declared.guest.Guest.{Guest}
-use Rattle.lobby_guests.specs.declared.rounds.Others.{Others}
 use Rattle.lobby_talk.specs.declared.talk.Talk.{Talk}
-use Rattle.lobby_guests.specs.Guests.{InTurn, IsAttended, IsServedIf, IsPlayersTurn, IsOthersTurn, Room, Pass, pass_of, has_time}
+use Rattle.lobby_guests.specs.Guests.{InTurn, IsAttended, IsServedIf, IsPlayersTurn, IsOthersTurn, Room, has_time}
 use Rattle.lobby_talk.specs.Talking.{acts_at}
 use Rattle.lobby_guests.proofs.EachGuest.{in_turn_as}
 
@@ -45,19 +44,19 @@ module _ {S : Type 0} (remaining : S → Option (List ℕ)) (site : Site) (at : 
       in_turn_as (λ (t : Talk). t) (IsPlayersTurn remaining site at) (IsAttended remaining site at)
       (λ x y a b one. players_attended x y a b one) old new talk after turns
 
-  others_attended : (others : Others) (fresh : Bool) (old new : Guest S) (room after : Room) → IsOthersTurn (pass_of others fresh at) remaining site old new room after →
+  others_attended : (old new : Guest S) (room after : Room) → IsOthersTurn remaining site at old new room after →
       IsAttended remaining site at old new room.talk after.talk
-  others_attended others fresh old new room after (inl over) = left_alone old new room.talk after.talk over.guest over.talk
-  others_attended others fresh old new room after (inr called) = called.served.attended
+  others_attended old new room after (inl over) = left_alone old new room.talk after.talk over.guest over.talk
+  others_attended old new room after (inr called) = called.served.attended
 
-  pub others_pass : (others : Others) (fresh : Bool) (old new : List (Guest S)) (room after : Room) →
-      InTurn (IsOthersTurn (pass_of others fresh at) remaining site) old new room after → InTurn (IsAttended remaining site at) old new room.talk after.talk
-  others_pass others fresh old new room after turns =
-      in_turn_as (λ (r : Room). r.talk) (IsOthersTurn (pass_of others fresh at) remaining site) (IsAttended remaining site at)
-      (λ x y a b one. others_attended others fresh x y a b one) old new room after turns
+  pub others_pass : (old new : List (Guest S)) (room after : Room) →
+      InTurn (IsOthersTurn remaining site at) old new room after → InTurn (IsAttended remaining site at) old new room.talk after.talk
+  others_pass old new room after turns =
+      in_turn_as (λ (r : Room). r.talk) (IsOthersTurn remaining site at) (IsAttended remaining site at)
+      (λ x y a b one. others_attended x y a b one) old new room after turns
 
   -- where nobody is called all are passed over
-  pub nobody_called : (pass : Pass) (guests : List (Guest S)) (room : Room) → InTurn (IsOthersTurn pass remaining site) guests guests room room
-  nobody_called pass [] room = (refl, refl)
-  nobody_called pass (guest ∷ guests) room =
-      (guest, guests, room, refl, inl (record { guest = refl; talk = refl; left = omega arith }), nobody_called pass guests room)
+  pub nobody_called : (guests : List (Guest S)) (room : Room) → InTurn (IsOthersTurn remaining site at) guests guests room room
+  nobody_called [] room = (refl, refl)
+  nobody_called (guest ∷ guests) room =
+      (guest, guests, room, refl, inl (record { guest = refl; talk = refl; left = omega arith }), nobody_called guests room)

@@ -3,7 +3,6 @@ pub mod Attending
 pub mod Telling
 pub mod Due
 pub mod Owing
-mod Resting
 mod Wanted
 mod Catching
 mod Waking

@@ -6,8 +6,7 @@ use Rattle.std.specs.List.{AllZip}
 use Rattle.lobby_desk.specs.declared.desk.Desk.{Desk}
 use Rattle.lobby_web.specs.declared.site.Site.{Site}
 use Rattle.lobby_guests.specs.declared.guest.Guest.{Guest}
-use Rattle.lobby_guests.specs.Guests.{IsWritten}
-use Rattle.lobby_guests.specs.Rests.{LeavesStranger}
+use Rattle.lobby_guests.specs.Guests.{IsWritten, LeavesStranger}
 
 none_appended : (had : Option (List ℕ)) → Appends had had []
 none_appended None = tt

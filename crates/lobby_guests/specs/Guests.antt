@@ -11,7 +11,6 @@ use Rattle.lobby_desk.specs.declared.telling.Message.{Message}
 use Rattle.lobby_desk.specs.Events.{Closed}
 use Rattle.lobby_desk.specs.declared.desk.Desk.{Desk}
 use Rattle.lobby_desk.specs.Who.{IsReady}
-use Rattle.lobby_desk.specs.Strangers.{acts, strangers_wait}
 use Rattle.lobby_web.specs.declared.browser.Browser.{Browser}
 use Rattle.lobby_web.specs.declared.site.Site.{Site}
 use Rattle.lobby_web.specs.declared.socket.Heard.{Heard}
@@ -20,8 +19,6 @@ use Rattle.lobby_web.specs.declared.socket.Unsaid.{Unsaid}
 use Rattle.lobby_web.specs.Browsing.{IsNew, pending, WantsBytes, Takes, HearsNext, SaysTo, Writes}
 use Rattle.lobby_guests.specs.declared.guest.Guest.{Guest}
 use Rattle.lobby_guests.specs.declared.origin.Origin.{Origin}
-use Rattle.lobby_guests.specs.declared.rounds.Others.{Others}
-use Rattle.lobby_guests.specs.declared.rounds.Others.TheVariants.{Newcomers, Strangers}
 use Rattle.lobby_talk.specs.declared.talk.Talk.{Talk}
 use Rattle.lobby_talk.specs.Talking.{Moves, Opens, IsTextSaid, acts_at}
 use Rattle.lobby_talk.specs.Counting.{is_for, is_answer}
@@ -198,17 +195,12 @@ is_in_time at until = nat_le (until - at) 1000
 abbrev pub MayHave : {S : Type 0} → Guest S → Type 0
 MayHave guest = (guest.has_more ≡ true) ⊎ ((guest.can_read ≡ true) × WantsBytes guest.browser.stage)
 
--- It has no socket yet, or one, and nothing of its time was taken since.
-abbrev pub is_fresh : {S : Type 0} → Guest S → Bool
-is_fresh guest = not (is_some guest.number) || guest.paid_until == 0
-
 -- One that acts for nobody is due: something may have come of it for which its time is not taken too far ahead, and
 -- nothing waits for it.
-pub record IsDue {S : Type 0} (among_fresh : Bool) (at : ℕ) (guest : Guest S) : Type 0 where
+pub record IsDue {S : Type 0} (at : ℕ) (guest : Guest S) : Type 0 where
   pub stays : guest.is_lost ≡ false
   pub free : guest.waits.items ≡ []
   pub in_time : is_in_time at guest.paid_until ≡ true
-  pub fresh : is_fresh guest ≡ among_fresh
   pub may_have : MayHave guest
 
 -- So far ahead the time of a connection may be taken when its next message is taken: of one that acts for nobody, and
@@ -240,18 +232,6 @@ first_due at (guest ∷ guests) = earlier (due_at at guest) (first_due at guests
 abbrev pub is_unheard : {S : Type 0} → Guest S → Bool
 is_unheard guest = may_have guest && length guest.waits.items == 0 && guest.paid_until == 0 && not guest.is_lost
 
--- Who else is attended: who has no socket yet; and who has one and acts for nobody.
-abbrev pub is_other : Others → Desk → Option ℕ → Bool
-is_other Newcomers desk number = not (is_some number)
-is_other Strangers desk None = false
-is_other Strangers desk (Some c) = not (acts desk c)
-
--- Who acts for nobody is attended only where the server owes no answer to anybody like that: it has at most one message
--- of all of them together.
-abbrev pub may_call : Others → Desk → Bool
-may_call Newcomers desk = true
-may_call Strangers desk = not (strangers_wait desk)
-
 -- the desk, and how many more are attended in this turn
 pub record Room : Type 0 where
   pub talk : Talk
@@ -263,26 +243,17 @@ pub record IsPassedOver {S : Type 0} (old new : Guest S) (room after : Room) : T
   pub talk : after.talk ≡ room.talk
   pub left : after.left ≤ room.left
 
--- who is called in a pass, and at which moment
-pub record Pass : Type 0 where
-  pub others : Others
-  pub among_fresh : Bool
-  pub at : ℕ
-
-pub record IsCalled {S : Type 0} (pass : Pass) (remaining : S → Option (List ℕ)) (site : Site)
+-- Who acts for nobody is attended, with a socket or without one, if it is due.
+pub record IsCalled {S : Type 0} (remaining : S → Option (List ℕ)) (site : Site) (at : ℕ)
     (old new : Guest S) (room after : Room) : Type 0 where
-  pub other : is_other pass.others room.talk.desk old.number ≡ true
-  pub may : may_call pass.others room.talk.desk ≡ true
-  pub due : IsDue pass.among_fresh pass.at old
-  pub served : IsServed remaining site pass.at old new room.talk after.talk
+  pub other : acts_at room.talk.desk old.number ≡ false
+  pub due : IsDue at old
+  pub served : IsServed remaining site at old new room.talk after.talk
   pub takes : after.left < room.left
 
-abbrev pub IsOthersTurn : {S : Type 0} → Pass → (S → Option (List ℕ)) → Site → Guest S → Guest S → Room → Room → Type 0
-IsOthersTurn pass remaining site old new room after =
-    IsPassedOver old new room after ⊎ IsCalled pass remaining site old new room after
-
-abbrev pub pass_of : Others → Bool → ℕ → Pass
-pass_of others among_fresh at = record { others = others; among_fresh = among_fresh; at = at }
+abbrev pub IsOthersTurn : {S : Type 0} → (S → Option (List ℕ)) → Site → ℕ → Guest S → Guest S → Room → Room → Type 0
+IsOthersTurn remaining site at old new room after =
+    IsPassedOver old new room after ⊎ IsCalled remaining site at old new room after
 
 -- So many of them at most are attended in a turn.
 abbrev pub others_most : ℕ
@@ -295,23 +266,20 @@ is_crowded guests = nat_lt others_most (count_by is_unheard guests)
 abbrev pub full_room : Talk → Room
 full_room talk = record { talk = talk; left = others_most }
 
--- In a turn players are served first, each of them; then some of those who have no socket yet; and then twice some of
--- those who act for nobody: of whose time nothing was taken since their sockets opened, as who is about to show a
--- token, and of the others.
+-- In a turn players are served first, each of them; and then some of those who act for nobody.
 pub record AreAttended {S : Type 0} (remaining : S → Option (List ℕ)) (site : Site) (at : ℕ) (old new : List (Guest S))
     (talk after : Talk) : Type 0 where
   pub first : List (Guest S)
   pub said : Talk
   pub players : InTurn (IsPlayersTurn remaining site at) old first talk said
-  pub second : List (Guest S)
-  pub came : Room
-  pub newcomers : InTurn (IsOthersTurn (pass_of Newcomers true at) remaining site) first second (full_room said) came
-  pub third : List (Guest S)
-  pub asked : Room
-  pub fresh : InTurn (IsOthersTurn (pass_of Strangers true at) remaining site) second third (full_room came.talk) asked
   pub last : Room
-  pub strangers : InTurn (IsOthersTurn (pass_of Strangers false at) remaining site) third new (full_room asked.talk) last
+  pub others : InTurn (IsOthersTurn remaining site at) first new (full_room said) last
   pub after_is : after ≡ last.talk
+
+-- Of those who act for nobody nobody is attended.
+abbrev pub LeavesOthers : {S : Type 0} → {remaining : S → Option (List ℕ)} → {site : Site} → {at : ℕ}
+    → {old new : List (Guest S)} → {talk after : Talk} → AreAttended remaining site at old new talk after → Type 0
+LeavesOthers {new = new} {after = after} attended = (new ≡ attended.first) × (after ≡ attended.said)
 
 -- ---- what goes
 
@@ -413,6 +381,10 @@ pub record IsWritten {S : Type 0} (contents : S → Option (List ℕ)) (site : S
   pub few : count ≤ 16384
   pub written : Appends (contents old.stream) (contents new.stream) (take count (pending old.browser.stage))
   pub goes : (new.browser ≡ old.browser) × (count ≡ 0) ⊎ Writes site count old.browser.stage new.browser.stage
+
+-- To who acts for nobody nothing is written.
+abbrev pub LeavesStranger : {S : Type 0} → Desk → Guest S → Guest S → Type 0
+LeavesStranger desk old new = acts_at desk old.number ≡ false → new ≡ old
 
 -- The moment from which on the time of a nameless one counts: as before, but where it acts for a player now, this one.
 abbrev pub since_after : Bool → ℕ → ℕ → ℕ

@@ -1,7 +1,6 @@
 pub mod Guests
 pub mod Origins
 pub mod Place
-pub mod Rests
 pub mod Counting
 pub mod Waiting
 pub mod Waking

@@ -1,35 +1,29 @@
 -- A connection's place, as the desk has it, and who gives it up.
 use Rattle.std.specs.Prelude.{ℕ, ◌≡◌, ◌||◌, Bool, true, false, List, Option, None, Some}
 use Rattle.lobby_desk.specs.declared.desk.Desk.{Desk}
-use Rattle.lobby_desk.specs.Roles.{acts, is_watcher}
 use Rattle.lobby_desk.specs.Strangers.{player_at}
+use Rattle.lobby_talk.specs.Talking.{acts_at}
 use Rattle.lobby_guests.specs.declared.guest.Guest.{Guest}
 use Rattle.lobby_guests.specs.declared.place.Place.{Place}
 use Rattle.lobby_guests.specs.declared.place.Role.{Role}
-use Rattle.lobby_guests.specs.declared.place.Role.TheVariants.{Gone, Player, Watcher, Newcomer}
+use Rattle.lobby_guests.specs.declared.place.Role.TheVariants.{Gone, Player, Newcomer}
 use Rattle.lobby_guests.specs.Guests.{IsAsBefore}
 
 -- it is to be closed
 abbrev pub is_gone : Role → Bool
 is_gone Gone = true
 is_gone Player = false
-is_gone Watcher = false
 is_gone Newcomer = false
 
--- what a connection is to the lobby that acts for a player or not, and watches or not
-abbrev pub role_by : Bool → Bool → Role
-role_by true watches = Player
-role_by false true = Watcher
-role_by false false = Newcomer
-
-abbrev pub role_at : Desk → ℕ → Role
-role_at desk c = role_by (acts desk c) (is_watcher desk c)
+-- what a connection is to the lobby that acts for a player or not
+abbrev pub role_by : Bool → Role
+role_by true = Player
+role_by false = Newcomer
 
 -- what a connection is that is to be closed or not, and has this number at the desk
 abbrev pub role_of : Desk → Bool → Option ℕ → Role
 role_of desk true number = Gone
-role_of desk false None = Newcomer
-role_of desk false (Some c) = role_at desk c
+role_of desk false number = role_by (acts_at desk number)
 
 -- the player for whom it acts
 abbrev pub player_of : Desk → Option ℕ → Option (List ℕ)

@@ -13,11 +13,11 @@ ghost use Rattle.std.specs.String.{string_bytes};
 ghost use Rattle.std.specs.Option.{option_map};
 ghost use Rattle.lobby_talk.specs.Counting.{is_for};
 ghost use Rattle.lobby_guests.specs.Waiting as waiting;
-ghost use Rattle.lobby_guests.specs.Guests.{IsLookedAfter, is_in_time, taken_until, MayHave, may_have, is_fresh, IsDue};
+ghost use Rattle.lobby_guests.specs.Guests.{IsLookedAfter, is_in_time, taken_until, MayHave, may_have, IsDue};
 ghost use Rattle.lobby_guests.specs.Guests.{due_at, ahead_at, is_unheard, IsPaid, owed_after, paid_for, since_after};
 ghost use Rattle.lobby_web.specs.Browsing.{WantsBytes};
 ghost use Rattle.lobby_talk.specs.Counting.{refuses_login, counted_up, one_if, refuses, refusals_of};
-ghost use Rattle.lobby_guests.specs.Place.{role_at, role_of, player_of, place_of, Yields};
+ghost use Rattle.lobby_guests.specs.Place.{role_by, role_of, player_of, place_of, Yields};
 
 use crate::origin::Origin;
 use crate::place::{Place, Role, is_gone};
@@ -106,17 +106,11 @@ fn is_among(connections: &[u64], number: u64) -> bool
     connections.iter().any(|one| *one == number)
 }
 
-// What a connection of this number is to the lobby.
-fn role_at(talk: &Talk, number: u64) -> Role
-    ensures { result ≡ role_at talk.now.desk number }
+// What a connection is to the lobby that acts for a player or not.
+fn role_by(acts: bool) -> Role
+    ensures { result ≡ role_by acts }
 {
-    if talk.acts(Some(number)) {
-        Role::Player
-    } else if talk.is_watcher(number) {
-        Role::Watcher
-    } else {
-        Role::Newcomer
-    }
+    if acts { Role::Player } else { Role::Newcomer }
 }
 
 impl<S> Guest<S> {
@@ -188,24 +182,12 @@ impl<S> Guest<S> {
         self.paid_until.saturating_sub(at) <= AHEAD
     }
 
-    // Whether it has no socket yet, or one, and nothing of its time was taken since.
-    fn is_fresh(&self) -> bool
-        ensures { result ≡ is_fresh self.now }
-    {
-        self.number.is_none() || self.paid_until == 0
-    }
-
     /// Whether something may have come of one that acts for nobody for which its time is not taken too far ahead, and
-    /// nothing waits for it: of one that has no socket yet, or has it, and nothing of its time was taken since; or of
-    /// another.
-    pub fn is_due(&self, among_fresh: bool, at: u64) -> bool
-        ensures { IsTrue result ↔ IsDue among_fresh at self.now }
+    /// nothing waits for it.
+    pub fn is_due(&self, at: u64) -> bool
+        ensures { IsTrue result ↔ IsDue at self.now }
     {
-        !self.is_lost
-            && self.waits.is_empty()
-            && self.is_in_time(at)
-            && self.is_fresh() == among_fresh
-            && self.has_something()
+        !self.is_lost && self.waits.is_empty() && self.is_in_time(at) && self.has_something()
     }
 
     /// Whether something may have come of it, nothing waits for it and nothing of its time is taken: nothing was ever
@@ -290,10 +272,7 @@ impl<S> Guest<S> {
         if self.is_lost {
             return Role::Gone;
         }
-        match self.number {
-            Some(number) => role_at(talk, number),
-            None => Role::Newcomer,
-        }
+        role_by(talk.acts(self.number))
     }
 
     // The player for whom it acts.

@@ -10,8 +10,8 @@ ghost use Rattle.lobby_talk.specs.Counting.{counted_up};
 ghost use Rattle.lobby_guests.specs.Guests as guests;
 ghost use Rattle.lobby_guests.specs.Guests.{IsAsBefore, IsServed, IsPlayersTurn, IsOthersTurn, InTurn, Room, full_room};
 ghost use Rattle.lobby_guests.specs.Guests.{AreAttended, AreTold, AreDelivered, IsWritten, IsLookedAfter, IsClosedIf};
-ghost use Rattle.lobby_guests.specs.Guests.{AreClosed, AreParted, IsCaughtUp, first_wanted, has_waiting, pass_of};
-ghost use Rattle.lobby_guests.specs.Rests.{LeavesOthers, LeavesNewcomers, LeavesStranger};
+ghost use Rattle.lobby_guests.specs.Guests.{AreClosed, AreParted, IsCaughtUp, first_wanted, has_waiting};
+ghost use Rattle.lobby_guests.specs.Guests.{LeavesOthers, LeavesStranger};
 ghost use Rattle.lobby_guests.specs.Waking.{IsAwake, StaysUnlessNamed, IsAwakeIfNamed, NamesGrow, IsPlaceNamed};
 ghost use Rattle.lobby_guests.specs.Waking.{number_named};
 ghost use Rattle.lobby_guests.specs.Waiting as waiting;
@@ -20,7 +20,7 @@ ghost use Rattle.lobby_talk.specs.Talking.{IsTalkAsBefore, acts_at};
 ghost use Rattle.lobby_talk.specs.Keeping.{AreKept};
 
 use crate::guest::Guest;
-use crate::rounds::{ATTENDED_MOST, Others, Round, Rounds};
+use crate::rounds::{ATTENDED_MOST, Round, Rounds};
 use lobby_desk::Message;
 use lobby_talk::{Coming, Counts, KeepsLinks, KeptAnswer, PIECE_ROOM, Talk};
 use lobby_web::Site;
@@ -87,31 +87,9 @@ fn attend_players<S: Read + Write, K: KeepsLinks>(
     Ok(any)
 }
 
-// Whether a browser is one of these others.
-fn is_other(others: Others, number: Option<u64>, talk: &Talk) -> bool
-    ensures { result ≡ guests.is_other others talk.now.desk number }
-{
-    match others {
-        Others::Newcomers => number.is_none(),
-        Others::Strangers => number.is_some() && !talk.acts(number),
-    }
-}
-
-// Whether one of these others may be attended now.
-fn may_call(others: Others, talk: &Talk) -> bool
-    ensures { result ≡ guests.may_call others talk.now.desk }
-{
-    match others {
-        Others::Newcomers => true,
-        Others::Strangers => !talk.strangers_wait(),
-    }
-}
-
-// Attends a browser if it is one of these others, and its turn.
+// Attends a browser if it acts for nobody, and it is its turn.
 fn attend_other<S: Read + Write, K: KeepsLinks>(
     guest: &mut Guest<S>,
-    others: Others,
-    is_fresh: bool,
     round: &mut Round,
     site: &Site,
     talk: &mut Talk,
@@ -120,28 +98,19 @@ fn attend_other<S: Read + Write, K: KeepsLinks>(
     piece: &mut [u8; PIECE_ROOM],
     coming: &mut Coming,
 ) -> Result<bool, AllocError>
-    ensures { OnOk result (IsOthersTurn (pass_of others is_fresh at) S.remaining site.now guest.old guest.new
+    ensures { OnOk result (IsOthersTurn S.remaining site.now at guest.old guest.new
         (record { talk = talk.old; left = round.old.left }) (record { talk = talk.new; left = round.new.left })) }
 {
-    if !round.is_at(guest.key())
-        || !guest.is_due(is_fresh, at)
-        || !is_other(others, guest.number(), talk)
-    {
-        return Ok(false);
-    }
-    if !may_call(others, talk) {
-        round.shut();
+    if !round.is_at(guest.key()) || !guest.is_due(at) || talk.acts(guest.number()) {
         return Ok(false);
     }
     round.take(guest.key());
     attend(guest, site, talk, at, links, piece, coming)
 }
 
-// Attends some of these others, and tells whether there was anything or more can be attended at once.
+// Attends some of those who act for nobody, and tells whether there was anything or more can be attended at once.
 fn attend_others<S: Read + Write, K: KeepsLinks>(
     guests: &mut Vec<Guest<S>>,
-    others: Others,
-    is_fresh: bool,
     round: &mut Round,
     site: &Site,
     talk: &mut Talk,
@@ -151,26 +120,21 @@ fn attend_others<S: Read + Write, K: KeepsLinks>(
     coming: &mut Coming,
 ) -> Result<bool, AllocError>
     ensures { OnOk result ((room : Room) × (room.talk ≡ talk.new)
-        × InTurn (IsOthersTurn (pass_of others is_fresh at) S.remaining site.now) guests.old.items guests.new.items
-        (full_room talk.old) room) }
+        × InTurn (IsOthersTurn S.remaining site.now at) guests.old.items guests.new.items (full_room talk.old) room) }
 {
     let mut any = false;
     round.begin_attending();
     for guest in guests.iter_mut() {
-        any |= attend_other(
-            guest, others, is_fresh, round, site, talk, at, links, piece, coming,
-        )?;
+        any |= attend_other(guest, round, site, talk, at, links, piece, coming)?;
     }
     let can_more = round.end();
     Ok(any | can_more)
 }
 
-// Attends some of these others, where they do not rest.
+// Attends some of those who act for nobody, where they do not wait.
 fn attend_unless<S: Read + Write, K: KeepsLinks>(
     guests: &mut Vec<Guest<S>>,
-    rests: bool,
-    others: Others,
-    is_fresh: bool,
+    waits: bool,
     round: &mut Round,
     site: &Site,
     talk: &mut Talk,
@@ -180,21 +144,17 @@ fn attend_unless<S: Read + Write, K: KeepsLinks>(
     coming: &mut Coming,
 ) -> Result<bool, AllocError>
     ensures turned { OnOk result ((room : Room) × (room.talk ≡ talk.new)
-        × InTurn (IsOthersTurn (pass_of others is_fresh at) S.remaining site.now) guests.old.items guests.new.items
-        (full_room talk.old) room) }
-    ensures rests { rests ≡ true → (guests.new.items ≡ guests.old.items) × (talk.new ≡ talk.old) }
+        × InTurn (IsOthersTurn S.remaining site.now at) guests.old.items guests.new.items (full_room talk.old) room) }
+    ensures waits { waits ≡ true → (guests.new.items ≡ guests.old.items) × (talk.new ≡ talk.old) }
 {
-    if rests {
+    if waits {
         return Ok(false);
     }
-    attend_others(
-        guests, others, is_fresh, round, site, talk, at, links, piece, coming,
-    )
+    attend_others(guests, round, site, talk, at, links, piece, coming)
 }
 
-/// Reads for players, and says to the desk what came next of each of them; and then for some of the others, of whom
-/// those who have no socket yet wait in a short turn, and those who were heard before may rest. It tells whether there
-/// was anything of players.
+/// Reads for players, and says to the desk what came next of each of them; and then for some of those who act for
+/// nobody, who wait in a short turn. It tells whether there was anything of players.
 pub fn attend_all<S: Read + Write, K: KeepsLinks>(
     guests: &mut Vec<Guest<S>>,
     rounds: &mut Rounds,
@@ -207,49 +167,15 @@ pub fn attend_all<S: Read + Write, K: KeepsLinks>(
     counts: &mut Counts,
 ) -> Result<bool, AllocError>
     ensures attended { OnOk result ((attended : AreAttended S.remaining site.now at guests.old.items guests.new.items
-        talk.old talk.new) × (nat_lt at rounds.old.rests_until ≡ true → LeavesOthers attended)
-        × (is_short ≡ true → LeavesNewcomers attended)) }
-    ensures rests { OnOk result (rounds.new.rests_until ≡ rounds.old.rests_until) }
+        talk.old talk.new) × (is_short ≡ true → LeavesOthers attended)) }
     ensures logins { OnOk result (counts.new.logins_refused ≡ counts.old.logins_refused) }
 {
     let mut coming = Coming::new();
-    let new = Others::Newcomers;
-    let round = &mut rounds.newcomers;
+    let round = &mut rounds.attended;
     let players = attend_players(guests, site, talk, at, links, piece, &mut coming)?;
-    let newcomers = attend_unless(
+    let others = attend_unless(
         guests,
         is_short,
-        new,
-        true,
-        round,
-        site,
-        talk,
-        at,
-        links,
-        piece,
-        &mut coming,
-    )?;
-    let strange = Others::Strangers;
-    let round = &mut rounds.fresh;
-    let fresh = attend_others(
-        guests,
-        strange,
-        true,
-        round,
-        site,
-        talk,
-        at,
-        links,
-        piece,
-        &mut coming,
-    )?;
-    let rests = rounds.rests(at);
-    let round = &mut rounds.strangers;
-    let other = attend_unless(
-        guests,
-        rests,
-        strange,
-        false,
         round,
         site,
         talk,
@@ -259,7 +185,7 @@ pub fn attend_all<S: Read + Write, K: KeepsLinks>(
         &mut coming,
     )?;
     counts.add(&coming);
-    rounds.has_others = is_short | newcomers | fresh | other;
+    rounds.has_others = is_short | others;
     Ok(players)
 }
 
@@ -445,7 +371,6 @@ pub fn write_all<S: Read + Write>(
     ensures written { (first : List (Guest S)) × AllZip (IsWritten S.contents site.now) guests.old.items first
         × AllZip (IsWritten S.contents site.now) first guests.new.items }
     ensures short { is_short ≡ true → AllZip (LeavesStranger talk.now.desk) guests.old.items guests.new.items }
-    ensures rests { rounds.new.rests_until ≡ rounds.old.rests_until }
 {
     let players = write_players(guests, site, talk);
     let others = write_unless(guests, is_short, site, talk, &mut rounds.written);

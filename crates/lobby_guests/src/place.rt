@@ -11,9 +11,7 @@ pub enum Role {
     Gone,
     /// It acts for a player.
     Player,
-    /// It acts for nobody, and watches a game or is told of the table.
-    Watcher,
-    /// It acts for nobody, and watches nothing.
+    /// It acts for nobody.
     Newcomer,
 }
 

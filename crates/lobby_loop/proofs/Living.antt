@@ -27,7 +27,6 @@ use Rattle.lobby_loop.specs.declared.hall.Hall.{Hall}
 use Rattle.lobby_talk.specs.declared.link.Link.{Link}
 use Rattle.lobby_talk.specs.declared.talk.Talk.{Talk}
 use Rattle.lobby_talk.specs.Talking.{Saying, InTime, TooFast, WithLink, saying, Moves}
-use Rattle.lobby_guests.specs.declared.rounds.Others.TheVariants.{Newcomers, Strangers}
 use Rattle.lobby_guests.proofs.Attending.{players_pass, others_pass}
 use Rattle.lobby_guests.specs.Guests.{IsNewGuest, IsHeardAs, IsAsBefore, IsAttended, InTurn, full_room, IsLookedAfter, AreTold, AreNextTold, IsCaughtUp, AreDelivered, IsWritten, IsClosedIf, AreClosed}
 use Rattle.lobby_talk.specs.Lines.{bytes_of as bytes_before, AreHeard}
@@ -1156,15 +1155,11 @@ module _ {S : Type 0} (remaining contents : S → Option (List ℕ)) (players : 
       let passes = t.takes.attends in
       let one = attended_pass at former base out site old.guests.items passes.first t.takes.parted passes.said own two
       (players_pass remaining site at old.guests.items passes.first t.takes.parted passes.said passes.players) in
-      let next = attended_pass at former base out site passes.first passes.second passes.said passes.came.talk one.1 one.0
-      (others_pass remaining site at Newcomers true passes.first passes.second (full_room passes.said) passes.came passes.newcomers) in
-      let third = attended_pass at former base out site passes.second passes.third passes.came.talk passes.asked.talk next.1 next.0
-      (others_pass remaining site at Strangers true passes.second passes.third (full_room passes.came.talk) passes.asked passes.fresh) in
       let said = subst (λ (u : Talk). IsTalkAt players is_paused base out
       (Two remaining contents site came players is_paused former base out [] t.takes.attended) u
       × AreOwn u.next (numbers (former ++ t.takes.attended))) (sym passes.after_is)
-      (attended_pass at former base out site passes.third t.takes.attended passes.asked.talk passes.last.talk third.1 third.0
-      (others_pass remaining site at Strangers false passes.third t.takes.attended (full_room passes.asked.talk) passes.last passes.strangers)) in
+      (attended_pass at former base out site passes.first t.takes.attended passes.said passes.last.talk one.1 one.0
+      (others_pass remaining site at passes.first t.takes.attended (full_room passes.said) passes.last passes.others)) in
       let attended : IsAt players is_paused base out (AreKept remaining contents site came former out t.takes.attended) t.between.talk.desk
       t.between.talk.wire.items (message_values t.between.talk.told.items) =
       at_with players is_paused base out (Two remaining contents site came players is_paused former base out [] t.takes.attended)

@@ -4,7 +4,7 @@ use Rattle.std.specs.List.{AllZip}
 use Rattle.std.proofs.lemmas.List.{take_more, take_more_set, take_all, length-set, length-map}
 use Rattle.std.proofs.lemmas.List.Elements.{length_all_zip}
 use Rattle.lobby_desk.specs.declared.desk.Desk.{Desk}
-use Rattle.lobby_desk.specs.Roles.{acts, is_watcher}
+use Rattle.lobby_talk.specs.Talking.{acts_at}
 use Rattle.lobby_guests.specs.declared.guest.Guest.{Guest}
 use Rattle.lobby_guests.specs.declared.place.Place.{Place}
 use Rattle.lobby_guests.specs.declared.place.Role.{Role}
@@ -65,10 +65,9 @@ module _ {S : Type 0} where
 
 -- ---- what becomes of their places
 
-role_stays : (a b : Bool) → is_gone (role_by a b) ≡ false
-role_stays true b = refl
-role_stays false true = refl
-role_stays false false = refl
+role_stays : (acts : Bool) → is_gone (role_by acts) ≡ false
+role_stays true = refl
+role_stays false = refl
 
 or_true : (b : Bool) → (b || true) ≡ true
 or_true true = refl
@@ -77,9 +76,7 @@ or_true false = refl
 lost_stays : (desk : Desk) (lost : Bool) (number : Option ℕ) →
     role_of desk (lost || is_gone (role_of desk lost number)) number ≡ role_of desk lost number
 lost_stays desk true number = refl
-lost_stays desk false None = refl
-lost_stays desk false (Some c) =
-    ap (λ (b : Bool). role_of desk b (Some c)) (role_stays (acts desk c) (is_watcher desk c))
+lost_stays desk false number = ap (λ (b : Bool). role_of desk b number) (role_stays (acts_at desk number))
 
 -- a place of these parts
 abbrev place_with : Option ℕ → Role → Option (List ℕ) → ℕ → Place

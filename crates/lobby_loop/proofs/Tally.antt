@@ -7,26 +7,18 @@ use Rattle.std.specs.Ordering.{nat_cmp}
 use Rattle.std.proofs.lemmas.Bool.Decides.{nat_tests}
 use Rattle.lobby_guests.specs.declared.place.Place.{Place}
 use Rattle.lobby_loop.specs.declared.places.Class.{Class}
-use Rattle.lobby_loop.specs.declared.places.Class.TheVariants.{Nameless, Watchers, Newcomers, Aged, Own}
-use Rattle.lobby_loop.specs.Places.{is_nameless, counted, count_of, leave, trim, make_room, room_for, IsTallied, own_room, number_of, IsTalliedByName}
+use Rattle.lobby_loop.specs.declared.places.Class.TheVariants.{Nameless, Own}
+use Rattle.lobby_loop.specs.Places.{is_nameless, counted, count_of, leave, make_room, room_for, IsTallied, own_room, number_of, IsTalliedByName}
 use Rattle.lobby_loop.proofs.Room.{fewer, nameless_closable, room_keeps, room_made, fewer_own, room_owns}
 
 leave_none : (P : Place → Bool) (ps : List Place) → leave P 0 ps ≡ ps
 leave_none P [] = refl
 leave_none P (p ∷ ps) = ap (λ qs. p ∷ qs) (leave_none P ps)
 
-trim_none : (address : Option ℕ) (class : Class) (most : ℕ) (ps : List Place) → count_of address Nameless ps ≤ most →
-    trim address class most ps ≡ ps
-trim_none address class most ps few =
+room_none : (address : Option ℕ) (most : ℕ) (ps : List Place) → count_of address Nameless ps ≤ most → make_room address most ps ≡ ps
+room_none address most ps few =
     let none : count_of address Nameless ps - most ≡ 0 = omega (arith, few) in
-    ap (λ n. leave (counted address class) n ps) none ∙ leave_none (counted address class) ps
-
-room_none : (address : Option ℕ) (most at : ℕ) (ps : List Place) → count_of address Nameless ps ≤ most →
-    make_room address most at ps ≡ ps
-room_none address most at ps few =
-    ap (λ qs. trim address Newcomers most (trim address Watchers most qs)) (trim_none address (Aged at 5000) most ps few)
-    ∙ ap (λ qs. trim address Newcomers most qs) (trim_none address Watchers most ps few)
-    ∙ trim_none address Newcomers most ps few
+    ap (λ n. leave (counted address Nameless) n ps) none ∙ leave_none (counted address Nameless) ps
 
 -- where no more than 32 are told at an address there are no more
 few_there : (tally : BTreeMap ℕ ℕ) (ps : List Place) (a : ℕ) → IsTallied tally ps → count_at (get nat_cmp tally) a ≤ 32 →
@@ -37,27 +29,27 @@ cases : (b : Bool) → (b ≡ true) ⊎ (b ≡ false)
 cases true = inl refl
 cases false = inr refl
 
-pub stays_few : (tally : BTreeMap ℕ ℕ) (at a : ℕ) (place : Place) (ps : List Place) → IsTallied tally ps → place.address ≡ Some a →
-    count_at (get nat_cmp tally) a ≤ 32 → room_for at place ps ≡ ps
-stays_few tally at a place ps tallied is few = elim (cases (is_nameless place.role)) [
-  | inl is_so ↦ rw (is_so, is) (room_none (Some a) 32 at ps (few_there tally ps a tallied few))
+pub stays_few : (tally : BTreeMap ℕ ℕ) (a : ℕ) (place : Place) (ps : List Place) → IsTallied tally ps → place.address ≡ Some a →
+    count_at (get nat_cmp tally) a ≤ 32 → room_for place ps ≡ ps
+stays_few tally a place ps tallied is few = elim (cases (is_nameless place.role)) [
+  | inl is_so ↦ rw (is_so, is) (room_none (Some a) 32 ps (few_there tally ps a tallied few))
   | inr not_so ↦ rw not_so refl
 ]
 
-pub tallied_after : (tally told : BTreeMap ℕ ℕ) (at a number : ℕ) (ps : List Place) → number ≡ a → IsTallied tally ps →
+pub tallied_after : (tally told : BTreeMap ℕ ℕ) (a number : ℕ) (ps : List Place) → number ≡ a → IsTallied tally ps →
     ((b : ℕ) → count_at (get nat_cmp told) b ≡ (if number == b then 32 else count_at (get nat_cmp tally) b)) →
-    IsTallied told (make_room (Some a) 32 at ps)
-tallied_after tally told at a number ps number_is tallied tells b =
+    IsTallied told (make_room (Some a) 32 ps)
+tallied_after tally told a number ps number_is tallied tells b =
     let is : (c : ℕ) → count_at (get nat_cmp told) c ≡ (if a == c then 32 else count_at (get nat_cmp tally) c) =
     subst (λ (n : ℕ). (c : ℕ) → count_at (get nat_cmp told) c ≡ (if n == c then 32 else count_at (get nat_cmp tally) c)) number_is tells in
-    let less : count_of (Some b) Nameless (make_room (Some a) 32 at ps) ≤ count_of (Some b) Nameless ps =
-    fewer (counted (Some b) Nameless) (nameless_closable (Some b)) ps (make_room (Some a) 32 at ps) (room_keeps (Some a) 32 at ps) in
+    let less : count_of (Some b) Nameless (make_room (Some a) 32 ps) ≤ count_of (Some b) Nameless ps =
+    fewer (counted (Some b) Nameless) (nameless_closable (Some b)) ps (make_room (Some a) 32 ps) (room_keeps (Some a) 32 ps) in
     elim (cases (a == b)) [
       | inl same ↦
           let so : a ≡ b = grind (arith, nat_tests, same) in
           let here : count_at (get nat_cmp told) b ≡ 32 = is b ∙ rw same refl in
-          let few : count_of (Some b) Nameless (make_room (Some a) 32 at ps) ≤ 32 =
-          subst (λ c. count_of (Some c) Nameless (make_room (Some a) 32 at ps) ≤ 32) so (room_made (Some a) 32 at ps) in
+          let few : count_of (Some b) Nameless (make_room (Some a) 32 ps) ≤ 32 =
+          subst (λ c. count_of (Some c) Nameless (make_room (Some a) 32 ps) ≤ 32) so (room_made (Some a) 32 ps) in
           omega (arith, here, few)
       | inr other ↦
           let here : count_at (get nat_cmp told) b ≡ count_at (get nat_cmp tally) b = is b ∙ rw other refl in

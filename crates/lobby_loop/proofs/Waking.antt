@@ -60,7 +60,6 @@ module _ {S : Type 0} where
     site = refl;
     come = refl;
     away = refl;
-    rests = refl;
   }
 
   pub woken_more : (a b c : Hall S) → IsWoken a b → IsWoken b c → IsWoken a c
@@ -71,7 +70,6 @@ module _ {S : Type 0} where
     site = next.site ∙ one.site;
     come = next.come ∙ one.come;
     away = next.away ∙ one.away;
-    rests = next.rests ∙ one.rests;
   }
 
   -- a browser comes to a hall that is as before
@@ -90,7 +88,6 @@ module _ {S : Type 0} where
     site = admits.site ∙ same.site;
     has_come = λ is. admits.has_come (same.come ∙ is);
     away = admits.away ∙ same.away;
-    rests = admits.rests ∙ same.rests;
   }
 
   -- or is turned away
@@ -103,5 +100,4 @@ module _ {S : Type 0} where
     site = away.site ∙ same.site;
     has_come = λ is. away.come ∙ (same.come ∙ is);
     away = away.away ∙ same.away;
-    rests = away.rests ∙ same.rests;
   }

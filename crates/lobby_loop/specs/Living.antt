@@ -42,7 +42,6 @@ pub record IsWoken {S : Type 0} (old new : Hall S) : Type 0 where
   pub site : new.site ≡ old.site
   pub come : new.has_come ≡ old.has_come
   pub away : new.away_at ≡ old.away_at
-  pub rests : new.rounds.rests_until ≡ old.rounds.rests_until
 
 -- At this path this file is served from now on, or none, and nothing else happens.
 pub record Files {S : Type 0} (path : List ℕ) (file : Option File) (old new : Hall S) : Type 0 where
@@ -52,7 +51,6 @@ pub record Files {S : Type 0} (path : List ℕ) (file : Option File) (old new : 
   pub site : Changes path file old.site new.site
   pub come : new.has_come ≡ old.has_come
   pub away : new.away_at ≡ old.away_at
-  pub rests : new.rounds.rests_until ≡ old.rounds.rests_until
 
 -- The players are these from now on, and nothing else happens.
 pub record Renews {S : Type 0} (players : List Player) (old new : Hall S) : Type 0 where
@@ -62,7 +60,6 @@ pub record Renews {S : Type 0} (players : List Player) (old new : Hall S) : Type
   pub site : new.site ≡ old.site
   pub come : new.has_come ≡ old.has_come
   pub away : new.away_at ≡ old.away_at
-  pub rests : new.rounds.rests_until ≡ old.rounds.rests_until
 
 -- The same files are served, and nothing happens.
 pub record KeepsFiles {S : Type 0} (old new : Hall S) : Type 0 where
@@ -72,7 +69,6 @@ pub record KeepsFiles {S : Type 0} (old new : Hall S) : Type 0 where
   pub site : IsSameSite old.site new.site
   pub come : new.has_come ≡ old.has_come
   pub away : new.away_at ≡ old.away_at
-  pub rests : new.rounds.rests_until ≡ old.rounds.rests_until
 
 -- a turn in which these bytes come of the server, the connection to it is lost or not, the log has these texts, and
 -- these bytes are written to the server

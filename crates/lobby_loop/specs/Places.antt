@@ -13,32 +13,20 @@ use Rattle.lobby_guests.specs.declared.place.Role.{Role}
 use Rattle.lobby_guests.specs.declared.place.Role.TheVariants as roles
 use Rattle.lobby_guests.specs.Place.{is_gone}
 use Rattle.lobby_loop.specs.declared.places.Class.{Class}
-use Rattle.lobby_loop.specs.declared.places.Class.TheVariants.{Gone, Players, Nameless, Watchers, Newcomers, Aged}
-use Rattle.lobby_loop.specs.declared.places.Class.TheVariants.{Own}
+use Rattle.lobby_loop.specs.declared.places.Class.TheVariants.{Gone, Players, Nameless, Aged, Own}
 
 -- ---- which connections are counted
 
 abbrev pub is_player : Role → Bool
 is_player roles.Gone = false
 is_player roles.Player = true
-is_player roles.Watcher = false
 is_player roles.Newcomer = false
-
-abbrev pub is_watcher : Role → Bool
-is_watcher roles.Gone = false
-is_watcher roles.Player = false
-is_watcher roles.Watcher = true
-is_watcher roles.Newcomer = false
-
-abbrev pub is_newcomer : Role → Bool
-is_newcomer roles.Gone = false
-is_newcomer roles.Player = false
-is_newcomer roles.Watcher = false
-is_newcomer roles.Newcomer = true
 
 -- It acts for nobody.
 abbrev pub is_nameless : Role → Bool
-is_nameless role = is_watcher role || is_newcomer role
+is_nameless roles.Gone = false
+is_nameless roles.Player = false
+is_nameless roles.Newcomer = true
 
 -- It acts for the player of this name.
 abbrev pub is_of : List ℕ → Option (List ℕ) → Bool
@@ -49,9 +37,7 @@ abbrev pub is_in : Class → Place → Bool
 is_in Gone p = is_gone p.role
 is_in Players p = is_player p.role
 is_in Nameless p = is_nameless p.role
-is_in Watchers p = is_watcher p.role
-is_in Newcomers p = is_newcomer p.role
-is_in (Aged at age) p = is_newcomer p.role && nat_le age (at - p.since)
+is_in (Aged at age) p = is_nameless p.role && nat_le age (at - p.since)
 is_in (Own name) p = is_player p.role && is_of name p.player
 
 -- It counts for this address; without one all do.
@@ -97,40 +83,27 @@ abbrev pub IsTalliedByName : BTreeMap ℕ ℕ → List Place → Type 0
 IsTalliedByName tally ps =
     (name : List ℕ) → min 17 (count_of None (Own name) ps) ≤ count_at (get nat_cmp tally) (number_of name)
 
--- all but the first of them, so many at most
-abbrev pub beyond : (Place → Bool) → ℕ → List Place → List Place
-beyond P n [] = []
-beyond P n (p ∷ ps) =
-    if P p then (if nat_lt 0 n then p ∷ beyond P (n - 1) ps else gone p ∷ beyond P n ps)
-    else p ∷ beyond P n ps
-
--- the first of a class, as many as are nameless beyond so many
-abbrev pub trim : Option ℕ → Class → ℕ → List Place → List Place
-trim address class most ps = leave (counted address class) (count_of address Nameless ps - most) ps
-
--- Nameless connections make room until so many are left: first newcomers who came 5 seconds ago or before, then
--- watchers, then the other newcomers; of each who came first.
-abbrev pub make_room : Option ℕ → ℕ → ℕ → List Place → List Place
-make_room address most at ps =
-    trim address Newcomers most (trim address Watchers most (trim address (Aged at 5000) most ps))
+-- Nameless connections make room until so many are left: who came first.
+abbrev pub make_room : Option ℕ → ℕ → List Place → List Place
+make_room address most ps = leave (counted address Nameless) (count_of address Nameless ps - most) ps
 
 -- An address has at most 32 nameless ones.
-abbrev pub room_at : ℕ → Option ℕ → List Place → List Place
-room_at at None ps = ps
-room_at at (Some a) ps = make_room (Some a) 32 at ps
+abbrev pub room_at : Option ℕ → List Place → List Place
+room_at None ps = ps
+room_at (Some a) ps = make_room (Some a) 32 ps
 
-abbrev pub room_for : ℕ → Place → List Place → List Place
-room_for at q ps = if is_nameless q.role then room_at at q.address ps else ps
+abbrev pub room_for : Place → List Place → List Place
+room_for q ps = if is_nameless q.role then room_at q.address ps else ps
 
-abbrev pub each_room : ℕ → List Place → List Place → List Place
-each_room at [] ps = ps
-each_room at (q ∷ qs) ps = each_room at qs (room_for at q ps)
+abbrev pub each_room : List Place → List Place → List Place
+each_room [] ps = ps
+each_room (q ∷ qs) ps = each_room qs (room_for q ps)
 
 -- At no address there are more nameless ones than this tells, but that 33 stand for any more.
 abbrev pub IsTallied : BTreeMap ℕ ℕ → List Place → Type 0
 IsTallied tally ps = (a : ℕ) → min 33 (count_of (Some a) Nameless ps) ≤ count_at (get nat_cmp tally) a
 
--- A newcomer has 20 seconds, from this moment on if he came before it.
+-- A nameless one has 20 seconds, from this moment on if it came before.
 abbrev pub in_time : ℕ → ℕ → List Place → List Place
 in_time at from ps = if nat_le 20000 (at - from) then leave (counted None (Aged at 20000)) (length ps) ps else ps
 
@@ -142,9 +115,8 @@ most_nameless players = max 40 (min 600 (1000 - players))
 abbrev pub judged : ℕ → ℕ → List Place → List Place
 judged at from ps =
     let late = in_time at from ps in
-    let watched = beyond (counted None Watchers) 500 late in
-    let spread = each_room at watched watched in
-    make_room None (most_nameless (count_of None Players spread)) at spread
+    let spread = each_room late late in
+    make_room None (most_nameless (count_of None Players spread)) spread
 
 -- ---- what is promised of it
 
@@ -161,9 +133,9 @@ pub record IsOwned (old new : List Place) : Type 0 where
 abbrev pub IsKeptOrClosed : Place → Place → Type 0
 IsKeptOrClosed old new = (new ≡ old) ⊎ ((is_nameless old.role ≡ true) × (new ≡ gone old))
 
--- a newcomer who came less than 5 seconds ago
+-- a nameless one that came less than 20 seconds ago
 abbrev pub IsYoung : ℕ → Place → Type 0
-IsYoung at p = (is_newcomer p.role ≡ true) × (at - p.since < 5000)
+IsYoung at p = (is_nameless p.role ≡ true) × (at - p.since < 20000)
 
 -- Among these 32 nameless ones are of an address.
 abbrev pub HasCrowd : Option ℕ → List Place → Type 0
@@ -174,7 +146,7 @@ HasCrowd (Some a) behind = 32 ≤ count_of (Some a) Nameless behind
 abbrev pub HasChance : ℕ → Place → List Place → Place → Type 0
 HasChance most old behind new = (new ≡ old) ⊎ ((most ≤ count_of None Nameless behind) ⊎ HasCrowd old.address behind)
 
--- So it is of each newcomer who came less than 5 seconds ago: in that time he may show a token.
+-- So it is of each nameless one that came less than 20 seconds ago: in that time it may show a token.
 abbrev pub HaveChance : ℕ → ℕ → List Place → List Place → Type 0
 HaveChance at most [] new = Unit {0}
 HaveChance at most (p ∷ ps) [] = ⊥
@@ -184,7 +156,6 @@ HaveChance at most (p ∷ ps) (q ∷ qs) = (IsYoung at p → HasChance most p ps
 pub record IsFair (at from : ℕ) (old new : List Place) : Type 0 where
   pub kept : AllZip IsKeptOrClosed old new
   pub nameless : count_of None Nameless new ≤ most_nameless (count_of None Players new)
-  pub watchers : count_of None Watchers new ≤ 500
   pub addresses : (a : ℕ) → count_of (Some a) Nameless new ≤ 32
   pub chance : HaveChance at (most_nameless (count_of None Players new)) old new
   pub in_time : 20000 ≤ at - from → count_of None (Aged at 20000) new ≡ 0

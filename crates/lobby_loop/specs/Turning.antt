@@ -13,8 +13,7 @@ use Rattle.lobby_talk.specs.declared.talk.Talk.{Talk}
 use Rattle.lobby_talk.specs.Talking.{Begins, MovesAnew}
 use Rattle.lobby_guests.specs.Origins.{IsPlain, IsFrom}
 use Rattle.lobby_guests.specs.Guests.{IsNewGuest, ComesFrom, AreAttended, AreDelivered, IsWritten, IsLookedAfter}
-use Rattle.lobby_guests.specs.Guests.{AreParted, has_waiting, earlier, first_due}
-use Rattle.lobby_guests.specs.Rests.{rested, rest_over, LeavesOthers, LeavesNewcomers, LeavesStranger}
+use Rattle.lobby_guests.specs.Guests.{AreParted, has_waiting, earlier, first_due, LeavesOthers, LeavesStranger}
 use Rattle.lobby_talk.specs.Held.{TakesIn, HandsOn, IsKept}
 use Rattle.lobby_talk.specs.Replaying.{IsReplayed}
 use Rattle.lobby_loop.specs.Seating.{AreSeated}
@@ -61,7 +60,7 @@ pub record BeginsHall {S : Type 0} (site : Site) (players : List Player) (is_pau
   pub guests : now.guests.items ≡ []
   pub server : now.server ≡ None
 
--- Nobody came or went, and nothing was read, said, told or written. Those who rest do so as long.
+-- Nobody came or went, and nothing was read, said, told or written.
 pub record IsHallAsBefore {S : Type 0} (old new : Hall S) : Type 0 where
   pub guests : new.guests ≡ old.guests
   pub talk : new.talk ≡ old.talk
@@ -69,7 +68,6 @@ pub record IsHallAsBefore {S : Type 0} (old new : Hall S) : Type 0 where
   pub site : new.site ≡ old.site
   pub come : new.has_come ≡ old.has_come
   pub away : new.away_at ≡ old.away_at
-  pub rests : new.rounds.rests_until ≡ old.rounds.rests_until
 
 -- Nothing came of the server, and nothing went to it.
 abbrev pub IsServerAsBefore : {S : Type 0} → Option (Link S) → Option (Link S) → Type 0
@@ -87,7 +85,6 @@ pub record Admits {S : Type 0} (stream : S) (old new : Hall S) : Type 0 where
   pub server : new.server ≡ old.server
   pub site : new.site ≡ old.site
   pub away : new.away_at ≡ old.away_at
-  pub rests : new.rounds.rests_until ≡ old.rounds.rests_until
 
 -- Whoever comes has this socket's name, comes from a peer of this address, and came at this moment.
 abbrev pub ComesBy : {S : Type 0} → ℕ → IpAddr → ℕ → Hall S → Hall S → Type 0
@@ -116,7 +113,6 @@ pub record ServerComes {S : Type 0} (stream : S) (old new : Hall S) : Type 0 whe
   pub site : new.site ≡ old.site
   pub come : new.has_come ≡ old.has_come
   pub away : new.away_at ≡ old.away_at
-  pub rests : new.rounds.rests_until ≡ old.rounds.rests_until
 
 -- the last moment of a turn at which the server was not there
 abbrev pub away_after : Bool → ℕ → ℕ → ℕ
@@ -130,8 +126,7 @@ HasPlaces {S} has_come at attended new =
     × AreSeated at new.away_at new.talk.desk looked new.guests.items
 
 -- What comes is taken in: the server is heard, and the desk is told where its connection is lost; then each browser is,
--- but in a short turn none of those who have no socket yet, and until their rest is over none of those who act for
--- nobody and were heard before. For all that is told then they rest on.
+-- but in a short turn none of those who act for nobody.
 pub record TakesAllIn {S : Type 0} (remaining : S → Option (List ℕ)) (at : ℕ) (is_short : Bool)
     (old new : Hall S) : Type 0 where
   pub server_heard : Option (Link S)
@@ -143,9 +138,7 @@ pub record TakesAllIn {S : Type 0} (remaining : S → Option (List ℕ)) (at : �
   pub parts : PartsFromServer is_gone server_heard new.server heard parted
   pub attended : List (Guest S)
   pub attends : AreAttended remaining old.site at old.guests.items attended parted new.talk
-  pub rests : nat_lt at old.rounds.rests_until ≡ true → LeavesOthers attends
-  pub newcomers : is_short ≡ true → LeavesNewcomers attends
-  pub rested_is : new.rounds.rests_until ≡ rested at old.rounds.rests_until new.talk.told.items
+  pub others : is_short ≡ true → LeavesOthers attends
   pub looks : AllZip (IsLookedAfter new.talk.desk at) attended new.guests.items
   pub places : HasPlaces old.has_come at attended new
   pub away : new.away_at ≡ away_after (is_some new.server) old.away_at at
@@ -171,14 +164,13 @@ pub record HandsAllOut {S : Type 0} (contents : S → Option (List ℕ)) (is_sho
   pub strangers : is_short ≡ true → AllZip (LeavesStranger rest.desk) told written
   pub parted_from : AreParted written new.guests.items rest new.talk
   pub site : new.site ≡ old.site
-  pub rests : new.rounds.rests_until ≡ old.rounds.rests_until
 
 -- the next moment behind one at which there is something to do though no socket is ready, where anybody is there:
--- somebody's next message is taken, those who rest do so no more, or it is looked after who is silent
+-- somebody's next message is taken, or it is looked after who is silent
 abbrev pub next_moment : {S : Type 0} → ℕ → Hall S → Option ℕ
 next_moment at hall =
     if length hall.guests.items == 0 then None
-    else earlier (earlier (first_due at hall.guests.items) (rest_over at hall.rounds.rests_until)) (Some hall.look_at)
+    else earlier (first_due at hall.guests.items) (Some hall.look_at)
 
 -- There is more to be done at once: an answer to `line G` is to be made, or to be told.
 abbrev pub has_more : {S : Type 0} → Hall S → Bool

@@ -57,8 +57,8 @@ const HOLD: u64 = 10;
 
 const HELD_MOST: u64 = 1_000;
 
-// For so many milliseconds turns are short once one was not: who comes waits at the listener, who has no socket yet is
-// not attended, and no turn is taken for those who act for nobody alone. So what these do gathers.
+// For so many milliseconds turns are short once one was not: who comes waits at the listener, who acts for nobody is
+// not attended, and no turn is taken for those alone. So what these do gathers.
 const PACE: u64 = 2;
 
 /// A lobby: its listener, its browsers, and its connection to the server.

@@ -5,7 +5,7 @@ ghost use Rattle.std.specs.BTreeMap.{get};
 ghost use Rattle.std.specs.Map.{count_at};
 ghost use Rattle.std.specs.Ordering.{nat_cmp};
 ghost use Rattle.lobby_loop.specs.Places.{is_of, is_at, is_in, counted, count_of, own_room, each_own, leave};
-ghost use Rattle.lobby_loop.specs.Places.{beyond, trim, make_room, room_at, room_for, each_room, in_time};
+ghost use Rattle.lobby_loop.specs.Places.{make_room, room_for, each_room, in_time};
 ghost use Rattle.lobby_loop.specs.Places.{most_nameless, judged, IsOwned, IsFair, IsTallied};
 ghost use Rattle.lobby_loop.specs.Places.{number_of, IsTalliedByName};
 
@@ -19,22 +19,16 @@ use std::collections::BTreeMap;
 enum Class {
     Gone,
     Players,
+    /// Who acts for nobody.
     Nameless,
-    Watchers,
-    Newcomers,
-    /// Newcomers at a moment who came so many milliseconds before it.
+    /// Of these, at a moment, who came so many milliseconds before it.
     Aged(u64, u64),
     /// Who acts for this player.
     Own(Name),
 }
 
-// A newcomer who is no watcher has so many milliseconds.
+// Who acts for nobody has so many milliseconds to show a token.
 const PATIENCE: u64 = 20_000;
-
-// One who came so many milliseconds ago makes room before a watcher does.
-const CHANCE: u64 = 5_000;
-
-const WATCHERS_MOST: usize = 500;
 
 const AN_ADDRESS_MOST: usize = 32;
 
@@ -74,9 +68,7 @@ fn is_in(place: &Place, class: &Class) -> bool
     match class {
         Class::Gone => is_gone(place.role),
         Class::Players => matches!(place.role, Role::Player),
-        Class::Nameless => matches!(place.role, Role::Watcher | Role::Newcomer),
-        Class::Watchers => matches!(place.role, Role::Watcher),
-        Class::Newcomers => matches!(place.role, Role::Newcomer),
+        Class::Nameless => matches!(place.role, Role::Newcomer),
         Class::Aged(at, age) => {
             matches!(place.role, Role::Newcomer) && (*at).saturating_sub(place.since) >= *age
         }
@@ -112,38 +104,12 @@ fn leave(places: &mut [Place], address: Option<u64>, class: &Class, count: usize
     }
 }
 
-// All but the first of them, so many at most, are to be closed.
-fn leave_beyond(places: &mut [Place], address: Option<u64>, class: &Class, most: usize)
-    ensures { places.new ≡ beyond (counted address class.now) most places.old }
-{
-    let mut left = most;
-    for place in places.iter_mut() {
-        if is_counted(place, address, class) {
-            if left > 0 {
-                left -= 1;
-            } else {
-                place.role = Role::Gone;
-            }
-        }
-    }
-}
-
-// The first of a class are to be closed, as many as are nameless beyond so many.
-fn trim(places: &mut [Place], address: Option<u64>, class: &Class, most: usize)
-    ensures { places.new ≡ trim address class.now most places.old }
+// Nameless connections are to be closed until so many are left: who came first.
+fn make_room(places: &mut [Place], address: Option<u64>, most: usize)
+    ensures { places.new ≡ make_room address most places.old }
 {
     let excess = count(places, address, &Class::Nameless).saturating_sub(most);
-    leave(places, address, class, excess);
-}
-
-// Nameless connections are to be closed until so many are left: first newcomers who had their chance, then watchers,
-// then the other newcomers; of each who came first.
-fn make_room(places: &mut [Place], address: Option<u64>, most: usize, at: u64)
-    ensures { places.new ≡ make_room address most at places.old }
-{
-    trim(places, address, &Class::Aged(at, CHANCE), most);
-    trim(places, address, &Class::Watchers, most);
-    trim(places, address, &Class::Newcomers, most);
+    leave(places, address, &Class::Nameless, excess);
 }
 
 // How many are told at most under this number: nameless ones of an address, or those that act for a player.
@@ -199,10 +165,9 @@ fn room_for(
     places: &mut [Place],
     tally: &mut BTreeMap<u128, u64>,
     place: &Place,
-    at: u64,
 ) -> Result<(), AllocError>
     requires { IsTallied tally.old places.old }
-    ensures room { OnOk result (places.new ≡ room_for at place.now places.old) }
+    ensures room { OnOk result (places.new ≡ room_for place.now places.old) }
     ensures tallied { OnOk result (IsTallied tally.new places.new) }
 {
     match place.address {
@@ -210,19 +175,19 @@ fn room_for(
         Some(_) if !is_in(place, &Class::Nameless) => Ok(()),
         Some(address) if told_at(tally, u128::from(address)) <= AN_ADDRESS_MOST as u64 => Ok(()),
         Some(address) => {
-            make_room(places, Some(address), AN_ADDRESS_MOST, at);
+            make_room(places, Some(address), AN_ADDRESS_MOST);
             tell_at(tally, u128::from(address), AN_ADDRESS_MOST as u64)
         }
     }
 }
 
 // The same for each of them: an address is gone over once at most, and where more than 32 are of it.
-fn each_room(alloc: Global, places: &mut [Place], all: &[Place], at: u64) -> Result<(), AllocError>
-    ensures { OnOk result (places.new ≡ each_room at all.now places.old) }
+fn each_room(alloc: Global, places: &mut [Place], all: &[Place]) -> Result<(), AllocError>
+    ensures { OnOk result (places.new ≡ each_room all.now places.old) }
 {
     let mut tally = tally_of(alloc, places)?;
     for place in all {
-        room_for(places, &mut tally, place, at)?;
+        room_for(places, &mut tally, place)?;
     }
     Ok(())
 }
@@ -330,11 +295,10 @@ fn judge_all(alloc: Global, places: &mut [Place], at: u64, from: u64) -> Result<
 {
     in_time(places, at, from);
     let late = count(places, None, &Class::Gone);
-    leave_beyond(places, None, &Class::Watchers, WATCHERS_MOST);
     let all = places.to_vec(alloc)?;
-    each_room(alloc, places, all.as_slice(), at)?;
+    each_room(alloc, places, all.as_slice())?;
     let most = most_nameless(count(places, None, &Class::Players));
-    make_room(places, None, most, at);
+    make_room(places, None, most);
     Ok(count(places, None, &Class::Gone).saturating_sub(late))
 }
 

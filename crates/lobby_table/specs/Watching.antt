@@ -11,10 +11,6 @@ is_watch c game w = w.by == c && w.game == game
 abbrev pub watched : List Watch → ℕ → ℕ → Bool
 watched watches c game = list_any (is_watch c game) watches
 
--- whether a connection watches any game
-abbrev pub watches_any : List Watch → ℕ → Bool
-watches_any watches c = list_any (λ (w : Watch). w.by == c) watches
-
 -- whether a connection is told of the table
 abbrev pub at_table : List ℕ → ℕ → Bool
 at_table table c = list_any (λ one. one == c) table

@@ -32,5 +32,5 @@ pub use visitors::{Visitor, is_named, open_ones, put, who_acts};
 pub use waiting::{note_act, note_list, note_opened};
 pub use watching::{
     Watch, add_watch, followers, games_of, is_at_table, is_full, is_watched, keep_table,
-    keep_watches, rise, sit, unwatch, unwatch_all, watches_any,
+    keep_watches, rise, sit, unwatch, unwatch_all,
 };

@@ -1,6 +1,6 @@
 //! Who is told of what.
 ghost use Rattle.std.specs.Prelude.{◌≡◌, ◌==◌, nat_le, length, filter, OnOk, IfOk};
-ghost use Rattle.lobby_table.specs.Watching.{is_watch, watched, watches_any, games_of, at_table, watch_if, sit_if};
+ghost use Rattle.lobby_table.specs.Watching.{is_watch, watched, games_of, at_table, watch_if, sit_if};
 ghost use Rattle.lobby_table.specs.Watching.{unwatched, watches_kept, table_kept};
 ghost use Rattle.lobby_table.specs.Watching.{none_watched, risen, followers};
 ghost use Rattle.lobby_table.specs.Visitors.{who_in, acting};
@@ -32,13 +32,6 @@ pub fn is_watched(watches: &[Watch], by: u64, game: u32) -> bool
     ensures { result ≡ watched watches.now by game }
 {
     watches.iter().any(|watch| is_watch(watch, by, game))
-}
-
-/// Whether a connection watches a game, whichever.
-pub fn watches_any(watches: &[Watch], by: u64) -> bool
-    ensures { result ≡ watches_any watches.now by }
-{
-    watches.iter().any(|watch| watch.by == by)
 }
 
 /// The games that are watched, each once for each connection that watches it.

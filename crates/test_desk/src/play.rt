@@ -5,7 +5,6 @@ use anyhow::{Context, Result, bail};
 use hex::FromHex;
 use lobby_desk::{Desk, Halts, Kind, Limits, Message};
 use lobby_players::relinked;
-use lobby_words::NameForm;
 use std::alloc::Global;
 use std::mem;
 
@@ -21,7 +20,6 @@ const LIMITS: Limits = Limits {
     playing: 8,
     over: 6,
     places: Some(16),
-    names: NameForm::Full,
 };
 
 /// A desk, the time that has passed, and what is told of the archive's next game.
@@ -100,14 +98,10 @@ impl Play {
         })
     }
 
-    // A desk begins that tells strangers the players' initials.
-    fn begin_with_initials(&mut self) -> Result<()> {
+    // A desk begins with these players.
+    fn begin_anew(&mut self) -> Result<()> {
         let players = players_of(self.alloc, self.members.as_slice())?;
-        let limits = Limits {
-            names: NameForm::Initials,
-            ..LIMITS
-        };
-        let desk = Desk::new(self.alloc, players, running(self.alloc), limits);
+        let desk = Desk::new(self.alloc, players, running(self.alloc), LIMITS);
         drop(mem::replace(&mut self.desk, desk));
         Ok(())
     }
@@ -162,7 +156,7 @@ impl Play {
             "say" => self.say(given, wire, told)?,
             "link" => self.link(given, told)?,
             "renew" => self.renew(given)?,
-            "initials" => self.begin_with_initials()?,
+            "anew" => self.begin_anew()?,
             "wait" => self.now = self.now.saturating_add(leading_number(given)?.0),
             "here" => self.desk.here(told)?,
             "gone" => self.desk.gone(told)?,

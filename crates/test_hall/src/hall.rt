@@ -5,7 +5,7 @@ use lobby_desk::{Halts, Limits, Order};
 use lobby_loop::{Acceptor, ActLog, Fault, Hall, KeepsLinks, NoActLog, NoLinks, Welcomed, welcome};
 use lobby_players::relinked;
 use lobby_web::Kind;
-use lobby_words::{Linked, NameForm, Player};
+use lobby_words::{Linked, Player};
 use player_name::Name;
 use sockets::AcceptFault;
 use std::alloc::Global;
@@ -111,7 +111,6 @@ fn hall_of(rt: &impl Abort, alloc: Global, keys: RandomState, is_paused: bool) -
         playing: 8,
         over: 32,
         places: None,
-        names: NameForm::Full,
     };
     let players = players(rt, alloc, SUM);
     let halts = Halts {
@@ -242,17 +241,28 @@ const LATE: &[u8] =
 // Ann shows her token, and is silent then.
 const SILENT: &[u8] = b"UP~\x81\xa6\0\0\0\0login aaaaaaaaaaaaaaaaaaaaaaaaaaaaaaaa";
 
-static CASES: [Case; 16] = [
-    // three messages, of which the first is not answered
+static CASES: [Case; 17] = [
+    // three messages, of which the first is not answered; and without a token none of them is passed on
     (
         (
-            b"UP~\x81\x85\0\0\0\0fen 1\x81\x85\0\0\0\0fen 2\x81\x85\0\0\0\0fen 3",
+            b"UP~\x81\xa6\0\0\0\0login aaaaaaaaaaaaaaaaaaaaaaaaaaaaaaaa\x81\x85\0\0\0\0fen 1\x81\x85\0\0\0\0fen \
+            2\x81\x85\0\0\0\0fen 3",
             b"",
             How::Plainly,
         ),
         (90, 1),
         b"fen 1\n",
-        b"\x81\x0cserver here\n",
+        b"\x81\x0cserver here\n\x81\x18ok login ann player ann\n",
+    ),
+    (
+        (
+            b"UP~\x81\x85\0\0\0\0fen 1\x81\x85\0\0\0\0lobby\x81\x87\0\0\0\0players",
+            b"",
+            How::Plainly,
+        ),
+        (90, 1),
+        b"",
+        b"\x81\x0cserver here\n\x81\x0eno 31 NoToken\n\x81\x0eno 31 NoToken\n\x81\x0eno 31 NoToken\n",
     ),
     (
         (NONE, b"", How::Plainly),
@@ -265,7 +275,7 @@ static CASES: [Case; 16] = [
         (FLOOD, b"", How::Plainly),
         (90, 1),
         b"",
-        b"\x81\x0fok leave lobby\n\x81\x0eno 34 TooFast\n\x81\x0eno 34 TooFast\n",
+        b"\x81\x0eno 31 NoToken\n\x81\x0eno 34 TooFast\n\x81\x0eno 34 TooFast\n",
     ),
     // who is silent is asked, and then let go
     (
@@ -294,7 +304,7 @@ static CASES: [Case; 16] = [
         b"",
         GONE,
     ),
-    // who shows no token and watches nothing, and who watches
+    // who shows no token, and is silent or asks
     (
         (b"UP", b"", How::Plainly),
         (20, 1_000),
@@ -303,14 +313,10 @@ static CASES: [Case; 16] = [
     ),
     ((b"UP", b"", How::Plainly), (22, 1_000), b"", GONE),
     (
-        (
-            b"UP~\x81\x85\0\0\0\0lobby",
-            b"~~~~~ok list 0\n",
-            How::Plainly,
-        ),
-        (40, 1_000),
-        b"list\n",
-        b"ok list 0\n\x89\0",
+        (b"UP~\x81\x85\0\0\0\0lobby", b"", How::Plainly),
+        (22, 1_000),
+        b"",
+        GONE,
     ),
     // who ends, before the upgrade and behind it, who closes, and who is reset
     ((b"END", b"", How::Plainly), (90, 1), b"", GONE),
@@ -325,8 +331,8 @@ static CASES: [Case; 16] = [
     // an answer that breaks off
     (
         (
-            b"UP~\x81\x84\0\0\0\0list",
-            b"~~~~~ok list 2\n1 ann bob 0 *\n~END",
+            b"UP~\x81\xa6\0\0\0\0login aaaaaaaaaaaaaaaaaaaaaaaaaaaaaaaa\x81\x84\0\0\0\0list",
+            b"~~~~~~~~ok list 2\n1 ann bob 0 *\n~END",
             How::Plainly,
         ),
         (90, 1),
@@ -339,13 +345,13 @@ static ACTS: [Case; 7] = [
     // half a frame, and an answer in two pieces
     (
         (
-            b"UP~~\x81\x86\0\0\0\0sho~~w 7",
-            b"~~~~~~~~no 3 ~NoGame\n",
+            b"UP~~\x81\xa6\0\0\0\0login aaaaaaaaaaaaaaaaaaaaaaaaaaaaaaaa\x81\x86\0\0\0\0sho~~w 7",
+            b"~~~~~~~~~~~~no 3 ~NoGame\n",
             How::Slowly,
         ),
         (90, 1),
         b"show 7\n",
-        b"\x81\x0cserver here\n\x81\x0cno 3 NoGame\n",
+        b"\x81\x0cserver here\n\x81\x18ok login ann player ann\n\x81\x0cno 3 NoGame\n",
     ),
     // a hall that begins with entries paused
     (
@@ -480,16 +486,17 @@ fn a_file_changes_between_turns(rt: &impl Abort, lab: &mut Lab) {
 }
 
 const COUNTED: Script = (
-    b"UP~\x81\x85\0\0\0\0fen 1\x81\x8b\0\0\0\0leave lobby\x81\x84\0\0\0\0list",
-    b"~~~~~~no 3 NoGame\n~~~~~~END",
+    b"UP~\x81\xa6\0\0\0\0login aaaaaaaaaaaaaaaaaaaaaaaaaaaaaaaa\x81\x85\0\0\0\0fen 1\x81\x8b\0\0\0\0leave \
+    lobby\x81\x84\0\0\0\0list",
+    b"~~~~~~~~no 3 NoGame\n~~~~~~END",
     How::Plainly,
 );
 
 fn what_was_said_is_counted(rt: &impl Abort, lab: &mut Lab) {
     assert!(rt; lab.play(rt, &COUNTED, 90, 1).is_none());
     let counts = lab.hall.counts();
-    assert!(rt; [counts.messages, counts.no, counts.ok, counts.lost] == [3, 1, 1, 1]);
-    assert!(rt; [counts.timed, counts.within[11]] == [3, 3] && counts.time > 0);
+    assert!(rt; [counts.messages, counts.no, counts.ok, counts.lost] == [4, 1, 2, 1]);
+    assert!(rt; [counts.timed, counts.within[11]] == [4, 4] && counts.time > 0);
 }
 
 // Ann, who leaves, and eve, who asks then who is there.
@@ -617,13 +624,9 @@ const OTHER_ASKER: &[u8] = b"UP~~~~\x81\x85\0\0\0\0fen 3";
 const OPENER: &[u8] =
     b"UP~\x81\xa6\0\0\0\0login aaaaaaaaaaaaaaaaaaaaaaaaaaaaaaaa~~~\x81\x90\0\0\0\0open white 300 2";
 
-// A server that answers some turns later: first the act, then the first question, and then that of the other one.
-const ANSWERS: &[u8] =
-    b"~~~~~~~~~~~~ok name ann\nok open 1\n~~ok fen 1 -\n~~~~ok show 1\nok fen 1 -\nok fen 3 -\n";
-
 // All that came, in so many turns with all sockets awake.
-fn turn_three(rt: &impl Abort, lab: &mut Lab, server: &'static [u8], turns: u64) {
-    lab.begin(rt, &(ASKER, server, How::Plainly));
+fn turn_three(rt: &impl Abort, lab: &mut Lab, turns: u64) {
+    lab.begin(rt, &(ASKER, b"", How::Plainly));
     for (browser, key) in [(OTHER_ASKER, 3), (OPENER, 4)] {
         lab.hall
             .admit(Peer::new(lab.alloc, browser, 1_000), key, NEAR, 0);
@@ -637,17 +640,17 @@ fn turn_three(rt: &impl Abort, lab: &mut Lab, server: &'static [u8], turns: u64)
     }
 }
 
-// The act goes first, though who opens a game came last; and of all who ask without a token one waits for the server at
-// a time.
-fn players_come_before_strangers(rt: &impl Abort, lab: &mut Lab) {
-    turn_three(rt, lab, b"", 90);
-    assert!(rt; lab.is_asked(b"name ann\nopen white 300 2\nfen 1\n"));
-    turn_three(rt, lab, ANSWERS, 90);
-    assert!(rt; lab.is_asked(b"name ann\nopen white 300 2\nfen 1\nshow 1\nfen 1\nfen 3\nfen 2\n"));
+// The act goes out, and of who asks without a token nothing.
+fn who_has_no_token_asks_the_server_nothing(rt: &impl Abort, lab: &mut Lab) {
+    turn_three(rt, lab, 90);
+    assert!(rt; lab.is_asked(b"name ann\nopen white 300 2\n"));
+    assert!(rt; lab.is_told(b"\x81\x0eno 31 NoToken\n\x81\x0eno 31 NoToken\n"));
 }
 
-// One who shows no token and asks for a game of 40 plies, and its server.
-const LINE_ASKER: &[u8] = b"UP~~~~\x81\x86\0\0\0\0line 1\x81\x83\0\0\0\0who";
+// One who shows ann's token and asks for a game of 40 plies, and its server.
+const LINE_ASKER: &[u8] =
+    b"UP~\x81\xa6\0\0\0\0login aaaaaaaaaaaaaaaaaaaaaaaaaaaaaaaa\x81\x86\0\0\0\0line \
+    1\x81\x83\0\0\0\0who";
 
 const GAME: &[u8] = b"~~~~~~~~ok pgn 1 2\n\
 1. Nf3 Nf6 2. Ng1 Ng8 3. Nf3 Nf6 4. Ng1 Ng8 5. Nf3 Nf6 6. Ng1 Ng8 7. Nf3 Nf6 8. Ng1 Ng8 9. Nf3 Nf6 10. Ng1 Ng8\n\
@@ -656,7 +659,7 @@ const GAME: &[u8] = b"~~~~~~~~ok pgn 1 2\n\
 
 const LAST_ROWS: &[u8] =
     b"\n39 Ng1 f3g1 rnbqkb1r/pppppppp/5n2/8/8/8/PPPPPPPP/RNBQKBNR b KQkq - 39 20\n\
-40 Ng8 f6g8 rnbqkbnr/pppppppp/8/8/8/8/PPPPPPPP/RNBQKBNR w KQkq - 40 21\n\x81\x0eno 31 NoToken\n";
+40 Ng8 f6g8 rnbqkbnr/pppppppp/8/8/8/8/PPPPPPPP/RNBQKBNR w KQkq - 40 21\n\x81\x11no 33 NotArbiter\n";
 
 // The same of a game of 9,000 plies.
 const LONG_GAME: &[u8] = b"~~~~~~~~LONG";
@@ -669,7 +672,7 @@ fn has_said(lab: &Lab, piece: usize) -> bool {
     }
 }
 
-// A stranger asks for a game, and ann comes, who acts when its first plies are played.
+// A game is asked for, and ann comes once more, who acts when its first plies are played.
 fn ask_for_line(rt: &impl Abort, lab: &mut Lab, server: &'static [u8]) {
     lab.begin(rt, &(LINE_ASKER, server, How::Plainly));
     lab.hall
@@ -686,8 +689,8 @@ fn turn_beside_line(rt: &impl Abort, lab: &mut Lab, at: u64) -> bool {
     has_acted
 }
 
-// A stranger asks for a game, of which 16 plies are played in a turn: an act of ann's is on its way before the stranger
-// has the answer, and the stranger's next message is heard behind that.
+// A game is asked for, of which 16 plies are played in a turn: an act is on its way before who asks has the answer, and
+// his next message is heard behind that.
 fn a_line_is_played_in_parts(rt: &impl Abort, lab: &mut Lab) {
     ask_for_line(rt, lab, GAME);
     let mut is_between = false;
@@ -698,8 +701,8 @@ fn a_line_is_played_in_parts(rt: &impl Abort, lab: &mut Lab) {
     assert!(rt; is_between && lab.is_told(LAST_ROWS));
 }
 
-// Of so many turns, the last before ann's act is on its way beside a stranger who asks for a game, and the last in
-// which the stranger was told nothing but that the server is there.
+// Of so many turns, the last before an act is on its way beside one who asks for a game, and the last in which he was
+// told nothing but that he is logged in.
 fn turns_beside_line(
     rt: &impl Abort,
     lab: &mut Lab,
@@ -712,14 +715,14 @@ fn turns_beside_line(
         if !turn_beside_line(rt, lab, at) {
             last_before_act = at;
         }
-        if lab.is_told(b"\x81\x0cserver here\n") {
+        if lab.is_told(b"\x81\x18ok login ann player ann\n") {
             last_silent = at;
         }
     }
     (last_before_act, last_silent)
 }
 
-// Where a stranger asks for a game of 9,000 plies, which takes 563 turns, the act is on its way in the turn in which it
+// Where somebody asks for a game of 9,000 plies, which takes 563 turns, the act is on its way in the turn in which it
 // is where the server says nothing of that game.
 fn a_long_line_holds_up_no_act(rt: &impl Abort, lab: &mut Lab) {
     let (alone, silent) = turns_beside_line(rt, lab, b"", 90);
@@ -831,7 +834,7 @@ fn halls(rt: HostRuntime) {
     a_failed_accept_ends_the_turn_of_accepting(&rt, &mut lab);
     who_has_another_link_acts_no_more(&rt, &mut lab);
     that_entries_are_paused_is_kept_before_the_log_is_told(&rt, &mut lab);
-    players_come_before_strangers(&rt, &mut lab);
+    who_has_no_token_asks_the_server_nothing(&rt, &mut lab);
     a_line_is_played_in_parts(&rt, &mut lab);
     a_long_line_holds_up_no_act(&rt, &mut lab);
     what_comes_of_strangers_is_paid(&rt, &mut lab);

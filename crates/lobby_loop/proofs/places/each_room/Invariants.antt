@@ -5,4 +5,4 @@ use Rattle.lobby_loop.proofs.places.each_room.Given as goal
 
 abbrev pub invariant-loop-place : goal.invariant-loop-place
 invariant-loop-place l =
-    (each_room l.at l.all l.fn.places ≡ each_room l.at (drop l.place-index l.all) l.places) × IsTallied l.tally l.places
+    (each_room l.all l.fn.places ≡ each_room (drop l.place-index l.all) l.places) × IsTallied l.tally l.places
