@@ -43,7 +43,10 @@ impl<'a, R: Files<File = File> + AllocGlobal + RandomSource + Eprint> FileLinks<
 
     /// What is halted.
     pub fn halts(&self) -> Result<Halts> {
-        let reason = self.clocks.as_ref().map_or("", |clocks| clocks.reason());
+        let reason = match &self.clocks {
+            Some(clocks) => clocks.reason(),
+            None => "",
+        };
         Ok(Halts {
             is_paused: self.entries.is_paused(),
             can_stop: self.clocks.is_some(),
@@ -108,10 +111,12 @@ impl<R: Files<File = File> + AllocGlobal + RandomSource + Eprint> KeepsLinks for
         let Some(clocks) = &mut self.clocks else {
             return Ok(());
         };
-        if let Err(error) = clocks.keep(halts.reason.as_str()) {
-            let _ = eprintln!(self.rt; "whether all clocks are stopped is not kept: {error:#}");
-            return Err(io::Error::from(ErrorKind::Other));
+        match clocks.keep(halts.reason.as_str()) {
+            Ok(()) => Ok(()),
+            Err(error) => {
+                let _ = eprintln!(self.rt; "whether all clocks are stopped is not kept: {error:#}");
+                Err(io::Error::from(ErrorKind::Other))
+            }
         }
-        Ok(())
     }
 }

@@ -47,6 +47,8 @@ pub fn mark_in(found: &Metadata) -> Option<Mark> {
 
 /// How a file of this name stands; none where it is not there, or is no regular file.
 pub fn mark_of<R: Files>(rt: &R, file: &str) -> Option<Mark> {
-    let found = fs::metadata(rt, file).ok()?;
-    mark_in(&found)
+    match fs::metadata(rt, file) {
+        Ok(found) => mark_in(&found),
+        Err(_) => None,
+    }
 }

@@ -8,7 +8,7 @@ use Rattle.lobby_talk.proofs.kept.KeptAnswers.copy_of.Goals as goal
 pub new-requires : goal.new-requires
 new-requires c =
     let kept = c.args.self.now.answers.items in
-    let new = string_bytes c.in_ok-answer-in-Some.answer in
-    kept_of_line kept (string_bytes c.in_ok-pgn-in-Some.pgn) new
-    (subst (λ (l : List ℕ). HasKept kept l new) (sym c.in_ok-pgn-in-Some.ensures.ok)
-    (subst (λ (l : List ℕ). HasKept kept c.args.pgn.now l) (sym c.in_ok-answer-in-Some.ensures.ok) c.in-Some.ensures))
+    let new = string_bytes c.in_ok-answer.answer in
+    kept_of_line kept (string_bytes c.in_ok-pgn.pgn) new
+    (subst (λ (l : List ℕ). HasKept kept l new) (sym c.in_ok-pgn.ensures.ok)
+    (subst (λ (l : List ℕ). HasKept kept c.args.pgn.now l) (sym c.in_ok-answer.ensures.ok) c.in-Some.ensures))
