@@ -231,7 +231,8 @@ fn league_told(rt: &impl Abort, alloc: Global, rounds: &[&[Meeting]]) -> Standin
         let meetings = Vec::from_slice(alloc, round).expect(rt, "memory");
         all.push(meetings).expect(rt, "memory");
     }
-    assert!(rt; all.len() <= 99 && are_few(all.as_slice()));
+    assert!(rt; all.len() <= 99);
+    assert!(rt; are_few(all.as_slice()));
     let points = all_board_points(alloc, &sides, all.as_slice(), 3).expect(rt, "memory");
     let matches = all_matches(alloc, &sides, all.as_slice(), 3).expect(rt, "memory");
     assert!(rt; matches.len() <= 99);
