@@ -143,7 +143,7 @@ fn check_line(rt: &impl Abort, alloc: Global, line: &str, wanted: Result<&str, E
 }
 
 // Command lines, and what each asks for, or why it is refused.
-static LINES: [(&str, Result<&str, ErrorKind>); 49] = [
+static LINES: [(&str, Result<&str, ErrorKind>); 51] = [
     (
         "chess-club lobby --players p --server 127.0.0.1:1",
         Ok("lobby p 127.0.0.1:8080 page 0 4 8 32"),
