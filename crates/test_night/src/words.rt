@@ -244,6 +244,14 @@ static LINES: [(&str, Result<&str, ErrorKind>); 49] = [
         Ok("standings p 1 6 false true"),
     ),
     (
+        "chess-club standings --teams --players p --archive a --rounds a,b --by BP,DE",
+        Ok("standings p 1 2 false true"),
+    ),
+    (
+        "chess-club standings --players p --archive a --rounds a,b --by BP,DE",
+        Err(ErrorKind::InvalidValue),
+    ),
+    (
         "chess-club standings --players p --archive a --rounds a,b --by SB,,DE",
         Err(ErrorKind::InvalidValue),
     ),
