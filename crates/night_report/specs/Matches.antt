@@ -156,7 +156,7 @@ is_matched sides round m (opponents.Player n) =
 abbrev pub has_colours : List ℕ → (first one other : ℕ) → Meeting → Bool
 has_colours sides first one other m =
     not (is_between sides one other m)
-    || side sides m.white == (if m.board % 2 == first % 2 then one else other)
+    || (if m.board % 2 == first % 2 then side sides m.white == one else side sides m.white == other)
 
 abbrev pub alternates : List ℕ → (first one other : ℕ) → List Meeting → Bool
 alternates sides first one other round = list_all (has_colours sides first one other) round

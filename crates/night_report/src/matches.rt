@@ -308,11 +308,12 @@ pub fn alternates(sides: &[u32], first: u32, one: u32, other: u32, round: &[Meet
     ensures { result ≡ spec.alternates sides.now first one other round.now }
 {
     round.iter().all(|meeting| {
-        let white = if meeting.board % 2 == first % 2 {
-            one
-        } else {
-            other
-        };
-        !is_between(sides, one, other, *meeting) || side(sides, meeting.white) == white
+        let white = side(sides, meeting.white);
+        !is_between(sides, one, other, *meeting)
+            || if meeting.board % 2 == first % 2 {
+                white == one
+            } else {
+                white == other
+            }
     })
 }
