@@ -8,13 +8,19 @@ use crate::cells::{Meeting, Opponent, Play, Score, black_cell, white_cell};
 use crate::teams::Team;
 use std::alloc::{AllocError, Global};
 
+fn has_member(team: &Team<'_>, number: u32) -> bool
+    ensures { result ≡ spec.has_member number team.now }
+{
+    team.numbers.iter().any(|member| *member == number)
+}
+
 // The number of the first team, from 1 on, that has a player; 0 where none has.
 fn team_of(teams: &[Team<'_>], number: u32) -> u32
     requires { length teams.now ≤ 9999 }
     ensures { result ≡ spec.team_from 1 teams.now number }
 {
     for at in 0..teams.len() {
-        if teams[at].numbers.iter().any(|member| *member == number) {
+        if has_member(&teams[at], number) {
             return at as u32 + 1;
         }
     }
