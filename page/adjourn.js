@@ -355,22 +355,22 @@ export function wordsToGoOn(note) {
     has one time for both sides: ${clocks}.`;
 }
 
-/** The times that an arbiter may choose for both sides, [{times, words}], with what each gains or loses by them; one where
- * the clocks are the same. */
+/** The times that an arbiter may choose for both sides, [{times, words}], with what each gains or loses by them; each
+ * once. */
 export function choicesToGoOn(note) {
   const seconds = (ms) => Math.ceil(ms / 1000), { w, b } = note.left;
   const choice = (left, name) => {
     const times = timesToGoOn(note, left);
     const changes = SIDES.map((side) => ({ side, more: times.initial - seconds(note.left[side]) }));
     const words = changes.filter(({ more }) => more).map(({ side, more }) => (more > 0
-      ? t`${colourWord(side)} gains ${clockText(1000 * more)}`
-      : t`${colourWord(side)} loses ${clockText(-1000 * more)}`)).join(', ');
-    return { times, words: name(clockText(1000 * times.initial), words) };
+      ? t`${colourWord(side)} gains ${secondsText(more)}`
+      : t`${colourWord(side)} loses ${secondsText(-more)}`)).join(', ');
+    return { times, words: name(secondsText(times.initial), words) };
   };
-  const greater = choice(Math.max(w, b), (clock, words) => t`the greater time, ${clock} (${words})`);
-  return seconds(w) === seconds(b) ? [greater] : [greater,
+  return [choice(Math.max(w, b), (clock, words) => t`the greater time, ${clock} (${words})`),
     choice((w + b) / 2, (clock, words) => t`the mean, ${clock} (${words})`),
-    choice(Math.min(w, b), (clock, words) => t`the smaller time, ${clock} (${words})`)];
+    choice(Math.min(w, b), (clock, words) => t`the smaller time, ${clock} (${words})`)]
+    .filter(({ times }, place, all) => !place || times.initial < all[place - 1].times.initial);
 }
 
 /** Keeps in a player's browser that a game of the two was adjourned, and by whom: the lobby tells it once. */
@@ -420,6 +420,11 @@ function whyNot({ ply, left, fen }, article) {
       first move; or enter a resignation, which ends it too, and pair the two anew.`;
   }
   return left[sideOf(fen)] === 0 ? t`${colourWord(sideOf(fen))}’s clock has run out: call the flag.` : '';
+}
+
+/** Whole seconds as a clock shows them, without tenths. */
+function secondsText(seconds) {
+  return clockText(1000 * seconds).replace(/\.0$/, '');
 }
 
 /** Times as the page and as a PGN have them. */

@@ -65,7 +65,8 @@ export class Decision {
     const { number } = standing, fields = this.form.elements, at = performance.now();
     const [white, black] = [standing.white, standing.black].map((name) => this.nameOf(name));
     this.about = number;
-    for (const [name, value] of Object.entries(likely(standing, this.desk.absences.absent(standing)))) fields[name].value = value;
+    const filled = likely(standing, this.desk.absences.absent(standing));
+    for (const [name, value] of Object.entries(filled)) fields[name].value = value;
     fields.board.value = '';
     fields.round.value = String(this.app.round.newest() || 1);
     setText(byId('decide-title'), t`Decide the result of game ${number}: ${white} – ${black}`);

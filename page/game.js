@@ -172,7 +172,7 @@ export class GameView {
     this.gone = refusal.number === NO_GAME;
     this.wasAway = !this.gone;
     this.wasTaken = this.gone && (this.wasTaken || Boolean(this.standing));      // (no number is given twice)
-    this.note(refusalWords(refusal));
+    this.note(this.gone ? '' : refusalWords(refusal));
     if (this.gone) {
       this.settleUnsure(null);
       this.seek();

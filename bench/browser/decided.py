@@ -70,9 +70,10 @@ def a_decision(hall):
         put(os.path.join(hall.lobby.folder, 'round%d.csv' % number), PAIRINGS)
     hall.signs_in(sue, 'eve', 'an arbiter')
     sue.click('#to-arbiter').finds('#arbiter-desk', 'the desk')
-    sue.until(lambda: sue.text('#waits-list').count('White’s flag has fallen') == 2, 'both flags have fallen', 40)
-    sue.lacks(on_card(lost, '[data-key^=decide-]'), 'while a game goes on the button is not there')
-    entered(hall, 'as bob flag ' + lost, 'as bob flag ' + drawn)
+    # (Bob's page calls the flag of the game at which it is, the first one)
+    sue.finds('#waits-list [data-key="show-%s-flag"]' % drawn, 'a flag has fallen that nobody calls')
+    sue.lacks(on_card(drawn, '[data-key^=decide-]'), 'while a game goes on the button is not there')
+    entered(hall, 'as bob flag ' + drawn)
     sue.click(on_card(lost, '[data-key^=decide-]')).reads('#decide-title', 'game %s: Ann Lee – Bob' % lost)
     sue.reads('#decide-stands', 'The server says 0–1: Black wins on time.')
     sue.reads('#decide-law', 'By 6.9 it is a draw where Black cannot mate', 'Black has: king, queen, 2 rooks',
