@@ -66,6 +66,7 @@ fn opponent_of(players: &[Particulars<'_>], pairing: &Pairing) -> Result<Opponen
 // What a board is in the report.
 fn meeting_of(players: &[Particulars<'_>], pairing: &Pairing, scored: Scored) -> Result<Meeting> {
     Ok(Meeting {
+        board: pairing.board,
         white: number_of(players, &pairing.white)?,
         black: opponent_of(players, pairing)?,
         score: scored.score,
@@ -92,7 +93,7 @@ fn met_at(
     meeting_of(players, pairing, scored).context(format_args!("board {board}"))
 }
 
-// The meetings of a round's boards.
+// The meetings of a round's boards, in the order of their numbers.
 fn meetings_by(
     alloc: Global,
     boards: Boards<'_>,
@@ -104,6 +105,7 @@ fn meetings_by(
     for pairing in pairings {
         meetings.push(met_at(boards, pairing, players, outcomes)?)?;
     }
+    meetings.sort_by_key(|meeting| meeting.board)?;
     Ok(meetings)
 }
 

@@ -150,22 +150,26 @@ values_by k rounds scores boards count places =
     if is_direct k then all_won rounds places count
     else (if is_of_boards k then boards else all_values k scores rounds count)
 
-abbrev pub places_by : Criterion → List (List Meeting) → List ℕ → List ℕ → ℕ → List ℕ → List ℕ
-places_by k rounds scores boards count places =
-    if is_direct k then settled rounds count count places
-    else places_in (ranks_of places (values_by k rounds scores boards count places) count)
+abbrev pub places_by : Criterion → List (List Meeting) → (values : List ℕ) → ℕ → List ℕ → List ℕ
+places_by k rounds values count places =
+    if is_direct k then settled rounds count count places else places_in (ranks_of places values count)
+
+-- both of these
+abbrev pub places_next : Criterion → List (List Meeting) → List ℕ → List ℕ → ℕ → List ℕ → List ℕ
+places_next k rounds scores boards count places =
+    places_by k rounds (values_by k rounds scores boards count places) count places
 
 -- the places by one tie-break after another, and what players have by each
 abbrev pub places_behind : List Criterion → List (List Meeting) → List ℕ → List ℕ → ℕ → List ℕ → List ℕ
 places_behind [] rounds scores boards count places = places
 places_behind (k ∷ ks) rounds scores boards count places =
-    places_behind ks rounds scores boards count (places_by k rounds scores boards count places)
+    places_behind ks rounds scores boards count (places_next k rounds scores boards count places)
 
 abbrev pub columns_behind : List Criterion → List (List Meeting) → List ℕ → List ℕ → ℕ → List ℕ → List (List ℕ)
 columns_behind [] rounds scores boards count places = []
 columns_behind (k ∷ ks) rounds scores boards count places =
     values_by k rounds scores boards count places
-    ∷ columns_behind ks rounds scores boards count (places_by k rounds scores boards count places)
+    ∷ columns_behind ks rounds scores boards count (places_next k rounds scores boards count places)
 
 -- the places by points alone: before these none is before another
 abbrev pub places_by_points : List (List Meeting) → ℕ → List ℕ
