@@ -109,7 +109,7 @@ fn meetings_by(
     Ok(meetings)
 }
 
-// The meetings of a round.
+// The meetings of a round. A fault of a board names the file of the pairings; one of a file names that.
 fn meetings_of<R: Files + AllocGlobal + Eprint>(
     rt: &R,
     round: Round<'_>,
@@ -130,16 +130,7 @@ fn meetings_of<R: Files + AllocGlobal + Eprint>(
         players,
         outcomes,
     )
-}
-
-// The same, where a fault names the file of the pairings.
-fn meetings_with_context<R: Files + AllocGlobal + Eprint>(
-    rt: &R,
-    round: Round<'_>,
-    players: &[Particulars<'_>],
-    outcomes: &mut Outcomes<'_>,
-) -> Result<Vec<Meeting>> {
-    meetings_of(rt, round, players, outcomes).context(round.pairings)
+    .context(round.pairings)
 }
 
 // The meetings of each round.
@@ -151,7 +142,7 @@ fn rounds_of<R: Files + AllocGlobal + Eprint>(
 ) -> Result<Vec<Vec<Meeting>>> {
     let mut met = Vec::new(rt.alloc());
     for round in rounds {
-        met.push(meetings_with_context(rt, *round, players, outcomes)?)?;
+        met.push(meetings_of(rt, *round, players, outcomes)?)?;
     }
     Ok(met)
 }

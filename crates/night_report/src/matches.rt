@@ -292,8 +292,8 @@ fn is_against(sides: &[u32], team: u32, one: u32, other: u32, round: &[Meeting])
     }
 }
 
-/// Whether a board of a round is of a match: two teams meet there, and neither meets another one before. A bye, which is
-/// of none, passes.
+/// Whether a board of a round is of a match: two teams meet there, and neither meets another one before. A bye, which
+/// is of none, passes.
 pub fn is_matched(sides: &[u32], round: &[Meeting], meeting: Meeting) -> bool
     ensures { result ≡ spec.is_matched sides.now round.now meeting meeting.black }
 {
@@ -308,8 +308,8 @@ pub fn is_matched(sides: &[u32], round: &[Meeting], meeting: Meeting) -> bool
     }
 }
 
-/// Whether colours alternate by the numbers of the boards of a match, of which the team that is named first has White at
-/// this first board.
+/// Whether colours alternate by the numbers of the boards of a match, of which the team that is named first has White
+/// at this first board.
 pub fn alternates(sides: &[u32], first: u32, one: u32, other: u32, round: &[Meeting]) -> bool
     ensures { result ≡ spec.alternates sides.now first one other round.now }
 {

@@ -162,7 +162,8 @@ pub fn standings_of(
     criteria: &[Criterion],
 ) -> Result<Standings, AllocError>
     requires { length rounds.now ≤ 99 }
-    ensures points { IfOk result (λ told. told.points.items ≡ sums.all_points (map (λ round. round.items) rounds.now) count) }
+    ensures points { IfOk result (λ told. told.points.items
+        ≡ sums.all_points (map (λ round. round.items) rounds.now) count) }
     ensures places { IfOk result (λ told. told.places.items
         ≡ spec.places_of criteria.now (map (λ round. round.items) rounds.now) boards.now count) }
     ensures columns { IfOk result (λ told. map (λ column. column.items) told.columns.items

@@ -20,7 +20,8 @@ pub fn ranked_report(
     rounds: &[Vec<Meeting>],
     criteria: &[Criterion],
 ) -> Result<Vec<u8>, Fault>
-    ensures text { IfOk result (λ text. text.items ≡ report_text tournament.now (map (λ day. day.now) days.now) players.now
+    ensures text { IfOk result (λ text. text.items
+        ≡ report_text tournament.now (map (λ day. day.now) days.now) players.now
         (places_of criteria.now (map (λ round. round.items) rounds.now) [] (length players.now)) teams.now
         (map (λ round. round.items) rounds.now)) }
     ensures room { IfOk result (λ _. HasRoom tournament.now (length days.now) players.now teams.now rounds.now) }

@@ -185,8 +185,8 @@ const BYE: Meeting = Meeting {
     ..WIN
 };
 
-// Two teams of two, and one of two that has a bye in the first round. In the second the third team has one player alone,
-// who wins: the other board of the first is a bye; and the second team is away.
+// Two teams of two, and one of two that has a bye in the first round. In the second the third team has one player
+// alone, who wins: the other board of the first is a bye; and the second team is away.
 const LEAGUE: [&[Meeting]; 2] = [
     &[
         Meeting {
