@@ -43,10 +43,7 @@ impl<'a, R: Files<File = File> + AllocGlobal + RandomSource + Eprint> FileLinks<
 
     /// What is halted.
     pub fn halts(&self) -> Result<Halts> {
-        let reason = match &self.clocks {
-            Some(clocks) => clocks.reason(),
-            None => "",
-        };
+        let reason = self.clocks.as_ref().map_or("", |clocks| clocks.reason());
         Ok(Halts {
             is_paused: self.entries.is_paused(),
             can_stop: self.clocks.is_some(),
@@ -111,12 +108,10 @@ impl<R: Files<File = File> + AllocGlobal + RandomSource + Eprint> KeepsLinks for
         let Some(clocks) = &mut self.clocks else {
             return Ok(());
         };
-        match clocks.keep(halts.reason.as_str()) {
-            Ok(()) => Ok(()),
-            Err(error) => {
-                let _ = eprintln!(self.rt; "whether all clocks are stopped is not kept: {error:#}");
-                Err(io::Error::from(ErrorKind::Other))
-            }
+        if let Err(error) = clocks.keep(halts.reason.as_str()) {
+            let _ = eprintln!(self.rt; "whether all clocks are stopped is not kept: {error:#}");
+            return Err(io::Error::from(ErrorKind::Other));
         }
+        Ok(())
     }
 }

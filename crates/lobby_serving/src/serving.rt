@@ -209,7 +209,8 @@ fn tell_address<R: Print + Eprint>(rt: &R, address: SocketAddr, hosts: &[&str]) 
 fn tell_proxy<R: Eprint>(rt: &R, serving: &Serving<'_>) -> Result<()> {
     if serving.address.ip().is_loopback() && !serving.hosts.is_empty() && serving.proxy.is_none() {
         eprintln!(rt;
-            "there is --host and no --proxy: browsers that come by a proxy on this machine count as one, without the limit of an address"
+            "there is --host and no --proxy: browsers that come by a proxy on this machine count as one, without \
+            the limit of an address"
         )?;
     }
     Ok(())
