@@ -87,6 +87,10 @@ impl KeepsLinks for Once {
         Some(new.linked)
     }
 
+    fn decide(&mut self, arbiter: &str, text: &str, _players: &[Player]) -> bool {
+        arbiter == "eve" && text == "decide 1 3 0-1 6.7 white did not come"
+    }
+
     fn keep(&mut self, halts: &Halts) -> io::Result<()> {
         self.is_paused = halts.is_paused;
         Ok(())
