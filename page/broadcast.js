@@ -3,10 +3,9 @@
 // connects for it.
 
 import { sideOf } from './lines.js';
-import { UNSAID } from './stopped.js';
 import { begin, pgnOf, play } from './study.js';
 import { LOST, UNSENT } from './wire.js';
-import { OTHER, SIDES } from './words.js';
+import { OTHER, SIDES, rankWords } from './words.js';
 
 const GAMES = 'games.json';
 const LOOKS = { all: 2000, one: 1000 };           // milliseconds between two looks at all games, or at one
@@ -85,16 +84,16 @@ class File {
 
 export class Broadcast {
   /** told: {opened, notice(lines), clocks(reason), announced(text), changed, served(isServed)}, as of Wire; served()
-   * says whether the files are there. They have nothing that an arbiter announces. */
+   * says whether the files are there. */
   constructor(told) {
-    this.told = { announced() {}, ...told };
-    this.told.announced('');
+    this.told = told;
     this.state = { open: false, server: '', retryAt: 0, ever: false };
     this.host = new Host();
     this.games = new File(GAMES, this.host);
     this.files = new Map();            // number -> the game's file
     this.names = new Map();            // who plays -> the full name
-    this.reason = null;                // UNSAID while all clocks are stopped, else '', once that was told
+    this.ranks = new Map();            // and the title with the rating, where one of them is known
+    this.said = { stopped: null, announced: null };     // what an arbiter has everybody told, as it was told last
     this.failures = 0;                 // one behind the other
     this.rowsOf = null;
     this.all = new Map();
@@ -159,15 +158,16 @@ export class Broadcast {
     else this.failed(pause);
   }
 
+  /** What an arbiter has everybody told stands in each file: all games are read for it where no other is. */
   async readShown() {
-    const isDue = (file) => file.told || file.age() >= LOOKS_FOR;
-    if (!this.state.open || this.isAtTable || !this.games.told || this.reason) await this.games.read();
-    const alone = this.isAtTable ? [] : [...this.watched].map((number) => this.fileOf(number)).filter(isDue);
-    await Promise.all(alone.map((file) => file.read()));
+    const shown = this.isAtTable ? [] : this.watchedFiles(), isDue = (file) => file.told || file.age() >= LOOKS_FOR;
+    const isUntold = !shown.some((file) => file.told) && this.games.age() >= LOOKS_FOR;
+    if (!this.state.open || this.isAtTable || !this.games.told || isUntold) await this.games.read();
+    await Promise.all(shown.filter(isDue).map((file) => file.read()));
   }
 
   came() {
-    this.tellClocks();
+    this.tellSaid();
     this.told.served(Boolean(this.games.told));
     if (!this.state.open) {
       this.change({ open: true, server: 'here', retryAt: 0 });
@@ -185,6 +185,10 @@ export class Broadcast {
   change(what) {
     Object.assign(this.state, what);
     this.told.changed();
+  }
+
+  watchedFiles() {
+    return [...this.watched].map((number) => this.fileOf(number));
   }
 
   fileOf(number) {
@@ -210,8 +214,12 @@ export class Broadcast {
     return this.all;
   }
 
-  standing({ game, white, black, names, clocks, running, at, check, offer, result, article, times, start }, last) {
-    names.forEach((full, place) => this.names.set([white, black][place], full));
+  standing({ game, white, black, names, titles = [], ratings = [], clocks, running, at, check, offer, result, article, times,
+    start }, last) {
+    [white, black].forEach((name, place) => {
+      this.names.set(name, names[place]);
+      this.ranks.set(name, rankWords(titles[place], ratings[place]));
+    });
     return { number: game, white, black, ...last, side: sideOf(last.fen), clocks, running: running[0], at, check, times,
       start, offer: OFFERED_BY[offer], result, article: article === NONE && result !== '*' ? '?' : article };
   }
@@ -233,14 +241,15 @@ export class Broadcast {
     }
   }
 
-  /** All clocks are stopped, or run again. */
-  tellClocks() {
-    const shown = this.isAtTable ? [] : [...this.watched].map((number) => this.fileOf(number).told);
-    const told = [this.games.told, ...shown].filter(Boolean), newest = told.sort((a, b) => b.at - a.at)[0];
-    const reason = newest ? stoppedIn(newest) : '';
-    if (reason === this.reason) return;
-    this.reason = reason;
-    this.told.clocks(reason);
+  /** What an arbiter has everybody told, by the file that was read last: why all clocks are stopped, and what is
+   * announced. */
+  tellSaid() {
+    const files = [this.games, ...this.isAtTable ? [] : this.watchedFiles()].filter(({ told }) => told);
+    const [newest] = files.sort((a, b) => b.readAt - a.readAt), { stopped = '', announced = '' } = newest?.told || {};
+    const { said } = this;
+    this.said = { stopped, announced };
+    if (stopped !== said.stopped) this.told.clocks(stopped);
+    if (announced !== said.announced) this.told.announced(announced);
   }
 
   /** The three lines of how a game stands, its clocks as they are now. */
@@ -292,6 +301,11 @@ export class Broadcast {
     return [`ok leave ${given}`];
   }
 
+  /** The title and the rating of who plays, as far as they are known. */
+  rankOf(name) {
+    return this.ranks.get(name) || '';
+  }
+
   players() {
     const rows = [...this.names].map(([name, full]) => [name, 'player', full].join(' '));
     return [`ok players ${rows.length}`, ...rows];
@@ -341,12 +355,6 @@ function actsBetween(before, now) {
  * known, and it is among those that were kept. */
 function isPlayed(told) {
   return Boolean(told) && told.white !== NONE;
-}
-
-/** Whether all clocks are stopped, which a game that goes on shows, as a reason that is not said; '' where they run. */
-function stoppedIn(told) {
-  const isStill = (game) => game.result === '*' && game.running === NONE;
-  return (told.games || [told]).some(isStill) ? UNSAID : '';
 }
 
 /** The positions of a game, the start first, each with the move by which it came. */

@@ -137,7 +137,7 @@ export class HallView {
     const board = new Picture(t`Game ${number}`), card = { board, clocks: {}, names: {} };
     const player = (side) => {
       const clock = make('span', { class: 'clock', role: 'timer' });
-      card.names[side] = make('span', { class: 'name' });
+      card.names[side] = make('span', { class: 'name' }, make('span', {}), make('span', { class: 'rank' }));
       card.clocks[side] = new Clock(clock);
       return make('div', { class: `card-player ${side === 'w' ? 'white' : 'black'}` },
         make('span', { class: 'disc', 'aria-hidden': 'true' }), card.names[side], clock);
@@ -207,8 +207,9 @@ export class HallView {
     if (moved && card.line) card.line.push({ san: moved[1] });
     card.board.show({ fen: standing.fen, last: card.move, check: standing.check });
     for (const side of ['w', 'b']) {
-      const name = this.app.nameWords(side === 'w' ? standing.white : standing.black);
-      setText(card.names[side], name);
+      const name = side === 'w' ? standing.white : standing.black, rank = this.app.rankOf(name);
+      setText(card.names[side].firstChild, this.app.nameWords(name));
+      setText(card.names[side].lastChild, rank && ` ${rank}`);
       card.clocks[side].label = colourWord(side);
       card.clocks[side].set({ left: standing.left[side], at, running: runs && standing.side === side });
       card.names[side].parentElement.classList.toggle('turn', runs && standing.side === side);

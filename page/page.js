@@ -128,6 +128,11 @@ class Page {
     return known ? known.full : name;
   }
 
+  /** The title and the rating of who plays, which the files have, but no lobby. */
+  rankOf(name) {
+    return this.wire instanceof Broadcast ? this.wire.rankOf(name) : '';
+  }
+
   /** The name in the protocol of who has this full name, where that is one player; else the name as it is. */
   nameOf(full) {
     const names = [...this.players].filter(([, player]) => player.full === full).map(([name]) => name);

@@ -1,5 +1,6 @@
 // A page for a screen that nobody touches: `/board/G` shows one game as large as the screen allows, `/boards` all that run.
 
+import { announcedTold } from './announced.js';
 import { Broadcast } from './broadcast.js';
 import { HallView } from './hall.js';
 import { t } from './language.js';
@@ -105,7 +106,7 @@ class Screen {
     this.view = found ? new OneBoard(this, Number(found[1])) : new Wall(this, () => this.rows);
     this.wire = new Broadcast({
       opened: () => this.opened(), notice: (lines) => this.notice(lines), clocks: clocksTold,
-      changed: () => this.changed(), served: (isServed) => { byId('no-broadcast').hidden = isServed; },
+      announced: announcedTold, changed: () => this.changed(), served: (isServed) => { byId('no-broadcast').hidden = isServed; },
     });
     this.view.open();
   }
@@ -114,6 +115,10 @@ class Screen {
 
   nameWords(name) {
     return this.wire.names.get(name) || name;
+  }
+
+  rankOf(name) {
+    return this.wire.rankOf(name);
   }
 
   titled(text) {

@@ -5,7 +5,7 @@ import { placementOf, readTimes, sideOf } from './lines.js';
 import { byId, make, setText } from './make.js';
 import { drawTaken } from './material.js';
 import {
-  SIDES, colourWord, kindWord, resultWords, sanShown, sanWords, timesInFull, timesWords, withReason,
+  SIDES, colourWord, kindWord, rankWords, resultWords, sanShown, sanWords, timesInFull, timesWords, withReason,
 } from './words.js';
 
 export function drawPlayers(game) {
@@ -21,6 +21,9 @@ export function drawPlayers(game) {
     setText(root.querySelector('.name'), name ? game.app.nameWords(name) : t`waiting …`);
     root.querySelector('.name').title = name;
     setText(root.querySelector('.colour'), colourWord(side));
+    const { WhiteTitle, WhiteElo, BlackTitle, BlackElo } = game.tags;
+    setText(root.querySelector('.rank'), side === 'w' ? rankWords(WhiteTitle, WhiteElo)
+      : rankWords(BlackTitle, BlackElo));
     setText(root.querySelector('.away'), game.room.awayWords(name));
     const period = standing.article ? '' : periodWords(times, standing.ply, game.startSide(), side);
     setText(root.querySelector('.period'), period);

@@ -157,7 +157,8 @@ export class TableView {
   /** The row's element, the same as long as it shows the same. */
   itemOf(row, kind) {
     const names = [row.white, row.black].map((name) => this.app.nameWords(name));
-    const shows = [kind, row.number, names, timesWords(row.times), row.own, this.stateWords(row), this.app.me(),
+    const ranks = [row.white, row.black].map((name) => this.app.rankOf(name));
+    const shows = [kind, row.number, names, ranks, timesWords(row.times), row.own, this.stateWords(row), this.app.me(),
       this.app.reachable()];
     return this.kept(JSON.stringify(shows), () => this.item(row, kind));
   }
@@ -182,7 +183,8 @@ export class TableView {
     const sideWords = { white: t`white: `, black: t`black: ` };
     const seat = (name, side) => make('span', { class: `seat ${side}` },
       make('span', { class: 'unseen' }, sideWords[side]),
-      name ? make('span', { class: 'name' }, this.app.nameWords(name)) : make('span', { class: 'free' }, t`free`));
+      name ? make('span', { class: 'name' }, this.app.nameWords(name)) : make('span', { class: 'free' }, t`free`),
+      make('span', { class: 'rank' }, this.app.rankOf(name)));
     const link = make('a', { href: `#/game/${row.number}`, class: 'pairing', 'data-key': `look-${row.number}` },
       make('span', { class: 'number' }, make('span', { class: 'unseen' }, t`Game `), String(row.number)),
       make('span', { class: 'pair' }, seat(row.white, 'white'), seat(row.black, 'black')),

@@ -74,7 +74,7 @@ export function arbiterWords(refusal) {
 
 /** `no 14 FlagUp` and the like: told to nobody, since they only say that a clock is a little ahead. */
 export const FLAG_UP = 14, OVER = 6, WRONG_PLY = 7;
-export const BAD_LINE = 1, NO_GAME = 3, NOT_YOUR_MOVE = 8, BAD_FEN = 17, BAD_TOKEN = 32, CLOCKS_STOPPED = 46;
+export const BAD_LINE = 1, NO_GAME = 3, NOT_YOUR_MOVE = 8, BAD_FEN = 17, BAD_TOKEN = 32;
 export const AGREED = 2;             // both sides have moved then: a draw can be agreed on
 export const NO_FEN = t`A FEN has letters, digits and the signs / and - alone.`;
 
@@ -92,6 +92,11 @@ const BY_ARTICLE = {
   '9.6.1': t`since the position stood for the fifth time`,
   '9.6.2': t`since 75 moves were made without a capture or a pawn’s move`,
 };
+
+/** A title and a rating, as far as they are known: `WIM 1987`. */
+export function rankWords(title, rating) {
+  return [title, rating].filter(Boolean).join(' ');
+}
 
 /** A result with its reason behind it, which may begin with a comma. */
 export function withReason(result, reason) {

@@ -23,6 +23,7 @@ MOVES = (('e4', 'e2e4', 'rnbqkbnr/pppppppp/8/8/4P3/8/PPPP1PPP/RNBQKBNR b KQkq - 
          ('Qxf7#', 'h5f7', 'r1bqkb1r/pppp1Qpp/2n2n2/4p3/2B1P3/8/PPPP1PPP/RNB1K1NR b KQkq - 0 4'))
 SANS = [san for san, _, _ in MOVES]
 FULL = {'ann': 'Ann Lee', 'bob': 'Bob <b>Stone</b> & Sons', 'cid': 'Cid Okonkwo', 'dee': 'Dee van der Meer'}
+TITLES, RATINGS = {'ann': 'WIM', 'dee': 'FM'}, {'ann': '2103', 'bob': '1987'}
 TYPES = {'html': 'text/html', 'css': 'text/css', 'js': 'text/javascript', 'svg': 'image/svg+xml'}
 POLICY = ("default-src 'none'; script-src 'self'; style-src 'self'; img-src 'self'; connect-src 'self'; "
           "base-uri 'none'; form-action 'none'; frame-ancestors 'none'")
@@ -34,6 +35,7 @@ class Shown:
 
     def __init__(self):
         self.games, self.files, self.asked = {}, {}, []
+        self.said = {'stopped': '', 'announced': ''}
         self.is_away, self.ahead = False, 0
         shown = self
 
@@ -97,10 +99,20 @@ class Shown:
         names = [FULL.get(name, 'Zoe') for name in (white, black)]
         stands = {'game': number, 'white': white, 'black': black, 'names': names, 'toMove': side,
                   'running': side, 'clocks': [300000, 300000], 'check': plies == 7, 'offer': '-', 'result': '*',
-                  'article': '-', 'at': self.host(), 'times': '300+2', 'plies': plies, **other}
+                  'article': '-', 'at': self.host(), 'times': '300+2', 'plies': plies,
+                  'titles': [TITLES.get(name, '') for name in (white, black)],
+                  'ratings': [RATINGS.get(name, '') for name in (white, black)], **other}
         if stands['result'] != '*':
             stands['running'] = '-'
         self.games[number] = stands
+        self.put()
+
+    def says(self, stopped='', announced=''):
+        """An arbiter has everybody told this."""
+        self.said = {'stopped': stopped, 'announced': announced}
+        for stands in self.games.values():
+            side = 'white' if stands['plies'] % 2 == 0 else 'black'
+            stands['running'] = '-' if stopped or stands['result'] != '*' else side
         self.put()
 
     def put(self):
@@ -108,13 +120,16 @@ class Shown:
         for number, stands in self.games.items():
             moves = [[*move, 298000 - 1000 * ply] for ply, move in enumerate(MOVES[:stands['plies']])]
             row = {name: value for name, value in stands.items() if name not in ('plies', 'times')}
-            told = {'tags': [['Round', '3'], ['Board', '2']], 'times': stands['times'], 'start': START, 'moves': moves}
-            self.files['/games/%d.json' % number] = json.dumps({**row, **told})
+            tags = [['Round', '3'], ['Board', '2']] + [
+                [colour + tag, value] for tag, values in (('Title', stands['titles']), ('Elo', stands['ratings']))
+                for colour, value in zip(('White', 'Black'), values) if value]
+            told = {'tags': tags, 'times': stands['times'], 'start': START, 'moves': moves}
+            self.files['/games/%d.json' % number] = json.dumps({**self.said, **row, **told})
         rows = []
         for stands in self.games.values():
             san, text, fen = MOVES[stands['plies'] - 1] if stands['plies'] else ('-', '-', START)
             rows.append({**stands, 'last': san, 'lastMove': text, 'fen': fen})
-        self.files['/games.json'] = json.dumps({'at': self.host(), 'games': rows})
+        self.files['/games.json'] = json.dumps({'at': self.host(), **self.said, 'games': rows})
 
     def of(self, path, since=0.0):
         """When this was asked for, and the answers."""
@@ -162,6 +177,8 @@ def a_game_by_files(sue, shown):
     comes(sue, shown, '#/game/7').reads('#game-title', 'Game 7')
     sue.moved(['e4'], 'the moves so far')
     sue.is_so(all(FULL[name] in sue.shown('.game-view') for name in ('ann', 'bob')), 'who plays, as text')
+    ranks = [sue.text('.player.%s .rank' % side) for side in ('white', 'black')]
+    sue.is_so(ranks == ['WIM 2103', '1987'], 'with titles and ratings: %s' % ranks)
     clock = lambda: seconds(sue.text(CLOCK % 'black'))
     sue.until(lambda: 120 < clock() < 141, 'the clock goes on from the moment of the file: %s' % clock())
     first = clock()
@@ -179,12 +196,12 @@ def a_game_by_files(sue, shown):
     shown.has(7, 5)
     sue.moved(SANS[:5], 'several moves at once')
     sue.is_so(sue.men().get('h5') == 'white queen', 'and where they led')
-    shown.has(7, 5, running='-')
-    sue.reads('#clocks-stopped', 'The arbiter has stopped all clocks.')
+    shown.says(stopped='the fire alarm')
+    sue.reads('#clocks-stopped', 'Clocks stopped by the arbiter: the fire alarm')
     stood = clock()
     time.sleep(1.5)
     sue.is_so(clock() == stood, 'the clocks stand')
-    shown.has(7, 5)
+    shown.says()
     sue.loses('#clocks-stopped', 'and run again').until(lambda: clock() < stood, 'which is seen')
     shown.has(7, 6, offer='both')
     sue.reads('#note', 'offers a draw')
@@ -211,6 +228,8 @@ def the_hall_by_files(sue, shown):
     shown.has(8, 1, 'cid', 'dee')
     comes(sue, shown).shows('#running-count', '2', 'two games run')
     sue.is_so('300' not in sue.text('#running-list') and '5+2' in sue.text('#running-list'), 'with their times')
+    ranks = 'return [...document.querySelectorAll("%s .rank")].map((e) => e.textContent.trim()).sort()'
+    sue.is_so(sue.run(ranks % '#running-list') == ['', '1987', 'FM', 'WIM 2103'], 'with titles and ratings')
     sue.lacks('#waiting-games', 'nobody is told of games that wait')
     sue.has('#only-watching', 'one watches').lacks('#lost', 'nothing is lost')
     shown.has(8, 7, 'cid', 'dee', result='1-0', article='5.1.1')
@@ -218,6 +237,7 @@ def the_hall_by_files(sue, shown):
     shown.has(6, 7, '-', '-', clocks=[None, None], result='1-0', article='5.1.1')
     sue.shows('#over-count', '1', 'one has ended').shows('#running-count', '2', 'another has begun')
     sue.goes('hall').until(lambda: sue.run('return document.querySelectorAll(".card").length') == 2, 'two boards')
+    sue.is_so('WIM 2103' in sue.run(ranks % '#hall-boards'), 'with titles and ratings')
     sue.until(lambda: sorted(sue.run('return [...document.querySelectorAll(".card-last")].map((e) => e.textContent)'))
               == ['', 'e5'], 'with their last moves')
     shown.has(7, 3)
@@ -335,6 +355,13 @@ def a_screen_by_files(sue, shown):
     sue.is_so(FULL['ann'] in sue.text('.card-player.white') and sue.width() <= 1920, 'with who plays')
     shown.has(7, 5)
     sue.until(lambda: last() == 'Qh5', 'a move').reads('.screen-moves', 'Qh5')
+    shown.says(announced='The next round begins at 20:00')
+    sue.reads('#announced', 'The arbiter announces: The next round begins at 20:00')
+    shown.says('a lamp fell', 'The next round begins at 20:00')
+    sue.reads('#clocks-stopped', 'Clocks stopped by the arbiter: a lamp fell').finds('#announced', 'beside it')
+    reads_well(sue, 'a screen with both')
+    shown.says()
+    sue.loses('#announced', 'nothing is announced any more').loses('#clocks-stopped', 'and the clocks run')
     shown.is_away = True
     sue.reads('#lost', 'The lobby does not answer')
     shown.is_away = False
@@ -347,5 +374,28 @@ def a_screen_by_files(sue, shown):
     is_quiet(sue)
 
 
-WATCHING = (a_game_by_files, the_hall_by_files, the_files_away, a_hidden_tab, a_game_not_there, files_on_a_phone,
+@watching
+def an_announcement_by_files(sue, shown):
+    """What an arbiter announces comes to who has no link as to players, in each view: at a game, at the table, among
+    finished games, at a game that is over or not there; it is hidden there, and goes."""
+    shown.has(7, 1)
+    shown.has(8, 7, 'cid', 'dee', result='1-0', article='5.1.1')
+    comes(sue, shown, '#/game/7').moved(['e4'], 'the game')
+    sue.lacks('#announced', 'nothing is announced')
+    for view in ('game/7', 'game/8', '', 'hall', 'games', 'game/9', 'again'):
+        text = 'Lunch is served (%s)' % (view or 'table')
+        sue.goes(view)
+        shown.says(announced=text)
+        sue.until(lambda: sue.text('#announced-words') == 'The arbiter announces: ' + text, 'announced at ' + view, 15)
+    sue.goes('game/7').click('#hide-announced').lacks('#announced', 'it is hidden here')
+    shown.says(announced='Lunch is over')
+    sue.reads('#announced', 'Lunch is over')
+    reads_well(sue, 'an announcement')
+    shown.says()
+    sue.loses('#announced', 'nothing is announced any more', 10)
+    sue.is_so(sue.run(SOCKETS) == 0, 'no socket was opened')
+    is_quiet(sue)
+
+
+WATCHING = (a_game_by_files, the_hall_by_files, an_announcement_by_files, the_files_away, a_hidden_tab, a_game_not_there, files_on_a_phone,
             a_screen_by_files)

@@ -20,7 +20,7 @@ use std::fs::File;
 use std::net::{Net, TcpStream};
 use std::rt::{Clock, Files};
 use text_parts::parts;
-use text_pgn::value_of;
+use text_pgn::{Notices, value_of};
 
 // A game: its PGN, and what else is known of it where it is on the table.
 #[derive(Drop)]
@@ -229,7 +229,7 @@ fn game_now<'a>(
     board: &'a Board,
     pgn: &'a [u8],
     told: Option<(&'a ToldGame, &'a [Option<u64>])>,
-    is_stopped: bool,
+    notices: Notices<'a>,
     at: u64,
 ) -> Result<GameNow<'a>> {
     Ok(GameNow {
@@ -237,7 +237,7 @@ fn game_now<'a>(
         moves: str::from_utf8(board.pgn.as_slice())?,
         tags: str::from_utf8(pgn)?,
         told,
-        is_stopped,
+        notices,
         at,
     })
 }
@@ -304,7 +304,7 @@ impl<'a, R: Files<File = File> + AllocGlobal + Eprint> Writer<'a, R> {
         let rows = rows_of(alloc, list.as_str())?;
         // (behind the list, so that they are all there who play its games)
         self.sources.renew(self.rt, rows.as_slice())?;
-        let is_stopped = self.sources.log.is_stopped();
+        let is_stopped = !self.sources.log.notices(at).stopped.is_empty();
         if is_stopped != self.was_stopped {
             self.table.ask_again(alloc, None);
             self.was_stopped = is_stopped;
@@ -364,16 +364,17 @@ where
         let Some(spectators) = &mut self.spectators else {
             return Ok(());
         };
+        let notices = self.sources.log.notices(at);
         let mut games = Vec::new(alloc);
         for (board, pgn) in boards.as_slice().iter().zip(pgns.as_slice()) {
             let told = told_beside(&self.table, self.seen.as_slice(), board.game);
-            let now = game_now(board, pgn.as_slice(), told, self.was_stopped, at)?;
+            let now = game_now(board, pgn.as_slice(), told, notices, at)?;
             if !spectators.tell(self.rt, &now)? {
                 self.table.ask_again(alloc, Some(board.game));
             }
             games.push(board.game)?;
         }
-        spectators.end(self.rt, games.as_slice(), at)
+        spectators.end(self.rt, games.as_slice(), &notices, at)
     }
 }
 

@@ -1,14 +1,17 @@
 //! A game as spectators are told it, and the text of its file.
-ghost use Rattle.std.specs.Prelude.{◌≡◌, IfOk, IfSome};
+ghost use Rattle.std.specs.Prelude.{◌≡◌, [], IfOk, IfSome};
 ghost use Rattle.std.specs.String.{string_bytes};
 ghost use Rattle.server_answers.specs.Values.{ending_article};
+ghost use Rattle.text_pgn.specs.Spectators.{is_stopped};
 ghost use Rattle.night_links.specs.Told as spec;
 
 use crate::table::ToldGame;
 use anyhow::{Result, bail};
 use server_answers::{Ending, Offers, Shown, result_text, seat_text, shown_of};
 use std::alloc::{AllocError, Global};
-use text_pgn::{PlayedGame, Spectated, Stand, game_json, replayed, running_side, value_of};
+use text_pgn::{
+    Notices, PlayedGame, Spectated, Stand, game_json, replayed, running_side, value_of,
+};
 
 /// A game as it is to be told now.
 #[derive(Clone, Copy)]
@@ -21,8 +24,7 @@ pub struct GameNow<'a> {
     /// What the server told of it, and the clocks after its moves, in milliseconds, as far as they are known; none
     /// where it has left the table.
     pub told: Option<(&'a ToldGame, &'a [Option<u64>])>,
-    /// Whether all clocks are stopped.
-    pub is_stopped: bool,
+    pub notices: Notices<'a>,
     /// The moment, in milliseconds since 1970.
     pub at: u64,
 }
@@ -49,13 +51,20 @@ pub struct Standing {
     clocks: Vec<Option<u64>>,
 }
 
+/// What an arbiter has everybody told.
+#[derive(Drop)]
+pub struct Said {
+    stopped: String,
+    announced: String,
+}
+
 /// A game as it is told.
 #[derive(Drop)]
 pub struct SpectatedGame {
     pub game: u32,
     tags: ToldTags,
     standing: Standing,
-    is_stopped: bool,
+    said: Said,
     /// The replay of its moves.
     pub played: PlayedGame,
 }
@@ -91,6 +100,51 @@ fn article_text(ending: Option<Ending>) -> &'static str
     match ending {
         Some(ending) => ending.article.as_str(),
         None => "-",
+    }
+}
+
+impl Said {
+    /// Nothing is told.
+    pub fn nothing(alloc: Global) -> Said
+        ensures stopped { string_bytes result.stopped ≡ [] }
+        ensures announced { string_bytes result.announced ≡ [] }
+    {
+        Said {
+            stopped: String::new(alloc),
+            announced: String::new(alloc),
+        }
+    }
+
+    /// These are told.
+    pub fn of(alloc: Global, notices: &Notices<'_>) -> Result<Said, AllocError>
+        ensures { IfOk result (λ said. spec.IsSaid notices.now said) }
+    {
+        Ok(Said {
+            stopped: String::from_str(alloc, notices.stopped)?,
+            announced: String::from_str(alloc, notices.announced)?,
+        })
+    }
+
+    /// What is told.
+    pub fn notices(&self) -> Notices<'_>
+        ensures { spec.IsSaid result self.now }
+    {
+        Notices {
+            stopped: self.stopped.as_str(),
+            announced: self.announced.as_str(),
+        }
+    }
+
+    // Whether all clocks are stopped.
+    fn is_stopped(&self) -> bool
+        ensures { result ≡ is_stopped (string_bytes self.now.stopped) }
+    {
+        !self.stopped.is_empty()
+    }
+
+    /// Whether just these are told.
+    pub fn is_told(&self, notices: &Notices<'_>) -> bool {
+        self.stopped.as_str() == notices.stopped && self.announced.as_str() == notices.announced
     }
 }
 
@@ -207,11 +261,12 @@ pub fn spectated_now(
     };
     let tags = told_tags(alloc, now)?;
     let standing = standing_of(alloc, now, last)?;
+    let said = Said::of(alloc, &now.notices)?;
     let game = SpectatedGame {
         game: now.game,
         tags,
         standing,
-        is_stopped: now.is_stopped,
+        said,
         played,
     };
     Ok(if game.is_whole() { Some(game) } else { None })
@@ -235,7 +290,7 @@ impl SpectatedGame {
         match shown_of(standing.shown.as_str()) {
             Some(shown) => Stand {
                 at: standing.at,
-                running: running_side(shown.ending, self.is_stopped, shown.side),
+                running: running_side(shown.ending, self.said.is_stopped(), shown.side),
                 clocks: Some(shown.clocks),
                 offers: shown.offers,
                 result,
@@ -258,6 +313,7 @@ impl SpectatedGame {
     {
         Spectated {
             game: self.game,
+            notices: self.said.notices(),
             white: self.standing.white.as_str(),
             black: self.standing.black.as_str(),
             white_name: self.tags.white_name.as_str(),
@@ -283,9 +339,9 @@ impl SpectatedGame {
     /// Whether it was told just so.
     pub fn is_told(&self, now: &GameNow<'_>) -> bool {
         let is_shown = match now.told {
-            Some((told, _)) => { self.standing.at == told.at && self.is_stopped == now.is_stopped }
+            Some((told, _)) => self.standing.at == told.at,
             None => true,
         };
-        is_shown && self.tags.text.as_str() == now.tags
+        is_shown && self.said.is_told(&now.notices) && self.tags.text.as_str() == now.tags
     }
 }

@@ -1,11 +1,11 @@
 //! What spectators fetch of games, kept in a folder: one file for each, and one of all.
 use crate::folder::GamesFolder;
-use crate::spectated_game::{GameNow, SpectatedGame, spectated_now};
+use crate::spectated_game::{GameNow, Said, SpectatedGame, spectated_now};
 use anyhow::{Context, Result};
 use std::alloc::Global;
 use std::fs::File;
 use std::rt::Files;
-use text_pgn::{GameTold, games_json};
+use text_pgn::{GameTold, Notices, games_json};
 
 // A game as it was told last, and how long its file is.
 #[derive(Drop)]
@@ -19,6 +19,8 @@ struct Watched {
 pub struct Spectators<'a> {
     files: GamesFolder<'a>,
     games: Vec<Watched>,
+    // What the file of all games tells that an arbiter has everybody told.
+    said: Said,
     // Whether the file of all games is to be written.
     is_changed: bool,
     // Whether the folder was not looked through yet.
@@ -31,6 +33,7 @@ impl<'a> Spectators<'a> {
         Spectators {
             files,
             games: Vec::new(alloc),
+            said: Said::nothing(alloc),
             is_changed: true,
             is_new: true,
         }
@@ -101,13 +104,23 @@ impl<'a> Spectators<'a> {
         Ok(())
     }
 
-    /// Ends a look in which these games were told, at a moment in milliseconds since 1970: the files of others go, and
-    /// the file of all games is written anew where one of them has changed.
-    pub fn end<R>(&mut self, rt: &R, games: &[u32], at: u64) -> Result<()>
+    // Notes what everybody is told.
+    fn note(&mut self, alloc: Global, notices: &Notices<'_>) -> Result<()> {
+        if !self.said.is_told(notices) {
+            self.said = Said::of(alloc, notices)?;
+            self.is_changed = true;
+        }
+        Ok(())
+    }
+
+    /// Ends a look in which these games and notices were told, at a moment in milliseconds since 1970: the files of
+    /// other games go, and the file of all games is written anew where it is to tell something else.
+    pub fn end<R>(&mut self, rt: &R, games: &[u32], notices: &Notices<'_>, at: u64) -> Result<()>
     where
         R: Files<File = File> + AllocGlobal + Clone + Drop,
     {
         self.keep_only(rt, games)?;
+        self.note(rt.alloc(), notices)?;
         if !self.is_changed {
             return Ok(());
         }
@@ -119,7 +132,7 @@ impl<'a> Spectators<'a> {
                 played: &watched.game.played,
             })?;
         }
-        let text = games_json(rt.alloc(), at, told.as_slice())?;
+        let text = games_json(rt.alloc(), at, notices, told.as_slice())?;
         self.files.put_all(rt, text)?;
         self.is_changed = false;
         Ok(())

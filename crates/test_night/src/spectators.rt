@@ -1,21 +1,32 @@
 //! What no clause says: the texts by which spectators watch, whole, as objects of JSON.
 use server_answers::{Clocks, Offers, Side};
-use text_pgn::{GameTold, Spectated, Stand, game_json, games_json, replayed};
+use text_pgn::{GameTold, Notices, Spectated, Stand, game_json, games_json, replayed};
 
 const MOVES: &str =
-    "[White \"Ann \\\"A\\\" Lee\"]\n[Black \"Bob\"]\n\n1. Nf3 {[%clk 0:04:59]} Nf6 *\n\n";
+    "[White \"Ann \\\"A\\\" Lee\"]\n[Black \"Bob\"]\n[BlackElo \"1987\"]\n[WhiteTitle \"WIM\"]\n\n1. Nf3 {[%clk 0:04:59]} Nf6 *\n\n";
 
 const GAME: &str =
-    r#"{"at":1764160000123,"game":7,"white":"ann","black":"bob","names":["Ann \"A\" Lee","Bob"],"tags":[["White","Ann \"A\" Lee"],["Black","Bob"]],"times":"300+2","start":"rnbqkbnr/pppppppp/8/8/8/8/PPPPPPPP/RNBQKBNR w KQkq - 0 1","moves":[["Nf3","g1f3","rnbqkbnr/pppppppp/8/8/8/5N2/PPPPPPPP/RNBQKB1R b KQkq - 1 1",299000],["Nf6","g8f6","rnbqkb1r/pppppppp/5n2/8/8/5N2/PPPPPPPP/RNBQKB1R w KQkq - 2 2",null]],"check":false,"toMove":"white","running":"white","clocks":[299000,300000],"offer":"black","result":"*","article":"-"}
+    r#"{"at":1764160000123,"stopped":"","announced":"Lunch at \"13:00\"","game":7,"white":"ann","black":"bob","names":["Ann \"A\" Lee","Bob"],"titles":["WIM",""],"ratings":["","1987"],"tags":[["White","Ann \"A\" Lee"],["Black","Bob"],["BlackElo","1987"],["WhiteTitle","WIM"]],"times":"300+2","start":"rnbqkbnr/pppppppp/8/8/8/8/PPPPPPPP/RNBQKBNR w KQkq - 0 1","moves":[["Nf3","g1f3","rnbqkbnr/pppppppp/8/8/8/5N2/PPPPPPPP/RNBQKB1R b KQkq - 1 1",299000],["Nf6","g8f6","rnbqkb1r/pppppppp/5n2/8/8/5N2/PPPPPPPP/RNBQKB1R w KQkq - 2 2",null]],"check":false,"toMove":"white","running":"white","clocks":[299000,300000],"offer":"black","result":"*","article":"-"}
 "#;
 
 // (two seconds later)
 const ALL: &str =
-    r#"{"at":1764160002123,"games":[{"game":7,"white":"ann","black":"bob","names":["Ann \"A\" Lee","Bob"],"plies":2,"last":"Nf6","lastMove":"g8f6","fen":"rnbqkb1r/pppppppp/5n2/8/8/5N2/PPPPPPPP/RNBQKB1R w KQkq - 2 2","check":false,"toMove":"white","running":"white","clocks":[297000,300000],"offer":"black","result":"*","article":"-"},{"game":8,"white":"-","black":"-","names":["-","-"],"plies":0,"last":"-","lastMove":"-","fen":"7k/8/8/8/8/8/8/K6R b - - 0 1","check":true,"toMove":"black","running":"-","clocks":[null,null],"offer":"-","result":"1-0","article":"5.1.2"}]}
+    r#"{"at":1764160002123,"stopped":"a fire alarm","announced":"","games":[{"game":7,"white":"ann","black":"bob","names":["Ann \"A\" Lee","Bob"],"titles":["WIM",""],"ratings":["","1987"],"plies":2,"last":"Nf6","lastMove":"g8f6","fen":"rnbqkb1r/pppppppp/5n2/8/8/5N2/PPPPPPPP/RNBQKB1R w KQkq - 2 2","check":false,"toMove":"white","running":"white","clocks":[297000,300000],"offer":"black","result":"*","article":"-"},{"game":8,"white":"-","black":"-","names":["-","-"],"titles":["",""],"ratings":["",""],"plies":0,"last":"-","lastMove":"-","fen":"7k/8/8/8/8/8/8/K6R b - - 0 1","check":true,"toMove":"black","running":"-","clocks":[null,null],"offer":"-","result":"1-0","article":"5.1.2"}]}
 "#;
+
+const ANNOUNCED: Notices<'static> = Notices {
+    stopped: "",
+    announced: "Lunch at \"13:00\"",
+};
+
+const STOPPED: Notices<'static> = Notices {
+    stopped: "a fire alarm",
+    announced: "",
+};
 
 const PLAYED: Spectated<'static> = Spectated {
     game: 7,
+    notices: ANNOUNCED,
     white: "ann",
     black: "bob",
     white_name: "Ann \"A\" Lee",
@@ -40,6 +51,7 @@ const PLAYED: Spectated<'static> = Spectated {
 
 const OVER: Spectated<'static> = Spectated {
     game: 8,
+    notices: STOPPED,
     white: "-",
     black: "-",
     white_name: "-",
@@ -84,7 +96,7 @@ fn tells_spectators_of_games(rt: HostRuntime) {
             played: &over,
         },
     ];
-    let all = games_json(alloc, 1_764_160_002_123, &games).expect(&rt, "memory");
+    let all = games_json(alloc, 1_764_160_002_123, &STOPPED, &games).expect(&rt, "memory");
     assert!(rt; all.as_slice() == ALL.as_bytes());
     assert!(rt;
         replayed(alloc, 9, "1. e5 *\n")

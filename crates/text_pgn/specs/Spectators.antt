@@ -1,7 +1,7 @@
 -- What spectators are told of a game, as values of JSON (docs/client/LOBBY.md).
 use Rattle.std.specs.Prelude.{ℕ, ◌-◌, ◌↔◌, Bool, true, false, ◌==◌, IsTrue, List, [], ◌∷◌, ◌++◌, length, map, drop}
-use Rattle.std.specs.Prelude.{codes, decimal, Option, Some, None, filter, if◌then◌else◌}
-use Rattle.std.specs.List.{after_first}
+use Rattle.std.specs.Prelude.{codes, decimal, nat_le, Option, Some, None, filter, if◌then◌else◌}
+use Rattle.std.specs.List.{after_first, find}
 use Rattle.std.specs.Str.{bytes_eq}
 use Rattle.std.specs.String.{string_bytes}
 use Rattle.text_parts.specs.Parts.{parts_of}
@@ -15,6 +15,7 @@ use Rattle.chess_board.specs.declared.moves.Move.{Move}
 use Rattle.chess_board.specs.Position.{Position, IsValid, IsInCheck}
 use Rattle.chess_notation.specs.Fen.{IsFenOf}
 use Rattle.text_pgn.specs.declared.spectated.Stand.{Stand}
+use Rattle.text_pgn.specs.declared.spectated.Notices.{Notices}
 use Rattle.text_pgn.specs.declared.spectated.Spectated.{Spectated}
 use Rattle.text_pgn.specs.declared.spectated.PlayedGame.{PlayedGame}
 use Rattle.text_pgn.specs.declared.spectated.GameTold.{GameTold}
@@ -25,13 +26,17 @@ use Rattle.text_pgn.specs.Pgn.{is_tag}
 use Rattle.text_pgn.specs.Rows.{first_field, next_fields, san_in, move_in, position_in, rows_in, start_row, move_rows, last_row}
 use Rattle.text_pgn.specs.Tags.{head_of}
 
--- ---- the players, and the tags
+-- ---- what an arbiter has everybody told
 
--- `"game":G,"white":NAME,"black":NAME,"names":[FULL NAME,FULL NAME]`: names in the protocol, and full names
-unfoldable pub players_json : Spectated → List ℕ
-players_json g =
-    codes "\"game\":" ++ (decimal g.game ++ (codes ",\"white\":" ++ (string g.white.now ++ (codes ",\"black\":" ++ (string g.black.now
-    ++ (codes ",\"names\":[" ++ (string g.white_name.now ++ (codes "," ++ (string g.black_name.now ++ codes "]")))))))))
+-- `,"stopped":REASON,"announced":TEXT`, each empty where it is nothing
+unfoldable pub notices_json : Notices → List ℕ
+notices_json n = codes ",\"stopped\":" ++ (string n.stopped.now ++ (codes ",\"announced\":" ++ string n.announced.now))
+
+-- All clocks are stopped where there is a reason for it.
+abbrev pub is_stopped : List ℕ → Bool
+is_stopped reason = nat_le 1 (length reason)
+
+-- ---- the tags, and the players
 
 -- the name of a tag, and its value without the backslashes before its quotes and backslashes
 abbrev pub tag_name : List ℕ → List ℕ
@@ -44,9 +49,39 @@ tag_value line = unescaped_from false (after_first (λ b. b == 34) line)
 abbrev pub tag_json : List ℕ → List ℕ
 tag_json line = codes "[" ++ (string (tag_name line) ++ (codes "," ++ (string (tag_value line) ++ codes "]")))
 
--- the tags of lines, in their order
+-- the tags of a text, in their order
+abbrev pub tags_in : List ℕ → List (List ℕ)
+tags_in text = filter is_tag (parts_of 10 text)
+
 unfoldable pub tags_json : List (List ℕ) → List ℕ
-tags_json lines = codes "[" ++ (listed (map tag_json (filter is_tag lines)) ++ codes "]")
+tags_json tags = codes "[" ++ (listed (map tag_json tags) ++ codes "]")
+
+-- the value of the first of tags that has this name, empty where none has it
+abbrev pub value_if : Option (List ℕ) → List ℕ
+value_if None = []
+value_if (Some line) = tag_value line
+
+abbrev pub value_named : List ℕ → List (List ℕ) → List ℕ
+value_named name tags = value_if (find (λ line. bytes_eq (tag_name line) name) tags)
+
+-- `[VALUE,VALUE]`, those of two names
+abbrev pub values_json : List ℕ → List ℕ → List (List ℕ) → List ℕ
+values_json white black tags =
+    codes "[" ++ (string (value_named white tags) ++ (codes "," ++ (string (value_named black tags) ++ codes "]")))
+
+-- `,"titles":[TITLE,TITLE],"ratings":[RATING,RATING]`, as the tags tell them, White's first
+unfoldable pub particulars_json : List (List ℕ) → List ℕ
+particulars_json tags =
+    codes ",\"titles\":" ++ (values_json (codes "WhiteTitle") (codes "BlackTitle") tags
+    ++ (codes ",\"ratings\":" ++ values_json (codes "WhiteElo") (codes "BlackElo") tags))
+
+-- `"game":G,"white":NAME,"black":NAME,"names":[FULL NAME,FULL NAME]`: names in the protocol, and full names; behind
+-- them titles and ratings
+unfoldable pub players_json : Spectated → List ℕ
+players_json g =
+    codes "\"game\":" ++ (decimal g.game ++ (codes ",\"white\":" ++ (string g.white.now
+    ++ (codes ",\"black\":" ++ (string g.black.now ++ (codes ",\"names\":[" ++ (string g.white_name.now
+    ++ (codes "," ++ (string g.black_name.now ++ (codes "]" ++ particulars_json (tags_in g.tags.now)))))))))))
 
 -- ---- the moves
 
@@ -107,8 +142,10 @@ clocks_json later running (Some clocks) =
 -- how a game stands in the position of a FEN, with its clocks as they are at this moment
 unfoldable pub stand_json : ℕ → Stand → List ℕ → Bool → List ℕ
 stand_json at s fen check =
-    codes "\"check\":" ++ (truth check ++ (codes ",\"toMove\":" ++ (string (turn_in fen) ++ (codes ",\"running\":" ++ (string (running_word s.running)
-    ++ (codes ",\"clocks\":" ++ (clocks_json (at - s.at) s.running s.clocks ++ (codes ",\"offer\":" ++ (string (offer_by s.offers.white s.offers.black)
+    codes "\"check\":" ++ (truth check ++ (codes ",\"toMove\":" ++ (string (turn_in fen)
+    ++ (codes ",\"running\":" ++ (string (running_word s.running)
+    ++ (codes ",\"clocks\":" ++ (clocks_json (at - s.at) s.running s.clocks
+    ++ (codes ",\"offer\":" ++ (string (offer_by s.offers.white s.offers.black)
     ++ (codes ",\"result\":" ++ (string s.result.now ++ (codes ",\"article\":" ++ string s.article.now))))))))))))
 
 -- ---- the two texts
@@ -116,8 +153,9 @@ stand_json at s fen check =
 -- what stands in front of its moves, with the row of the start
 unfoldable pub front_json : Spectated → List ℕ → List ℕ
 front_json g start =
-    codes "{\"at\":" ++ (decimal g.stand.at ++ (codes "," ++ (players_json g ++ (codes ",\"tags\":" ++ (tags_json (parts_of 10 g.tags.now)
-    ++ (codes ",\"times\":" ++ (string g.times.now ++ (codes ",\"start\":" ++ string (position_in start)))))))))
+    codes "{\"at\":" ++ (decimal g.stand.at ++ (notices_json g.notices ++ (codes "," ++ (players_json g
+    ++ (codes ",\"tags\":" ++ (tags_json (tags_in g.tags.now) ++ (codes ",\"times\":" ++ (string g.times.now
+    ++ (codes ",\"start\":" ++ string (position_in start))))))))))
 
 -- a game's own file, with the rows of its answer to `line G`, and whether the side to move is in check
 abbrev pub game_json : Spectated → List (List ℕ) → Bool → List (Option ℕ) → List ℕ
@@ -141,9 +179,10 @@ abbrev pub entry_of : ℕ → GameTold → List ℕ
 entry_of at g = entry_json at g.game (rows_in (string_bytes g.played.now.answer)) g.played.now.is_check
 
 -- the file of all games, as they are at this moment
-abbrev pub games_json : ℕ → List GameTold → List ℕ
-games_json at games =
-    codes "{\"at\":" ++ (decimal at ++ (codes ",\"games\":[" ++ (listed (map (entry_of at) games) ++ codes "]}\n")))
+abbrev pub games_json : ℕ → Notices → List GameTold → List ℕ
+games_json at notices games =
+    codes "{\"at\":" ++ (decimal at ++ (notices_json notices
+    ++ (codes ",\"games\":[" ++ (listed (map (entry_of at) games) ++ codes "]}\n"))))
 
 -- ---- what the Laws say of it
 

@@ -1,95 +1,31 @@
 //! A game as values of JSON: its own file, and its part of the file of all games.
-ghost use Rattle.std.specs.Prelude.{ℕ, ◌≡◌, ◌++◌, ◌-◌, List, length, map, filter, flat_map, codes, OnOk, IfOk, IfSome, IsSomeAnd};
+ghost use Rattle.std.specs.Prelude.{ℕ, ◌≡◌, ◌++◌, ◌-◌, List, length, map, flat_map, codes, OnOk, IfOk};
+ghost use Rattle.std.specs.Prelude.{IfSome, IsSomeAnd};
 ghost use Rattle.std.specs.String.{string_bytes};
 ghost use Rattle.chess_board.specs.declared.moves.Move.{Move};
 ghost use Rattle.chess_board.specs.Position.{Position};
 ghost use Rattle.text_pgn.specs.Game.{TellsGame};
 ghost use Rattle.text_pgn.specs.Json.{behind_comma, listed};
-ghost use Rattle.text_parts.specs.Parts.{parts_of};
 ghost use Rattle.text_pgn.specs.Spectators as spec;
 ghost use Rattle.text_pgn.specs.Rows as rows_spec;
-ghost use Rattle.text_pgn.specs.Pgn as pgn;
 
 use crate::answer::line_answer;
 use crate::answer_rows::{cut_row, last_row, move_in, position_in, rows_in, san_in};
-use crate::json::{push_decimal, push_known, push_number, push_string, push_text, push_truth};
+use crate::json::{push_decimal, push_known, push_number, push_text, push_truth};
+use crate::json_tags::{push_players, push_tags};
 use crate::moves::cut_clock;
-use crate::pgn_lines::is_tag;
-use crate::spectated::{GameTold, PlayedGame, Spectated, Stand};
-use crate::tags::head_of;
+use crate::spectated::{GameTold, Notices, PlayedGame, Spectated, Stand};
 use chess_fen::fen_read;
 use server_answers::{Clocks, Offers, Side};
 use std::alloc::{AllocError, Global};
-use text_parts::{before, behind, parts, skip, unescaped};
+use text_parts::{before, behind};
 
-// Appends who plays.
-fn push_players(out: &mut Vec<u8>, game: &Spectated<'_>) -> Result<(), AllocError>
-    ensures { OnOk result (out.new.items ≡ out.old.items ++ spec.players_json game.now) }
+// Appends what an arbiter has everybody told.
+fn push_notices(out: &mut Vec<u8>, notices: &Notices<'_>) -> Result<(), AllocError>
+    ensures { OnOk result (out.new.items ≡ out.old.items ++ spec.notices_json notices.now) }
 {
-    push_number(out, b"\"game\":", u64::from(game.game))?;
-    push_text(out, b",\"white\":", game.white)?;
-    push_text(out, b",\"black\":", game.black)?;
-    push_text(out, b",\"names\":[", game.white_name)?;
-    push_text(out, b",", game.black_name)?;
-    out.extend_from_slice(b"]")?;
-    Ok(())
-}
-
-// Appends a tag.
-fn push_tag(out: &mut Vec<u8>, alloc: Global, line: &str) -> Result<(), AllocError>
-    ensures { OnOk result (out.new.items ≡ out.old.items ++ spec.tag_json line.now) }
-{
-    let value = unescaped(alloc, behind(line, '"').as_bytes())?;
-    out.extend_from_slice(b"[")?;
-    push_string(out, skip(head_of(line).as_bytes(), 1))?;
-    out.extend_from_slice(b",")?;
-    push_string(out, value.as_slice())?;
-    out.extend_from_slice(b"]")
-}
-
-// Appends tags behind another.
-fn push_more_tags(out: &mut Vec<u8>, alloc: Global, tags: &[&str]) -> Result<(), AllocError>
-    ensures { OnOk result (out.new.items
-        ≡ out.old.items ++ flat_map behind_comma (map spec.tag_json (map (λ line. line.now) tags.now))) }
-{
-    for line in tags {
-        out.extend_from_slice(b",")?;
-        push_tag(out, alloc, line)?;
-    }
-    Ok(())
-}
-
-// Appends tags.
-fn push_tag_list(out: &mut Vec<u8>, alloc: Global, tags: &[&str]) -> Result<(), AllocError>
-    ensures { OnOk result (out.new.items
-        ≡ out.old.items ++ listed (map spec.tag_json (map (λ line. line.now) tags.now))) }
-{
-    match tags {
-        [] => Ok(()),
-        [first, rest @ ..] => {
-            push_tag(out, alloc, first)?;
-            push_more_tags(out, alloc, rest)
-        }
-    }
-}
-
-// The lines of a text that are tags.
-fn tag_lines<'a>(alloc: Global, text: &'a str) -> Result<Vec<&'a str>, AllocError>
-    ensures { IfOk result (λ lines. map (λ line. line.now) lines.items ≡ filter pgn.is_tag (parts_of 10 text.entry.now)) }
-{
-    let mut lines = parts(alloc, text, '\n')?;
-    lines.retain(|line| is_tag(line));
-    Ok(lines)
-}
-
-// Appends the tags of a text.
-fn push_tags(out: &mut Vec<u8>, alloc: Global, text: &str) -> Result<(), AllocError>
-    ensures { OnOk result (out.new.items ≡ out.old.items ++ spec.tags_json (parts_of 10 text.now)) }
-{
-    let lines = tag_lines(alloc, text)?;
-    out.extend_from_slice(b"[")?;
-    push_tag_list(out, alloc, lines.as_slice())?;
-    out.extend_from_slice(b"]")?;
+    push_text(out, b",\"stopped\":", notices.stopped)?;
+    push_text(out, b",\"announced\":", notices.announced)?;
     Ok(())
 }
 
@@ -264,8 +200,8 @@ fn is_check_behind(alloc: Global, answer: &str) -> Result<bool, AllocError>
     Ok(is_check_at(position_in(last_row(rows.as_slice()))))
 }
 
-/// Replays the game that a PGN tells, as the answer to `line G` does. `None` just where it tells no game. It fails where
-/// memory is refused.
+/// Replays the game that a PGN tells, as the answer to `line G` does. `None` just where it tells no game. It fails
+/// where memory is refused.
 pub fn replayed(alloc: Global, game: u32, pgn: &str) -> Result<Option<PlayedGame>, AllocError>
     ensures told { (start : Position) (moves : List Move) → TellsGame pgn.now start moves →
         IfOk result (λ played. IsSomeAnd played (spec.IsPlayed game start moves)) }
@@ -279,7 +215,7 @@ pub fn replayed(alloc: Global, game: u32, pgn: &str) -> Result<Option<PlayedGame
     Ok(Some(PlayedGame { answer, is_check }))
 }
 
-// Appends what stands in front of the moves: who plays, the tags, the times and the position of the start.
+// Appends what stands in front of the moves: the moment, what everybody is told, who plays, the tags, the times and the position of the start.
 fn push_front(
     out: &mut Vec<u8>,
     alloc: Global,
@@ -289,8 +225,9 @@ fn push_front(
     ensures { OnOk result (out.new.items ≡ out.old.items ++ spec.front_json game.now start.now) }
 {
     push_number(out, b"{\"at\":", game.stand.at)?;
+    push_notices(out, &game.notices)?;
     out.extend_from_slice(b",")?;
-    push_players(out, game)?;
+    push_players(out, alloc, game)?;
     out.extend_from_slice(b",\"tags\":")?;
     push_tags(out, alloc, game.tags)?;
     push_text(out, b",\"times\":", game.times)?;
@@ -298,8 +235,8 @@ fn push_front(
     Ok(())
 }
 
-/// The text of a game's own file: who plays, the tags, all moves with the positions that they bring and the clocks after
-/// them, where these are known, and how it stands. It fails where memory is refused.
+/// The text of a game's own file: what everybody is told, who plays, the tags, all moves with the positions that they
+/// bring and the clocks after them, where these are known, and how it stands. It fails where memory is refused.
 pub fn game_json(
     alloc: Global,
     game: &Spectated<'_>,
@@ -348,7 +285,7 @@ fn push_entry(
     let (_, rows) = cut_row(all.as_slice());
     let last = last_row(all.as_slice());
     out.extend_from_slice(b"{")?;
-    push_players(out, game)?;
+    push_players(out, alloc, game)?;
     push_last(out, rows.len() as u64, last)?;
     out.extend_from_slice(b",")?;
     push_stand(out, at, &game.stand, position_in(last), played.is_check)?;
@@ -391,13 +328,19 @@ fn push_games(
     }
 }
 
-/// The text of the file of all games: of each who plays, its last move, and how it stands, with its clocks as they are
-/// at this moment. It fails where memory is refused.
-pub fn games_json(alloc: Global, at: u64, games: &[GameTold<'_>]) -> Result<Vec<u8>, AllocError>
-    ensures { IfOk result (λ text. text.items ≡ spec.games_json at games.now) }
+/// The text of the file of all games: what everybody is told, and of each game who plays, its last move, and how it
+/// stands, with its clocks as they are at this moment. It fails where memory is refused.
+pub fn games_json(
+    alloc: Global,
+    at: u64,
+    notices: &Notices<'_>,
+    games: &[GameTold<'_>],
+) -> Result<Vec<u8>, AllocError>
+    ensures { IfOk result (λ text. text.items ≡ spec.games_json at notices.now games.now) }
 {
     let mut out = Vec::new(alloc);
     push_number(&mut out, b"{\"at\":", at)?;
+    push_notices(&mut out, notices)?;
     out.extend_from_slice(b",\"games\":[")?;
     push_games(&mut out, alloc, at, games)?;
     out.extend_from_slice(b"]}\n")?;

@@ -7,9 +7,9 @@
 //! lines, `whole` joins the three; `players` writes other names of the players; `law` has the law. Of a game's
 //! positions `game_words` finds the start and the words that name moves, `rows` writes the rows of an answer, `replay`
 //! plays the words and writes the answer, a part at a time, and `answer` does that at once; `telling` has the line of
-//! legal moves. For spectators `spectated` has what is told of a game besides its moves, `answer_rows` reads the rows of
-//! an answer, `json` writes values of JSON, `game_file` the texts. `proofs/Kept` shows that the moves stay,
-//! `proofs/Fits` which tokens fit, `proofs/Played` that a game is one.
+//! legal moves. For spectators `spectated` has what is told of a game besides its moves, `answer_rows` reads the rows
+//! of an answer, `json` writes values of JSON, `json_tags` tags and who plays, `game_file` the texts. `proofs/Kept`
+//! shows that the moves stay, `proofs/Fits` which tokens fit, `proofs/Played` that a game is one.
 #![tactic(auto)]
 
 mod answer;
@@ -19,6 +19,7 @@ mod game_file;
 mod game_words;
 mod heading;
 mod json;
+mod json_tags;
 mod law;
 mod lines;
 mod moves;
@@ -40,7 +41,7 @@ pub use law::law_of_moves;
 pub use pgn_lines::{is_move, is_tag, tokens_of};
 pub use players::with_players;
 pub use replay::{Part, Replay};
-pub use spectated::{GameTold, PlayedGame, Spectated, Stand, running_side};
+pub use spectated::{GameTold, Notices, PlayedGame, Spectated, Stand, running_side};
 pub use tag_values::{value_in, value_of, with_tag, without_escapes};
 pub use telling::{moves_line, push_move};
 pub use whole::{TextFault, archived};

@@ -20,17 +20,26 @@ pub struct Stand<'a> {
     pub article: &'a str,
 }
 
+/// What an arbiter has everybody told; a text is empty where it is nothing.
+#[derive(Clone, Copy)]
+pub struct Notices<'a> {
+    /// Why all clocks are stopped.
+    pub stopped: &'a str,
+    pub announced: &'a str,
+}
+
 /// A game, and how it stands.
 #[derive(Clone, Copy)]
 pub struct Spectated<'a> {
     pub game: u32,
+    pub notices: Notices<'a>,
     /// The players' names in the protocol; `-` for one that is not known.
     pub white: &'a str,
     pub black: &'a str,
     /// Their full names, as spectators are told them.
     pub white_name: &'a str,
     pub black_name: &'a str,
-    /// A text whose tags, those of a PGN, are told.
+    /// A text whose tags, those of a PGN, are told: also titles and ratings.
     pub tags: &'a str,
     /// The value of the tag TimeControl.
     pub times: &'a str,

@@ -1,6 +1,6 @@
 use Rattle.std.proofs.Common.{append_assoc}
 use Rattle.text_pgn.specs.Spectators.{tags_json}
-use Rattle.text_pgn.proofs.game_file.push_tags.Goals as goal
+use Rattle.text_pgn.proofs.json_tags.push_tags.Goals as goal
 
 pub returns : goal.returns
 unfolding tags_json
