@@ -2,7 +2,7 @@
 // A note stands before the first line is sent, and each step is taken from how the game stands, so that what was broken off
 // can be done again.
 
-import { findKept, toldOf } from './kept.js';
+import { dateWords, findKept, readKept, toldOf } from './kept.js';
 import { language, t } from './language.js';
 import { readPgn, readRefusal, readShow, readTimes, sideOf, timesOfOpen } from './lines.js';
 import { arrange, byId, copy, focused, make, read, setText, write } from './make.js';
@@ -16,6 +16,7 @@ const AGREEMENT = '5.2.3';
 const FOLLOWS = 250;                 // milliseconds: the clocks of a question
 const COPIED = t`The note is copied.`;
 const TOLD = 'told-adjourned', MOST_TOLD = 20;
+const MOST_DRAWS = 12;               // that ended by agreement, of the games that were kept
 const local = () => localStorage;
 
 export class Adjournments {
@@ -38,6 +39,7 @@ export class Adjournments {
       event.preventDefault();
       this.lookUp(Number(event.target.elements.number.value));
     });
+    byId('adjourned-games').addEventListener('toggle', () => this.listDraws());
     addEventListener('storage', (event) => (event.key || PREFIX).startsWith(PREFIX) && this.render());
   }
 
@@ -75,7 +77,24 @@ export class Adjournments {
       : !note.closed ? t`Game ${number} has not ended as a draw by agreement.` : '');
     if (!note || !note.closed) return;
     byId('adjourned-form').reset();
+    byId('adjourned-draws').querySelector(`[data-key="draw-${number}"]`)?.parentElement.remove();
     if (!this.notes().some((one) => one.game === number)) this.keep({ ...note, isFound: true });
+  }
+
+  /** An adjournment of any browser is a draw by agreement in the record: the newest of these, to be looked up. */
+  async listDraws() {
+    if (!byId('adjourned-games').open) return;
+    const draws = [];
+    await readKept((games) => {
+      draws.push(...games.filter(({ tags }) => tags.Article === AGREEMENT));
+      return draws.length >= MOST_DRAWS;
+    });
+    const known = new Set(this.notes().map((note) => note.game));
+    const items = draws.slice(0, MOST_DRAWS).filter(({ number }) => !known.has(number)).map(({ number, tags }) =>
+      make('li', {}, make('button', { type: 'button', 'data-key': `draw-${number}`, onclick: () => this.lookUp(number) },
+        [t`Game ${number}: ${tags.White} – ${tags.Black}`, dateWords(tags.Date, language)].filter(Boolean).join(', '))));
+    byId('adjourned-draws').replaceChildren(...items);
+    byId('adjourned-drawn').hidden = !items.length;
   }
 
   /** The note of a game that has left the table; null where there is none. */

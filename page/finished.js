@@ -1,6 +1,6 @@
 // Games that are over and were kept: all of them, by player, day and result, or those of one player with the score.
 
-import { dateWords, readKept } from './kept.js';
+import { bothMoved, dateWords, readKept } from './kept.js';
 import { language, t } from './language.js';
 import { arrange, byId, make, save, setText } from './make.js';
 import { resultWords } from './words.js';
@@ -146,7 +146,8 @@ export class FinishedView {
     return this.items.get(game);
   }
 
-  item({ number, tags }) {
+  item(game) {
+    const { number, tags } = game;
     const seat = (name, side) => make('span', { class: `seat ${side}` },
       make('span', { class: 'unseen' }, side === 'white' ? t`white: ` : t`black: `),
       make('span', { class: 'name' }, name));
@@ -155,7 +156,7 @@ export class FinishedView {
       make('span', { class: 'number' }, make('span', { class: 'unseen' }, t`Game `), String(number)),
       make('span', { class: 'pair' }, seat(tags.White, 'white'), seat(tags.Black, 'black')),
       make('span', { class: 'times' }, dateWords(tags.Date, language)),
-      make('span', { class: 'state', title: reason }, score)));
+      make('span', { class: 'state', title: reason }, bothMoved(game) ? score : `(${score})`)));
   }
 }
 
@@ -164,14 +165,17 @@ function initialsOf(full) {
   return full.split(' ').map((word) => (word ? `${[...word][0]}.` : '')).join(' ');
 }
 
-/** A player's points: `7½ of 12: 6 won, 3 drawn, 3 lost`. */
+/** A player's points: `7½ of 12: 6 won, 3 drawn, 3 lost`, by the games in which both have moved: one that was begun by
+ * mistake, and one whose opponent did not come, is ended before. */
 function scoreWords(games, names) {
-  const count = { won: 0, drawn: 0, lost: 0 };
-  for (const { tags: { White, Result } } of games) {
+  const count = { won: 0, drawn: 0, lost: 0 }, counted = games.filter(bothMoved);
+  for (const { tags: { White, Result } } of counted) {
     const isWhite = names.includes(White);
     count[Result === '1/2-1/2' ? 'drawn' : (Result === '1-0') === isWhite ? 'won' : 'lost'] += 1;
   }
   const whole = count.won + Math.floor(count.drawn / 2), half = count.drawn % 2 ? '½' : '';
   const points = half && !whole ? half : `${whole}${half}`;
-  return t`Score: ${points} of ${games.length} (${count.won} won, ${count.drawn} drawn, ${count.lost} lost)`;
+  const words = t`Score: ${points} of ${counted.length} (${count.won} won, ${count.drawn} drawn, ${count.lost} lost)`;
+  const rest = games.length - counted.length;
+  return rest ? t`${words}. Not counted, since not both had moved: ${rest}` : words;
 }

@@ -56,6 +56,12 @@ async function readOn(reader, tag, take, stopped) {
   return 'whole';
 }
 
+/** Whether both sides have moved in a game. */
+export function bothMoved({ text }) {
+  const moves = text.replace(/^\[.*$/gm, '').replace(/\{[^}]*\}/g, ' ');
+  return (moves.match(/(?<![\w-])[KQRBNOa-h][\w=-]+/g) || []).length > 1;
+}
+
 /** The game of this number, or null. */
 export async function findKept(number) {
   let found = null;

@@ -1,4 +1,5 @@
-// Who is there while a game goes on: whether its players are connected, and by how many connections it is watched.
+// Who is there while a game waits or goes on: whether its players are connected, and by how many connections it is
+// watched.
 
 import { t } from './language.js';
 import { readRoom } from './lines.js';
@@ -22,11 +23,17 @@ export class Room {
     this.watching = 0;
   }
 
+  /** Whether it is asked about: the game waits, or goes on. */
+  isAsked() {
+    const { standing } = this.game;
+    return Boolean(standing) && !standing.article;
+  }
+
   /** Asks the lobby, which tells it to who has a link. */
   async ask() {
     const { game } = this, { app, number } = game;
     if (!app.me()) this.clear();
-    if (!app.me() || !number || !game.running()) return;
+    if (!app.me() || !number || !this.isAsked()) return;
     const room = readRoom(await app.wire.say(`room ${number}`, true)), now = Date.now();
     if (!room || game.number !== number) return;
     const before = this.since;
@@ -52,9 +59,15 @@ export class Room {
     say(isAway ? t`${app.nameWords(name)} is not connected.` : t`${app.nameWords(name)} is connected again.`);
   }
 
+  /** Who waits alone and is not connected: nobody shall join, since the clocks would run. '' where that is not so. */
+  absent() {
+    const { standing } = this.game, name = standing && !this.game.started() ? standing.white || standing.black : '';
+    return this.since.has(name) ? name : '';
+  }
+
   /** What stands beside a player's name. */
   awayWords(name) {
-    if (!this.game.running() || !this.since.has(name)) return '';
+    if (!this.isAsked() || !this.since.has(name)) return '';
     const since = this.since.get(name), minutes = since === null ? 0 : Math.floor((Date.now() - since) / MINUTE);
     return minutes ? t`not connected for ${minutes} min` : t`not connected`;
   }

@@ -107,7 +107,7 @@ export function drawActions(game) {
   show('claim', runs && seat, game.myTurn());
   show('resign', runs && seat);
   show('copy-invitation', !game.started() && seat);
-  show('join', !game.started() && !seat && me);
+  show('join', !game.started() && !seat && me && !game.room.absent());
   show('drop', (game.app.isArbiter() || seat) && !game.started());
   byId('look-again').hidden = !game.started() || game.isPlaying();
   const areHere = !game.kept || [standing.white, standing.black].every((name) => game.app.players.has(name));
@@ -136,6 +136,7 @@ export function drawOutcome(game) {
     head = game.seat() ? t`Waiting for an opponent` : t`This seat is free`;
     more = game.seat() ? t`The clocks start as soon as somebody joins.` : t`The clocks start as soon as you join.`;
     if (game.seat()) more += ` ${game.app.offers.endWords(game.number)}`.trimEnd();
+    if (!game.seat() && game.room.absent()) more = t`${game.app.nameWords(game.room.absent())} is not connected.`;
     if (!game.seat() && !game.app.me()) more = t`To play, open your personal link.`;
   } else if (SIDES.some((side) => standing.side === side && game.clockOf(side).now() <= 0)) {
     head = t`${colourWord(standing.side)}’s flag has fallen`;

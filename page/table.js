@@ -1,13 +1,13 @@
 // The table: games that wait for an opponent, that run and that are over, and the form that opens one.
 
 import { t } from './language.js';
-import { readPgn, readRefusal, readStanding, readTimes, timesOfOpen } from './lines.js';
+import { readPgn, readRefusal, readRoom, readStanding, readTimes, timesOfOpen } from './lines.js';
 import { arrange, byId, make, setText } from './make.js';
 import { TimesField } from './times.js';
 import { NO_FEN, refusalWords, resultWords, timesInFull, timesWords } from './words.js';
 
 const FIRST_SHOWN = { open: 40, running: 40, over: 15 };
-const MOST_OWN = 10;
+const MOST_OWN = 10, MOST_ROOMS = 10;
 
 export class TableView {
   /** app: {wire, me(), nameWords(name), openGame(line, note)}. */
@@ -47,6 +47,19 @@ export class TableView {
     if (!this.root.hidden) this.watchOwn();
     this.render();
     this.askTimes();
+    this.askRooms();
+  }
+
+  /** Whether those are connected who wait: a browser that was killed, or has lost its network, takes no game back. */
+  async askRooms() {
+    if (this.asksRooms || this.root.hidden || !this.app.me() || !this.app.reachable()) return;
+    this.asksRooms = true;
+    for (const row of this.groups().open.slice(0, MOST_ROOMS)) {
+      const room = readRoom(await this.app.wire.say(`room ${row.number}`, true)), now = this.rows.get(row.number);
+      if (room && now) now.isAway = room.away.has(now.white || now.black);
+    }
+    this.asksRooms = false;
+    this.render();
   }
 
   notice(number, sent, standing) {
@@ -192,7 +205,7 @@ export class TableView {
         row.own ? make('span', { class: 'own-start' }, t`from a position`) : ''),
       make('span', { class: 'state' }, this.stateWords(row)));
     const item = make('li', { class: this.mayMove(row) ? 'game-row yours' : 'game-row' }, link);
-    if (kind === 'open' && this.app.me()) {
+    if (kind === 'open' && this.app.me() && !row.isAway) {
       item.append(make('button', { type: 'button', class: 'strong', 'data-key': `join-${row.number}`,
         'aria-label': t`Join game ${row.number}`, disabled: !this.app.reachable(),
         onclick: () => this.join(row.number) }, t`Join`));
@@ -202,7 +215,7 @@ export class TableView {
 
   stateWords(row) {
     if (row.result !== '*') return resultWords(row.result, '').score;
-    if (!row.white || !row.black) return '';
+    if (!row.white || !row.black) return row.isAway ? t`not connected` : '';
     if (this.mayMove(row)) return t`your turn`;
     const me = this.app.me();
     if (row.white !== me && row.black !== me) return t`watch`;

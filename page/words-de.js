@@ -774,7 +774,11 @@ export const WORDS = {
   'Games found: {0}': 'Gefundene Partien: {0}',
   'Show {0} more': '{0} weitere zeigen',
   'All games and the score of: ': 'Alle Partien und Punkte von: ',
+  '{0}. Not counted, since not both had moved: {1}': '{0}. Nicht gezählt, weil nicht beide gezogen hatten: {1}',
   'Score: {0} of {1} ({2} won, {3} drawn, {4} lost)': 'Punkte: {0} aus {1} ({2} gewonnen, {3} remis, {4} verloren)',
+  'Game {0}: {1} – {2}': 'Partie {0}: {1} – {2}',
+  'The newest draws by agreement, as an adjourned game is in the record, to be looked up:':
+    'Die neuesten Remis durch Vereinbarung, als die eine vertagte Partie in der Aufzeichnung steht, zum Nachschlagen:',
   'Looking among the games that were kept …': 'Wird unter den aufbewahrten Partien gesucht …',
   'No finished game is on the table.': 'Keine beendete Partie ist am Tisch.',
   'Day': 'Tag',

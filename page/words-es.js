@@ -768,7 +768,11 @@ export const WORDS = {
   'Games found: {0}': 'Partidas encontradas: {0}',
   'Show {0} more': 'Mostrar {0} más',
   'All games and the score of: ': 'Todas las partidas y los puntos de: ',
+  '{0}. Not counted, since not both had moved: {1}': '{0}. Sin contar, porque no habían jugado los dos: {1}',
   'Score: {0} of {1} ({2} won, {3} drawn, {4} lost)': 'Puntos: {0} de {1} ({2} ganadas, {3} tablas, {4} perdidas)',
+  'Game {0}: {1} – {2}': 'Partida {0}: {1} – {2}',
+  'The newest draws by agreement, as an adjourned game is in the record, to be looked up:':
+    'Las últimas tablas de mutuo acuerdo, como figura en el registro una partida aplazada, para buscarla:',
   'Looking among the games that were kept …': 'Buscando entre las partidas guardadas …',
   'No finished game is on the table.': 'No hay ninguna partida terminada en la mesa.',
   'Day': 'Día',

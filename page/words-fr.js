@@ -779,7 +779,11 @@ export const WORDS = {
   'Games found: {0}': 'Parties trouvées : {0}',
   'Show {0} more': 'Afficher {0} de plus',
   'All games and the score of: ': 'Toutes les parties et les points de : ',
+  '{0}. Not counted, since not both had moved: {1}': '{0}. Non comptées, car les deux camps n’avaient pas joué : {1}',
   'Score: {0} of {1} ({2} won, {3} drawn, {4} lost)': 'Points : {0} sur {1} ({2} gagnées, {3} nulles, {4} perdues)',
+  'Game {0}: {1} – {2}': 'Partie {0} : {1} – {2}',
+  'The newest draws by agreement, as an adjourned game is in the record, to be looked up:':
+    'Les dernières nulles par accord mutuel, comme une partie ajournée figure au registre, à rechercher :',
   'Looking among the games that were kept …': 'Recherche parmi les parties gardées …',
   'No finished game is on the table.': 'Aucune partie terminée n’est sur la table.',
   'Day': 'Jour',

@@ -772,7 +772,11 @@ export const WORDS = {
   'Games found: {0}': 'Partite trovate: {0}',
   'Show {0} more': 'Mostra altre {0}',
   'All games and the score of: ': 'Tutte le partite e i punti di: ',
+  '{0}. Not counted, since not both had moved: {1}': '{0}. Non contate, perché non avevano mosso entrambi: {1}',
   'Score: {0} of {1} ({2} won, {3} drawn, {4} lost)': 'Punti: {0} su {1} ({2} vinte, {3} patte, {4} perse)',
+  'Game {0}: {1} – {2}': 'Partita {0}: {1} – {2}',
+  'The newest draws by agreement, as an adjourned game is in the record, to be looked up:':
+    'Le ultime patte d’accordo, come una partita sospesa risulta nel registro, da cercare:',
   'Looking among the games that were kept …': 'Ricerca tra le partite conservate …',
   'No finished game is on the table.': 'Nessuna partita finita è sul tavolo.',
   'Day': 'Giorno',

@@ -774,7 +774,11 @@ export const WORDS = {
   'Games found: {0}': 'Gevonden partijen: {0}',
   'Show {0} more': 'Nog {0} tonen',
   'All games and the score of: ': 'Alle partijen en de punten van: ',
+  '{0}. Not counted, since not both had moved: {1}': '{0}. Niet geteld, omdat niet beiden hadden gezet: {1}',
   'Score: {0} of {1} ({2} won, {3} drawn, {4} lost)': 'Punten: {0} uit {1} ({2} gewonnen, {3} remise, {4} verloren)',
+  'Game {0}: {1} – {2}': 'Partij {0}: {1} – {2}',
+  'The newest draws by agreement, as an adjourned game is in the record, to be looked up:':
+    'De nieuwste remises door overeenkomst, zoals een afgebroken partij in het verslag staat, om op te zoeken:',
   'Looking among the games that were kept …': 'Er wordt gezocht bij de bewaarde partijen …',
   'No finished game is on the table.': 'Er staat geen afgelopen partij op tafel.',
   'Day': 'Dag',

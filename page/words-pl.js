@@ -766,7 +766,11 @@ export const WORDS = {
   'Games found: {0}': 'Znalezione partie: {0}',
   'Show {0} more': 'Pokaż {0} więcej',
   'All games and the score of: ': 'Wszystkie partie i punkty: ',
+  '{0}. Not counted, since not both had moved: {1}': '{0}. Nie policzone, bo nie obie strony zrobiły ruch: {1}',
   'Score: {0} of {1} ({2} won, {3} drawn, {4} lost)': 'Punkty: {0} z {1} (wygrane: {2}, remisy: {3}, przegrane: {4})',
+  'Game {0}: {1} – {2}': 'Partia {0}: {1} – {2}',
+  'The newest draws by agreement, as an adjourned game is in the record, to be looked up:':
+    'Najnowsze remisy przez zgodę, bo tak odłożona partia stoi w zapisie, do odszukania:',
   'Looking among the games that were kept …': 'Szukanie wśród zachowanych partii …',
   'No finished game is on the table.': 'Na stole nie ma skończonej partii.',
   'Day': 'Dzień',

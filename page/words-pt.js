@@ -763,7 +763,11 @@ export const WORDS = {
   'Games found: {0}': 'Partidas encontradas: {0}',
   'Show {0} more': 'Mostrar mais {0}',
   'All games and the score of: ': 'Todas as partidas e os pontos de: ',
+  '{0}. Not counted, since not both had moved: {1}': '{0}. Não contadas, porque os dois não tinham jogado: {1}',
   'Score: {0} of {1} ({2} won, {3} drawn, {4} lost)': 'Pontos: {0} de {1} ({2} ganhas, {3} empatadas, {4} perdidas)',
+  'Game {0}: {1} – {2}': 'Partida {0}: {1} – {2}',
+  'The newest draws by agreement, as an adjourned game is in the record, to be looked up:':
+    'Os empates mais recentes por acordo, como uma partida adiada consta no registro, para procurar:',
   'Looking among the games that were kept …': 'Procurando entre as partidas guardadas …',
   'No finished game is on the table.': 'Nenhuma partida terminada está na mesa.',
   'Day': 'Dia',

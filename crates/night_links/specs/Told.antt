@@ -28,14 +28,15 @@ pub record IsSaid (notices : Notices) (s : Said) : Type 0 where
 
 -- It stands as the server's answer to `show` tells, which came at this moment, and these are the clocks after its
 -- moves.
-pub record IsStanding (text : List ℕ) (told : Shown) (moment : ℕ) (times : List (Option ℕ)) (s : Standing) : Type 0 where
-  pub shown : string_bytes s.shown ≡ text
-  pub at : s.at ≡ moment
-  pub white : string_bytes s.white ≡ seat_text told.seats.white
-  pub black : string_bytes s.black ≡ seat_text told.seats.black
-  pub result : string_bytes s.result ≡ ending_result told.ending
-  pub article : string_bytes s.article ≡ ending_article told.ending
-  pub clocks : s.clocks.items ≡ times
+pub record IsStanding (text : List ℕ) (told : Shown) (moment : ℕ) (times : List (Option ℕ)) (s : Standing) : Type 0
+  where
+    pub shown : string_bytes s.shown ≡ text
+    pub at : s.at ≡ moment
+    pub white : string_bytes s.white ≡ seat_text told.seats.white
+    pub black : string_bytes s.black ≡ seat_text told.seats.black
+    pub result : string_bytes s.result ≡ ending_result told.ending
+    pub article : string_bytes s.article ≡ ending_article told.ending
+    pub clocks : s.clocks.items ≡ times
 
 -- The same of a text, where it is such an answer.
 abbrev pub StandsBy : List ℕ → ℕ → List (Option ℕ) → Standing → Type 0

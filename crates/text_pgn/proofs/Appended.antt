@@ -38,16 +38,21 @@ pub seven_put : (old t1 t2 t3 t4 t5 t6 new p1 p2 p3 p4 p5 p6 p7 : List ℕ) →
     t1 ≡ old ++ p1 → t2 ≡ t1 ++ p2 → t3 ≡ t2 ++ p3 → t4 ≡ t3 ++ p4 → t5 ≡ t4 ++ p5 → t6 ≡ t5 ++ p6 → new ≡ t6 ++ p7 →
     new ≡ old ++ (p1 ++ (p2 ++ (p3 ++ (p4 ++ (p5 ++ (p6 ++ p7))))))
 seven_put old t1 t2 t3 t4 t5 t6 new p1 p2 p3 p4 p5 p6 p7 e1 e2 e3 e4 e5 e6 e7 =
-    put old p1 t1 (p2 ++ (p3 ++ (p4 ++ (p5 ++ (p6 ++ p7))))) new e1 (six_put t1 t2 t3 t4 t5 t6 new p2 p3 p4 p5 p6 p7 e2 e3 e4 e5 e6 e7)
+    put old p1 t1 (p2 ++ (p3 ++ (p4 ++ (p5 ++ (p6 ++ p7))))) new e1
+    (six_put t1 t2 t3 t4 t5 t6 new p2 p3 p4 p5 p6 p7 e2 e3 e4 e5 e6 e7)
 
 pub eight_put : (old t1 t2 t3 t4 t5 t6 t7 new p1 p2 p3 p4 p5 p6 p7 p8 : List ℕ) →
-    t1 ≡ old ++ p1 → t2 ≡ t1 ++ p2 → t3 ≡ t2 ++ p3 → t4 ≡ t3 ++ p4 → t5 ≡ t4 ++ p5 → t6 ≡ t5 ++ p6 → t7 ≡ t6 ++ p7 → new ≡ t7 ++ p8 →
+    t1 ≡ old ++ p1 → t2 ≡ t1 ++ p2 → t3 ≡ t2 ++ p3 → t4 ≡ t3 ++ p4 → t5 ≡ t4 ++ p5 → t6 ≡ t5 ++ p6 → t7 ≡ t6 ++ p7 →
+    new ≡ t7 ++ p8 →
     new ≡ old ++ (p1 ++ (p2 ++ (p3 ++ (p4 ++ (p5 ++ (p6 ++ (p7 ++ p8)))))))
 eight_put old t1 t2 t3 t4 t5 t6 t7 new p1 p2 p3 p4 p5 p6 p7 p8 e1 e2 e3 e4 e5 e6 e7 e8 =
-    put old p1 t1 (p2 ++ (p3 ++ (p4 ++ (p5 ++ (p6 ++ (p7 ++ p8)))))) new e1 (seven_put t1 t2 t3 t4 t5 t6 t7 new p2 p3 p4 p5 p6 p7 p8 e2 e3 e4 e5 e6 e7 e8)
+    put old p1 t1 (p2 ++ (p3 ++ (p4 ++ (p5 ++ (p6 ++ (p7 ++ p8)))))) new e1
+    (seven_put t1 t2 t3 t4 t5 t6 t7 new p2 p3 p4 p5 p6 p7 p8 e2 e3 e4 e5 e6 e7 e8)
 
 pub nine_put : (old t1 t2 t3 t4 t5 t6 t7 t8 new p1 p2 p3 p4 p5 p6 p7 p8 p9 : List ℕ) →
-    t1 ≡ old ++ p1 → t2 ≡ t1 ++ p2 → t3 ≡ t2 ++ p3 → t4 ≡ t3 ++ p4 → t5 ≡ t4 ++ p5 → t6 ≡ t5 ++ p6 → t7 ≡ t6 ++ p7 → t8 ≡ t7 ++ p8 → new ≡ t8 ++ p9 →
+    t1 ≡ old ++ p1 → t2 ≡ t1 ++ p2 → t3 ≡ t2 ++ p3 → t4 ≡ t3 ++ p4 → t5 ≡ t4 ++ p5 → t6 ≡ t5 ++ p6 → t7 ≡ t6 ++ p7 →
+    t8 ≡ t7 ++ p8 → new ≡ t8 ++ p9 →
     new ≡ old ++ (p1 ++ (p2 ++ (p3 ++ (p4 ++ (p5 ++ (p6 ++ (p7 ++ (p8 ++ p9))))))))
 nine_put old t1 t2 t3 t4 t5 t6 t7 t8 new p1 p2 p3 p4 p5 p6 p7 p8 p9 e1 e2 e3 e4 e5 e6 e7 e8 e9 =
-    put old p1 t1 (p2 ++ (p3 ++ (p4 ++ (p5 ++ (p6 ++ (p7 ++ (p8 ++ p9))))))) new e1 (eight_put t1 t2 t3 t4 t5 t6 t7 t8 new p2 p3 p4 p5 p6 p7 p8 p9 e2 e3 e4 e5 e6 e7 e8 e9)
+    put old p1 t1 (p2 ++ (p3 ++ (p4 ++ (p5 ++ (p6 ++ (p7 ++ (p8 ++ p9))))))) new e1
+    (eight_put t1 t2 t3 t4 t5 t6 t7 t8 new p2 p3 p4 p5 p6 p7 p8 p9 e2 e3 e4 e5 e6 e7 e8 e9)

@@ -17,13 +17,16 @@ IsFault : Result Position FenError → Type 0
 IsFault (Ok p) = ⊥
 IsFault (Err fault) = Unit {0}
 
-pub check_read : (result : Result Position FenError) (fen : List ℕ) (board : Position) (check : Bool) → IsRead result fen → result ≡ Ok board →
+pub check_read : (result : Result Position FenError) (fen : List ℕ) (board : Position) (check : Bool) →
+    IsRead result fen → result ≡ Ok board →
     (IsTrue check ↔ IsInCheck board.placement board.side) → IsCheckAt check fen
 unfolding position_or
 check_read result fen board check read is seen = λ p valid of.
-    subst (λ (q : Position). IsTrue check ↔ IsInCheck q.placement q.side) (ap (position_or board) (sym is ∙ read p valid of)) seen
+    subst (λ (q : Position). IsTrue check ↔ IsInCheck q.placement q.side)
+    (ap (position_or board) (sym is ∙ read p valid of)) seen
 
-pub check_of_none : (result : Result Position FenError) (fen : List ℕ) (fault : FenError) (check : Bool) → IsRead result fen → result ≡ Err fault →
+pub check_of_none : (result : Result Position FenError) (fen : List ℕ) (fault : FenError) (check : Bool) →
+    IsRead result fen → result ≡ Err fault →
     IsCheckAt check fen
 unfolding IsFault
 check_of_none result fen fault check read is = λ p valid of. absurd (subst IsFault (sym is ∙ read p valid of) tt)

@@ -1,5 +1,6 @@
 -- The coordinate texts of legal moves.
-use Rattle.std.proofs.Common.{ℕ, ◌≡◌, ◌↔◌, ◌+◌, ◌<◌, Bool, IsTrue, codes, length, take, get_or, inl, inr, List, [], ◌∷◌, ◌++◌, Option, Some, None, refl, sym, ap, ◌∙◌, subst, append_assoc, append-nil, map}
+use Rattle.std.proofs.Common.{ℕ, ◌≡◌, ◌↔◌, ◌+◌, ◌<◌, Bool, IsTrue, codes, length, take, get_or, inl, inr, List, [], ◌∷◌}
+use Rattle.std.proofs.Common.{◌++◌, Option, Some, None, refl, sym, ap, ◌∙◌, subst, append_assoc, append-nil, map}
 use Rattle.std.specs.List.{All, AllZip, Contains, AllByRecursion}
 use Rattle.std.proofs.lemmas.List.Elements.{All-contains_itself, All-weaker, recursion_from_All}
 use Rattle.chess_bits.specs.declared.men.Kind.{Kind}
@@ -12,7 +13,8 @@ use Rattle.chess_board.specs.Legal.{IsLegal, IsMoveOf, IsPromotion, IsPromotionK
 use Rattle.chess_moves.specs.Moves.{IsListOfLegalMoves}
 use Rattle.chess_notation.specs.Coordinate.{IsPromotionText, IsCoordinateOf}
 use Rattle.std.proofs.lemmas.List.{take_more, map-append}
-use Rattle.text_pgn.specs.Telling.{spaced, check_sign, TellsMoves, promotion_letter, small_letter, coordinate_of, IsBetweenSquares}
+use Rattle.text_pgn.specs.Telling.{spaced, check_sign, TellsMoves, promotion_letter, small_letter, coordinate_of}
+use Rattle.text_pgn.specs.Telling.{IsBetweenSquares}
 
 -- one text more at the end
 pub spaced-push : (texts : List (List ℕ)) (text : List ℕ) → spaced (texts ++ text ∷ []) ≡ spaced texts ++ (32 ∷ text)
@@ -63,7 +65,8 @@ named p m legal squares = record {
   joined = refl;
 }
 
-each_named : (p : Position) (moves : List Move) → AllByRecursion (IsLegal p) moves → AllByRecursion IsBetweenSquares moves →
+each_named : (p : Position) (moves : List Move) → AllByRecursion (IsLegal p) moves →
+    AllByRecursion IsBetweenSquares moves →
     AllZip IsCoordinateOf (map coordinate_of moves) moves
 each_named p [] legal squares = tt
 each_named p (m ∷ ms) legal squares = (named p m legal.0 squares.0, each_named p ms legal.1 squares.1)
@@ -73,24 +76,29 @@ pub all_named : (p : Position) (moves : List Move) → IsListOfLegalMoves p move
     AllZip IsCoordinateOf (map coordinate_of moves) moves
 all_named p moves list squares =
     each_named p moves
-    (recursion_from_All (IsLegal p) moves (All-weaker (Contains moves) (IsLegal p) (λ m here. (list.exact m).0 here) moves (All-contains_itself moves)))
+    (recursion_from_All (IsLegal p) moves
+    (All-weaker (Contains moves) (IsLegal p) (λ m here. (list.exact m).0 here) moves (All-contains_itself moves)))
     (recursion_from_All IsBetweenSquares moves squares)
 
 -- the texts of one move more of a list
 pub spaced_more : (moves : List Move) (i : ℕ) (m : Move) → i < length moves → m ≡ get_or moves i m →
-    spaced (map coordinate_of (take (i + 1) moves)) ≡ spaced (map coordinate_of (take i moves)) ++ (32 ∷ coordinate_of m)
+    spaced (map coordinate_of (take (i + 1) moves))
+    ≡ spaced (map coordinate_of (take i moves)) ++ (32 ∷ coordinate_of m)
 spaced_more moves i m below is =
-    ap (λ (ms : List Move). spaced (map coordinate_of ms)) (take_more moves i m below ∙ ap (λ (n : Move). take i moves ++ n ∷ []) (sym is))
+    ap (λ (ms : List Move). spaced (map coordinate_of ms))
+    (take_more moves i m below ∙ ap (λ (n : Move). take i moves ++ n ∷ []) (sym is))
     ∙ (ap spaced (map-append coordinate_of (take i moves) (m ∷ []))
     ∙ spaced-push (map coordinate_of (take i moves)) (coordinate_of m))
 
 -- text behind which a text more is put
-pub put_more : (old front text now more : List ℕ) → text ≡ old ++ front → now ≡ text ++ more → now ≡ old ++ (front ++ more)
+pub put_more : (old front text now more : List ℕ) → text ≡ old ++ front → now ≡ text ++ more →
+    now ≡ old ++ (front ++ more)
 put_more old front text now more before after =
     after ∙ (ap (λ (t : List ℕ). t ++ more) before ∙ append_assoc old front more)
 
 -- the line of a position
-pub tells : (line sign : List ℕ) (p : Position) (moves : List Move) (check : Bool) → (IsTrue check ↔ IsInCheck p.placement p.side) →
+pub tells : (line sign : List ℕ) (p : Position) (moves : List Move) (check : Bool) →
+    (IsTrue check ↔ IsInCheck p.placement p.side) →
     IsListOfLegalMoves p moves → All IsBetweenSquares moves → sign ≡ check_sign check →
     line ≡ (codes "moves " ++ sign) ++ spaced (map coordinate_of moves) → TellsMoves line p
 tells line sign p moves check is_check list squares signed spelled = record {

@@ -1,5 +1,6 @@
 -- A replay, word by word.
-use Rattle.std.proofs.Common.{ℕ, ◌≡◌, ◌≤◌, ◌<◌, ◌+◌, List, [], ◌∷◌, ◌++◌, length, get_or, map, drop, refl, sym, ap, ◌∙◌, subst, append_assoc, length-append, arith, codes, decimal}
+use Rattle.std.proofs.Common.{ℕ, ◌≡◌, ◌≤◌, ◌<◌, ◌+◌, List, [], ◌∷◌, ◌++◌, length, get_or, map, drop, refl, sym, ap, ◌∙◌}
+use Rattle.std.proofs.Common.{subst, append_assoc, length-append, arith, codes, decimal}
 use Rattle.std.specs.String.{string_bytes}
 use Rattle.std.proofs.lemmas.List.{drop_more, drop_all, get_or-map, length-map}
 use Rattle.chess_board.specs.declared.moves.Move.{Move}
@@ -23,8 +24,10 @@ word_at f items i d below =
 
 -- nothing is played
 pub begins : (game : ℕ) (pgn : List ℕ) (replay : Replay) → StartsAt (fen_in (lines_of pgn)) replay.board →
-    ((p : Position) → StartsAt (fen_in (lines_of pgn)) p → p ≡ replay.board) → map string_bytes replay.words.items ≡ words_in pgn →
-    replay.at ≡ 0 → string_bytes replay.text ≡ head game (length (words_in pgn)) replay.board → IsUnderWay game pgn replay
+    ((p : Position) → StartsAt (fen_in (lines_of pgn)) p → p ≡ replay.board) →
+    map string_bytes replay.words.items ≡ words_in pgn →
+    replay.at ≡ 0 → string_bytes replay.text ≡ head game (length (words_in pgn)) replay.board →
+    IsUnderWay game pgn replay
 begins game pgn replay begun only words none text = record {
   start = replay.board;
   begun = begun;
@@ -42,10 +45,12 @@ begins game pgn replay begun only words none text = record {
 }
 
 -- one word is played
-pub goes_on : (game : ℕ) (pgn : List ℕ) (old new : Replay) (word : List ℕ) (m : Move) → words_left old ≡ word ∷ words_left new →
+pub goes_on : (game : ℕ) (pgn : List ℕ) (old new : Replay) (word : List ℕ) (m : Move) →
+    words_left old ≡ word ∷ words_left new →
     new.words ≡ old.words → new.at ≡ old.at + 1 → old.at < length old.words.items → Plays old.board word m →
     ((other : Move) → Plays old.board word other → other ≡ m) → new.board ≡ next old.board m →
-    PutsRow new.at old.board m new.board (string_bytes old.text) (string_bytes new.text) → IsUnderWay game pgn old → IsUnderWay game pgn new
+    PutsRow new.at old.board m new.board (string_bytes old.text) (string_bytes new.text) → IsUnderWay game pgn old →
+    IsUnderWay game pgn new
 goes_on game pgn old new word m cut same at below plays one board put u = record {
   start = u.start;
   begun = u.begun;
@@ -57,19 +62,22 @@ goes_on game pgn old new word m cut same at below plays one board put u = record
   runs = runs_more u.start old.board new.board (words_in pgn) (words_left new) word u.done m
       (subst (λ (l : List (List ℕ)). Runs u.start old.board (words_in pgn) l u.done) cut u.runs) plays one board;
   at = board ∙ (ap (λ (q : Position). next q m) u.at ∙ sym (position_after-push u.start u.done m));
-  rows = rows_put u.start old.board new.board u.done (u.done ++ m ∷ []) m new.at (head game (length (words_in pgn)) u.start)
+  rows = rows_put u.start old.board new.board u.done (u.done ++ m ∷ []) m new.at
+      (head game (length (words_in pgn)) u.start)
       (string_bytes old.text) (string_bytes new.text) u.rows put u.at board (omega (arith, at, u.count)) refl;
 }
 
 -- a word names no move
-pub stops : (game : ℕ) (pgn : List ℕ) (old : Replay) (word : List ℕ) (rest : List (List ℕ)) → words_left old ≡ word ∷ rest →
+pub stops : (game : ℕ) (pgn : List ℕ) (old : Replay) (word : List ℕ) (rest : List (List ℕ)) →
+    words_left old ≡ word ∷ rest →
     ((m : Move) → ¬ Plays old.board word m) → IsUnderWay game pgn old → TellsNone pgn
 stops game pgn old word rest cut none u = λ start moves tells.
     runs_stop u.start old.board (words_in pgn) rest word u.done
     (subst (λ (l : List (List ℕ)). Runs u.start old.board (words_in pgn) l u.done) cut u.runs) none moves
     (subst (λ (p : Position). ArePlayed p (words_in pgn) moves) (u.only start tells.begun) tells.played)
 
-six_joined : (a b c d e f g : List ℕ) → (a ++ (b ++ (c ++ (d ++ (e ++ f))))) ++ g ≡ a ++ (b ++ (c ++ (d ++ (e ++ (f ++ g)))))
+six_joined : (a b c d e f g : List ℕ) → (a ++ (b ++ (c ++ (d ++ (e ++ f))))) ++ g
+    ≡ a ++ (b ++ (c ++ (d ++ (e ++ (f ++ g)))))
 six_joined a b c d e f g =
     append_assoc a (b ++ (c ++ (d ++ (e ++ f)))) g
     ∙ ap (λ (t : List ℕ). a ++ t) (append_assoc b (c ++ (d ++ (e ++ f))) g
@@ -83,22 +91,31 @@ answer_of game count start done text counted rows = record {
   behind = rows.behind;
   are = rows.are;
   spelled = rows.put
-      ∙ (six_joined (codes "ok line ") (decimal game) (codes " ") (decimal count) (codes "\n") (row 0 (codes "-") (codes "-") start) rows.behind
+      ∙ (six_joined (codes "ok line ") (decimal game) (codes " ") (decimal count) (codes "\n")
+      (row 0 (codes "-") (codes "-") start) rows.behind
       ∙ ap (λ (n : ℕ). codes "ok line " ++ (decimal game ++ (codes " " ++ (decimal n ++ (codes "\n" ++
       (row 0 (codes "-") (codes "-") start ++ rows.behind)))))) counted);
 }
 
 -- all words are played
-pub whole : (game : ℕ) (pgn : List ℕ) (replay : Replay) → length replay.words.items ≤ replay.at → IsUnderWay game pgn replay →
+pub whole : (game : ℕ) (pgn : List ℕ) (replay : Replay) → length replay.words.items ≤ replay.at →
+    IsUnderWay game pgn replay →
     IsWhole game pgn (string_bytes replay.text)
 whole game pgn replay past u =
-    let all : length (map string_bytes replay.words.items) ≤ replay.at = rw (length-map replay.words.items string_bytes) past in
+    let all : length (map string_bytes replay.words.items) ≤ replay.at =
+    rw (length-map replay.words.items string_bytes) past in
     let runs = subst (λ (l : List (List ℕ)). Runs u.start replay.board (words_in pgn) l u.done)
     (drop_all replay.at (map string_bytes replay.words.items) all) u.runs in
-    let len : length (words_in pgn) ≡ length replay.words.items = ap length (sym u.words) ∙ length-map replay.words.items string_bytes in
+    let len : length (words_in pgn) ≡ length replay.words.items = ap length (sym u.words)
+    ∙ length-map replay.words.items string_bytes in
     let counted : length (words_in pgn) ≡ length u.done = omega (arith, len, u.count, u.within, past) in
     record {
-      tells = (u.start, u.done, record { begun = u.begun; played = runs_end u.start replay.board (words_in pgn) u.done runs });
+      tells = (
+        u.start,
+        u.done,
+        record
+            { begun = u.begun; played = runs_end u.start replay.board (words_in pgn) u.done runs },
+      );
       answers = λ start moves tells.
           let begun = u.only start tells.begun in
           let same = runs_one u.start replay.board (words_in pgn) u.done runs moves

@@ -1,5 +1,6 @@
 -- The rows of moves, one after another.
-use Rattle.std.proofs.Common.{ℕ, suc, ◌≡◌, ◌+◌, List, [], ◌∷◌, ◌++◌, length, refl, sym, ap, ◌∙◌, append_assoc, append-nil, arith, codes, decimal}
+use Rattle.std.proofs.Common.{ℕ, suc, ◌≡◌, ◌+◌, List, [], ◌∷◌, ◌++◌, length, refl, sym, ap, ◌∙◌, append_assoc}
+use Rattle.std.proofs.Common.{append-nil, arith, codes, decimal}
 use Rattle.chess_board.specs.declared.moves.Move.{Move}
 use Rattle.chess_board.specs.Position.{Position}
 use Rattle.chess_board.specs.Next.{next}
@@ -22,7 +23,8 @@ first_number n = omega arith
 next_number : (n k : ℕ) → suc n + k ≡ n + suc k
 next_number n k = omega arith
 
-rows_more : (n : ℕ) (p : Position) (moves : List Move) (sans : List (List ℕ)) (m : Move) (san : List ℕ) → AreSans p moves sans →
+rows_more : (n : ℕ) (p : Position) (moves : List Move) (sans : List (List ℕ)) (m : Move) (san : List ℕ) →
+    AreSans p moves sans →
     rows n p (moves ++ m ∷ []) (sans ++ san ∷ [])
     ≡ rows n p moves sans ++ row (n + length moves) san (coordinate_of m) (next (position_after p moves) m)
 rows_more n p [] [] m san are =
@@ -35,7 +37,8 @@ rows_more n p (x ∷ xs) (s ∷ ss) m san are =
     let behind = next (position_after (next p x) xs) m in
     ap (λ (t : List ℕ). here ++ t) (rows_more (suc n) (next p x) xs ss m san are.1)
     ∙ (sym (append_assoc here (rows (suc n) (next p x) xs ss) (row (suc n + length xs) san (coordinate_of m) behind))
-    ∙ ap (λ (k : ℕ). (here ++ rows (suc n) (next p x) xs ss) ++ row k san (coordinate_of m) behind) (next_number n (length xs)))
+    ∙ ap (λ (k : ℕ). (here ++ rows (suc n) (next p x) xs ss) ++ row k san (coordinate_of m) behind)
+    (next_number n (length xs)))
 
 pub rows_none : (start : Position) (text : List ℕ) → PutsRows start [] text text
 rows_none start text = record {
@@ -44,15 +47,19 @@ rows_none start text = record {
   put = sym (append-nil text);
 }
 
-pub rows_put : (start before after : Position) (moves more : List Move) (m : Move) (number : ℕ) (old text new : List ℕ) → PutsRows start moves old text →
-    PutsRow number before m after text new → before ≡ position_after start moves → after ≡ next before m → number ≡ 1 + length moves →
+pub rows_put : (start before after : Position) (moves more : List Move) (m : Move) (number : ℕ)
+    (old text new : List ℕ) → PutsRows start moves old text →
+    PutsRow number before m after text new → before ≡ position_after start moves → after ≡ next before m →
+    number ≡ 1 + length moves →
     more ≡ moves ++ m ∷ [] → PutsRows start more old new
 rows_put start before after moves more m number old text new rows_so_far put_row at made counted grown =
     let here = row number put_row.san (coordinate_of m) after in
     let there = row (1 + length moves) put_row.san (coordinate_of m) (next (position_after start moves) m) in
-    let same : row number put_row.san (coordinate_of m) after ≡ row (1 + length moves) put_row.san (coordinate_of m) (next (position_after start moves) m) =
+    let same : row number put_row.san (coordinate_of m) after
+    ≡ row (1 + length moves) put_row.san (coordinate_of m) (next (position_after start moves) m) =
     ap (λ (k : ℕ). row k put_row.san (coordinate_of m) after) counted
-    ∙ ap (λ (q : Position). row (1 + length moves) put_row.san (coordinate_of m) q) (made ∙ ap (λ (q : Position). next q m) at) in
+    ∙ ap (λ (q : Position). row (1 + length moves) put_row.san (coordinate_of m) q)
+    (made ∙ ap (λ (q : Position). next q m) at) in
     rw grown (record {
       behind = rows_so_far.behind ++ here;
       are = record {
@@ -66,7 +73,8 @@ rows_put start before after moves more m number old text new rows_so_far put_row
       put = put_row.put ∙ (ap (λ (t : List ℕ). t ++ here) rows_so_far.put ∙ append_assoc old rows_so_far.behind here);
     })
 
-pub start_put : (old a b new : List ℕ) (p : Position) → a ≡ old ++ decimal 0 → b ≡ a ++ codes " - -" → new ≡ b ++ (32 ∷ (fen_of p ++ (10 ∷ []))) →
+pub start_put : (old a b new : List ℕ) (p : Position) → a ≡ old ++ decimal 0 → b ≡ a ++ codes " - -" →
+    new ≡ b ++ (32 ∷ (fen_of p ++ (10 ∷ []))) →
     new ≡ old ++ row 0 (codes "-") (codes "-") p
 start_put old a b new p one two three =
     let fen = 32 ∷ (fen_of p ++ (10 ∷ [])) in
@@ -89,5 +97,6 @@ row_put number p q m old a b s c new san is one two three four five =
           ∙ (append_assoc b san move
           ∙ (ap (λ (t : List ℕ). t ++ (san ++ move)) two
           ∙ (append_assoc a (32 ∷ []) (san ++ move)
-          ∙ (ap (λ (t : List ℕ). t ++ (32 ∷ (san ++ move))) one ∙ append_assoc old (decimal number) (32 ∷ (san ++ move)))))))));
+          ∙ (ap (λ (t : List ℕ). t ++ (32 ∷ (san ++ move))) one
+          ∙ append_assoc old (decimal number) (32 ∷ (san ++ move)))))))));
     }

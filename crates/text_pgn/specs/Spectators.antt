@@ -23,7 +23,8 @@ use Rattle.text_pgn.specs.Answer.{IsLineAnswer}
 use Rattle.text_pgn.specs.Json.{string, number_or_null, truth, listed}
 use Rattle.text_pgn.specs.Moves.{first_clock, next_clocks}
 use Rattle.text_pgn.specs.Pgn.{is_tag}
-use Rattle.text_pgn.specs.Rows.{first_field, next_fields, san_in, move_in, position_in, rows_in, start_row, move_rows, last_row}
+use Rattle.text_pgn.specs.Rows.{first_field, next_fields, san_in, move_in, position_in, rows_in, start_row, move_rows}
+use Rattle.text_pgn.specs.Rows.{last_row}
 use Rattle.text_pgn.specs.Tags.{head_of}
 
 -- ---- what an arbiter has everybody told

@@ -215,7 +215,8 @@ pub fn replayed(alloc: Global, game: u32, pgn: &str) -> Result<Option<PlayedGame
     Ok(Some(PlayedGame { answer, is_check }))
 }
 
-// Appends what stands in front of the moves: the moment, what everybody is told, who plays, the tags, the times and the position of the start.
+// Appends what stands in front of the moves: the moment, what everybody is told, who plays, the tags, the times and the
+// position of the start.
 fn push_front(
     out: &mut Vec<u8>,
     alloc: Global,

@@ -19,18 +19,11 @@ fn tag_name(line: &str) -> &[u8]
     skip(head_of(line).as_bytes(), 1)
 }
 
-// The value of a tag.
-fn tag_value(alloc: Global, line: &str) -> Result<Vec<u8>, AllocError>
-    ensures { IfOk result (λ value. value.items ≡ spec.tag_value line.now) }
-{
-    unescaped(alloc, behind(line, '"').as_bytes())
-}
-
 // Appends a tag.
 fn push_tag(out: &mut Vec<u8>, alloc: Global, line: &str) -> Result<(), AllocError>
     ensures { OnOk result (out.new.items ≡ out.old.items ++ spec.tag_json line.now) }
 {
-    let value = tag_value(alloc, line)?;
+    let value = unescaped(alloc, behind(line, '"').as_bytes())?;
     out.extend_from_slice(b"[")?;
     push_string(out, tag_name(line))?;
     out.extend_from_slice(b",")?;
@@ -102,7 +95,7 @@ fn value_named(alloc: Global, tags: &[&str], name: &[u8]) -> Result<Vec<u8>, All
     ensures { IfOk result (λ value. value.items ≡ spec.value_named name.now (map (λ line. line.now) tags.now)) }
 {
     match tag_named(tags, name) {
-        Some(line) => tag_value(alloc, line),
+        Some(line) => unescaped(alloc, behind(line, '"').as_bytes()),
         None => Ok(Vec::new(alloc)),
     }
 }

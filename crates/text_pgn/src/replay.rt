@@ -60,8 +60,8 @@ fn owned(alloc: Global, words: &[&str]) -> Result<Vec<String>, AllocError>
 
 impl Replay {
     /// Begins with the start of a game of this number, by the lines of its PGN, each with its line feed, without the
-    /// server's line `ok pgn G K` in front, and plays nothing yet. `None` just where its start is no valid position. It fails where memory is
-    /// refused.
+    /// server's line `ok pgn G K` in front, and plays nothing yet. `None` just where its start is no valid position. It
+    /// fails where memory is refused.
     pub fn begin(alloc: Global, game: u32, pgn: &str) -> Result<Option<Replay>, AllocError>
         ensures some { IfOk result (λ begun. IfSome begun (IsUnderWay game pgn.now)) }
         ensures unplayed { IfOk result (λ begun. IfSome begun IsUnplayed) }

@@ -25,7 +25,8 @@ returns c =
     c.extend_from_slice-3.new.self.items
     (front_json g (start_row told)) (codes ",\"moves\":") (moves_json (move_rows told) c.args.clocks.now) (codes ",")
     (stand_json g.stand.at g.stand (position_in (last_row told)) check) (codes "}\n")
-    (c.in_ok-push_front.ensures ∙ (ap (λ (t : List ℕ). empty ++ front_json g t) (c.cut_row.ensures.first ∙ ap start_row cut)
+    (c.in_ok-push_front.ensures
+    ∙ (ap (λ (t : List ℕ). empty ++ front_json g t) (c.cut_row.ensures.first ∙ ap start_row cut)
     ∙ ap (λ (t : List ℕ). t ++ front_json g (start_row told)) c.new-out.ensures.items))
     c.in_ok-extend_from_slice.ensures.items
     (c.in_ok-push_moves.ensures ∙ ap (λ (ts : List (List ℕ)). started ++ moves_json ts c.args.clocks.now) moves)

@@ -8,5 +8,6 @@ pub returns : goal.returns
 returns c =
     let now = λ (row : Bor (List ℕ)). row.now in
     subst (λ (fen : List ℕ). IsCheckAt c.is_check_at.result fen)
-    (c.position_in.ensures ∙ ap position_in (c.last_row.ensures ∙ ap last_row (ap (map now) c.as_slice.ensures.value ∙ c.in_ok-rows.ensures)))
+    (c.position_in.ensures
+    ∙ ap position_in (c.last_row.ensures ∙ ap last_row (ap (map now) c.as_slice.ensures.value ∙ c.in_ok-rows.ensures)))
     c.is_check_at.ensures

@@ -22,7 +22,8 @@ returns c =
     sym (length-map c.cut_row.result.1.now now) ∙ ap (λ (ts : List (List ℕ)). length ts) moves in
     let named = c.push_players.new.out.items in
     let placed = c.extend_from_slice-2.new.self.items in
-    six_put c.args.out.now.items c.extend_from_slice.new.self.items named c.push_last.new.out.items placed c.push_stand.new.out.items
+    six_put c.args.out.now.items c.extend_from_slice.new.self.items named c.push_last.new.out.items placed
+    c.push_stand.new.out.items
     c.extend_from_slice-3.new.self.items
     (codes "{") (players_json g) (last_json (length (move_rows told)) (last_row told)) (codes ",")
     (stand_json c.args.at g.stand (position_in (last_row told)) check) (codes "}")

@@ -12,7 +12,8 @@ returns c =
     let second = c.push_text-2.new.out.items in
     six_put old first second c.push_text-3.new.out.items c.extend_from_slice.new.self.items c.push_known.new.out.items
     c.extend_from_slice-2.new.self.items
-    (codes "[" ++ string (san_in row)) (codes "," ++ string (move_in row)) (codes "," ++ string (position_in row)) (codes ",")
+    (codes "[" ++ string (san_in row)) (codes "," ++ string (move_in row)) (codes "," ++ string (position_in row))
+    (codes ",")
     (number_or_null c.args.clock) (codes "]")
     (c.in_ok-push_text.ensures ∙ ap (λ (t : List ℕ). old ++ (codes "[" ++ string t)) c.san_in.ensures)
     (c.in_ok-push_text-2.ensures ∙ ap (λ (t : List ℕ). first ++ (codes "," ++ string t)) c.move_in.ensures)

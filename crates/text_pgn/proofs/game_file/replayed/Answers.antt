@@ -7,6 +7,7 @@ pub returns-clause-told : goal.returns-clause-told
 returns-clause-told c = λ start moves tells.
     record {
       answer = rw c.in-Some.is at (c.in_ok-answer.ensures.told start moves tells);
-      check = subst (λ (text : List ℕ). IsCheckAt c.in_ok-is_check.is_check (position_in (last_row (rows_in text)))) c.as_str.ensures.value
+      check = subst (λ (text : List ℕ). IsCheckAt c.in_ok-is_check.is_check (position_in (last_row (rows_in text))))
+          c.as_str.ensures.value
           c.in_ok-is_check.ensures;
     }

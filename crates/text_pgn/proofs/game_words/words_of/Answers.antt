@@ -8,5 +8,6 @@ use Rattle.text_pgn.proofs.game_words.words_of.Goals as goal
 pub returns : goal.returns
 returns c =
     let now = λ (word : Bor (List ℕ)). word.now in
-    ap (map now) (filter_same _ (λ (word : Bor (List ℕ)). is_move word.now) _ (λ x b f' k. search rules) _ _ c.retain.ensures.filtered)
+    ap (map now) (filter_same _ (λ (word : Bor (List ℕ)). is_move word.now) _ (λ x b f' k. search rules) _ _
+    c.retain.ensures.filtered)
     ∙ (sym (filter-map is_move now c.in_ok-words.words.items) ∙ ap moves_in c.in_ok-words.ensures)

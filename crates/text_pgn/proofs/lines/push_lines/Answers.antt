@@ -12,7 +12,8 @@ push_token-requires-clause-token c =
     let item = c.token-item.result in
     let texts : List (List ℕ) = map (λ t. t.items) tokens in
     let same : get_or texts i item.items ≡ c.as_slice.result.now =
-    get_or-map (λ t. t.items) tokens i item item.items c.loop-token-test.true ∙ (ap (λ t. t.items) (sym c.token-item.is) ∙ sym c.as_slice.ensures.value) in
+    get_or-map (λ t. t.items) tokens i item item.items c.loop-token-test.true
+    ∙ (ap (λ t. t.items) (sym c.token-item.is) ∙ sym c.as_slice.ensures.value) in
     subst IsToken same (token_at texts i item.items c.requires (omega (arith, length-map tokens (λ t. t.items))))
 
 pub returns : goal.returns

@@ -4,4 +4,5 @@ use Rattle.text_pgn.proofs.pgn_lines.tokens_of.Given as goal
 
 abbrev pub invariant-loop-line : goal.invariant-loop-line
 invariant-loop-line l =
-    map (λ t. t.now) l.tokens.items ++ tokens_of (map (λ line. line.now) (drop l.line-index l.lines)) ≡ tokens_of (map (λ line. line.now) l.lines)
+    map (λ t. t.now) l.tokens.items ++ tokens_of (map (λ line. line.now) (drop l.line-index l.lines))
+    ≡ tokens_of (map (λ line. line.now) l.lines)

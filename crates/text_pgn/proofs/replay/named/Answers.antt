@@ -5,4 +5,5 @@ pub returns-then-fullmove-lt65535-clause-one : goal.returns-then-fullmove-lt6553
 returns-then-fullmove-lt65535-clause-one c = one_named c.read.result c.args.board.now c.args.word.now c.read.ensures.one
 
 pub returns-then-fullmove-lt65535-clause-none : goal.returns-then-fullmove-lt65535-clause-none
-returns-then-fullmove-lt65535-clause-none c = none_named c.read.result c.args.board.now c.args.word.now c.read.ensures.none
+returns-then-fullmove-lt65535-clause-none c =
+    none_named c.read.result c.args.board.now c.args.word.now c.read.ensures.none

@@ -4,4 +4,5 @@ use Rattle.text_pgn.proofs.tags.push_tags.Given as goal
 
 abbrev pub invariant-loop-line : goal.invariant-loop-line
 invariant-loop-line l =
-    l.out.items ++ told_tags l.heading (map (λ line. line.now) (drop l.line-index l.lines)) ≡ l.fn.out.items ++ told_tags l.heading (map (λ line. line.now) l.lines)
+    l.out.items ++ told_tags l.heading (map (λ line. line.now) (drop l.line-index l.lines))
+    ≡ l.fn.out.items ++ told_tags l.heading (map (λ line. line.now) l.lines)

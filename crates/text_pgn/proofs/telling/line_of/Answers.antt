@@ -16,5 +16,6 @@ returns c =
     (All-same IsBetweenSquares items slice (sym c.as_slice.ensures.value) c.in_ok-push_moves.ensures.squares)
     c.check_text.ensures
     (c.in_ok-push_moves.ensures.bytes
-    ∙ (ap (λ (t : List ℕ). t ++ spaced (map coordinate_of slice)) (c.in_ok-push_str.ensures.bytes ∙ ap (λ (t : List ℕ). t ++ sign) c.in_ok-text.ensures.ok)
+    ∙ (ap (λ (t : List ℕ). t ++ spaced (map coordinate_of slice))
+    (c.in_ok-push_str.ensures.bytes ∙ ap (λ (t : List ℕ). t ++ sign) c.in_ok-text.ensures.ok)
     ∙ ap (λ (ms : List Move). (codes "moves " ++ sign) ++ spaced (map coordinate_of ms)) c.as_slice.ensures.value))

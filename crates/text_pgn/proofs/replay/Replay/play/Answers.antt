@@ -9,7 +9,17 @@ returns-then-not-branch c = λ game pgn u.
 pub returns-else-left-gt0 : goal.returns-else-left-gt0
 returns-else-left-gt0 c = λ game pgn u.
     let same : length c.loop.replay.words.items ≡ length c.args.self.words.items = rw c.loop.invariant.words refl in
-    let past : length c.loop.replay.words.items ≤ c.loop.replay.at = omega (arith, c.left-2.ensures, c.if-left-gt0.false) in (
-      omega (arith, same, past, c.loop.invariant.at, c.loop-test.false, c.loop.auto.counter-end, c.min-count.ensures, c.left.ensures),
+    let past : length c.loop.replay.words.items ≤ c.loop.replay.at =
+    omega (arith, c.left-2.ensures, c.if-left-gt0.false) in (
+      omega (
+        arith,
+        same,
+        past,
+        c.loop.invariant.at,
+        c.loop-test.false,
+        c.loop.auto.counter-end,
+        c.min-count.ensures,
+        c.left.ensures,
+      ),
       whole game pgn c.loop.replay past (c.loop.invariant.goes game pgn u),
     )

@@ -21,7 +21,8 @@ returns-clause-goes c =
           goes_on game pgn old _ c.as_str.result.now c.in-Some.mv
           (word_at string_bytes old.words.items old.at c.index.result.now c.requires
           ∙ ap (λ (t : List ℕ). t ∷ rest) (sym (c.as_str.ensures.value ∙ ap string_bytes c.index.ensures)))
-          refl refl c.requires c.in-Some.ensures.some c.in-Some.ensures.one c.apply-after.ensures.next c.in_ok-push_row.ensures u;
+          refl refl c.requires c.in-Some.ensures.some c.in-Some.ensures.one c.apply-after.ensures.next
+          c.in_ok-push_row.ensures u;
       words = refl;
       at = refl;
     }
