@@ -17,6 +17,12 @@ def by_lines(hall, name, *lines, person=None):
     return driver.execute_async_script(RAW, hall.lobby.address, [*login, *lines])[len(login):]
 
 
+def by_files(person):
+    """What /games.json tells, by which everybody watches who has no link."""
+    return person.driver.execute_async_script("""const [done] = arguments; fetch('/games.json', { cache: 'no-store' })
+        .then((answer) => answer.json()).then(done, () => done({}));""")
+
+
 def stays(hall, *names):
     """These players are connected as long as Sue's page stays."""
     for name in names:
