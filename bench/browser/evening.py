@@ -600,6 +600,25 @@ def offers_end(hall):
     bob.until(lambda: not waits(fourth), 'the last page is left: it waits no more')
 
 
+def a_killed_browser(hall):
+    """A browser that is killed takes no game back: the table and the game's page say that its player is not connected,
+    and nobody can join there until the player is back, in whatever browser."""
+    hall.seat_anew('ann', 'bob', 'sue')
+    _, bob, sue = hall.sit('ann', 'bob')
+    number = hall.set_up()
+    join = '[data-key="join-%s"]' % number
+    bob.finds(join, 'it waits')
+    hall.ann.dies()
+    bob.loses(join, 'who was killed is not joined', 40).reads('#open-list', 'not connected')
+    bob.goes('game/' + number).reads('#outcome', hall.lobby.full['ann'] + ' is not connected.')
+    bob.lacks('#join', 'nor at the game').reads('.player .away', 'not connected')
+    reads_well(bob, 'a game whose player is away')
+    hall.signs_in(sue, 'ann', 'back in another browser')
+    bob.finds('#join', 'it can be joined', 40).goes('').finds(join, 'at the table too', 40)
+    bob.click(join).finds('#resign', 'it begins')
+    sue.finds('#resign', 'before both')
+
+
 PERFT = """const [fen, depth, done] = arguments; import('/rules.js').then(({ readFen, legalMoves, made }) => {
     const count = (at, left) => (left === 0 ? 1
       : legalMoves(at).reduce((sum, move) => sum + count(made(at, move), left - 1), 0));
@@ -762,4 +781,4 @@ def the_first_minutes(hall):
 NEEDS_CONTROL_TOO = (no_dead_buttons, slow_answers)
 EVENING = (no_dead_buttons, handy_moves, full_names, planned_moves, asked_first, heard_tones, own_marks, taken_men,
            boards_and_men, told_elsewhere, slow_answers, foreign_links, room_for_all, read_by_all, in_german,
-           in_every_language, offers_end, looked_at_again, the_first_minutes)
+           in_every_language, offers_end, a_killed_browser, looked_at_again, the_first_minutes)

@@ -87,6 +87,20 @@ def finished_games(hall):
         person.is_quiet()
 
 
+def games_not_counted(hall):
+    """A game in which not both have moved, as one that was begun by mistake, counts in no score, and stands in brackets;
+    one of a move by each counts."""
+    sue = hall.sit('sue')[2]
+    keeps(hall, ((NOBODY + 9, ANN, BOB, '2026.11.29', '1-0', '5.1.2', '1-0'),
+                 (NOBODY + 8, BOB, ANN, '2026.11.29', '1-0', '6.9', '1. e4 {[%clk 0:04:59]} {a comment, Nf3 e5} 1-0'),
+                 (NOBODY + 7, ANN, BOB, '2026.11.29', '1-0', '6.9', '1. O-O Nf6 1-0'), KEPT[0]))
+    sue.goes('player/' + ANN.replace(' ', '%20')).shows(
+        '#finished-score', 'Score: 1 of 2 (1 won, 0 drawn, 1 lost). Not counted, since not both had moved: 2', 'the score')
+    scores = sue.run('return [...document.querySelectorAll("#finished-list .state")].map((e) => e.textContent)')
+    sue.is_so(scores == ['(1–0)', '(1–0)', '1–0', '1–0'], 'the list: %s' % scores)
+    reads_well(sue, 'a score without some').is_quiet()
+
+
 def finished_in_every_language(hall):
     """The lists, a player's page and a kept game in each language, on every screen."""
     sue = hall.sit('sue')[2]
@@ -131,9 +145,14 @@ def a_kept_game(hall):
         sue.reads('#outcome', 'Article ' + row[5])
     sue.goes('game/%d' % (NOBODY + 9)).reads('#no-game', 'There is no game of this number')
     hall.signs_in(sue, 'eve', 'an arbiter')
-    sue.goes('arbiter').click('#adjourned-games > summary').type('#adjourned-form [name=number]', NUMBERS[2])
-    sue.click('#adjourned-form button').reads('#adjourned-list', 'Looked up', ' w KQkq - 2 3', '5:00')
-    sue.run('localStorage.clear()')
+    sue.goes('arbiter').click('#adjourned-games > summary').reads('#adjourned-draws', 'Game %s: ' % NUMBERS[2], BOB)
+    drawn = '#adjourned-draws [data-key="draw-%s"]' % NUMBERS[2]
+    for look_up in (lambda: sue.click(drawn),
+                    lambda: sue.type('#adjourned-form [name=number]', NUMBERS[2]).click('#adjourned-form button')):
+        look_up()
+        sue.reads('#adjourned-list', 'Looked up', ' w KQkq - 2 3', '5:00').lacks(drawn, 'and not twice')
+        sue.run('localStorage.clear()')
+        sue.reload().click('#adjourned-games > summary').finds(drawn, 'another browser finds it too')
     sue.goes('game/' + number).finds('#game-kept', 'a kept game')
     for what, _, height, _ in on_screens(sue, 'a kept game'):
         sue.is_so(sue.box('#board .board')['bottom'] <= height, '%s: the board is in sight' % what)
@@ -168,4 +187,4 @@ def many_kept_games(hall):
     keeps(hall, ())
 
 
-FINISHED = (finished_games, finished_in_every_language, a_kept_game, many_kept_games)
+FINISHED = (finished_games, games_not_counted, finished_in_every_language, a_kept_game, many_kept_games)

@@ -17,6 +17,20 @@ def by_lines(hall, name, *lines, person=None):
     return driver.execute_async_script(RAW, hall.lobby.address, [*login, *lines])[len(login):]
 
 
+def by_files(person):
+    """What /games.json tells, by which everybody watches who has no link."""
+    return person.driver.execute_async_script("""const [done] = arguments; fetch('/games.json', { cache: 'no-store' })
+        .then((answer) => answer.json()).then(done, () => done({}));""")
+
+
+def stays(hall, *names):
+    """These players are connected as long as Sue's page stays."""
+    for name in names:
+        hall.sue.run("""const [address, token] = arguments, socket = new WebSocket(address.replace('http', 'ws') + 'ws');
+            socket.onmessage = (event) => event.data.startsWith('server ') && window.spied.call(socket, 'login ' + token);
+            """, hall.lobby.address, hall.lobby.tokens[name])
+
+
 def truth(hall, number):
     """How a game stands, as the server says: the fields of `show` behind the number, the position, the PGN."""
     show, fen, pgn = by_lines(hall, 'ann', 'show ' + number, 'fen ' + number, 'pgn ' + number)

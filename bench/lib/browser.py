@@ -83,6 +83,13 @@ class Person:
         except WebDriverException:
             pass
 
+    def dies(self):
+        """The browser is killed: it says nothing any more."""
+        try:
+            self.cdp('Browser.crash')
+        except WebDriverException:
+            pass
+
     # ---- looking
 
     def go(self, address):
