@@ -48,9 +48,9 @@ standing hub sid moments = stands (kept hub.store) (name_at hub.sessions sid) mo
 -- what a turn does to the store and its device
 pub record Serves {D : Type 0} (of : Measures D) (old new : Kept D) (result : Result (Unit {0}) HubFault) : Type 0
   where
-  pub lasts : IsKept (of.state old.device) old.header old.compaction old.table
-      → TurnLasts result (of.state old.device) (of.state new.device) new.header new.compaction old.table new.table
-  pub tried : TurnTried of old new result
+    pub lasts : IsKept (of.state old.device) old.header old.compaction old.table
+        → TurnLasts result (of.state old.device) (of.state new.device) new.header new.compaction old.table new.table
+    pub tried : TurnTried of old new result
 
 -- what holds of the commands that a line asks for
 pub record LineAsksFor (at : ℕ) (name : Option (List ℕ)) (line : List ℕ) (P : List Command → Type 0) : Type 0 where

@@ -25,21 +25,21 @@ returns-clause-served g c =
     let last = c.hand_out_all-has_written.new.clients.items in
     let when = times c.args.reading.at c.args.reading.silence in
     let serves : HasServed g.S.Read.remaining g.S.Write.contents when (StoreMayBeAsked old.store)
-        (served c.args.clients.now.items (state_of old.sessions old.store.table))
-        (served last (state_of written.sessions written.store.table)) =
-        rw (c.hand_out_all-has_written.ensures.store, sym c.take_in_all-has_read.ensures.store)
-        (record {
-          answered = served read (state_of answered.sessions answered.store.table);
-          answers = record {
-            heard = state_of heard.sessions heard.store.table;
-            reads = are_read heard.store.table g.S.Read.remaining c.args.reading.silence c.args.reading.at c.args.clients.now.items read old.sessions heard.sessions
-                c.take_in_all-has_read.ensures.read;
-            turned = of_answered c.turn.result tt c.in_default.is c.turn.ensures.turned;
-            works = of_answered c.turn.result tt c.in_default.is c.turn.ensures.works;
-          };
-          writes = are_written answered.store.table g.S.Write.contents read last answered.sessions written.sessions
-              c.hand_out_all-has_written.ensures.written;
-        }) in
+    (served c.args.clients.now.items (state_of old.sessions old.store.table))
+    (served last (state_of written.sessions written.store.table)) =
+    rw (c.hand_out_all-has_written.ensures.store, sym c.take_in_all-has_read.ensures.store)
+    (record {
+      answered = served read (state_of answered.sessions answered.store.table);
+      answers = record {
+        heard = state_of heard.sessions heard.store.table;
+        reads = are_read heard.store.table g.S.Read.remaining c.args.reading.silence c.args.reading.at c.args.clients.now.items read old.sessions heard.sessions
+            c.take_in_all-has_read.ensures.read;
+        turned = of_answered c.turn.result tt c.in_default.is c.turn.ensures.turned;
+        works = of_answered c.turn.result tt c.in_default.is c.turn.ensures.works;
+      };
+      writes = are_written answered.store.table g.S.Write.contents read last answered.sessions written.sessions
+          c.hand_out_all-has_written.ensures.written;
+    }) in
     serves
 
 -- ---- whether there is more to do
@@ -89,16 +89,16 @@ returns-in-Err-clause-refused g c =
     let read = c.take_in_all-has_read.new.clients.items in
     let when = times c.args.reading.at c.args.reading.silence in
     let refusal : IsRefusal g.S.Read.remaining when (StoreRefuses old.store n) c.in-Err.fault
-        (served c.args.clients.now.items (state_of old.sessions old.store.table))
-        (served read (state_of c.turn.new.self.sessions n.table)) =
-        rw (sym c.take_in_all-has_read.ensures.store)
-        (turn_refusal (n ≡ s) c.args.reading.at heard s.journal.header.seq s.failed s.table n.table _ c.args.reading.silence
-        c.args.clients.now.items read (state_of old.sessions s.table) (state_of c.turn.new.self.sessions n.table) s.table
-        (are_read s.table g.S.Read.remaining c.args.reading.silence c.args.reading.at c.args.clients.now.items read old.sessions heard c.take_in_all-has_read.ensures.read)
-        (of_refused c.turn.result c.in-Err.fault c.in-Err.is c.turn.ensures.unchanged) refl refl
-        (λ e. ap (λ s. s.table) e) c.in-Err.fault
-        (IfErr-at_err (λ fault. IsTurnFault fault (n ≡ s) (λ refused. AsksFor c.args.reading.at 64 heard
-        (AreRefused refused s.journal.header.seq s.failed s.table n.table))) c.in-Err.is c.turn.ensures.fault)) in
+    (served c.args.clients.now.items (state_of old.sessions old.store.table))
+    (served read (state_of c.turn.new.self.sessions n.table)) =
+    rw (sym c.take_in_all-has_read.ensures.store)
+    (turn_refusal (n ≡ s) c.args.reading.at heard s.journal.header.seq s.failed s.table n.table _ c.args.reading.silence
+    c.args.clients.now.items read (state_of old.sessions s.table) (state_of c.turn.new.self.sessions n.table) s.table
+    (are_read s.table g.S.Read.remaining c.args.reading.silence c.args.reading.at c.args.clients.now.items read old.sessions heard c.take_in_all-has_read.ensures.read)
+    (of_refused c.turn.result c.in-Err.fault c.in-Err.is c.turn.ensures.unchanged) refl refl
+    (λ e. ap (λ s. s.table) e) c.in-Err.fault
+    (IfErr-at_err (λ fault. IsTurnFault fault (n ≡ s) (λ refused. AsksFor c.args.reading.at 64 heard
+    (AreRefused refused s.journal.header.seq s.failed s.table n.table))) c.in-Err.is c.turn.ensures.fault)) in
     refusal
 
 -- ---- the count of failures

@@ -43,14 +43,14 @@ returns-clause-served g c =
     let n = c.serve_clients.new in
     let left = c.part-2.new.self in
     let serves : HasServed g.S.Read.remaining g.S.Write.contents (times c.args.at old.silence)
-        (StoreMayBeAsked old.hub.store) (served w.clients.items (state_of w.hub.sessions w.hub.store.table))
-        (served n.clients.items (state_of left.hub.sessions left.hub.store.table)) =
-        rw (
-          c.part-2.ensures.hub,
-          sym (c.welcome-came.ensures.store ∙ ap (λ h. h.store) c.part.ensures.hub),
-          sym (c.welcome-came.ensures.silence ∙ c.part.ensures.silence),
-        )
-        c.in_ok-has_served.ensures.served in
+    (StoreMayBeAsked old.hub.store) (served w.clients.items (state_of w.hub.sessions w.hub.store.table))
+    (served n.clients.items (state_of left.hub.sessions left.hub.store.table)) =
+    rw (
+      c.part-2.ensures.hub,
+      sym (c.welcome-came.ensures.store ∙ ap (λ h. h.store) c.part.ensures.hub),
+      sym (c.welcome-came.ensures.silence ∙ c.part.ensures.silence),
+    )
+    c.in_ok-has_served.ensures.served in
     record {
       asked = w.clients.items;
       begun = state_of w.hub.sessions w.hub.store.table;
@@ -94,10 +94,10 @@ returns-in_err-has_served-clause-refused g c =
     let w = c.welcome-came.new.self in
     let n = c.serve_clients.new in
     let refusal : IsRefusal g.S.Read.remaining (times c.args.at old.silence) (StoreRefuses old.hub.store n.hub.store)
-        c.in_err-has_served.field-0.0 (served w.clients.items (state_of w.hub.sessions w.hub.store.table))
-        (served n.clients.items (state_of n.hub.sessions n.hub.store.table)) =
-        rw (sym same, sym (c.welcome-came.ensures.silence ∙ c.part.ensures.silence))
-        c.in_err-has_served.ensures.refused in
+    c.in_err-has_served.field-0.0 (served w.clients.items (state_of w.hub.sessions w.hub.store.table))
+    (served n.clients.items (state_of n.hub.sessions n.hub.store.table)) =
+    rw (sym same, sym (c.welcome-came.ensures.silence ∙ c.part.ensures.silence))
+    c.in_err-has_served.ensures.refused in
     of_fault r.result e.0 c.in_err-has_served.field-0.0
     (λ fault. IsTurnRefusal g.S.From.from_gives g.S.Read.remaining (times c.args.at old.silence)
     (StoreRefuses old.hub.store n.hub.store) fault (server_state old.listener.given old.turned_away old.clients.items
