@@ -13,3 +13,4 @@ pub mod Tokens
 pub mod Alike
 pub mod Lost
 pub mod Left
+pub mod Deciding

@@ -56,12 +56,12 @@ halted_after plan text before = record {
 abbrev pub stop_bar : Halted → Bool → Option Refusal
 stop_bar halts is_arbiter = if is_stopped halts && not is_arbiter then Some refusals.ClocksStopped else None
 
--- Nothing is done of a message that asks for the clocks, where none can be stopped, or of a decision that has not been
--- put to those of its round.
+-- Nothing is done of a decision that has not been put to those of its round, or of a message that asks for the clocks,
+-- where none can be stopped.
 abbrev pub halts_bar : Halted → Bool → Bool → List ℕ → Option Refusal
 halts_bar halts put is_arbiter text =
-    if is_of_clocks text && not halts.can_stop then Some refusals.NoClocks
-    else (if is_decision text && not put then Some refusals.NotDecided else stop_bar halts is_arbiter)
+    if is_decision text && not put then Some refusals.NotDecided
+    else (if is_of_clocks text && not halts.can_stop then Some refusals.NoClocks else stop_bar halts is_arbiter)
 
 -- the line that tells that all clocks are stopped, and why; none where they run
 abbrev pub line_if : List ℕ → List ℕ → List ℕ

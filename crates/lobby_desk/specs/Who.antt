@@ -8,8 +8,6 @@ use Rattle.std.specs.String.{string_bytes}
 use Rattle.player_name.specs.Name.{IsName}
 use Rattle.lobby_words.specs.declared.words.Call.{Call}
 use Rattle.lobby_words.specs.declared.words.Call.TheVariants as calls
-use Rattle.lobby_words.specs.declared.words.Sort.{Sort}
-use Rattle.lobby_words.specs.declared.words.Sort.TheVariants as sorts
 use Rattle.lobby_words.specs.declared.planning.Plan.{Plan}
 use Rattle.lobby_words.specs.declared.planning.Plan.TheVariants as plans
 use Rattle.lobby_words.specs.declared.refusals.Refusal.{Refusal}
@@ -24,7 +22,7 @@ use Rattle.lobby_table.specs.declared.watching.Watch.{Watch}
 use Rattle.lobby_desk.specs.declared.desk.Desk.{Desk}
 use Rattle.lobby_desk.specs.Halts.{Halted, halted, halted_after, halts_bar, stop_bar, told_behind}
 use Rattle.lobby_words.specs.Words.{rest_of, as_name, black_name, is_pair, actor, is_message, sort_of, u32_in}
-use Rattle.lobby_words.specs.Words.{is_login_sort}
+use Rattle.lobby_words.specs.Words.{is_decide_sort, is_decision, is_login_sort}
 use Rattle.lobby_words.specs.Waiting.{opens_game, joins_game}
 use Rattle.lobby_words.specs.Players.{holder_of, known_name, renewed, login_text, players_text}
 use Rattle.lobby_words.specs.Players.{present_names, who_text, IsRelinked}
@@ -299,7 +297,8 @@ or_bar None bar = bar
 or_bar (Some first) bar = Some first
 
 -- Why a message of who acts so is not done: while all clocks are stopped none of who is no arbiter is; and where this
--- lobby can stop no clocks none is that asks for it; and no decision is but one that has been put to those of its round.
+-- lobby can stop no clocks none is that asks for it; and no decision is but one that has been put to those of its
+-- round.
 abbrev pub bar_of : Limits → Known → Halted → Bool → Option Identity → List ℕ → Option Refusal
 bar_of limits k halts put None text = None
 bar_of limits k halts put (Some who) text =
@@ -347,19 +346,24 @@ order_asked desk c text at =
     else order_of (plan_of (is_message text) (sort_of text) (standing_of false desk c text at)
     (u32_in (rest_of text)))
 
--- Whether a message at this moment is an arbiter's that decides, and not one that comes too fast: then whoever keeps the
--- decisions is asked to put it to those of its round.
+-- Whether a message at this moment is an arbiter's that decides, and not one that comes too fast: then whoever keeps
+-- the decisions is asked to put it to those of its round.
 abbrev pub is_arbiters : Option Identity → Bool
 is_arbiters None = false
 is_arbiters (Some who) = who.is_arbiter
 
-abbrev pub decides : Sort → Bool
-decides (sorts.Call calls.Decide) = true
-decides _ = false
-
 abbrev pub decides_now : Desk → ℕ → List ℕ → ℕ → Bool
 decides_now desk c text at =
-    not (is_too_fast (until_of desk c) at) && is_message text && decides (sort_of text) && is_arbiters (who_of desk c)
+    is_decision text && not (is_too_fast (until_of desk c) at) && is_message text && is_decide_sort (sort_of text)
+    && is_arbiters (who_of desk c)
+
+-- What is told of it: where it has been put, everybody is told it, behind the log and the answer; else it is refused.
+abbrev pub IsDecisionTold : Bool → Desk → ℕ → List ℕ → List MessageValue → List MessageValue → Type 0
+IsDecisionTold true desk c text before after =
+    (tells : List MessageValue) × (after ≡ before ++ tells)
+    × AreToldCall (open_of desk) (name_of (who_of desk c)) text calls.Decide (to_one c (call_answer calls.Decide)) tells
+IsDecisionTold false desk c text before after =
+    after ≡ before ++ to_one c (refusal_text refusals.NotDecided) ∷ []
 
 -- The plan for a message is carried out: these lines go out, and of the players for whom connections act no more
 -- changes than a login says.

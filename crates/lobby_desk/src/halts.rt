@@ -84,14 +84,14 @@ impl Halts {
         }
     }
 
-    /// Why a message is not done, by the clocks, or since it is a decision that has not been put to those of its round.
+    /// Why a message is not done: it is a decision that has not been put to those of its round, or by the clocks.
     pub fn bar(&self, is_put: bool, is_arbiter: bool, text: &str) -> Option<Refusal>
         ensures { result ≡ spec.halts_bar (spec.halted self.now) is_put is_arbiter text.now }
     {
-        if is_of_clocks(text) && !self.can_stop {
-            Some(Refusal::NoClocks)
-        } else if is_decision(text) && !is_put {
+        if is_decision(text) && !is_put {
             Some(Refusal::NotDecided)
+        } else if is_of_clocks(text) && !self.can_stop {
+            Some(Refusal::NoClocks)
         } else {
             self.stop_bar(is_arbiter)
         }

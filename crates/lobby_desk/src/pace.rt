@@ -1,6 +1,6 @@
 //! How fast a connection may say messages.
-ghost use Rattle.std.specs.Prelude.{◌≡◌};
-ghost use Rattle.lobby_desk.specs.Pace.{paced, until_after};
+ghost use Rattle.std.specs.Prelude.{◌≡◌, not};
+ghost use Rattle.lobby_desk.specs.Pace.{is_too_fast, paced, until_after};
 
 // What a message takes of a connection's time, and how far before it another may come, in milliseconds.
 const COST: u64 = 50;
@@ -24,4 +24,11 @@ pub fn paced(until: u64, now: u64) -> Option<u64>
     } else {
         None
     }
+}
+
+/// Whether a message that comes at a moment does not come too fast.
+pub fn is_in_time(until: u64, now: u64) -> bool
+    ensures { result ≡ not (is_too_fast until now) }
+{
+    paced(until, now).is_some()
 }

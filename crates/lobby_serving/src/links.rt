@@ -39,7 +39,7 @@ pub struct FileLinks<'a, R, D> {
 impl<'a, R, D> FileLinks<'a, R, D>
 where
     R: Files<File = File> + AllocGlobal + RandomSource + Eprint,
-    D: KeepsDecisions,
+    D: KeepsDecisions + Drop,
 {
     /// Those of the players' file that is served, with what was halted when it was served last.
     pub fn open(rt: &'a R, serving: &Serving<'a>, decisions: D) -> Result<Self> {

@@ -2,7 +2,8 @@
 ghost use Rattle.std.specs.Prelude.{◌≡◌, true, Some, IfSome, OnOk};
 ghost use Rattle.std.specs.String.{string_bytes};
 ghost use Rattle.lobby_words.specs.Players.{IsRelinked};
-ghost use Rattle.lobby_desk.specs.Who.{IsReady, decides_now, order_asked};
+ghost use Rattle.lobby_desk.specs.Events.{message_values};
+ghost use Rattle.lobby_desk.specs.Who.{IsReady, IsDecisionTold, decides_now, order_asked};
 ghost use Rattle.lobby_talk.specs.Talking.{Says, IsTextSaid, IsOrderTold};
 
 use crate::links::KeepsLinks;
@@ -57,7 +58,29 @@ fn say_order<K: KeepsLinks>(
     say_done(shown, number, talk, at, order, done)
 }
 
-// A message is said to the desk by which an arbiter decides: whoever keeps the decisions is asked first.
+// A message is said to the desk by which an arbiter decides, which has been put, or has not.
+fn say_decided(
+    shown: &str,
+    number: u64,
+    talk: &mut Talk,
+    at: u64,
+    is_put: bool,
+) -> Result<(), AllocError>
+    requires ready { IsReady talk.old.desk number }
+    requires decides { decides_now talk.old.desk number shown.now at ≡ true }
+    ensures says { OnOk result (Says shown.now number at talk.old talk.new) }
+    ensures told { OnOk result (IsDecisionTold is_put talk.old.desk number shown.now
+        (message_values talk.old.told.items) (message_values talk.new.told.items)) }
+{
+    if is_put {
+        talk.decided(number, shown, at)?;
+    } else {
+        talk.said(number, shown, at)?;
+    }
+    Ok(())
+}
+
+// The same, where whoever keeps the decisions is asked first.
 fn say_decision<K: KeepsLinks>(
     shown: &str,
     number: u64,
@@ -71,12 +94,8 @@ fn say_decision<K: KeepsLinks>(
 {
     let by = talk.player_at(number);
     let arbiter = by.as_ref().map_or("", |by| by.as_str());
-    if links.decide(arbiter, shown, talk.players()) {
-        talk.decided(number, shown, at)?;
-    } else {
-        talk.said(number, shown, at)?;
-    }
-    Ok(())
+    let is_put = links.decide(arbiter, shown, talk.players());
+    say_decided(shown, number, talk, at, is_put)
 }
 
 // A message is said to the desk that asks for no player's link.

@@ -199,6 +199,11 @@ abbrev pub is_close_sort : Sort → Bool
 is_close_sort sorts.Close = true
 is_close_sort _ = false
 
+-- an arbiter decides
+abbrev pub is_decide_sort : Sort → Bool
+is_decide_sort (sorts.Call calls.Decide) = true
+is_decide_sort _ = false
+
 abbrev pub is_leave_sort : Sort → Bool
 is_leave_sort sorts.Leave = true
 is_leave_sort _ = false

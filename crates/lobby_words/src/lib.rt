@@ -31,7 +31,8 @@ pub use listing::{
 };
 pub use naming::{is_said, takes_name};
 pub use planning::{
-    Accord, Identity, Order, Plan, Standing, asks_for_link, order_of, plan_of, shows_token,
+    Accord, Identity, Order, Plan, Standing, asks_for_decision, asks_for_link, order_of, plan_of,
+    shows_token,
 };
 pub use players::{Player, holder_of, is_same_sum, is_token};
 pub use refusals::Refusal;

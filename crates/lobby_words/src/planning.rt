@@ -119,6 +119,13 @@ pub fn asks_for_link(text: &str) -> bool
     matches!(sort_of(text), Sort::Link | Sort::Close)
 }
 
+/// Whether a message asks for an arbiter's decision to be put.
+pub fn asks_for_decision(text: &str) -> bool
+    ensures { result ≡ words.is_decide_sort (words.sort_of text.now) }
+{
+    matches!(sort_of(text), Sort::Call(Call::Decide))
+}
+
 // What asks for the server.
 fn asked(standing: &Standing, plan: Plan) -> Plan
     ensures { result ≡ plans.asked standing.now plan }
