@@ -1,6 +1,8 @@
-// The arbiter's announcement: every page shows it until the arbiter takes it away, or it is hidden there.
+// The arbiter's announcement: every page shows it until the arbiter takes it away, or it is hidden there. And what he
+// decides about a board: every page that is open then shows it until it is hidden there.
 
 import { t } from './language.js';
+import { readDecided } from './lines.js';
 import { byId, setText } from './make.js';
 
 /** What the arbiter announces, as the lobby tells it; empty where that is nothing. */
@@ -13,6 +15,15 @@ export function announcedTold(text) {
   dispatchEvent(new Event('announced'));
 }
 
+/** The line `decided ROUND BOARD RESULT ARTICLE REASON`. */
+export function decidedTold(line) {
+  const { round, board, score, why } = readDecided(line);
+  setText(byId('decided-words'), t`The arbiter has decided board ${board} of round ${round}: ${score}. Why: ${why}`);
+  byId('decided').hidden = false;
+}
+
 export function listenToAnnounced() {
-  byId('hide-announced').addEventListener('click', () => { byId('announced').hidden = true; });
+  for (const id of ['announced', 'decided']) {
+    byId(`hide-${id}`).addEventListener('click', () => { byId(id).hidden = true; });
+  }
 }

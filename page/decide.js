@@ -1,15 +1,15 @@
-// An arbiter's decision about a board of a round: the lobby has no word that puts one down, so the desk shows the command
-// that does, with all that it says filled in, and tells what the decision is.
+// An arbiter's decision about a board of a round, which the lobby puts to those of its round and tells everybody.
 
 import { MINUTE, isAbsent } from './absent.js';
 import { findKept, toldOf } from './kept.js';
 import { t } from './language.js';
-import { readShow } from './lines.js';
-import { byId, copy, setText } from './make.js';
+import { readRefusal, readShow } from './lines.js';
+import { byId, setText } from './make.js';
 import { mayMate } from './material.js';
-import { AGREED, OTHER, colourWord, kindWords, resultWords, withReason } from './words.js';
+import { plain } from './plain.js';
+import { AGREED, OTHER, colourWord, kindWords, refusalWords, resultWords, withReason } from './words.js';
 
-const WORDLESS = /^[\w.,:/+-]+$/;      // what a shell takes as it is
+const LONGEST = 255;                   // so many bytes a line has that the lobby takes
 /** By which a game ended that is a draw where the winner cannot mate. */
 const LOST_BY = ['6.9', '5.1.2'];
 const FORFEIT = { w: '-/+', b: '+/-', wb: '-/-' }; // of who did not come
@@ -26,7 +26,7 @@ export class Decision {
     this.form.addEventListener('input', () => this.render());
     this.form.addEventListener('submit', (event) => {
       event.preventDefault();
-      this.copied();
+      this.decide();
     });
     this.dialog.addEventListener('close', () => { this.about = 0; });
     byId('decide-leave').addEventListener('click', () => this.close());
@@ -105,30 +105,32 @@ export class Decision {
     setText(byId('decide-law'), lawWords(standing));
   }
 
-  command() {
-    const { round, board, result, article, reason } = this.form.elements, arbiter = this.nameOf(this.app.me());
-    if (!this.form.checkValidity()) return '';
-    const words = [['pairings', `round${round.value}.csv`], ['decisions', `round${round.value}.decisions`],
-      ['board', board.value], ['result', result.value], ['article', article.value.trim()], ['arbiter', arbiter],
-      ['reason', reason.value.trim()]].filter(([, value]) => value);
-    return ['./chess-club decide', ...words.map(([name, value]) => `--${name}${value.startsWith('-') ? '=' : ' '}${
-      quoted(value)}`)].join(' ');
+  /** What is said to the lobby: `decide ROUND BOARD RESULT ARTICLE REASON`; empty where something is not filled in. */
+  line() {
+    const { round, board, result, article, reason } = this.form.elements, why = plain(reason.value.trim());
+    if (!this.form.checkValidity() || !why) return '';
+    const words = [round.value, board.value, result.value, plain(article.value).replaceAll(' ', '') || '-', why];
+    return `decide ${words.join(' ')}`.slice(0, LONGEST);
   }
 
   render() {
-    const command = this.command();
-    setText(byId('decide-command'), command);
-    setText(byId('decide-copied'), command ? t`To be run on the club’s machine, in the folder with the round’s files.`
-      : t`Fill in the board, the result and the reason.`);
+    setText(byId('decide-told'), this.line() ? '' : t`Fill in the board, the result and the reason.`);
     setText(byId('decide-board'), this.isKnown ? '' : t`This page does not know which board of which round it is: look at
       the pairings.`);
   }
 
-  async copied() {
-    const done = await copy(this.command()), { board, result } = this.form.elements;
-    const copied = done ? t`The command is copied.` : t`It could not be copied. Mark it, and copy it by hand.`;
-    setText(byId('decide-copied'), t`${copied} Run it on the club’s machine, in the folder with the round’s files: it
-      prints “board ${board.value}: ${result.value} is decided”.`);
+  /** Says it; where it is put down, every page is told. */
+  async decide() {
+    const line = this.line(), { about } = this;
+    if (!line) return;
+    const [answer] = await this.app.wire.say(line), refusal = readRefusal(answer);
+    if (this.about !== about) return;
+    if (answer.startsWith('ok ')) {
+      this.close();
+      return;
+    }
+    setText(byId('decide-told'), refusal ? refusalWords(refusal)
+      : t`The connection broke before the answer came. Do it again.`);
   }
 }
 
@@ -172,9 +174,4 @@ function menWords(fen, side) {
   const men = fen.split(' ')[0], own = (kind) => (side === 'w' ? kind.toUpperCase() : kind);
   return [...'kqrbnp'].map((kind) => [kind, men.split(own(kind)).length - 1]).filter(([, count]) => count)
     .map(([kind, count]) => kindWords(String(kind), Number(count))).join(', ');
-}
-
-/** A word as a shell takes it. */
-function quoted(text) {
-  return WORDLESS.test(text) ? text : `'${text.replace(/'/g, "'\\''")}'`;
 }

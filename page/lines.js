@@ -95,6 +95,14 @@ export function announcedIn(lines) {
   return behind(lines, 'announced ');
 }
 
+/** `decided ROUND BOARD RESULT ARTICLE REASON` as {round, board, score, why}, with the article before the reason where
+ * one is named. */
+export function readDecided(line) {
+  const [, round, board, result, article, ...words] = line.split(' '), reason = words.join(' ');
+  const score = result.replaceAll('1/2', '½').replace(/(?<=[\d½])-/, '–');
+  return { round, board, score, why: article === '-' ? reason : `${article}, ${reason}` };
+}
+
 function behind(lines, front) {
   const found = lines.find((line) => line.startsWith(front));
   return found ? found.slice(front.length) : '';

@@ -1,7 +1,7 @@
 // The page: which view is open, and the connection that all of it shares.
 
 import { AgainView } from './again.js';
-import { announcedTold, listenToAnnounced } from './announced.js';
+import { announcedTold, decidedTold, listenToAnnounced } from './announced.js';
 import { ArbiterView } from './arbiter.js';
 import { Broadcast } from './broadcast.js';
 import { Challenges } from './challenges.js';
@@ -59,7 +59,8 @@ class Page {
   connect() {
     const told = {
       opened: (server) => this.opened(server), notice: (lines) => this.notice(lines), clocks: clocksTold,
-      announced: announcedTold, offers: () => this.challenges.look(), changed: () => this.changed(),
+      announced: announcedTold, decided: decidedTold, offers: () => this.challenges.look(),
+      changed: () => this.changed(),
       unnamed: () => this.who.unnamed(),
       served: (isServed) => { byId('no-broadcast').hidden = isServed; },
     };

@@ -44,7 +44,7 @@ function socketAddress() {
 }
 
 export class Wire {
-  /** told: {opened, notice(lines), clocks(reason), announced(text), offers, changed, unnamed}; changed() is called
+  /** told: {opened, notice(lines), clocks(reason), announced(text), decided(line), offers, changed, unnamed}; changed() is called
    * whenever `state` is another, clocks() where all clocks are stopped, with why, or run again, announced() where the
    * arbiter announces something, or nothing any more, and unnamed() where an answer says that the connection acts for
    * nobody. */
@@ -130,6 +130,8 @@ export class Wire {
       this.told.clocks(stoppedIn(lines));
     } else if (word === 'announced') {
       this.told.announced(announcedIn(lines));
+    } else if (word === 'decided') {
+      this.told.decided(lines[0]);
     } else if (word === 'told') {
       this.told.notice(lines);
     } else if (word === 'offers') {

@@ -875,20 +875,21 @@ export const WORDS = {
     'Zeile {0}: {1} lässt sich dort nicht ziehen. Was davor steht, ist auf dem Brett.',
   'Line {0}: {1} cannot be played there. The rest of this variation is left out.':
     'Zeile {0}: {1} lässt sich dort nicht ziehen. Der Rest dieser Variante ist weggelassen.',
+  'Decide it': 'Entscheiden',
+  'The arbiter has decided board {0} of round {1}: {2}. Why: {3}':
+    'Der Schiedsrichter hat Brett {0} der Runde {1} entschieden: {2}. Grund: {3}',
+  'The decision could not be put down: look whether round and board are right; else tell who runs the lobby.':
+    'Die Entscheidung ließ sich nicht festhalten: sieh nach, ob Runde und Brett stimmen; sonst sage es dem, '
+    + 'der die Lobby betreibt.',
   'Decide the result': 'Ergebnis entscheiden',
   'Decide the result of game {0}: {1} – {2}': 'Das Ergebnis von Partie {0} entscheiden: {1} – {2}',
   'The server says {0}: {1}.': 'Der Server sagt {0}: {1}.',
   '{0} has not made a move.': '{0} hat noch nicht gezogen.',
   '{0} has not made a move; the clocks have run for {1} min.':
     '{0} hat noch nicht gezogen; die Uhren laufen seit {1} min.',
-  'To be run on the club’s machine, in the folder with the round’s files.':
-    'Auf dem Rechner des Vereins auszuführen, im Ordner mit den Dateien der Runde.',
   'Fill in the board, the result and the reason.': 'Trage Brett, Ergebnis und Grund ein.',
   'This page does not know which board of which round it is: look at the pairings.':
     'Welches Brett welcher Runde es ist, weiß diese Seite nicht: sieh in den Paarungen nach.',
-  '{0} Run it on the club’s machine, in the folder with the round’s files: it prints “board {1}: {2} is decided”.':
-    '{0} Führe ihn auf dem Rechner des Vereins aus, im Ordner mit den Dateien der Runde: er sagt „board {1}: {2} is '
-    + 'decided“.',
   '{0} did not come in time': '{0} ist nicht rechtzeitig gekommen',
   'neither player came in time': 'keiner der beiden ist rechtzeitig gekommen',
   '{0} cannot mate by any legal moves': '{0} kann durch keine regelgemäßen Züge matt setzen',
@@ -912,11 +913,11 @@ export const WORDS = {
   '– +: White did not come': '– +: Weiß ist nicht gekommen',
   '– –: neither came': '– –: keiner ist gekommen',
   'Article': 'Artikel',
-  ['A decision is put down by a command. It counts in place of what the server says: in results, reports and '
-    + 'standings. The game’s own record stays as it is, and the last decision about a board counts.']:
-    'Eine Entscheidung wird durch einen Befehl festgehalten. Sie zählt anstelle dessen, was der Server sagt: in '
-    + 'Ergebnissen, Berichten und Tabellen. Die Partie selbst bleibt verzeichnet, wie sie ist, und es zählt die '
-    + 'letzte Entscheidung über ein Brett.',
+  ['A decision counts in place of what the server says: in results, reports and standings. The game’s own record '
+    + 'stays as it is, and the last decision about a board counts. Everybody is told it.']:
+    'Eine Entscheidung zählt anstelle dessen, was der Server sagt: in Ergebnissen, Berichten und Tabellen. Die '
+    + 'Partie selbst bleibt verzeichnet, wie sie ist, und es zählt die letzte Entscheidung über ein Brett. Alle '
+    + 'erfahren sie.',
   'Decide a result': 'Ein Ergebnis entscheiden',
   'The game’s number': 'Nummer der Partie',
   'Game {0} goes on: first its result is entered.': 'Partie {0} läuft noch: zuerst wird ihr Ergebnis eingetragen.',

@@ -867,20 +867,20 @@ export const WORDS = {
     'Línea {0}: {1} no se puede jugar ahí. Lo que está antes está en el tablero.',
   'Line {0}: {1} cannot be played there. The rest of this variation is left out.':
     'Línea {0}: {1} no se puede jugar ahí. El resto de esta variante se omite.',
+  'Decide it': 'Decidir',
+  'The arbiter has decided board {0} of round {1}: {2}. Why: {3}':
+    'El árbitro ha decidido la mesa {0} de la ronda {1}: {2}. Motivo: {3}',
+  'The decision could not be put down: look whether round and board are right; else tell who runs the lobby.':
+    'La decisión no se pudo anotar: comprueba la ronda y el tablero; si no, díselo a quien dirige el lobby.',
   'Decide the result': 'Decidir el resultado',
   'Decide the result of game {0}: {1} – {2}': 'Decidir el resultado de la partida {0}: {1} – {2}',
   'The server says {0}: {1}.': 'El servidor dice {0}: {1}.',
   '{0} has not made a move.': '{0}: ninguna jugada todavía.',
   '{0} has not made a move; the clocks have run for {1} min.':
     '{0}: ninguna jugada todavía; los relojes corren desde hace {1} min.',
-  'To be run on the club’s machine, in the folder with the round’s files.':
-    'Se ejecuta en la máquina del club, en la carpeta con los archivos de la ronda.',
   'Fill in the board, the result and the reason.': 'Rellena el tablero, el resultado y el motivo.',
   'This page does not know which board of which round it is: look at the pairings.':
     'Esta página no sabe qué tablero de qué ronda es: mira los emparejamientos.',
-  '{0} Run it on the club’s machine, in the folder with the round’s files: it prints “board {1}: {2} is decided”.':
-    '{0} Ejecútala en la máquina del club, en la carpeta con los archivos de la ronda: dice «board {1}: {2} is '
-    + 'decided».',
   '{0} did not come in time': '{0}: no se presentaron a tiempo',
   'neither player came in time': 'ninguno de los dos se presentó a tiempo',
   '{0} cannot mate by any legal moves': '{0} no pueden dar mate con ninguna serie de jugadas legales',
@@ -905,10 +905,11 @@ export const WORDS = {
   '– +: White did not come': '– +: no se presentaron las blancas',
   '– –: neither came': '– –: no se presentó nadie',
   'Article': 'Artículo',
-  ['A decision is put down by a command. It counts in place of what the server says: in results, reports and '
-    + 'standings. The game’s own record stays as it is, and the last decision about a board counts.']:
-    'Una decisión se anota con una orden. Cuenta en lugar de lo que dice el servidor: en resultados, informes y '
-    + 'clasificaciones. El registro de la partida queda como está, y cuenta la última decisión sobre un tablero.',
+  ['A decision counts in place of what the server says: in results, reports and standings. The game’s own record '
+    + 'stays as it is, and the last decision about a board counts. Everybody is told it.']:
+    'Una decisión cuenta en lugar de lo que dice el servidor: en resultados, informes y clasificaciones. El '
+    + 'registro de la partida queda como está, y cuenta la última decisión sobre un tablero. Se comunica a '
+    + 'todos.',
   'Decide a result': 'Decidir un resultado',
   'The game’s number': 'Número de la partida',
   'Game {0} goes on: first its result is entered.': 'La partida {0} sigue: primero se anota su resultado.',

@@ -881,20 +881,20 @@ export const WORDS = {
     'Ligne {0} : {1} ne peut pas y être joué. Ce qui précède est sur l’échiquier.',
   'Line {0}: {1} cannot be played there. The rest of this variation is left out.':
     'Ligne {0} : {1} ne peut pas y être joué. Le reste de cette variante est laissé de côté.',
+  'Decide it': 'Décider',
+  'The arbiter has decided board {0} of round {1}: {2}. Why: {3}':
+    'L’arbitre a décidé l’échiquier {0} de la ronde {1} : {2}. Motif : {3}',
+  'The decision could not be put down: look whether round and board are right; else tell who runs the lobby.':
+    'La décision n’a pas pu être inscrite : vérifiez la ronde et l’échiquier ; sinon, dites-le à qui gère le lobby.',
   'Decide the result': 'Décider le résultat',
   'Decide the result of game {0}: {1} – {2}': 'Décider le résultat de la partie {0} : {1} – {2}',
   'The server says {0}: {1}.': 'Le serveur dit {0} : {1}.',
   '{0} has not made a move.': '{0} : aucun coup joué.',
   '{0} has not made a move; the clocks have run for {1} min.':
     '{0} : aucun coup joué ; les pendules tournent depuis {1} min.',
-  'To be run on the club’s machine, in the folder with the round’s files.':
-    'À lancer sur la machine du club, dans le dossier des fichiers de la ronde.',
   'Fill in the board, the result and the reason.': 'Indiquez l’échiquier, le résultat et le motif.',
   'This page does not know which board of which round it is: look at the pairings.':
     'Cette page ne sait pas de quel échiquier de quelle ronde il s’agit : voyez les appariements.',
-  '{0} Run it on the club’s machine, in the folder with the round’s files: it prints “board {1}: {2} is decided”.':
-    '{0} Lancez-la sur la machine du club, dans le dossier des fichiers de la ronde : elle affiche « board {1}: {2} '
-    + 'is decided ».',
   '{0} did not come in time': '{0} : absence à l’heure limite',
   'neither player came in time': 'aucun des deux n’est venu à temps',
   '{0} cannot mate by any legal moves': 'Les {0} ne peuvent mater par aucune suite de coups légaux',
@@ -919,11 +919,11 @@ export const WORDS = {
   '– +: White did not come': '– + : les Blancs ne sont pas venus',
   '– –: neither came': '– – : personne n’est venu',
   'Article': 'Article',
-  ['A decision is put down by a command. It counts in place of what the server says: in results, reports and '
-    + 'standings. The game’s own record stays as it is, and the last decision about a board counts.']:
-    'Une décision est inscrite par une commande. Elle compte à la place de ce que dit le serveur : dans les '
-    + 'résultats, les rapports et les classements. La partie reste archivée telle quelle, et la dernière décision '
-    + 'sur un échiquier compte.',
+  ['A decision counts in place of what the server says: in results, reports and standings. The game’s own record '
+    + 'stays as it is, and the last decision about a board counts. Everybody is told it.']:
+    'Une décision compte à la place de ce que dit le serveur : dans les résultats, les rapports et les '
+    + 'classements. La partie reste archivée telle quelle, et la dernière décision sur un échiquier compte. Tous '
+    + 'en sont informés.',
   'Decide a result': 'Décider un résultat',
   'The game’s number': 'Numéro de la partie',
   'Game {0} goes on: first its result is entered.': 'La partie {0} continue : son résultat est d’abord à inscrire.',

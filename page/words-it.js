@@ -872,19 +872,21 @@ export const WORDS = {
     'Riga {0}: {1} lì non si può giocare. Ciò che sta prima è sulla scacchiera.',
   'Line {0}: {1} cannot be played there. The rest of this variation is left out.':
     'Riga {0}: {1} lì non si può giocare. Il resto di questa variante è tralasciato.',
+  'Decide it': 'Decidi',
+  'The arbiter has decided board {0} of round {1}: {2}. Why: {3}':
+    'L’arbitro ha deciso la scacchiera {0} del turno {1}: {2}. Motivo: {3}',
+  'The decision could not be put down: look whether round and board are right; else tell who runs the lobby.':
+    'Non è stato possibile annotare la decisione: controlla turno e scacchiera; altrimenti dillo a chi '
+    + 'gestisce la lobby.',
   'Decide the result': 'Decidi il risultato',
   'Decide the result of game {0}: {1} – {2}': 'Decidi il risultato della partita {0}: {1} – {2}',
   'The server says {0}: {1}.': 'Il server dice {0}: {1}.',
   '{0} has not made a move.': 'Il {0} non ha ancora mosso.',
   '{0} has not made a move; the clocks have run for {1} min.':
     'Il {0} non ha ancora mosso; gli orologi vanno da {1} min.',
-  'To be run on the club’s machine, in the folder with the round’s files.':
-    'Da eseguire sulla macchina del circolo, nella cartella con i file del turno.',
   'Fill in the board, the result and the reason.': 'Indica la scacchiera, il risultato e il motivo.',
   'This page does not know which board of which round it is: look at the pairings.':
     'Questa pagina non sa quale scacchiera di quale turno sia: guarda gli abbinamenti.',
-  '{0} Run it on the club’s machine, in the folder with the round’s files: it prints “board {1}: {2} is decided”.':
-    '{0} Eseguilo sulla macchina del circolo, nella cartella con i file del turno: scrive «board {1}: {2} is decided».',
   '{0} did not come in time': 'Il {0} non è venuto in tempo',
   'neither player came in time': 'nessuno dei due è venuto in tempo',
   '{0} cannot mate by any legal moves': 'Il {0} non può dare matto con alcuna serie di mosse legali',
@@ -909,10 +911,11 @@ export const WORDS = {
   '– +: White did not come': '– +: il Bianco non è venuto',
   '– –: neither came': '– –: non è venuto nessuno',
   'Article': 'Articolo',
-  ['A decision is put down by a command. It counts in place of what the server says: in results, reports and '
-    + 'standings. The game’s own record stays as it is, and the last decision about a board counts.']:
-    'Una decisione si annota con un comando. Vale al posto di ciò che dice il server: nei risultati, nei rapporti e '
-    + 'nelle classifiche. Il registro della partita resta com’è, e vale l’ultima decisione su una scacchiera.',
+  ['A decision counts in place of what the server says: in results, reports and standings. The game’s own record '
+    + 'stays as it is, and the last decision about a board counts. Everybody is told it.']:
+    'Una decisione vale al posto di ciò che dice il server: nei risultati, nei rapporti e nelle classifiche. '
+    + 'Il registro della partita resta com’è, e vale l’ultima decisione su una scacchiera. Tutti ne sono '
+    + 'informati.',
   'Decide a result': 'Decidi un risultato',
   'The game’s number': 'Numero della partita',
   'Game {0} goes on: first its result is entered.': 'La partita {0} continua: prima si registra il suo risultato.',

@@ -874,19 +874,20 @@ export const WORDS = {
     'Regel {0}: {1} kan daar niet gespeeld worden. Wat ervoor staat, staat op het bord.',
   'Line {0}: {1} cannot be played there. The rest of this variation is left out.':
     'Regel {0}: {1} kan daar niet gespeeld worden. De rest van deze variant is weggelaten.',
+  'Decide it': 'Beslissen',
+  'The arbiter has decided board {0} of round {1}: {2}. Why: {3}':
+    'De arbiter heeft bord {0} van ronde {1} beslist: {2}. Reden: {3}',
+  'The decision could not be put down: look whether round and board are right; else tell who runs the lobby.':
+    'De beslissing kon niet worden vastgelegd: kijk of ronde en bord kloppen; zeg het anders aan wie de lobby '
+    + 'beheert.',
   'Decide the result': 'Uitslag bepalen',
   'Decide the result of game {0}: {1} – {2}': 'De uitslag van partij {0} bepalen: {1} – {2}',
   'The server says {0}: {1}.': 'De server zegt {0}: {1}.',
   '{0} has not made a move.': '{0} heeft nog niet gezet.',
   '{0} has not made a move; the clocks have run for {1} min.': '{0} heeft nog niet gezet; de klokken lopen al {1} min.',
-  'To be run on the club’s machine, in the folder with the round’s files.':
-    'Uit te voeren op de machine van de club, in de map met de bestanden van de ronde.',
   'Fill in the board, the result and the reason.': 'Vul het bord, de uitslag en de reden in.',
   'This page does not know which board of which round it is: look at the pairings.':
     'Welk bord van welke ronde het is, weet deze pagina niet: kijk in de indeling.',
-  '{0} Run it on the club’s machine, in the folder with the round’s files: it prints “board {1}: {2} is decided”.':
-    '{0} Voer ze uit op de machine van de club, in de map met de bestanden van de ronde: ze zegt ‘board {1}: {2} is '
-    + 'decided’.',
   '{0} did not come in time': '{0} is niet op tijd gekomen',
   'neither player came in time': 'geen van beiden is op tijd gekomen',
   '{0} cannot mate by any legal moves': '{0} kan met geen enkele reglementaire zettenreeks mat zetten',
@@ -911,10 +912,10 @@ export const WORDS = {
   '– +: White did not come': '– +: Wit is niet gekomen',
   '– –: neither came': '– –: niemand is gekomen',
   'Article': 'Artikel',
-  ['A decision is put down by a command. It counts in place of what the server says: in results, reports and '
-    + 'standings. The game’s own record stays as it is, and the last decision about a board counts.']:
-    'Een beslissing wordt met een opdracht vastgelegd. Ze telt in plaats van wat de server zegt: in uitslagen, '
-    + 'verslagen en standen. De partij zelf blijft staan zoals ze is, en de laatste beslissing over een bord telt.',
+  ['A decision counts in place of what the server says: in results, reports and standings. The game’s own record '
+    + 'stays as it is, and the last decision about a board counts. Everybody is told it.']:
+    'Een beslissing telt in plaats van wat de server zegt: in uitslagen, verslagen en standen. De partij zelf '
+    + 'blijft staan zoals ze is, en de laatste beslissing over een bord telt. Iedereen krijgt haar te horen.',
   'Decide a result': 'Een uitslag bepalen',
   'The game’s number': 'Nummer van de partij',
   'Game {0} goes on: first its result is entered.': 'Partij {0} gaat door: eerst wordt haar uitslag ingevoerd.',

@@ -865,18 +865,19 @@ export const WORDS = {
     'Wiersz {0}: {1} nie może tam być zagrane. To, co stoi wcześniej, jest na szachownicy.',
   'Line {0}: {1} cannot be played there. The rest of this variation is left out.':
     'Wiersz {0}: {1} nie może tam być zagrane. Resztę tego wariantu pominięto.',
+  'Decide it': 'Rozstrzygnij',
+  'The arbiter has decided board {0} of round {1}: {2}. Why: {3}':
+    'Sędzia rozstrzygnął szachownicę {0} rundy {1}: {2}. Powód: {3}',
+  'The decision could not be put down: look whether round and board are right; else tell who runs the lobby.':
+    'Nie udało się zapisać decyzji: sprawdź rundę i szachownicę, a jeśli są dobre, powiedz temu, kto prowadzi lobby.',
   'Decide the result': 'Rozstrzygnij wynik',
   'Decide the result of game {0}: {1} – {2}': 'Rozstrzygnij wynik partii {0}: {1} – {2}',
   'The server says {0}: {1}.': 'Serwer podaje {0}: {1}.',
   '{0} has not made a move.': '{0}: jeszcze bez ruchu.',
   '{0} has not made a move; the clocks have run for {1} min.': '{0}: jeszcze bez ruchu; zegary chodzą od {1} min.',
-  'To be run on the club’s machine, in the folder with the round’s files.':
-    'Do uruchomienia na komputerze klubu, w folderze z plikami rundy.',
   'Fill in the board, the result and the reason.': 'Podaj szachownicę, wynik i powód.',
   'This page does not know which board of which round it is: look at the pairings.':
     'Ta strona nie wie, która to szachownica której rundy: zajrzyj do kojarzeń.',
-  '{0} Run it on the club’s machine, in the folder with the round’s files: it prints “board {1}: {2} is decided”.':
-    '{0} Uruchom je na komputerze klubu, w folderze z plikami rundy: wypisze „board {1}: {2} is decided”.',
   '{0} did not come in time': '{0}: nieobecność po czasie oczekiwania',
   'neither player came in time': 'nikt z obojga nie przyszedł na czas',
   '{0} cannot mate by any legal moves': '{0} nie mogą zamatować żadną serią prawidłowych posunięć',
@@ -900,10 +901,10 @@ export const WORDS = {
   '– +: White did not come': '– +: białe nie przyszły',
   '– –: neither came': '– –: nikt nie przyszedł',
   'Article': 'Artykuł',
-  ['A decision is put down by a command. It counts in place of what the server says: in results, reports and '
-    + 'standings. The game’s own record stays as it is, and the last decision about a board counts.']:
-    'Decyzję zapisuje się poleceniem. Liczy się ona zamiast tego, co podaje serwer: w wynikach, raportach i '
-    + 'tabelach. Zapis partii zostaje bez zmian, a o szachownicy liczy się ostatnia decyzja.',
+  ['A decision counts in place of what the server says: in results, reports and standings. The game’s own record '
+    + 'stays as it is, and the last decision about a board counts. Everybody is told it.']:
+    'Decyzja liczy się zamiast tego, co podaje serwer: w wynikach, raportach i tabelach. Zapis partii zostaje '
+    + 'bez zmian, a o szachownicy liczy się ostatnia decyzja. Dowiadują się o niej wszyscy.',
   'Decide a result': 'Rozstrzygnij jakiś wynik',
   'The game’s number': 'Numer partii',
   'Game {0} goes on: first its result is entered.': 'Partia {0} trwa: najpierw zapisuje się jej wynik.',

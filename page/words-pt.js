@@ -862,19 +862,20 @@ export const WORDS = {
     'Linha {0}: {1} não pode ser jogado ali. O que está antes está no tabuleiro.',
   'Line {0}: {1} cannot be played there. The rest of this variation is left out.':
     'Linha {0}: {1} não pode ser jogado ali. O resto desta variante fica de fora.',
+  'Decide it': 'Decidir',
+  'The arbiter has decided board {0} of round {1}: {2}. Why: {3}':
+    'O árbitro decidiu o tabuleiro {0} da ronda {1}: {2}. Motivo: {3}',
+  'The decision could not be put down: look whether round and board are right; else tell who runs the lobby.':
+    'A decisão não pôde ser anotada: veja se a ronda e o tabuleiro estão certos; senão, diga a quem gere o lobby.',
   'Decide the result': 'Decidir o resultado',
   'Decide the result of game {0}: {1} – {2}': 'Decidir o resultado da partida {0}: {1} – {2}',
   'The server says {0}: {1}.': 'O servidor diz {0}: {1}.',
   '{0} has not made a move.': '{0}: nenhum lance ainda.',
   '{0} has not made a move; the clocks have run for {1} min.':
     '{0}: nenhum lance ainda; os relógios correm há {1} min.',
-  'To be run on the club’s machine, in the folder with the round’s files.':
-    'Para executar na máquina do clube, na pasta com os arquivos da ronda.',
   'Fill in the board, the result and the reason.': 'Preencha o tabuleiro, o resultado e o motivo.',
   'This page does not know which board of which round it is: look at the pairings.':
     'Esta página não sabe que tabuleiro de que ronda é: veja os emparceiramentos.',
-  '{0} Run it on the club’s machine, in the folder with the round’s files: it prints “board {1}: {2} is decided”.':
-    '{0} Execute-o na máquina do clube, na pasta com os arquivos da ronda: ele diz “board {1}: {2} is decided”.',
   '{0} did not come in time': '{0}: não chegaram a tempo',
   'neither player came in time': 'nenhum dos dois chegou a tempo',
   '{0} cannot mate by any legal moves': '{0} não podem dar mate por nenhuma série de lances legais',
@@ -898,10 +899,10 @@ export const WORDS = {
   '– +: White did not come': '– +: as brancas não vieram',
   '– –: neither came': '– –: ninguém veio',
   'Article': 'Artigo',
-  ['A decision is put down by a command. It counts in place of what the server says: in results, reports and '
-    + 'standings. The game’s own record stays as it is, and the last decision about a board counts.']:
-    'Uma decisão é anotada por um comando. Ela vale no lugar do que diz o servidor: em resultados, relatórios e '
-    + 'classificações. O registro da partida fica como está, e vale a última decisão sobre um tabuleiro.',
+  ['A decision counts in place of what the server says: in results, reports and standings. The game’s own record '
+    + 'stays as it is, and the last decision about a board counts. Everybody is told it.']:
+    'Uma decisão vale no lugar do que diz o servidor: em resultados, relatórios e classificações. O registro '
+    + 'da partida fica como está, e vale a última decisão sobre um tabuleiro. Todos são informados.',
   'Decide a result': 'Decidir um resultado',
   'The game’s number': 'Número da partida',
   'Game {0} goes on: first its result is entered.': 'A partida {0} continua: primeiro se registra o resultado.',

@@ -51,6 +51,7 @@ const REFUSALS = {
     an arbiter.`,
   46: t`The arbiter has stopped all clocks. Nothing is played until they run again.`,
   47: t`This lobby can stop no clocks: whoever runs it has not named the server’s file.`,
+  48: t`The decision could not be put down: look whether round and board are right; else tell who runs the lobby.`,
 };
 
 const OF_ANOTHER = {

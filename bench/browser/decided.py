@@ -1,9 +1,7 @@
-"""Scenes of bench/browser/page: an arbiter's decision about a board, whose command the desk has."""
+"""Scenes of bench/browser/page: an arbiter's decision about a board, which the lobby puts to those of its round."""
 
 import json
 import os
-import shlex
-import subprocess
 
 from lib.program import put
 from page_lines import by_lines
@@ -29,14 +27,14 @@ KEPT = '''[Event "Club night"]
 '''
 
 
-def decides(hall, *words, prints):
-    """The command is copied and run beside the round's files, where it says this."""
-    sue = hall.sue
-    sue.click('#decide-copy').reads('#decide-copied', 'The command is copied', prints + ' is decided')
-    command = shlex.split(sue.clipboard())
-    sue.is_so(command[:2] == ['./chess-club', 'decide'] and all(word in command for word in words), 'it is %s' % command)
-    ran = subprocess.run([hall.lobby.program, *command[1:]], cwd=hall.lobby.folder, capture_output=True, text=True)
-    sue.is_so(ran.stdout == prints + ' is decided\n', 'which decides it: %s' % ran)
+def decides(hall, number, told, **wanted):
+    """It is decided: every page is told this, and the last line of the round's decisions says so."""
+    hall.sue.click('#decide-it').loses('#decide-dialog', 'it is decided')
+    for person in (hall.bob, hall.sue):
+        person.reads('#decided-words', told).click('#hide-decided').loses('#decided', 'that is hidden')
+    with open(os.path.join(hall.lobby.folder, 'round%d.decisions' % number), encoding='utf-8') as file:
+        line = json.loads(file.readlines()[-1])
+    hall.sue.is_so({name: line[name] for name in wanted} == wanted, 'which is put down: %s' % line)
 
 
 def on_card(number, css):
@@ -58,9 +56,9 @@ def value(person, name):
 
 
 def a_decision(hall):
-    """The desk has the command that decides a board: of a game that ended by a flag, with a draw where the winner's men
-    never mate, of one whose player has not come, which waits once the default time is over, and of one that has left
-    the table. It is as the program takes it."""
+    """The desk decides a board: of a game that ended by a flag, with a draw where the winner's men never mate, of one
+    whose player has not come, which waits once the default time is over, and of one that has left the table. Where it
+    is not put down, it says so."""
     _, bob, sue = hall.sit()
     lost, drawn = paired(hall, 'ann', 'bob', '20 0'), paired(hall, 'ann', 'bob', '20 0 ' + KNIGHT)
     entered(hall, 'as ann move %s 0 e2e4' % lost, 'as bob move %s 1 e7e5' % lost, 'as ann move %s 0 f1f2' % drawn,
@@ -83,9 +81,11 @@ def a_decision(hall):
     sue.until(lambda: (value(sue, 'round'), value(sue, 'board'), value(sue, 'result')) == ('2', '1', '1/2-1/2'),
               'board and result are filled in')
     well_on_screens(sue, 'the decision')
-    decides(hall, 'round2.csv', 'round2.decisions', '6.9', 'Eve Arbiter', 'Black cannot mate by any legal moves',
-            prints='board 1: 1/2-1/2')
-    sue.click('#decide-leave').loses('#decide-dialog', 'the question is over')
+    sue.type('#decide-form [name=board]', '7').click('#decide-it')
+    sue.reads('#decide-told', 'could not be put down').type('#decide-form [name=board]', '1')
+    decides(hall, 2, 'The arbiter has decided board 1 of round 2: ½–½. Why: 6.9, Black cannot mate', board=1,
+            result='1/2-1/2', white='ann', black='bob', article='6.9', arbiter='Eve Arbiter',
+            reason='Black cannot mate by any legal moves')
     here = paired(hall, 'ann', 'cid', '300 0')
     sue.click(on_card(here, '[data-key^=decide-]')).reads('#decide-stands', 'White has not made a move')
     sue.is_so(value(sue, 'result') == '+/-', 'White sits there').click('#decide-leave')
@@ -95,11 +95,11 @@ def a_decision(hall):
     sue.reads('#decide-law', 'By 6.7 who comes after the default time loses')
     sue.reads('#decide-board', 'look at the pairings')
     sue.is_so(value(sue, 'reason') == 'neither player came in time', 'neither is there')
-    sue.is_so(value(sue, 'result') == '-/-' and sue.text('#decide-command') == '', 'no board, and no command')
-    sue.reads('#decide-copied', 'Fill in the board').type('#decide-form [name=round]', '1')
+    sue.is_so(value(sue, 'result') == '-/-', 'nobody has won')
+    sue.reads('#decide-told', 'Fill in the board').type('#decide-form [name=round]', '1')
     sue.type('#decide-form [name=board]', '2').type('#decide-form [name=reason]', 'Cid’s train, "late", cost $1')
-    decides(hall, '--result=-/-', '6.7', 'Cid’s train, "late", cost $1', prints='board 2: -/-')
-    sue.click('#decide-leave')
+    decides(hall, 1, 'The arbiter has decided board 2 of round 1: -/-. Why: 6.7, Cid\'s train, "late", cost $1', board=2,
+            result='-/-', article='6.7', reason='Cid\'s train, "late", cost $1')
     sue.lacks('.wait.late', 'nothing waits').type('#default-time', '1')
     sue.run('const now = performance.now.bind(performance); performance.now = () => now() + 61000')
     sue.reads('#waits-list', 'Neither player has come within the default time, 1 min')

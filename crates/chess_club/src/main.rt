@@ -4,26 +4,44 @@
 //! `night_keeping`, `night_boards`, `night_outcomes` and `night_standings`.
 #![tactic(auto)]
 
+use anyhow::{Context, Result};
 use club_words::{Word, command, read_words};
 use command_lines::{CLUB, NotDone, end_of, words_given};
 use lobby_players::add_player;
-use lobby_serving::serve;
+use lobby_serving::{KeepsDecisions, serve};
 use night_boards::start;
 use night_games::{print_evidence, verify_log};
 use night_keeping::{export, keep, live};
-use night_outcomes::{decide_result, write_results};
+use night_outcomes::{decide_in, decide_result, write_results};
 use night_standings::write_standings;
 use std::process::ExitCode;
+
+// The files of rounds in a folder, if there is one, to whose decisions an arbiter's are put.
+#[derive(Drop)]
+struct RoundFiles<'a> {
+    rt: &'a HostRuntime,
+    folder: Option<&'a str>,
+}
+
+impl KeepsDecisions for RoundFiles<'_> {
+    fn put(&mut self, arbiter: &str, decision: &str) -> Result<()> {
+        let folder = self.folder.context("there is no --decisions")?;
+        decide_in(self.rt, folder, arbiter, decision)
+    }
+}
 
 fn main(rt: HostRuntime) -> ExitCode {
     end_of(&rt, CLUB, do_words(&rt))
 }
 
 // Does what the words of the command line ask for.
-fn do_words(rt: &HostRuntime) -> Result<(), NotDone> {
+fn do_words(rt: &HostRuntime) -> std::result::Result<(), NotDone> {
     let words = words_given(rt, command(rt.alloc())?)?;
     match read_words(rt.alloc(), words.as_slice())? {
-        Word::Lobby(serving) => serve(rt, &serving),
+        Word::Lobby(serving) => {
+            let folder = serving.decisions;
+            serve(rt, &serving, RoundFiles { rt, folder })
+        }
         Word::Player(adding) => add_player(rt, &adding),
         Word::Evidence(asked) => print_evidence(rt, &asked),
         Word::VerifyLog(log) => verify_log(rt, log),

@@ -17,8 +17,9 @@ use Rattle.text_lines.specs.Texts.{IsRun, IsText}
 use Rattle.text_lines.specs.Texts as loop
 use Rattle.chess_hub.specs.Calls.{Call, Connected, Fed, Turned, which, input_of}
 use Rattle.chess_hub.specs.Sessions.{Merged, taken_count, lines_left, AreOpenIn, IsMergedAs, AreMerged, name_from, IsLineAnswered, AreAnsweredAfter, answers_to}
-use Rattle.chess_hub.specs.Running.{Kept, Standing, stands, written, AnswersLine}
+use Rattle.chess_hub.specs.Running.{Standing, stands, written, AnswersLine}
 use Rattle.chess_hub.specs.RunLaw.{written_all, IsOfTheFirst, GiveAll, sent_after, turns_after, AreTold, IsSessionText}
+use Rattle.chess_hub.specs.Turning.{Kept, measures}
 
 name-behind : (session : ℕ) (name : Option (List ℕ)) (before : List Merged) (m : Merged) →
     name_from session name (before ++ m ∷ []) ≡ name_from session (name_from session name before) (m ∷ [])
@@ -147,7 +148,7 @@ record Told {M : Type 0} (gives : M → ℕ → M → Type 0) (from to : M) (bef
 
 module _ {D M : Type 0} (state : D → State) (sector_count failures : D → ℕ) (gives : M → ℕ → M → Type 0) where
   run-told : (s end : Standing D M) (before : List Merged) (lines : List (List ℕ)) (text : List ℕ) →
-      name_from 1 None before ≡ s.name → IsRun (AnswersLine state sector_count failures gives) s lines text end →
+      name_from 1 None before ≡ s.name → IsRun (AnswersLine (measures state sector_count failures) gives) s lines text end →
       Told gives s.moments end.moments before s.store.table end.store.table lines text
   run-told s end before [] text named (none, same) = record {
     merged = [];
@@ -242,13 +243,13 @@ as_told gives from to table after lines text told = record {
 
 module _ {D M : Type 0} (state : D → State) (sector_count failures : D → ℕ) (gives : M → ℕ → M → Type 0) where
   pub run-front : (store : Kept D) (moments : M) (lines : List (List ℕ)) (text : List ℕ) (end : Standing D M) →
-      IsRun (AnswersLine state sector_count failures gives) (stands store None moments) lines text end →
+      IsRun (AnswersLine (measures state sector_count failures) gives) (stands store None moments) lines text end →
       AreTold gives moments end.moments store.table end.store.table lines text
   run-front store moments lines text end run = as_told gives moments end.moments store.table end.store.table lines text
       (run-told state sector_count failures gives (stands store None moments) end [] lines text refl run)
 
   pub run-is : (store : Kept D) (moments : M) (input text : List ℕ) (end : Standing D M) →
-      IsText (AnswersLine state sector_count failures gives) (stands store None moments) input text end →
+      IsText (AnswersLine (measures state sector_count failures) gives) (stands store None moments) input text end →
       IsSessionText gives moments end.moments store.table end.store.table input text
   run-is store moments input text end is =
       let told = run-told state sector_count failures gives (stands store None moments) end [] (lines_of input)

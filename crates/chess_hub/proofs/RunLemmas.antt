@@ -15,7 +15,8 @@ use Rattle.chess_hub.specs.declared.fault.HubFault.TheVariants.{Busy, NoMemory, 
 use Rattle.chess_hub.specs.declared.running.RunFault.{RunFault}
 use Rattle.chess_hub.specs.declared.running.RunFault.TheVariants as faults
 use Rattle.chess_hub.specs.Faults.{IsConnectFault}
-use Rattle.chess_hub.specs.Running.{Kept, Standing, stands, AnswersLine, RefusesLine, of_loop, IsRunText, RunsOn, RunEnds, RunIsOfSource}
+use Rattle.chess_hub.specs.Running.{Standing, stands, AnswersLine, RefusesLine, of_loop, IsRunText, RunsOn, RunEnds, RunIsOfSource, streams}
+use Rattle.chess_hub.specs.Turning.{Kept, measures}
 
 -- ---- the same, seen through a map of states
 
@@ -119,38 +120,38 @@ module _ {D M : Type 0} (state : D → State) (sector_count failures : D → ℕ
     {S : Type 0} (end talk : S) (view : S → Standing D M) (store : Kept D) (moments : M)
     (begins : view talk ≡ stands store None moments) where
   abbrev Answers : S → List ℕ → List ℕ → S → Type 0
-  Answers s line text t = AnswersLine state sector_count failures gives (view s) line text (view t)
+  Answers s line text t = AnswersLine (measures state sector_count failures) gives (view s) line text (view t)
 
   abbrev Breaks : S → List ℕ → HubFault → S → Type 0
-  Breaks s line fault t = RefusesLine state sector_count failures gives (view s) line fault (view t)
+  Breaks s line fault t = RefusesLine (measures state sector_count failures) gives (view s) line fault (view t)
 
   pub run-text : (old new : Option (List ℕ)) (before : Option (List ℕ)) →
       IfSome before (λ input. (text : List ℕ) × IsText Answers talk input text end × Appends old new text) →
-      IfSome before (IsRunText state sector_count failures gives store moments old new)
+      IfSome before (IsRunText (measures state sector_count failures) gives store moments old new)
   run-text old new None h = tt
   run-text old new (Some input) (text, is, appended) = record {
     text = text;
     end = view end;
-    is = subst (λ (x : Standing D M). IsText (AnswersLine state sector_count failures gives) x input text (view end))
-        begins (text-map Answers (AnswersLine state sector_count failures gives) view (λ s l x t h. h) talk input
+    is = subst (λ (x : Standing D M). IsText (AnswersLine (measures state sector_count failures) gives) x input text (view end))
+        begins (text-map Answers (AnswersLine (measures state sector_count failures) gives) view (λ s l x t h. h) talk input
         text end is);
     appended = appended;
   }
 
   pub runs-on : (result : Result (Unit {0}) (LoopFault HubFault)) (before after old new : Option (List ℕ)) →
       Ended Answers Breaks result before after old new talk end →
-      RunsOn state sector_count failures gives result before after old new store moments
+      RunsOn (measures state sector_count failures) gives result (streams before old) (streams after new) (stands store None moments)
   runs-on result before after old new h = record {
     end = view end;
-    ended = subst (λ (x : Standing D M). Ended (AnswersLine state sector_count failures gives)
-        (RefusesLine state sector_count failures gives) result before after old new x (view end)) begins
-        (ended-map Answers (AnswersLine state sector_count failures gives) view (λ s l x t h. h) Breaks
-        (RefusesLine state sector_count failures gives) (λ s l x t h. h) result before after old new talk end h);
+    ended = subst (λ (x : Standing D M). Ended (AnswersLine (measures state sector_count failures) gives)
+        (RefusesLine (measures state sector_count failures) gives) result before after old new x (view end)) begins
+        (ended-map Answers (AnswersLine (measures state sector_count failures) gives) view (λ s l x t h. h) Breaks
+        (RefusesLine (measures state sector_count failures) gives) (λ s l x t h. h) result before after old new talk end h);
   }
 
   pub run-fault : (fault : LoopFault HubFault) (before after old new : Option (List ℕ)) →
-      RunsOn state sector_count failures gives (Err fault) before after old new store moments →
-      RunEnds state sector_count failures gives (Err (of_loop fault)) before after old new store moments
+      RunsOn (measures state sector_count failures) gives (Err fault) (streams before old) (streams after new) (stands store None moments) →
+      RunEnds (measures state sector_count failures) gives (Err (of_loop fault)) (streams before old) (streams after new) (stands store None moments)
   run-fault loop.Read before after old new h = h
   run-fault loop.Write before after old new h = h
   run-fault loop.LineTooLong before after old new h = h
@@ -158,7 +159,7 @@ module _ {D M : Type 0} (state : D → State) (sector_count failures : D → ℕ
 
   pub whole-run : (given : Result (Unit {0}) (LoopFault HubFault)) (x : Unit {0}) (old new before : Option (List ℕ)) →
       given ≡ Ok x → OnOk given (IfSome before (λ input. (text : List ℕ) × IsText Answers talk input text end
-      × Appends old new text)) → IfSome before (IsRunText state sector_count failures gives store moments old new)
+      × Appends old new text)) → IfSome before (IsRunText (measures state sector_count failures) gives store moments old new)
   whole-run given x old new before was h =
       run-text old new before (subst (λ (r : Result (Unit {0}) (LoopFault HubFault)). OnOk r (IfSome before (λ input.
       (text : List ℕ) × IsText Answers talk input text end × Appends old new text))) was h)
@@ -167,7 +168,7 @@ module _ {D M : Type 0} (state : D → State) (sector_count failures : D → ℕ
       (made : Result (Unit {0}) RunFault) (y : RunFault) (old new before : Option (List ℕ)) → given ≡ Err fault →
       made ≡ Err y → y ≡ of_loop fault → (IsErrOf given loop.LineTooLong → IfSome before (λ input. (text : List ℕ)
       × IsText Answers talk input text end × Appends old new text)) → IsErrOf made faults.LineTooLong →
-      IfSome before (IsRunText state sector_count failures gives store moments old new)
+      IfSome before (IsRunText (measures state sector_count failures) gives store moments old new)
   long-run given fault made y old new before was is same h long =
       let both : Err y ≡ Err faults.LineTooLong = sym is ∙ long in
       let here : y ≡ faults.LineTooLong = cc in
@@ -176,7 +177,7 @@ module _ {D M : Type 0} (state : D → State) (sector_count failures : D → ℕ
   pub ended-ok : (given : Result (Unit {0}) (LoopFault HubFault)) (x : Unit {0})
       (before after old new : Option (List ℕ)) → given ≡ Ok x →
       Ended Answers Breaks given before after old new talk end →
-      RunsOn state sector_count failures gives (Ok x) before after old new store moments
+      RunsOn (measures state sector_count failures) gives (Ok x) (streams before old) (streams after new) (stands store None moments)
   ended-ok given x before after old new was h =
       runs-on (Ok x) before after old new (subst (λ (r : Result (Unit {0}) (LoopFault HubFault)).
       Ended Answers Breaks r before after old new talk end) was h)
@@ -185,10 +186,9 @@ module _ {D M : Type 0} (state : D → State) (sector_count failures : D → ℕ
       (made : Result (Unit {0}) RunFault) (y : RunFault) (before after old new : Option (List ℕ)) →
       given ≡ Err fault → made ≡ Err y → y ≡ of_loop fault →
       Ended Answers Breaks given before after old new talk end →
-      RunEnds state sector_count failures gives made before after old new store moments
+      RunEnds (measures state sector_count failures) gives made (streams before old) (streams after new) (stands store None moments)
   ended-err given fault made y before after old new was is same h =
-      subst (λ (r : Result (Unit {0}) RunFault). RunEnds state sector_count failures gives r before after old new store
-      moments) (sym (is ∙ ap (λ (f : RunFault). Err f) same))
+      subst (λ (r : Result (Unit {0}) RunFault). RunEnds (measures state sector_count failures) gives r (streams before old) (streams after new) (stands store None moments)) (sym (is ∙ ap (λ (f : RunFault). Err f) same))
       (run-fault fault before after old new (runs-on (Err fault) before after old new
       (subst (λ (r : Result (Unit {0}) (LoopFault HubFault)). Ended Answers Breaks r before after old new talk end)
       was h)))

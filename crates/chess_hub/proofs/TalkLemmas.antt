@@ -27,14 +27,15 @@ use Rattle.chess_store.specs.Batch.{IsOutcome, IsAnswered, AreAnswered}
 use Rattle.chess_hub.specs.declared.fault.HubFault.{HubFault}
 use Rattle.chess_hub.specs.declared.fault.HubFault.TheVariants.{Busy, NoMemory, LineTooLong, Store}
 use Rattle.chess_hub.specs.Faults.{IsFeedFault}
-use Rattle.chess_hub.specs.Turning.{MayBeAsked, HasTurned, AsksFor, IsTurnFault}
+use Rattle.chess_hub.specs.Turning.{MayBeAsked, HasTurned, AsksFor, IsTurnFault, Kept, measures}
 use Rattle.chess_store.specs.declared.fault.StoreFault.{StoreFault}
 use Rattle.sector_dev.specs.Device.{State}
 use Rattle.chess_store.specs.Means.{IsKept}
 use Rattle.chess_hub.specs.Turning.{AreRefused, TurnLasts, TurnTried}
 use Rattle.chess_hub.specs.Sessions.{IsLineAnswered}
-use Rattle.chess_hub.specs.Running.{Kept, written, stands, Serves, AnswersLine, RefusesLine, IsAlone, waits, IsTalking, asks, IsTold, LineAsksFor}
+use Rattle.chess_hub.specs.Running.{written, stands, Serves, AnswersLine, RefusesLine, IsAlone, waits, IsTalking, asks, IsTold, LineAsksFor}
 use Rattle.chess_hub.proofs.RunLemmas.{none-of}
+use Rattle.chess_hub.specs.Law.{state_of}
 
 -- ---- a session that is alone
 
@@ -380,7 +381,7 @@ pub told-is : (at sid : ℕ) (name : Option (List ℕ)) (text : List ℕ) (befor
     (reply : Reply) → Turned at name text before after mid sid →
     IfSome (session_at mid sid) (λ (s : SessionState). Some (said reply) ≡ first_due (due s)) →
     IfSome (session_at mid sid) (λ (s : SessionState). Changes mid new sid (Some (given_one s))) →
-    IsTold at name text (said reply) before after new sid
+    IsTold at name text (said reply) before (state_of new after) sid
 told-is at sid name text before after mid new reply turned given changes =
     let state = told (renamed (given_name at turned.read) name) turned.answer in
     let first : Some (said reply) ≡ Some turned.answer = at-some (session_at mid sid) state
@@ -409,18 +410,18 @@ module _ {D : Type 0} (state : D → State) (sector_count failures : D → ℕ) 
     (given : Result (Unit {0}) HubFault)
     (lasts : IsKept (state old.device) old.header old.compaction old.table
     → TurnLasts given (state old.device) (state new.device) new.header new.compaction old.table new.table)
-    (tried : TurnTried state sector_count failures old.device new.device given old.table new.table old.failed new.failed)
+    (tried : TurnTried (measures state sector_count failures) old new given)
   where
     pub serves-as : (made : Result (Unit {0}) HubFault) → given ≡ made →
-        Serves state sector_count failures old new made
-    serves-as made was = subst (λ (r : Result (Unit {0}) HubFault). Serves state sector_count failures old new r) was
+        Serves (measures state sector_count failures) old new made
+    serves-as made was = subst (λ (r : Result (Unit {0}) HubFault). Serves (measures state sector_count failures) old new r) was
         (record { lasts = lasts; tried = tried })
 
     pub serves-err : {T : Type 0} (made : Result T HubFault) (fault y : HubFault) → given ≡ Err fault → made ≡ Err y →
-        y ≡ fault → IfErr made (λ fault. Serves state sector_count failures old new (Err fault))
+        y ≡ fault → IfErr made (λ fault. Serves (measures state sector_count failures) old new (Err fault))
     serves-err {T = T} made fault y was is same =
-        subst (λ (r : Result T HubFault). IfErr r (λ fault. Serves state sector_count failures old new (Err fault)))
-        (sym is) (subst (λ (f : HubFault). Serves state sector_count failures old new (Err f)) (sym same)
+        subst (λ (r : Result T HubFault). IfErr r (λ fault. Serves (measures state sector_count failures) old new (Err fault)))
+        (sym is) (subst (λ (f : HubFault). Serves (measures state sector_count failures) old new (Err f)) (sym same)
         (serves-as (Err fault) was))
 
 -- ---- a line, as the run sees it
@@ -429,14 +430,14 @@ module _ {D M : Type 0} (state : D → State) (sector_count failures : D → ℕ
     (old mid new : Kept D) (name : Option (List ℕ)) (sessions : Sessions) (sid at : ℕ) (m n : M) (line : List ℕ)
     (same : mid ≡ old) where
   pub answers-line : (reply : Reply) → gives m at n →
-      IsTold at name line (said reply) mid.table new.table sessions sid →
+      IsTold at name line (said reply) mid.table (state_of sessions new.table) sid →
       LineAsksFor at name line (MayBeAsked mid.failed mid.header.seq mid.table.entries) →
-      Serves state sector_count failures mid new (Ok tt) →
-      AnswersLine state sector_count failures gives (stands old name m) line (written (said reply))
+      Serves (measures state sector_count failures) mid new (Ok tt) →
+      AnswersLine (measures state sector_count failures) gives (stands old name m) line (written (said reply))
       (stands new (name_at sessions sid) n)
   answers-line reply next is works serves =
-      let now : IsTold at name line (said reply) old.table new.table sessions sid =
-      subst (λ (s : Kept D). IsTold at name line (said reply) s.table new.table sessions sid) same is in
+      let now : IsTold at name line (said reply) old.table (state_of sessions new.table) sid =
+      subst (λ (s : Kept D). IsTold at name line (said reply) s.table (state_of sessions new.table) sid) same is in
       record {
         at = at;
         next = next;
@@ -448,14 +449,14 @@ module _ {D M : Type 0} (state : D → State) (sector_count failures : D → ℕ
         says = refl;
         works = subst (λ (s : Kept D). LineAsksFor at name line (MayBeAsked s.failed s.header.seq s.table.entries)) same
             works;
-        serves = subst (λ (s : Kept D). Serves state sector_count failures s new (Ok tt)) same serves;
+        serves = subst (λ (s : Kept D). Serves (measures state sector_count failures) s new (Ok tt)) same serves;
       }
 
   pub refuses-line : (fault : HubFault) → gives m at n →
       (Same : Type 0) → (Same → new ≡ mid) → IsTurnFault fault Same (λ refused. LineAsksFor at name line
       (AreRefused refused mid.header.seq mid.failed mid.table new.table)) →
-      Serves state sector_count failures mid new (Err fault) →
-      RefusesLine state sector_count failures gives (stands old name m) line fault (stands new (name_at sessions sid) n)
+      Serves (measures state sector_count failures) mid new (Err fault) →
+      RefusesLine (measures state sector_count failures) gives (stands old name m) line fault (stands new (name_at sessions sid) n)
   refuses-line Busy next Same is why serves = why
   refuses-line NoMemory next Same is why serves = is why ∙ same
   refuses-line LineTooLong next Same is why serves = why
@@ -469,5 +470,5 @@ module _ {D M : Type 0} (state : D → State) (sector_count failures : D → ℕ
         read = now.read;
         reads = now.reads;
         refused = now.those;
-        serves = subst (λ (s : Kept D). Serves state sector_count failures s new (Err (Store fault))) same serves;
+        serves = subst (λ (s : Kept D). Serves (measures state sector_count failures) s new (Err (Store fault))) same serves;
       }

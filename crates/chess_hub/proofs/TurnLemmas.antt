@@ -25,7 +25,7 @@ use Rattle.chess_store.proofs.CallLemmas.{ok_was}
 use Rattle.chess_hub.specs.declared.fault.HubFault.{HubFault}
 use Rattle.chess_hub.specs.declared.fault.HubFault.TheVariants.{Busy, NoMemory, LineTooLong, Store}
 use Rattle.chess_hub.specs.Faults.{UnlessDevice, IsDevice, CountsFault}
-use Rattle.chess_hub.specs.Turning.{IsBatchFault, IsTurnFault, TurnLasts, TurnTried}
+use Rattle.chess_hub.specs.Turning.{IsBatchFault, IsTurnFault, TurnLasts, TurnTried, Measures, measures, Kept}
 
 -- ---- the replies of a batch
 
@@ -74,15 +74,15 @@ module _ {T : Type 0} {old new : State} {header : Header} {compaction : Compacti
     kept_err = tt;
   }
 
-module _ {T D : Type 0} {state : D → State} {sector_count failures : D → ℕ} {old new : D} {before after : TableState}
-    {failed new_failed : Bool} where
+module _ {T D : Type 0} {state : D → State} {sector_count failures : D → ℕ} {old new : Kept D} where
   pub tried_refused : (made : Result T HubFault) (y : HubFault) (fault : StoreFault) → made ≡ Err y → y ≡ Store fault
-      → CallTried {T = T} state sector_count failures old new (Err fault) new_failed
-      → after.limits ≡ before.limits → IsTable after → (after ≡ before → new ≡ old)
-      → faults.UnlessDevice fault ((new ≡ old) × (after ≡ before) × (new_failed ≡ failed))
-      → TurnTried state sector_count failures old new made before after failed new_failed
+      → CallTried {T = T} state sector_count failures old.device new.device (Err fault) new.failed
+      → new.table.limits ≡ old.table.limits → IsTable new.table → (new.table ≡ old.table → new.device ≡ old.device)
+      → faults.UnlessDevice fault
+      ((new.device ≡ old.device) × (new.table ≡ old.table) × (new.failed ≡ old.failed))
+      → TurnTried (measures state sector_count failures) old new made
   tried_refused made y fault is same tried limits bounds idle unchanged =
-      subst (λ (r : Result T HubFault). TurnTried state sector_count failures old new r before after failed new_failed)
+      subst (λ (r : Result T HubFault). TurnTried (measures state sector_count failures) old new r)
       (sym is) (record {
         model = tried.model;
         size = tried.sectors;
@@ -90,10 +90,11 @@ module _ {T D : Type 0} {state : D → State} {sector_count failures : D → ℕ
         bounds = bounds;
         idle = idle;
         works = tt;
-        fails = fails_of fault y (new_failed ≡ true) same tried.fails;
-        unchanged = unless_of fault y ((new ≡ old) × (after ≡ before) × (new_failed ≡ failed)) same unchanged;
+        fails = fails_of fault y (new.failed ≡ true) same tried.fails;
+        unchanged = unless_of fault y
+            ((new.device ≡ old.device) × (new.table ≡ old.table) × (new.failed ≡ old.failed)) same unchanged;
         cause = tt;
-        cause_err = counts_of fault y (failures old) (failures new) same tried.cause_err;
+        cause_err = counts_of fault y (failures old.device) (failures new.device) same tried.cause_err;
       })
 
 -- the fault is another exactly where this holds
@@ -180,26 +181,22 @@ module _ {S T : Type 0} {old new : State} {header : Header} {compaction : Compac
       }
 
 module _ {S T : Type 0} where
-  pub tried_passed : {D : Type 0} {state : D → State} {sector_count failures : D → ℕ} {old new : D}
-      {before after : TableState} {failed new_failed : Bool} (made : Result T HubFault) (fault y : HubFault)
-      → made ≡ Err y → y ≡ fault
-      → TurnTried {T = S} state sector_count failures old new (Err fault) before after failed new_failed
-      → TurnTried state sector_count failures old new made before after failed new_failed
-  tried_passed {state = state} {sector_count = sector_count} {failures = failures} {old = old} {new = new}
-      {before = before} {after = after} {failed = failed} {new_failed = new_failed} made fault y is same tried =
-      subst (λ (r : Result T HubFault). TurnTried state sector_count failures old new r before after failed new_failed)
-      (sym is) (record {
+  pub tried_passed : {D : Type 0} {of : Measures D} {old new : Kept D} (made : Result T HubFault) (fault y : HubFault)
+      → made ≡ Err y → y ≡ fault → TurnTried {T = S} of old new (Err fault) → TurnTried of old new made
+  tried_passed {of = of} {old = old} {new = new} made fault y is same tried =
+      subst (λ (r : Result T HubFault). TurnTried of old new r) (sym is) (record {
         model = tried.model;
         size = tried.size;
         limits = tried.limits;
         bounds = tried.bounds;
         idle = tried.idle;
         works = tt;
-        fails = subst (λ (f : HubFault). IsDevice f → new_failed ≡ true) (sym same) tried.fails;
-        unchanged = subst (λ (f : HubFault). UnlessDevice f ((new ≡ old) × (after ≡ before) × (new_failed ≡ failed)))
-            (sym same) tried.unchanged;
+        fails = subst (λ (f : HubFault). IsDevice f → new.failed ≡ true) (sym same) tried.fails;
+        unchanged = subst (λ (f : HubFault). UnlessDevice f
+            ((new.device ≡ old.device) × (new.table ≡ old.table) × (new.failed ≡ old.failed))) (sym same) tried.unchanged;
         cause = tt;
-        cause_err = subst (λ (f : HubFault). CountsFault f (failures old) (failures new)) (sym same) tried.cause_err;
+        cause_err = subst (λ (f : HubFault). CountsFault f (of.failures old.device) (of.failures new.device)) (sym same)
+            tried.cause_err;
       })
 
   pub fault_passed : (given : Result S HubFault) (made : Result T HubFault) (fault y : HubFault) (Same : Type 0)

@@ -1,7 +1,9 @@
 -- Any list of calls, each as the hub's contracts say, gives each session its text.
 use Rattle.std.specs.Prelude.{ℕ, ◌≡◌, ◌++◌, true, false, List, [], ◌∷◌, Option, Some, None}
 use Rattle.text_lines.specs.Heard.{heard_more}
+use Rattle.sector_dev.specs.declared.device.Device.{Ghosts}
 use Rattle.chess_entry.specs.State.{TableState}
+use Rattle.chess_hub.specs.declared.hub.Hub.{Hub}
 use Rattle.chess_hub.specs.declared.sessions.Sessions.{Sessions}
 use Rattle.chess_hub.specs.Session.{Said, SessionState, fresh, session_at, Changes, IsUnchanged, due, first_due}
 use Rattle.chess_hub.specs.Session.{given_one}
@@ -14,6 +16,13 @@ use Rattle.chess_hub.specs.Sessions.{Merged, AreMerged, AreAnsweredAfter, sessio
 pub record HubState : Type 0 where
   pub sessions : Sessions
   pub table : TableState
+
+abbrev pub state_of : Sessions → TableState → HubState
+state_of sessions table = record { sessions = sessions; table = table }
+
+-- that of a hub
+abbrev pub hub_state : {D : Type 0} {ghosts : Ghosts D} → Hub D ghosts → HubState
+hub_state hub = state_of hub.sessions hub.store.table
 
 -- what one call does that was not refused
 abbrev pub Steps : HubState → Call → HubState → Type 0

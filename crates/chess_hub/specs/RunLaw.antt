@@ -2,14 +2,14 @@
 use Rattle.std.specs.Prelude.{ℕ, ◌≡◌, List, [], ◌∷◌, ◌++◌, None, map}
 use Rattle.std.specs.List.{AllZip, concat}
 use Rattle.text_lines.specs.Lines.{lines_of}
-use Rattle.sector_dev.specs.Device.{State}
 use Rattle.chess_entry.specs.State.{TableState}
 use Rattle.chess_hub.specs.Session.{Said}
 use Rattle.chess_hub.specs.Turn.{IsReading}
 use Rattle.text_lines.specs.Texts.{IsRun, IsText}
 use Rattle.chess_hub.specs.Calls.{Call, Connected, Fed, Turned}
 use Rattle.chess_hub.specs.Sessions.{Merged, AreMerged, AreAnsweredAfter, answers_to, session_text}
-use Rattle.chess_hub.specs.Running.{Kept, Standing, stands, written, AnswersLine}
+use Rattle.chess_hub.specs.Turning.{Measures, Kept}
+use Rattle.chess_hub.specs.Running.{Standing, stands, written, AnswersLine}
 
 -- answers as they are written, one behind the other
 abbrev pub written_all : List Said → List ℕ
@@ -66,11 +66,10 @@ pub record IsSessionText {M : Type 0} (gives : M → ℕ → M → Type 0) (from
 
 -- The text of a run is the text of a session; and of the first lines of a run, where it ends before all are answered,
 -- it is what the session is given for these.
-pub record LawOfRun {D M : Type 0} (state : D → State) (sector_count failures : D → ℕ) (gives : M → ℕ → M → Type 0)
-    : Type 0 where
+pub record LawOfRun {D M : Type 0} (of : Measures D) (gives : M → ℕ → M → Type 0) : Type 0 where
   pub whole : (store : Kept D) (moments : M) (input text : List ℕ) (end : Standing D M)
-      → IsText (AnswersLine state sector_count failures gives) (stands store None moments) input text end
+      → IsText (AnswersLine of gives) (stands store None moments) input text end
       → IsSessionText gives moments end.moments store.table end.store.table input text
   pub front : (store : Kept D) (moments : M) (lines : List (List ℕ)) (told : List ℕ) (end : Standing D M)
-      → IsRun (AnswersLine state sector_count failures gives) (stands store None moments) lines told end
+      → IsRun (AnswersLine of gives) (stands store None moments) lines told end
       → AreTold gives moments end.moments store.table end.store.table lines told

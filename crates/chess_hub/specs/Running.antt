@@ -6,17 +6,13 @@ use Rattle.text_lines.specs.Lines.{IsUnfinished}
 use Rattle.text_lines.specs.Heard.{heard}
 use Rattle.chess_entry.specs.declared.commands.Command.{Command}
 use Rattle.sector_dev.specs.declared.device.Device.{Ghosts}
-use Rattle.sector_dev.specs.Device.{State}
 use Rattle.chess_entry.specs.State.{TableState}
 use Rattle.chess_line.specs.declared.lines.Line.{Line}
 use Rattle.chess_hub.specs.declared.sessions.Sessions.{Sessions}
 use Rattle.chess_hub.specs.Session.{Said, SessionState, session_at}
 use Rattle.chess_hub.specs.Turn.{IsReading}
 use Rattle.chess_hub.specs.Answers.{given_name, renamed, asked, name_at}
-use Rattle.rec_codec.specs.declared.header.Header.{Header}
-use Rattle.sector_journal.specs.declared.compactions.Compaction.{Compaction}
 use Rattle.chess_store.specs.declared.fault.StoreFault.{StoreFault}
-use Rattle.chess_store.specs.declared.store.Store.{Store}
 use Rattle.chess_store.specs.Means.{IsKept}
 use Rattle.text_lines.specs.declared.answerer.LoopFault.{LoopFault}
 use Rattle.text_lines.specs.declared.answerer.LoopFault.TheVariants as loop
@@ -27,30 +23,14 @@ use Rattle.chess_hub.specs.declared.fault.HubFault.TheVariants.{NoMemory, Store 
 use Rattle.chess_hub.specs.declared.running.RunFault.{RunFault}
 use Rattle.chess_hub.specs.declared.running.RunFault.TheVariants as faults
 use Rattle.chess_hub.specs.Sessions.{IsLineAnswered}
-use Rattle.chess_hub.specs.Turning.{TurnLasts, TurnTried, MayBeAsked, AreRefused}
+use Rattle.chess_hub.specs.Law.{HubState}
+use Rattle.chess_hub.specs.Turning.{Measures, Kept, kept, TurnLasts, TurnTried, MayBeAsked, AreRefused}
 
 -- ---- one line
 
 -- an answer as it is written: its line, a line feed, and the whole lines behind it
 abbrev pub written : Said → List ℕ
 written answer = answer.line ++ 10 ∷ answer.body
-
--- what a run sees of its store
-pub record Kept (D : Type 0) : Type 0 where
-  pub device : D
-  pub header : Header
-  pub compaction : Compaction
-  pub table : TableState
-  pub failed : Bool
-
-abbrev pub kept : {D : Type 0} {ghosts : Ghosts D} → Store D ghosts → Kept D
-kept store = record {
-  device = store.journal.device;
-  header = store.journal.header;
-  compaction = store.journal.compaction;
-  table = store.table;
-  failed = store.failed;
-}
 
 -- where a run stands between two lines: the store, the session's name, and the moments that are left
 pub record Standing (D M : Type 0) : Type 0 where
@@ -66,12 +46,11 @@ abbrev pub standing : {D M : Type 0} {ghosts : Ghosts D} → Hub D ghosts → �
 standing hub sid moments = stands (kept hub.store) (name_at hub.sessions sid) moments
 
 -- what a turn does to the store and its device
-pub record Serves {D : Type 0} (state : D → State) (sector_count failures : D → ℕ) (old new : Kept D)
-    (result : Result (Unit {0}) HubFault) : Type 0 where
-  pub lasts : IsKept (state old.device) old.header old.compaction old.table
-      → TurnLasts result (state old.device) (state new.device) new.header new.compaction old.table new.table
-  pub tried : TurnTried state sector_count failures old.device new.device result old.table new.table old.failed
-      new.failed
+pub record Serves {D : Type 0} (of : Measures D) (old new : Kept D) (result : Result (Unit {0}) HubFault) : Type 0
+  where
+    pub lasts : IsKept (of.state old.device) old.header old.compaction old.table
+        → TurnLasts result (of.state old.device) (of.state new.device) new.header new.compaction old.table new.table
+    pub tried : TurnTried of old new result
 
 -- what holds of the commands that a line asks for
 pub record LineAsksFor (at : ℕ) (name : Option (List ℕ)) (line : List ℕ) (P : List Command → Type 0) : Type 0 where
@@ -82,8 +61,8 @@ pub record LineAsksFor (at : ℕ) (name : Option (List ℕ)) (line : List ℕ) (
 -- A line takes the next moment and is answered, on the table that the store has; of a store whose device has failed
 -- only a line that asks nothing of the table, and none that would wear it out. What the store and its device do is said
 -- as of any turn.
-pub record AnswersLine {D M : Type 0} (state : D → State) (sector_count failures : D → ℕ) (gives : M → ℕ → M → Type 0)
-    (old : Standing D M) (line text : List ℕ) (new : Standing D M) : Type 0 where
+pub record AnswersLine {D M : Type 0} (of : Measures D) (gives : M → ℕ → M → Type 0) (old : Standing D M)
+    (line text : List ℕ) (new : Standing D M) : Type 0 where
   pub at : ℕ
   pub next : gives old.moments at new.moments
   pub read : Option Line
@@ -93,27 +72,25 @@ pub record AnswersLine {D M : Type 0} (state : D → State) (sector_count failur
   pub named : new.name ≡ renamed (given_name at read) old.name
   pub says : text ≡ written answer
   pub works : LineAsksFor at old.name line (MayBeAsked old.store.failed old.store.header.seq old.store.table.entries)
-  pub serves : Serves state sector_count failures old.store new.store (Ok tt)
+  pub serves : Serves of old.store new.store (Ok tt)
 
 -- The store refused what a line asks, for this reason.
-pub record IsRefusedBatch {D M : Type 0} (state : D → State) (sector_count failures : D → ℕ)
-    (gives : M → ℕ → M → Type 0) (old : Standing D M) (line : List ℕ) (fault : StoreFault) (new : Standing D M)
-    : Type 0 where
+pub record IsRefusedBatch {D M : Type 0} (of : Measures D) (gives : M → ℕ → M → Type 0) (old : Standing D M)
+    (line : List ℕ) (fault : StoreFault) (new : Standing D M) : Type 0 where
   pub at : ℕ
   pub next : gives old.moments at new.moments
   pub read : Option Line
   pub reads : IsReading line read
   pub refused : AreRefused fault old.store.header.seq old.store.failed old.store.table new.store.table
       (asked at old.name read)
-  pub serves : Serves state sector_count failures old.store new.store (Err (OfStore fault))
+  pub serves : Serves of old.store new.store (Err (OfStore fault))
 
 -- A line finds no answer: memory was refused to the session, and the store is as it was; or the store refused it.
-abbrev pub RefusesLine : {D M : Type 0} → (D → State) → (D → ℕ) → (D → ℕ) → (M → ℕ → M → Type 0) → Standing D M
-    → List ℕ → HubFault → Standing D M → Type 0
-RefusesLine state sector_count failures gives old line NoMemory new = new.store ≡ old.store
-RefusesLine state sector_count failures gives old line (OfStore fault) new =
-    IsRefusedBatch state sector_count failures gives old line fault new
-RefusesLine state sector_count failures gives old line fault new = ⊥
+abbrev pub RefusesLine : {D M : Type 0} → Measures D → (M → ℕ → M → Type 0) → Standing D M → List ℕ → HubFault
+    → Standing D M → Type 0
+RefusesLine of gives old line NoMemory new = new.store ≡ old.store
+RefusesLine of gives old line (OfStore fault) new = IsRefusedBatch of gives old line fault new
+RefusesLine of gives old line fault new = ⊥
 
 -- ---- a run
 
@@ -126,11 +103,11 @@ of_loop (loop.Unanswered fault) = faults.Hub fault
 
 -- The writer got the text of an input: the answers to its whole lines, each in a turn of its own at the next moment,
 -- and the farewell where a line was too long. `end` is where the run then stands.
-pub record IsRunText {D M : Type 0} (state : D → State) (sector_count failures : D → ℕ) (gives : M → ℕ → M → Type 0)
-    (store : Kept D) (moments : M) (old new : Option (List ℕ)) (input : List ℕ) : Type 0 where
+pub record IsRunText {D M : Type 0} (of : Measures D) (gives : M → ℕ → M → Type 0) (store : Kept D) (moments : M)
+    (old new : Option (List ℕ)) (input : List ℕ) : Type 0 where
   pub text : List ℕ
   pub end : Standing D M
-  pub is : IsText (AnswersLine state sector_count failures gives) (stands store None moments) input text end
+  pub is : IsText (AnswersLine of gives) (stands store None moments) input text end
   pub appended : Appends old new text
 
 -- `Read` comes exactly where the reader failed; `before` and `after` say whether it has.
@@ -141,33 +118,34 @@ RunIsOfSource (Err faults.Write) before after = after ≡ before
 RunIsOfSource (Err faults.LineTooLong) before after = after ≡ before
 RunIsOfSource (Err (faults.Hub fault)) before after = after ≡ before
 
+-- what a reader has left, where that is known, and what a writer has been given
+pub record Streams : Type 0 where
+  pub unread : Option (List ℕ)
+  pub written : Option (List ℕ)
+
+abbrev pub streams : Option (List ℕ) → Option (List ℕ) → Streams
+streams unread written = record { unread = unread; written = written }
+
 -- No session began, for want of memory: nothing was read or written.
-pub record BeginsNot (before after old new : Option (List ℕ)) : Type 0 where
-  pub read : after ≡ before
-  pub written : new ≡ old
+pub record BeginsNot (old new : Streams) : Type 0 where
+  pub read : new.unread ≡ old.unread
+  pub written : new.written ≡ old.written
 
 -- How a run ends, as the loop over lines does, with the store and the moments at its end.
-pub record RunsOn {D M : Type 0} (state : D → State) (sector_count failures : D → ℕ) (gives : M → ℕ → M → Type 0)
-    (result : Result (Unit {0}) (LoopFault HubFault)) (before after old new : Option (List ℕ)) (store : Kept D)
-    (moments : M) : Type 0 where
+pub record RunsOn {D M : Type 0} (of : Measures D) (gives : M → ℕ → M → Type 0)
+    (result : Result (Unit {0}) (LoopFault HubFault)) (old new : Streams) (start : Standing D M) : Type 0 where
   pub end : Standing D M
-  pub ended : Ended (AnswersLine state sector_count failures gives) (RefusesLine state sector_count failures gives)
-      result before after old new (stands store None moments) end
+  pub ended : Ended (AnswersLine of gives) (RefusesLine of gives) result old.unread new.unread old.written new.written
+      start end
 
-abbrev pub RunEnds : {D M : Type 0} → (D → State) → (D → ℕ) → (D → ℕ) → (M → ℕ → M → Type 0)
-    → Result (Unit {0}) RunFault → Option (List ℕ) → Option (List ℕ) → Option (List ℕ) → Option (List ℕ) → Kept D → M
-    → Type 0
-RunEnds state sector_count failures gives (Ok done) before after old new store moments =
-    RunsOn state sector_count failures gives (Ok done) before after old new store moments
-RunEnds state sector_count failures gives (Err faults.Read) before after old new store moments =
-    RunsOn state sector_count failures gives (Err loop.Read) before after old new store moments
-RunEnds state sector_count failures gives (Err faults.Write) before after old new store moments =
-    RunsOn state sector_count failures gives (Err loop.Write) before after old new store moments
-RunEnds state sector_count failures gives (Err faults.LineTooLong) before after old new store moments =
-    RunsOn state sector_count failures gives (Err loop.LineTooLong) before after old new store moments
-RunEnds state sector_count failures gives (Err (faults.Hub fault)) before after old new store moments =
-    RunsOn state sector_count failures gives (Err (loop.Unanswered fault)) before after old new store moments
-    ⊎ ((fault ≡ NoMemory) × BeginsNot before after old new)
+abbrev pub RunEnds : {D M : Type 0} → Measures D → (M → ℕ → M → Type 0) → Result (Unit {0}) RunFault → Streams
+    → Streams → Standing D M → Type 0
+RunEnds of gives (Ok done) old new start = RunsOn of gives (Ok done) old new start
+RunEnds of gives (Err faults.Read) old new start = RunsOn of gives (Err loop.Read) old new start
+RunEnds of gives (Err faults.Write) old new start = RunsOn of gives (Err loop.Write) old new start
+RunEnds of gives (Err faults.LineTooLong) old new start = RunsOn of gives (Err loop.LineTooLong) old new start
+RunEnds of gives (Err (faults.Hub fault)) old new start =
+    RunsOn of gives (Err (loop.Unanswered fault)) old new start ⊎ ((fault ≡ NoMemory) × BeginsNot old new)
 
 -- ---- the session
 
@@ -194,9 +172,9 @@ pub record IsAsking (sessions : Sessions) (sid : ℕ) : Type 0 where
   pub is : IsAlone sessions sid (asks name part)
 
 -- its line was answered at this moment, and the answer was given to it
-pub record IsTold (at : ℕ) (name : Option (List ℕ)) (text : List ℕ) (answer : Said) (before after : TableState)
-    (sessions : Sessions) (sid : ℕ) : Type 0 where
+pub record IsTold (at : ℕ) (name : Option (List ℕ)) (text : List ℕ) (answer : Said) (before : TableState)
+    (after : HubState) (sid : ℕ) : Type 0 where
   pub read : Option Line
   pub reads : IsReading text read
-  pub answered : IsLineAnswered before name at read answer after
-  pub then : IsAlone sessions sid (waits (renamed (given_name at read) name))
+  pub answered : IsLineAnswered before name at read answer after.table
+  pub then : IsAlone after.sessions sid (waits (renamed (given_name at read) name))

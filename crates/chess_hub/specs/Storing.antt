@@ -6,7 +6,8 @@ use Rattle.chess_store.specs.declared.fault.StoreFault.{StoreFault}
 use Rattle.chess_store.specs.declared.store.Store.{Store}
 use Rattle.chess_store.specs.Kept.{IsStoreKept}
 use Rattle.chess_hub.specs.declared.fault.HubFault.{HubFault}
-use Rattle.chess_hub.specs.Turning.{MayBeAsked, AreRefused, TurnLasts, TurnTried}
+use Rattle.chess_hub.specs.Faults.{CountsFault}
+use Rattle.chess_hub.specs.Turning.{MayBeAsked, AreRefused, TurnLasts, TurnTried, measures, kept}
 
 -- the store may be asked these commands
 abbrev pub StoreMayBeAsked : {D : Type 0} {ghosts : Ghosts D} → Store D ghosts → List Command → Type 0
@@ -28,5 +29,9 @@ StoreLasts {ghosts = ghosts} old new result = IsStoreKept old
 abbrev pub StoreTried : {D T : Type 0} {ghosts : Ghosts D} → Store D ghosts → Store D ghosts → Result T HubFault
     → Type 0
 StoreTried {ghosts = ghosts} old new result =
-    TurnTried ghosts.state ghosts.sector_count ghosts.failures old.journal.device new.journal.device result old.table
-    new.table old.failed new.failed
+    TurnTried (measures ghosts.state ghosts.sector_count ghosts.failures) (kept old) (kept new) result
+
+-- how often its device has failed, after this fault
+abbrev pub StoreCounts : {D : Type 0} {ghosts : Ghosts D} → Store D ghosts → Store D ghosts → HubFault → Type 0
+StoreCounts {ghosts = ghosts} old new fault =
+    CountsFault fault (ghosts.failures old.journal.device) (ghosts.failures new.journal.device)

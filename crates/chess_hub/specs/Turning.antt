@@ -1,6 +1,7 @@
 -- What a turn does.
 use Rattle.std.specs.Prelude.{ℕ, ◌≡◌, ◌≤◌, ◌↔◌, Bool, true, false, List, [], length, map, Result, OnOk, IfErr}
 use Rattle.rec_codec.specs.declared.header.Header.{Header}
+use Rattle.sector_dev.specs.declared.device.Device.{Ghosts}
 use Rattle.sector_dev.specs.Device.{State}
 use Rattle.sector_dev.specs.Runs.{LeavesOnly}
 use Rattle.sector_journal.specs.declared.compactions.Compaction.{Compaction}
@@ -16,6 +17,7 @@ use Rattle.chess_hub.specs.Answers.{name_at, commands_of, AreAnswers}
 use Rattle.chess_hub.specs.Delivery.{Answered, AllAnswered}
 use Rattle.chess_store.specs.declared.fault.StoreFault.{StoreFault}
 use Rattle.chess_store.specs.declared.fault.StoreFault.TheVariants as store
+use Rattle.chess_store.specs.declared.store.Store.{Store as KeptStore}
 use Rattle.chess_store.specs.Means.{MeansEither, IsKept}
 use Rattle.chess_store.specs.Batch.{AreAnswered, AreEntered, IsWornOut, change_count}
 use Rattle.chess_hub.specs.declared.fault.HubFault.{HubFault}
@@ -89,17 +91,43 @@ pub record TurnLasts {T : Type 0} (result : Result T HubFault) (old new : State)
 
 -- ---- the device
 
+-- What is told of a device: its state, how many sectors it has, and how often it has failed.
+pub record Measures (D : Type 0) : Type 0 where
+  pub state : D → State
+  pub sector_count : D → ℕ
+  pub failures : D → ℕ
+
+abbrev pub measures : {D : Type 0} → (D → State) → (D → ℕ) → (D → ℕ) → Measures D
+measures state sector_count failures =
+    record { state = state; sector_count = sector_count; failures = failures }
+
+-- what a turn sees of its store
+pub record Kept (D : Type 0) : Type 0 where
+  pub device : D
+  pub header : Header
+  pub compaction : Compaction
+  pub table : TableState
+  pub failed : Bool
+
+abbrev pub kept : {D : Type 0} {ghosts : Ghosts D} → KeptStore D ghosts → Kept D
+kept store = record {
+  device = store.journal.device;
+  header = store.journal.header;
+  compaction = store.journal.compaction;
+  table = store.table;
+  failed = store.failed;
+}
+
 -- what a turn does to the store and its device, whatever the device holds
-pub record TurnTried {D T : Type 0} (state : D → State) (sector_count failures : D → ℕ) (old new : D)
-    (result : Result T HubFault) (before after : TableState) (failed new_failed : Bool) : Type 0 where
-  pub model : (state new).keeps_model ↔ (state old).keeps_model
-  pub size : sector_count new ≡ sector_count old
-  pub limits : after.limits ≡ before.limits
-  pub bounds : IsTable after
-  pub idle : after ≡ before → new ≡ old
-  pub works : OnOk result (new_failed ≡ failed)
-  pub fails : IfErr result (λ fault. IsDevice fault → new_failed ≡ true)
+pub record TurnTried {D T : Type 0} (of : Measures D) (old new : Kept D) (result : Result T HubFault) : Type 0 where
+  pub model : (of.state new.device).keeps_model ↔ (of.state old.device).keeps_model
+  pub size : of.sector_count new.device ≡ of.sector_count old.device
+  pub limits : new.table.limits ≡ old.table.limits
+  pub bounds : IsTable new.table
+  pub idle : new.table ≡ old.table → new.device ≡ old.device
+  pub works : OnOk result (new.failed ≡ old.failed)
+  pub fails : IfErr result (λ fault. IsDevice fault → new.failed ≡ true)
   pub unchanged : IfErr result (λ fault. UnlessDevice fault
-      ((new ≡ old) × (after ≡ before) × (new_failed ≡ failed)))
-  pub cause : OnOk result (failures new ≡ failures old)
-  pub cause_err : IfErr result (λ fault. CountsFault fault (failures old) (failures new))
+      ((new.device ≡ old.device) × (new.table ≡ old.table) × (new.failed ≡ old.failed)))
+  pub cause : OnOk result (of.failures new.device ≡ of.failures old.device)
+  pub cause_err : IfErr result (λ fault. CountsFault fault (of.failures old.device) (of.failures new.device))

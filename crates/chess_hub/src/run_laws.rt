@@ -1,5 +1,6 @@
 //! A law of the definitions that the contracts cite.
 ghost use Rattle.chess_hub.specs.RunLaw.{LawOfRun};
+ghost use Rattle.chess_hub.specs.Turning.{measures};
 
 use crate::moments::Moments;
 use sector_dev::Device;
@@ -9,5 +10,5 @@ use sector_dev::Device;
 /// verdict on the table before; and what is written is that session's text. Of a run's first lines it says the same,
 /// without the farewell. It does nothing when it runs.
 pub fn law_of_run<D: Device, M: Moments>()
-    ensures { LawOfRun D.state D.sector_count D.failures M.gives }
+    ensures { LawOfRun (measures D.state D.sector_count D.failures) M.gives }
 {}

@@ -1,7 +1,8 @@
 //! One session from a reader to a writer.
-ghost use Rattle.std.specs.Prelude.{ℕ, ◌≡◌, List, IfSome, OnOk, IsErrOf};
+ghost use Rattle.std.specs.Prelude.{ℕ, ◌≡◌, List, None, IfSome, OnOk, IsErrOf};
 ghost use Rattle.std.specs.Io.KnownBytes.{Appends, IsAtEnd};
-ghost use Rattle.chess_hub.specs.Running.{IsRunText, RunEnds, RunIsOfSource, kept};
+ghost use Rattle.chess_hub.specs.Running.{IsRunText, RunEnds, RunIsOfSource, streams, stands};
+ghost use Rattle.chess_hub.specs.Turning.{measures, kept};
 
 use crate::fault::HubFault;
 use crate::moments::Moments;
@@ -56,12 +57,15 @@ pub fn run_reads<R: Read, W: Write, D: Device + Drop, M: Moments + Drop>(
     store: Store<D>,
     moments: M,
 ) -> Result<(), RunFault>
-    ensures whole { OnOk result (IfSome (R.remaining reader.old) (IsRunText D.state D.sector_count D.failures M.gives
-        (kept store) moments (W.contents writer.old) (W.contents writer.new))) }
-    ensures long { IsErrOf result RunFault.LineTooLong → IfSome (R.remaining reader.old) (IsRunText D.state
-        D.sector_count D.failures M.gives (kept store) moments (W.contents writer.old) (W.contents writer.new)) }
-    ensures ended { RunEnds D.state D.sector_count D.failures M.gives result (R.remaining reader.old)
-        (R.remaining reader.new) (W.contents writer.old) (W.contents writer.new) (kept store) moments }
+    ensures whole { OnOk result (IfSome (R.remaining reader.old) (IsRunText
+        (measures D.state D.sector_count D.failures) M.gives (kept store) moments (W.contents writer.old)
+        (W.contents writer.new))) }
+    ensures long { IsErrOf result RunFault.LineTooLong → IfSome (R.remaining reader.old) (IsRunText
+        (measures D.state D.sector_count D.failures) M.gives (kept store) moments (W.contents writer.old)
+        (W.contents writer.new)) }
+    ensures ended { RunEnds (measures D.state D.sector_count D.failures) M.gives result
+        (streams (R.remaining reader.old) (W.contents writer.old))
+        (streams (R.remaining reader.new) (W.contents writer.new)) (stands (kept store) None moments) }
     ensures end { OnOk result (IsAtEnd (R.remaining reader.new)) }
     // `Read` comes exactly where the reader failed, by its mark.
     ensures cause { RunIsOfSource result reads.old.has_failed reads.new.has_failed }
@@ -91,15 +95,18 @@ pub fn run<R: Read, W: Write, D: Device + Drop, M: Moments + Drop>(
     moments: M,
 ) -> Result<(), RunFault>
     // What is written is the text of what was read, and nothing else.
-    ensures whole { OnOk result (IfSome (R.remaining reader.old) (IsRunText D.state D.sector_count D.failures M.gives
-        (kept store) moments (W.contents writer.old) (W.contents writer.new))) }
-    ensures long { IsErrOf result RunFault.LineTooLong → IfSome (R.remaining reader.old) (IsRunText D.state
-        D.sector_count D.failures M.gives (kept store) moments (W.contents writer.old) (W.contents writer.new)) }
+    ensures whole { OnOk result (IfSome (R.remaining reader.old) (IsRunText
+        (measures D.state D.sector_count D.failures) M.gives (kept store) moments (W.contents writer.old)
+        (W.contents writer.new))) }
+    ensures long { IsErrOf result RunFault.LineTooLong → IfSome (R.remaining reader.old) (IsRunText
+        (measures D.state D.sector_count D.failures) M.gives (kept store) moments (W.contents writer.old)
+        (W.contents writer.new)) }
 
     // Also of a reader that does not tell its bytes: all lines that were read are answered. Where a write failed
     // something that they call for is not written; where the hub refused a line the answers to those before it are.
-    ensures ended { RunEnds D.state D.sector_count D.failures M.gives result (R.remaining reader.old)
-        (R.remaining reader.new) (W.contents writer.old) (W.contents writer.new) (kept store) moments }
+    ensures ended { RunEnds (measures D.state D.sector_count D.failures) M.gives result
+        (streams (R.remaining reader.old) (W.contents writer.old))
+        (streams (R.remaining reader.new) (W.contents writer.new)) (stands (kept store) None moments) }
     ensures end { OnOk result (IsAtEnd (R.remaining reader.new)) }
 {
     run_reads(alloc, reader, &mut Reads::new(), writer, store, moments)

@@ -5,8 +5,9 @@ ghost use Rattle.text_lines.specs.Lines.{IsUnfinished};
 ghost use Rattle.chess_hub.specs.Session.{said};
 ghost use Rattle.chess_hub.specs.Answers.{name_at};
 ghost use Rattle.chess_hub.specs.Storing.{StoreMayBeAsked, StoreRefuses};
-ghost use Rattle.chess_hub.specs.Turning.{IsTurnFault};
-ghost use Rattle.chess_hub.specs.Running.{Serves, IsAlone, IsTalking, IsAsking, IsTold, LineAsksFor, asks, kept};
+ghost use Rattle.chess_hub.specs.Law.{hub_state};
+ghost use Rattle.chess_hub.specs.Turning.{IsTurnFault, measures, kept};
+ghost use Rattle.chess_hub.specs.Running.{Serves, IsAlone, IsTalking, IsAsking, IsTold, LineAsksFor, asks};
 ghost use Rattle.chess_hub.specs.Running.{stands, standing};
 
 use crate::fault::HubFault;
@@ -60,17 +61,17 @@ fn take_turn<D: Device>(hub: &mut Hub<D>, sid: Sid, at: u64) -> Result<Reply, Hu
     requires asks { IsAsking hub.old.sessions sid }
     ensures told { IfOk result (λ reply. (name : Option (List ℕ)) (part : List ℕ) → IsUnfinished part
         → IsAlone hub.old.sessions sid (asks name part) → IsTold at name (strip_last 13 part) (said reply)
-        hub.old.store.table hub.new.store.table hub.new.sessions sid) }
+        hub.old.store.table (hub_state hub.new) sid) }
     ensures works { OnOk result ((name : Option (List ℕ)) (part : List ℕ) → IsUnfinished part
         → IsAlone hub.old.sessions sid (asks name part)
         → LineAsksFor at name (strip_last 13 part) (StoreMayBeAsked hub.old.store)) }
     ensures serves { OnOk result
-        (Serves D.state D.sector_count D.failures (kept hub.old.store) (kept hub.new.store) (Ok tt)) }
+        (Serves (measures D.state D.sector_count D.failures) (kept hub.old.store) (kept hub.new.store) (Ok tt)) }
     ensures fault { IfErr result (λ fault. (name : Option (List ℕ)) (part : List ℕ) → IsUnfinished part
         → IsAlone hub.old.sessions sid (asks name part) → IsTurnFault fault (hub.new.store ≡ hub.old.store)
         (λ refused. LineAsksFor at name (strip_last 13 part) (StoreRefuses hub.old.store hub.new.store refused))) }
     ensures serves_err { IfErr result (λ fault.
-        Serves D.state D.sector_count D.failures (kept hub.old.store) (kept hub.new.store) (Err fault)) }
+        Serves (measures D.state D.sector_count D.failures) (kept hub.old.store) (kept hub.new.store) (Err fault)) }
 {
     hub.turn(at, 1)?;
     match hub.output(sid) {
@@ -80,16 +81,17 @@ fn take_turn<D: Device>(hub: &mut Hub<D>, sid: Sid, at: u64) -> Result<Reply, Hu
 }
 
 impl<D: Device, M: Moments> Answerer for Talk<D, M> {
+    ghost use Rattle.chess_hub.specs.Turning.{measures};
     ghost use Rattle.chess_hub.specs.Running.{IsTalking, standing, AnswersLine, RefusesLine};
 
     type Fault = HubFault;
 
     ghost is_ready = { λ t. IsTalking t.hub.sessions t.sid };
 
-    ghost answers = { λ old line text new. AnswersLine D.state D.sector_count D.failures M.gives
+    ghost answers = { λ old line text new. AnswersLine (measures D.state D.sector_count D.failures) M.gives
         (standing old.hub old.sid old.moments) line text (standing new.hub new.sid new.moments) };
 
-    ghost breaks = { λ old line fault new. RefusesLine D.state D.sector_count D.failures M.gives
+    ghost breaks = { λ old line fault new. RefusesLine (measures D.state D.sector_count D.failures) M.gives
         (standing old.hub old.sid old.moments) line fault (standing new.hub new.sid new.moments) };
 
     fn answer(&mut self, line: &[u8], said: &mut Answer) -> Result<(), HubFault> {

@@ -13,7 +13,7 @@ use Rattle.chess_answer.specs.declared.reads.Reply.{Reply}
 use Rattle.chess_hub.specs.declared.sessions.Sessions.{Sessions}
 use Rattle.chess_hub.specs.Session.{Said, said, SessionState, session_at, Changes, IsUnchanged, due, first_due, given_one, farewell, is_done}
 use Rattle.chess_sockets.specs.declared.client.Client.{Client}
-use Rattle.chess_sockets.specs.Clients.{Standing, standing, OthersStay, IsSilent, IsHeardAt, IsEndSeen, IsHeldUp, HasWaitedOn, HasSpokenOn, GivesOn, TakesIn, HandsOut, bytes_of_all, to_go}
+use Rattle.chess_sockets.specs.Clients.{Standing, standing, OthersStay, IsSilent, IsHeardAt, IsEndSeen, IsHeldUp, HasWaitedOn, HasSpokenOn, GivesOn, TakesIn, HandsOut, bytes_of_all, to_go, ahead, pends}
 use Rattle.chess_sockets.specs.declared.closing.Closing.{Closing}
 use Rattle.chess_sockets.specs.declared.closing.Closing.TheVariants.{Silence}
 use Rattle.chess_sockets.specs.Closings.{HasFailed, WasRefused, IsForeign, ByReason, IsReason, IsOver}
@@ -24,7 +24,7 @@ use Rattle.chess_sockets.specs.Portions.{is_dear, IsDearLine, AreMost}
 use Rattle.chess_sockets.proofs.PortionLemmas.{none-dear}
 use Rattle.chess_sockets.proofs.HeardLemmas.{heard_as_before, end_as_before}
 use Rattle.chess_sockets.proofs.TakingLemmas.{takes-kept, takes-in, some_at, up_unfinished, waits-still, waits-for, spoken-still, gives-none-up, gives-closed}
-use Rattle.chess_sockets.specs.Rounds.{Intake, intake, Holds, AreEach, PassesClosed, IsSent, IsRead, AreGivenTo, AreGiven, IsGivenOut, IsHandedOut, IsWritten}
+use Rattle.chess_sockets.specs.Rounds.{Intake, intake, Holds, AreEach, PassesClosed, IsSent, IsRead, AreGivenTo, AreGiven, IsGivenOut, IsHandedOut, IsWritten, times}
 use Rattle.chess_sockets.proofs.ClientLemmas.{session_state}
 
 -- ---- sessions that are as they were
@@ -91,7 +91,7 @@ up_at {unsent = unsent} {keeps = keeps} s m n r e f up =
 
 sent_by : {room left longest : ℕ} {stood stands : Standing} {unsent holds keeps : List ℕ} (sid : ℕ) (old new : Sessions)
     (s : SessionState) (n : Option SessionState) → session_at old sid ≡ Some s → session_at new sid ≡ n →
-    (gives : GivesOn room left longest unsent holds keeps stood stands s n) → OthersStay old new sid →
+    (gives : GivesOn (ahead longest unsent) (pends holds stood room) (pends keeps stands left) s n) → OthersStay old new sid →
     IsSent sid gives.fed old new
 sent_by sid old new s None e f gives others = inr (inr (inl (gives.gone refl, record { changed = f; others = others })))
 sent_by sid old new s (Some r) e f gives others = elim gives.heard [
@@ -114,7 +114,7 @@ sent_by sid old new s (Some r) e f gives others = elim gives.heard [
 
 pub sends : (stood stands : Standing) (room left longest : ℕ) (before after : Option (List ℕ)) (unsent holds keeps : List ℕ)
     (sid : ℕ) (old new : Sessions) (m n : Option SessionState) → session_at old sid ≡ m → session_at new sid ≡ n →
-    IsSome m → IfSome m (λ s. TakesIn room left longest before after unsent holds keeps stood stands s n) →
+    IsSome m → IfSome m (λ s. TakesIn before after (ahead longest unsent) (pends holds stood room) (pends keeps stands left) s n) →
     OthersStay old new sid → Sends room left longest before after unsent holds keeps stood stands sid old new
 sends stood stands room left longest before after unsent holds keeps sid old new None n e f is_open takes others =
     absurd (let bad : false ≡ true = is_open in false≢true bad)
@@ -248,7 +248,7 @@ module _ {S : Type 0} (remaining : S → Option (List ℕ)) (silence : Option �
       → IsReason after (IsForeign after) (IsSomeAnd silence (IsSilent after old at)) ⊥ ⊥
 
   pub passed_over : (client : Client S) (s : Intake) → IsHeldUpBetween client client s.sessions s.sessions →
-      IsRead remaining silence at longest client client s s
+      IsRead remaining (times at silence) longest client client s s
   passed_over client s up = record {
     sid = refl;
     outgoing = refl;
@@ -284,7 +284,7 @@ module _ {S : Type 0} (remaining : S → Option (List ℕ)) (silence : Option �
       (session_at new.sessions client.sid ≡ None → (new.room ≡ old.room) ⊎ WasRefused after) →
       Sends old.room new.room longest (remaining client.wire.stream) (remaining after.wire.stream)
       (waiting client.outgoing) (held client.incoming) (held after.incoming) (standing client) (standing after) client.sid
-      old.sessions new.sessions → IsRead remaining silence at longest client after old new
+      old.sessions new.sessions → IsRead remaining (times at silence) longest client after old new
   is_read client after old new sid outgoing unread heard ended closed reason refused sends = record {
     sid = sid;
     outgoing = outgoing;
@@ -327,7 +327,7 @@ module _ {S : Type 0} (remaining : S → Option (List ℕ)) (silence : Option �
       (waiting client.outgoing ≢ [] → after.wire.stream ≡ client.wire.stream) → OnTrue done (Changes old new client.sid None) →
       OnTrue done (IsReason after (IsForeign after) (IsSomeAnd silence (IsSilent after old at)) ⊥ ⊥) →
       OnFalse done (IsUnchanged old new) →
-      IsRead remaining silence at longest client after (intake old room) (intake new room)
+      IsRead remaining (times at silence) longest client after (intake old room) (intake new room)
   read_nothing client after room old new true sid outgoing heard ended kept same none still is_open silent stream closed reason stays =
       let m = session_at old client.sid in
       let n = session_at new client.sid in
@@ -359,7 +359,7 @@ module _ {S : Type 0} (remaining : S → Option (List ℕ)) (silence : Option �
       (λ other differs. stays other))
 
   pub read_after : (client after : Client S) (a b c : Intake) → Holds a b →
-      IsRead remaining silence at longest client after b c → IsRead remaining silence at longest client after a c
+      IsRead remaining (times at silence) longest client after b c → IsRead remaining (times at silence) longest client after a c
   read_after client after a b c h read = record {
     sid = read.sid;
     outgoing = read.outgoing;

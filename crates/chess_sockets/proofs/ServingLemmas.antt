@@ -9,12 +9,12 @@ use Rattle.chess_entry.specs.State.{TableState}
 use Rattle.chess_hub.specs.declared.sessions.Sessions.{Sessions}
 use Rattle.chess_hub.specs.Session.{Said, Changes, IsUnchanged}
 use Rattle.chess_hub.specs.Calls.{Call, Closed, Fed, Given}
-use Rattle.chess_hub.specs.Law.{HubState, Steps, Stays}
+use Rattle.chess_hub.specs.Law.{HubState, Steps, Stays, state_of}
 use Rattle.chess_sockets.specs.declared.client.Client.{Client}
 use Rattle.sockets.specs.declared.listener.LocalListener.{LocalListener}
 use Rattle.chess_sockets.specs.Rounds as rounds
-use Rattle.chess_sockets.specs.Rounds.{AreEach, IsSent, AreGivenTo, IsGivenOut, IsRead, IsWritten, intake, Holds}
-use Rattle.chess_sockets.specs.Serving.{state_of, LeadsOn, IsLedBy, IsOfReading, IsOfWriting, AreRead, AreWritten, Welcomes, AreCounted, IsWelcomed, IsAskedFor}
+use Rattle.chess_sockets.specs.Rounds.{AreEach, IsSent, AreGivenTo, IsGivenOut, IsRead, IsWritten, intake, Holds, times}
+use Rattle.chess_sockets.specs.Serving.{LeadsOn, IsLedBy, IsOfReading, IsOfWriting, AreRead, AreWritten, Welcomes, AreCounted, IsWelcomed, IsAskedFor, server_state}
 use Rattle.chess_sockets.specs.declared.server.Rested.{Rested}
 
 -- ---- calls
@@ -94,10 +94,10 @@ module _ (table : TableState) where
   ]
 
   pub are_read : {S : Type 0} (remaining : S → Option (List ℕ)) (silence : Option ℕ) (at : ℕ) (clients read : List (Client S)) (a b : Sessions) →
-      rounds.AreRead remaining silence at clients read a b → AreRead remaining silence at clients read (over a) (over b)
+      rounds.AreRead remaining (times at silence) clients read a b → AreRead remaining (times at silence) clients read (over a) (over b)
   are_read remaining silence at clients read a b (left, longest, is, each) = record {
     each = (left, longest, is, each);
-    calls = each_led IsOfReading (λ i. over i.sessions) Holds (IsRead remaining silence at longest)
+    calls = each_led IsOfReading (λ i. over i.sessions) Holds (IsRead remaining (times at silence) longest)
         (λ i j h. stays_over i.sessions j.sessions h.0)
         (λ client after i j done. sent_led client.sid done.fed i.sessions j.sessions done.sent)
         clients read (intake a 1) (intake b left) each;
@@ -138,7 +138,7 @@ module _ (table : TableState) where
 module _ {C S : Type 0} (IsMade : C → S → Type 0) (at : ℕ) where
   -- nobody comes
   pub nobody_came : (given gives count : ℕ) (clients : List (Client S)) (s : HubState) → gives ≡ given →
-      IsWelcomed IsMade at given gives count count clients clients s s
+      IsWelcomed IsMade at (server_state given count clients s) (server_state gives count clients s)
   nobody_came given gives count clients s same = record {
     welcomes = record { came = []; whole = sym (append-nil clients); welcomed = stays-refl s };
     counts = inl (same, refl);
@@ -163,14 +163,14 @@ module _ {C S : Type 0} (IsMade : C → S → Type 0) (at : ℕ) where
     many = ap length w.whole ∙ length-append clients w.came
 
     pub away_counted : after ≡ clients → counted ≡ min (count + 1) (2 ^ 64 - 1)
-        → IsWelcomed IsMade at given gives count counted clients after old new
+        → IsWelcomed IsMade at (server_state given count clients old) (server_state gives counted after new)
     away_counted same is = record {
       welcomes = w;
       counts = one_away clients w.came given gives count counted (sym (ap length same) ∙ many) one is;
     }
 
     pub client_counted : length after ≡ length clients + 1 → counted ≡ count
-        → IsWelcomed IsMade at given gives count counted clients after old new
+        → IsWelcomed IsMade at (server_state given count clients old) (server_state gives counted after new)
     client_counted same is = record {
       welcomes = w;
       counts = one_client clients w.came given gives count counted (sym same ∙ many) one is;
@@ -179,22 +179,22 @@ module _ {C S : Type 0} (IsMade : C → S → Type 0) (at : ℕ) where
   -- said of a hub, a listener and a count that are those from before
   pub welcomed_there : {H : Type 0} (h k : H) (to : H → HubState) (listener last : LocalListener) (gives n m counted : ℕ)
       (kept clients asked : List (Client S)) (begun : HubState) → h ≡ k → kept ≡ clients → n ≡ m → listener ≡ last →
-      IsWelcomed IsMade at listener.given gives n counted kept asked (to h) begun →
-      IsWelcomed IsMade at last.given gives m counted clients asked (to k) begun
+      IsWelcomed IsMade at (server_state listener.given n kept (to h)) (server_state gives counted asked begun) →
+      IsWelcomed IsMade at (server_state last.given m clients (to k)) (server_state gives counted asked begun)
   welcomed_there {H = H} h k to listener last gives n m counted kept clients asked begun same are count still w =
-      subst (λ (d : LocalListener). IsWelcomed IsMade at d.given gives m counted clients asked (to k) begun) still
-      (subst (λ (x : H). IsWelcomed IsMade at listener.given gives m counted clients asked (to x) begun) same
-      (subst (λ (l : List (Client S)). IsWelcomed IsMade at listener.given gives m counted l asked (to h) begun) are
-      (subst (λ (x : ℕ). IsWelcomed IsMade at listener.given gives x counted kept asked (to h) begun) count w)))
+      subst (λ (d : LocalListener). IsWelcomed IsMade at (server_state d.given m clients (to k)) (server_state gives counted asked begun)) still
+      (subst (λ (x : H). IsWelcomed IsMade at (server_state listener.given m clients (to x)) (server_state gives counted asked begun)) same
+      (subst (λ (l : List (Client S)). IsWelcomed IsMade at (server_state listener.given m l (to h)) (server_state gives counted asked begun)) are
+      (subst (λ (x : ℕ). IsWelcomed IsMade at (server_state listener.given x kept (to h)) (server_state gives counted asked begun)) count w)))
 
   -- the same listener and the same count
   pub welcomed_on : (given : ℕ) (listener next : LocalListener) (n counted after : ℕ) (clients asked : List (Client S))
       (s t : HubState) → next ≡ listener → after ≡ counted →
-      IsWelcomed IsMade at given listener.given n counted clients asked s t →
-      IsWelcomed IsMade at given next.given n after clients asked s t
+      IsWelcomed IsMade at (server_state given n clients s) (server_state listener.given counted asked t) →
+      IsWelcomed IsMade at (server_state given n clients s) (server_state next.given after asked t)
   welcomed_on given listener next n counted after clients asked s t same is w =
-      subst (λ (d : LocalListener). IsWelcomed IsMade at given d.given n after clients asked s t) (sym same)
-      (subst (λ (x : ℕ). IsWelcomed IsMade at given listener.given n x clients asked s t) (sym is) w)
+      subst (λ (d : LocalListener). IsWelcomed IsMade at (server_state given n clients s) (server_state d.given after asked t)) (sym same)
+      (subst (λ (x : ℕ). IsWelcomed IsMade at (server_state given n clients s) (server_state listener.given x asked t)) (sym is) w)
 
 -- ---- who is asked for
 

@@ -16,10 +16,11 @@ use Rattle.chess_hub.specs.declared.fault.HubFault.{HubFault}
 use Rattle.chess_hub.specs.declared.fault.HubFault.TheVariants as hub
 use Rattle.chess_hub.specs.Faults.{UnlessDevice, refusals_after}
 use Rattle.chess_hub.specs.Turning.{AsksFor, IsBatchFault, AreRefused, IsTurnFault, TurnLasts}
-use Rattle.chess_hub.specs.Law.{HubState}
+use Rattle.chess_hub.specs.Law.{HubState, state_of}
 use Rattle.chess_sockets.specs.declared.client.Client.{Client}
-use Rattle.chess_sockets.specs.Serving.{state_of, AreRead}
+use Rattle.chess_sockets.specs.Serving.{AreRead, served}
 use Rattle.chess_sockets.specs.Turns.{EndsServing, IsRefusal}
+use Rattle.chess_sockets.specs.Rounds.{times}
 
 unless_any : (fault : HubFault) (P : Type 0) → P → UnlessDevice fault P
 unless_any hub.Busy P p = p
@@ -117,11 +118,15 @@ module _ (Same : Type 0) (at : ℕ) (sessions : Sessions) (seq : ℕ) (failed : 
   turn_ends hub.LineTooLong why = why
   turn_ends (hub.Store fault) why = submit_fault fault seq failed before after _ why.those.why
 
+  abbrev pub Refuses : StoreFault → List Command → Type 0
+  Refuses fault = AreRefused fault seq failed before after
+
   -- nothing was asked of the store, or it refused
-  pub turn_refusal : {S : Type 0} (remaining : S → Option (List ℕ)) (silence : Option ℕ) (clients read : List (Client S)) (old new : HubState)
-      (table : TableState) → AreRead remaining silence at clients read old (state_of sessions table)
+  pub turn_refusal : {S : Type 0} (remaining : S → Option (List ℕ)) (silence : Option ℕ) (clients read : List (Client S))
+      (old new : HubState) (table : TableState) → AreRead remaining (times at silence) clients read old (state_of sessions table)
       → IsUnchanged sessions new.sessions → before ≡ old.table → after ≡ new.table → (Same → after ≡ before)
-      → (fault : HubFault) → IsOfTurn fault → IsRefusal remaining silence fault at seq failed clients read old new
+      → (fault : HubFault) → IsOfTurn fault
+      → IsRefusal remaining (times at silence) Refuses fault (served clients old) (served read new)
   turn_refusal remaining silence clients read old new table hears kept same next idle hub.Busy why = why
   turn_refusal remaining silence clients read old new table hears kept same next idle hub.NoMemory why = record {
     heard = state_of sessions table;
@@ -134,8 +139,7 @@ module _ (Same : Type 0) (at : ℕ) (sessions : Sessions) (seq : ℕ) (failed : 
     heard = state_of sessions table;
     reads = hears;
     kept = kept;
-    why = subst (λ (t : TableState). AsksFor at 64 sessions (AreRefused fault seq failed old.table t)) next
-        (subst (λ (t : TableState). AsksFor at 64 sessions (AreRefused fault seq failed t after)) same why);
+    why = why;
   }
 
 -- ---- how many turns were refused memory

@@ -7,7 +7,7 @@ use Rattle.std.proofs.KnownBytes.{Consumes-nil, Consumes-kept}
 use Rattle.std.proofs.Math.Seq.{drop-append_seam}
 use Rattle.chess_hub.specs.Session.{SessionState}
 use Rattle.text_lines.specs.Lines.{IsUnfinished}
-use Rattle.chess_sockets.specs.Clients.{Standing, HasHeard, IsHeldUp, HasWaitedOn, HasSpokenOn, GivesOn, TakesIn}
+use Rattle.chess_sockets.specs.Clients.{Standing, HasHeard, IsHeldUp, HasWaitedOn, HasSpokenOn, GivesOn, TakesIn, ahead, pends}
 use Rattle.chess_sockets.specs.Protocols.{AreOfAnotherProtocol}
 use Rattle.chess_sockets.specs.Portions.{is_dear, IsDearLine, AreMost}
 use Rattle.chess_sockets.specs.Pieces.{Takes}
@@ -165,7 +165,7 @@ spoken-now holds fed false new any own is some none = record {
 pub gives-nothing : (stood stands : Standing) (room left longest : ℕ) (m n : Option SessionState) (unsent holds : List ℕ) →
     left ≡ room → n ≡ m → stands.has_spoken ≡ stood.has_spoken →
     IfSome m (λ s. HasWaitedOn (IsHeldUp unsent holds s n) room longest [] holds stood.waited stands.waited) →
-    IfSome m (λ s. GivesOn room left longest unsent holds holds stood stands s n)
+    IfSome m (λ s. GivesOn (ahead longest unsent) (pends holds stood room) (pends holds stands left) s n)
 gives-nothing stood stands room left longest None n unsent holds still same quiet wait = tt
 gives-nothing stood stands room left longest (Some s) n unsent holds still same quiet wait = record {
   fed = [];
@@ -183,7 +183,7 @@ gives-nothing stood stands room left longest (Some s) n unsent holds still same 
 -- nor waits for more turns, since it is held up
 pub gives-none-up : (stood stands : Standing) (room longest : ℕ) (m n : Option SessionState) (unsent holds : List ℕ) →
     n ≡ m → IfSome m (λ s. IsHeldUp unsent holds s n) → stands ≡ stood →
-    IfSome m (λ s. GivesOn room room longest unsent holds holds stood stands s n)
+    IfSome m (λ s. GivesOn (ahead longest unsent) (pends holds stood room) (pends holds stands room) s n)
 gives-none-up stood stands room longest None n unsent holds same up still = tt
 gives-none-up stood stands room longest (Some s) n unsent holds same up still =
     gives-nothing stood stands room room longest (Some s) n unsent holds refl same (ap (λ t. t.has_spoken) still)
@@ -193,7 +193,7 @@ gives-none-up stood stands room longest (Some s) n unsent holds same up still =
 pub gives-none-yet : (stood stands : Standing) (room left longest : ℕ) (m : Option SessionState)
     (unsent holds portion rest : List ℕ) → left ≡ room → holds ≡ portion ++ rest → (is_dear portion ≡ false → ⊥) →
     stands.waited ≡ min (stood.waited + 1) (2 ^ 32 - 1) → stands.has_spoken ≡ stood.has_spoken →
-    (room ≡ 0) ⊎ (stood.waited < longest) → IfSome m (λ s. GivesOn room left longest unsent holds holds stood stands s m)
+    (room ≡ 0) ⊎ (stood.waited < longest) → IfSome m (λ s. GivesOn (ahead longest unsent) (pends holds stood room) (pends holds stands left) s m)
 gives-none-yet stood stands room left longest None unsent holds portion rest still order dear is quiet behind = tt
 gives-none-yet stood stands room left longest (Some s) unsent holds portion rest still order dear is quiet behind =
     gives-nothing stood stands room left longest (Some s) (Some s) unsent holds still refl quiet
@@ -203,7 +203,7 @@ gives-none-yet stood stands room left longest (Some s) unsent holds portion rest
 -- it is closed
 pub gives-closed : (stood stands : Standing) (room left longest : ℕ) (m n : Option SessionState) (unsent holds : List ℕ) →
     left ≤ room → n ≡ None → stands ≡ stood →
-    IfSome m (λ s. GivesOn room left longest unsent holds holds stood stands s n)
+    IfSome m (λ s. GivesOn (ahead longest unsent) (pends holds stood room) (pends holds stands left) s n)
 gives-closed stood stands room left longest None n unsent holds le closed still = tt
 gives-closed stood stands room left longest (Some s) n unsent holds le closed still = record {
   fed = [];
@@ -225,7 +225,7 @@ pub gives-fed : (stood stands : Standing) (room left longest : ℕ) (m n : Optio
     (IsDearLine fed → (left + 1 ≤ room) × (longest ≤ stood.waited)) → (left ≡ room) ⊎ (is_dear fed ≡ true) →
     IfSome m (λ s. IsSomeAnd n (HasHeard s fed)) → keeps ≡ drop (length fed) holds → (fed ≡ [] → IsUnfinished holds) →
     stands.waited ≡ 0 → HasSpokenOn holds fed stood.has_spoken stands.has_spoken →
-    IfSome m (λ s. GivesOn room left longest unsent holds keeps stood stands s n)
+    IfSome m (λ s. GivesOn (ahead longest unsent) (pends holds stood room) (pends keeps stands left) s n)
 gives-fed stood stands room left longest None n unsent holds fed keeps order most le dear spent heard behind some is first = tt
 gives-fed stood stands room left longest (Some s) None unsent holds fed keeps order most le dear spent heard behind some is
     first =
@@ -269,15 +269,15 @@ taken_none holds taken same = no_bytes taken (length taken) refl
 -- protocol does
 pub takes-in : (stood stands : Standing) (room left longest : ℕ) (m n : Option SessionState) (before after : Option (List ℕ))
     (unsent holds between keeps : List ℕ) → Takes before after holds between →
-    IfSome m (λ s. GivesOn room left longest unsent between keeps stood stands s n) →
+    IfSome m (λ s. GivesOn (ahead longest unsent) (pends between stood room) (pends keeps stands left) s n) →
     (stood.has_spoken ≡ false → AreOfAnotherProtocol between → (between ≡ holds) ⊎ (n ≡ None)) →
-    IfSome m (λ s. TakesIn room left longest before after unsent holds keeps stood stands s n)
+    IfSome m (λ s. TakesIn before after (ahead longest unsent) (pends holds stood room) (pends keeps stands left) s n)
 takes-in stood stands room left longest None n before after unsent holds between keeps takes gives closes = tt
 takes-in stood stands room left longest (Some s) n before after unsent holds between keeps takes gives closes = record {
   taken = takes.taken;
   consumed = takes.consumed;
   unfinished = takes.unfinished;
-  gives = subst (λ l. GivesOn room left longest unsent l keeps stood stands s n) takes.order gives;
+  gives = subst (λ l. GivesOn (ahead longest unsent) (pends l stood room) (pends keeps stands left) s n) takes.order gives;
   closes = λ quiet some other.
       elim (closes quiet (subst (λ (l : List ℕ). AreOfAnotherProtocol l) (sym takes.order) other)) [
         | inl same ↦ absurd (some (taken_none holds takes.taken (sym takes.order ∙ same)))
@@ -289,7 +289,7 @@ takes-in stood stands room left longest (Some s) n before after unsent holds bet
 pub takes-in-unfinished : (stood stands : Standing) (room longest : ℕ) (m : Option SessionState)
     (before after : Option (List ℕ)) (unsent holds keeps : List ℕ) → Takes before after holds keeps →
     keeps ≡ holds → IsUnfinished holds → stands ≡ stood →
-    IfSome m (λ s. TakesIn room room longest before after unsent holds keeps stood stands s m)
+    IfSome m (λ s. TakesIn before after (ahead longest unsent) (pends holds stood room) (pends keeps stands room) s m)
 takes-in-unfinished stood stands room longest m before after unsent holds keeps takes same unfinished still =
     takes-in stood stands room room longest m m before after unsent holds keeps keeps takes
     (gives-none-up stood stands room longest m m unsent keeps refl

@@ -97,31 +97,53 @@ pub record HasSpokenOn (holds fed : List ℕ) (old new : Bool) : Type 0 where
   pub kept : fed ≡ [] → new ≡ old
   pub foreign : old ≡ false → AreOfAnotherProtocol holds → fed ≡ []
 
+-- What stands before a client's line: for how many turns somebody waits who comes first, and the answers that the client
+-- has not taken yet.
+pub record Ahead : Type 0 where
+  pub longest : ℕ
+  pub unsent : List ℕ
+
+abbrev pub ahead : ℕ → List ℕ → Ahead
+ahead longest unsent = record { longest = longest; unsent = unsent }
+
+-- What is left to be given of a client: the bytes that are held back, how it stands, and for how many lines that ask for
+-- much the turn has room yet.
+pub record Pending : Type 0 where
+  pub holds : List ℕ
+  pub stands : Standing
+  pub room : ℕ
+
+abbrev pub pends : List ℕ → Standing → ℕ → Pending
+pends holds stands room = record { holds = holds; stands = stands; room = room }
+
+abbrev pub pending : {S : Type 0} → Client S → ℕ → Pending
+pending client room = pends (held client.incoming) (standing client) room
+
 -- The session is given what stands in front of what is held back for it, as much as may be at once; a line that asks
 -- for much takes of the room that the turn has for such lines, and nothing else does, and it is given only where nobody
 -- has waited longer. It is closed only where it is given nothing.
-pub record GivesOn (room left longest : ℕ) (unsent holds keeps : List ℕ) (stood stands : Standing) (old : SessionState)
-    (new : Option SessionState) : Type 0 where
+pub record GivesOn (line : Ahead) (was is : Pending) (old : SessionState) (new : Option SessionState) : Type 0 where
   pub fed : List ℕ
-  pub order : holds ≡ fed ++ keeps
+  pub order : was.holds ≡ fed ++ is.holds
   pub heard : IfSome new (HasHeard old fed)
   pub gone : new ≡ None → fed ≡ []
-  pub many : fed ≢ [] → AreMost fed keeps
-  pub fewer : left ≤ room
-  pub dear : IsDearLine fed → (left + 1 ≤ room) × (longest ≤ stood.waited)
-  pub spent : (left ≡ room) ⊎ (is_dear fed ≡ true) ⊎ (new ≡ None)
-  pub wait : HasWaitedOn (IsHeldUp unsent keeps old new) room longest fed keeps stood.waited stands.waited
-  pub first : HasSpokenOn holds fed stood.has_spoken stands.has_spoken
+  pub many : fed ≢ [] → AreMost fed is.holds
+  pub fewer : is.room ≤ was.room
+  pub dear : IsDearLine fed → (is.room + 1 ≤ was.room) × (line.longest ≤ was.stands.waited)
+  pub spent : (is.room ≡ was.room) ⊎ (is_dear fed ≡ true) ⊎ (new ≡ None)
+  pub wait : HasWaitedOn (IsHeldUp line.unsent is.holds old new) was.room line.longest fed is.holds was.stands.waited
+      is.stands.waited
+  pub first : HasSpokenOn was.holds fed was.stands.has_spoken is.stands.has_spoken
 
 -- Bytes came from the peer, none where a line is held back, and the session is given what stands in front of all that
 -- is held back. It is closed where by these a client that has not spoken begins as another protocol does.
-pub record TakesIn (room left longest : ℕ) (before after : Option (List ℕ)) (unsent holds keeps : List ℕ)
-    (stood stands : Standing) (old : SessionState) (new : Option SessionState) : Type 0 where
+pub record TakesIn (before after : Option (List ℕ)) (line : Ahead) (was is : Pending) (old : SessionState)
+    (new : Option SessionState) : Type 0 where
   pub taken : List ℕ
   pub consumed : Consumes before after taken
-  pub unfinished : taken ≢ [] → IsUnfinished holds
-  pub gives : GivesOn room left longest unsent (holds ++ taken) keeps stood stands old new
-  pub closes : stood.has_spoken ≡ false → taken ≢ [] → AreOfAnotherProtocol (holds ++ taken) → new ≡ None
+  pub unfinished : taken ≢ [] → IsUnfinished was.holds
+  pub gives : GivesOn line (record was { holds = was.holds ++ taken }) is old new
+  pub closes : was.stands.has_spoken ≡ false → taken ≢ [] → AreOfAnotherProtocol (was.holds ++ taken) → new ≡ None
 
 -- ---- what goes
 

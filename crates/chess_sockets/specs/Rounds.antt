@@ -58,6 +58,14 @@ intake sessions room = record { sessions = sessions; room = room }
 abbrev pub Holds : Intake → Intake → Type 0
 Holds old new = IsUnchanged old.sessions new.sessions × (new.room ≡ old.room)
 
+-- When clients are read for: at a moment, by which they may have been silent for so long, or for ever.
+pub record ReadingTimes : Type 0 where
+  pub at : ℕ
+  pub silence : Option ℕ
+
+abbrev pub times : ℕ → Option ℕ → ReadingTimes
+times at silence = record { at = at; silence = silence }
+
 -- What comes on a client's connection is held back, and its session is given what stands in front of that, as much as
 -- may be at once, and nothing else. None is read where a line is held back, and no more is held back than a piece. A
 -- line that asks for much is given only where there is room, which nothing else takes but one that memory was refused
@@ -66,7 +74,7 @@ Holds old new = IsUnchanged old.sessions new.sessions × (new.room ≡ old.room)
 -- where it begins as another protocol does, and its session is closed in the turn that shows it. A session is closed
 -- for a reason: the connection has failed, memory was refused, the client begins as another protocol does, or it has
 -- been silent for as long as it may.
-pub record IsRead {S : Type 0} (remaining : S → Option (List ℕ)) (silence : Option ℕ) (at longest : ℕ)
+pub record IsRead {S : Type 0} (remaining : S → Option (List ℕ)) (when : ReadingTimes) (longest : ℕ)
     (client after : Client S) (old new : Intake) : Type 0 where
   pub sid : after.sid ≡ client.sid
   pub outgoing : waiting after.outgoing ≡ waiting client.outgoing
@@ -90,18 +98,19 @@ pub record IsRead {S : Type 0} (remaining : S → Option (List ℕ)) (silence : 
       → session_at new.sessions client.sid ≡ None
   pub unread : waiting client.outgoing ≢ [] → (after.wire.stream ≡ client.wire.stream)
       × (held after.incoming ≡ held client.incoming) × IsUnchanged old.sessions new.sessions
-  pub heard : IsHeardAt (remaining client.wire.stream) (remaining after.wire.stream) at client.heard_at after.heard_at
+  pub heard : IsHeardAt (remaining client.wire.stream) (remaining after.wire.stream) when.at client.heard_at
+      after.heard_at
   pub ended : IsEndSeen (remaining after.wire.stream) client.has_ended after.has_ended
   pub closed : PassesClosed client after old.sessions new.sessions
   pub reason : IsSome (session_at old.sessions client.sid) → session_at new.sessions client.sid ≡ None
-      → IsReason after (IsForeign after) (IsSomeAnd silence (IsSilent after old.sessions at)) ⊥ ⊥
+      → IsReason after (IsForeign after) (IsSomeAnd when.silence (IsSilent after old.sessions when.at)) ⊥ ⊥
 
 -- Each client is read for. A turn has room for one line that asks for much, which goes to who has waited longest.
-abbrev pub AreRead : {S : Type 0} → (S → Option (List ℕ)) → Option ℕ → ℕ → List (Client S) → List (Client S) → Sessions
+abbrev pub AreRead : {S : Type 0} → (S → Option (List ℕ)) → ReadingTimes → List (Client S) → List (Client S) → Sessions
     → Sessions → Type 0
-AreRead remaining silence at clients read old new =
+AreRead remaining when clients read old new =
     (left : ℕ) × (longest : ℕ) × IsLongest old clients longest
-    × AreEach Holds (IsRead remaining silence at longest) clients read (intake old 1) (intake new left)
+    × AreEach Holds (IsRead remaining when longest) clients read (intake old 1) (intake new left)
 
 -- ---- what goes
 

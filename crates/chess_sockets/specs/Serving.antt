@@ -2,13 +2,14 @@
 -- goes.
 use Rattle.std.specs.Prelude.{ℕ, ◌≡◌, ◌+◌, ◌-◌, ◌^◌, ◌⊎◌, min, false, List, [], ◌∷◌, ◌++◌, Option, is_some, filter, ⊤}
 use Rattle.std.specs.List.{All}
-use Rattle.chess_entry.specs.State.{TableState}
 use Rattle.chess_entry.specs.declared.commands.Command.{Command}
 use Rattle.chess_hub.specs.declared.sessions.Sessions.{Sessions}
 use Rattle.chess_hub.specs.Session.{session_at}
 use Rattle.chess_hub.specs.Calls.{Call, Connected, Closed, Fed, Turned, Given}
-use Rattle.chess_hub.specs.Law.{HubState, Steps, Stays}
+use Rattle.chess_hub.specs.Law.{HubState, hub_state, Steps, Stays}
 use Rattle.chess_hub.specs.Turning.{AsksFor}
+use Rattle.sector_dev.specs.declared.device.Device.{Ghosts}
+use Rattle.chess_sockets.specs.declared.server.Server.{Server}
 use Rattle.chess_sockets.specs.declared.server.Rested.{Rested}
 use Rattle.chess_sockets.specs.declared.server.Rested.TheVariants.{Calm}
 use Rattle.chess_sockets.specs.declared.client.Client.{Client}
@@ -18,10 +19,8 @@ use Rattle.sockets.specs.Listeners.{IsAsked}
 use Rattle.chess_sockets.specs.Closings.{IsSound}
 use Rattle.chess_sockets.specs.Incoming.{held}
 use Rattle.chess_sockets.specs.Rounds as rounds
+use Rattle.chess_sockets.specs.Rounds.{ReadingTimes}
 use Rattle.chess_sockets.specs.Sending.{waiting}
-
-abbrev pub state_of : Sessions → TableState → HubState
-state_of sessions table = record { sessions = sessions; table = table }
 
 -- These calls lead from one state to another; the newest stands first. Between them nothing changes.
 abbrev pub LeadsOn : HubState → List Call → HubState → Type 0
@@ -46,9 +45,9 @@ IsOfReading (Turned at most) = ⊥
 IsOfReading (Given sid answer) = ⊥
 
 -- Each client is read for, and the hub is called for what their sessions hear. The table is as it was.
-pub record AreRead {S : Type 0} (remaining : S → Option (List ℕ)) (silence : Option ℕ) (at : ℕ)
-    (clients read : List (Client S)) (old new : HubState) : Type 0 where
-  pub each : rounds.AreRead remaining silence at clients read old.sessions new.sessions
+pub record AreRead {S : Type 0} (remaining : S → Option (List ℕ)) (when : ReadingTimes) (clients read : List (Client S))
+    (old new : HubState) : Type 0 where
+  pub each : rounds.AreRead remaining when clients read old.sessions new.sessions
   pub calls : IsLedBy IsOfReading old new
   pub table : new.table ≡ old.table
 
@@ -109,11 +108,27 @@ AreCounted [] given gives count counted =
     (gives ≡ given) × (counted ≡ count) ⊎ (gives ≡ given + 1) × (counted ≡ min (count + 1) (2 ^ 64 - 1))
 AreCounted (client ∷ more) given gives count counted = (gives ≡ given + 1) × (counted ≡ count)
 
+-- How a server stands: how many connections its listener has given, and how many of them were turned away; its clients,
+-- and its hub.
+pub record ServerState (S : Type 0) : Type 0 where
+  pub given : ℕ
+  pub turned_away : ℕ
+  pub clients : List (Client S)
+  pub hub : HubState
+
+abbrev pub server_state : {S : Type 0} → ℕ → ℕ → List (Client S) → HubState → ServerState S
+server_state given turned_away clients hub =
+    record { given = given; turned_away = turned_away; clients = clients; hub = hub }
+
+-- that of a server
+abbrev pub state_of_server : {D S : Type 0} {ghosts : Ghosts D} → Server D S ghosts → ServerState S
+state_of_server server =
+    server_state server.listener.given server.turned_away server.clients.items (hub_state server.hub)
+
 -- At most one connection comes; it is a client, or is counted as turned away.
-pub record IsWelcomed {C S : Type 0} (IsMade : C → S → Type 0) (at given gives count counted : ℕ)
-    (clients after : List (Client S)) (old new : HubState) : Type 0 where
-  pub welcomes : Welcomes IsMade at clients after old new
-  pub counts : AreCounted welcomes.came given gives count counted
+pub record IsWelcomed {C S : Type 0} (IsMade : C → S → Type 0) (at : ℕ) (old new : ServerState S) : Type 0 where
+  pub welcomes : Welcomes IsMade at old.clients new.clients old.hub new.hub
+  pub counts : AreCounted welcomes.came old.given new.given old.turned_away new.turned_away
 
 -- After rests of this kind, or none, the listener is asked for a connection; but not where they were calm and its last
 -- try had found that nobody waits, for then it is left alone.
@@ -121,30 +136,37 @@ pub record IsAskedFor (rested : Rested) (old new : LocalListener) : Type 0 where
   pub asked : ((rested ≡ Calm) × (old.outcome ≡ Nobody) → ⊥) → IsAsked old.tries new.tries
   pub alone : (rested ≡ Calm) × (old.outcome ≡ Nobody) → new ≡ old
 
+-- clients, and the hub of their sessions
+pub record Served (S : Type 0) : Type 0 where
+  pub clients : List (Client S)
+  pub hub : HubState
+
+abbrev pub served : {S : Type 0} → List (Client S) → HubState → Served S
+served clients hub = record { clients = clients; hub = hub }
+
 -- Each client is read for, and then the hub answers at most 64 lines of what the sessions had sent by then, as one
 -- batch at this moment, which the store may be asked for.
-pub record HasReadAndAnswered {S : Type 0} (remaining : S → Option (List ℕ)) (silence : Option ℕ)
-    (May : List Command → Type 0) (at : ℕ) (clients read : List (Client S)) (old answered : HubState) : Type 0 where
+pub record HasReadAndAnswered {S : Type 0} (remaining : S → Option (List ℕ)) (when : ReadingTimes)
+    (May : List Command → Type 0) (old answered : Served S) : Type 0 where
   pub heard : HubState
-  pub reads : AreRead remaining silence at clients read old heard
-  pub turned : Steps heard (Turned at 64) answered
-  pub works : AsksFor at 64 heard.sessions May
+  pub reads : AreRead remaining when old.clients answered.clients old.hub heard
+  pub turned : Steps heard (Turned when.at 64) answered.hub
+  pub works : AsksFor when.at 64 heard.sessions May
 
 -- And then the answers are written.
-pub record HasServed {S : Type 0} (remaining contents : S → Option (List ℕ)) (silence : Option ℕ)
-    (May : List Command → Type 0) (at : ℕ) (clients written : List (Client S)) (old new : HubState) : Type 0 where
-  pub read : List (Client S)
-  pub answered : HubState
-  pub answers : HasReadAndAnswered remaining silence May at clients read old answered
-  pub writes : AreWritten contents read written answered new
+pub record HasServed {S : Type 0} (remaining contents : S → Option (List ℕ)) (when : ReadingTimes)
+    (May : List Command → Type 0) (old new : Served S) : Type 0 where
+  pub answered : Served S
+  pub answers : HasReadAndAnswered remaining when May old answered
+  pub writes : AreWritten contents answered.clients new.clients answered.hub new.hub
 
 -- A turn of the server: each client whose session is open, and who came, is served. Who is left has an open session.
 pub record HasGoneRound {C S : Type 0} (IsMade : C → S → Type 0) (remaining contents : S → Option (List ℕ))
-    (silence : Option ℕ) (given gives count counted : ℕ) (May : List Command → Type 0) (at : ℕ)
-    (clients left : List (Client S)) (old new : HubState) : Type 0 where
+    (when : ReadingTimes) (May : List Command → Type 0) (old new : ServerState S) : Type 0 where
   pub asked : List (Client S)
   pub begun : HubState
-  pub welcomes : IsWelcomed IsMade at given gives count counted (open_in old.sessions clients) asked old begun
+  pub welcomes : IsWelcomed IsMade when.at (record old { clients = open_in old.hub.sessions old.clients })
+      (record new { clients = asked; hub = begun })
   pub written : List (Client S)
-  pub serves : HasServed remaining contents silence May at asked written begun new
-  pub stay : left ≡ open_in new.sessions written
+  pub serves : HasServed remaining contents when May (served asked begun) (served written new.hub)
+  pub stay : new.clients ≡ open_in new.hub.sessions written

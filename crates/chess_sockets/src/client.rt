@@ -4,7 +4,7 @@ ghost use Rattle.std.specs.Prelude.{IfSome, IfOk, OnOk, OnErr};
 ghost use Rattle.std.specs.Io.KnownBytes.{Keeps};
 ghost use Rattle.chess_hub.specs.Session.{said, session_at, due, Changes};
 ghost use Rattle.chess_sockets.specs.Clients.{standing, IsOpen, OthersStay, IsSilent, IsHeardAt, IsEndSeen, GivesOn};
-ghost use Rattle.chess_sockets.specs.Clients.{TakesIn, HandsOut, bytes_of, to_go};
+ghost use Rattle.chess_sockets.specs.Clients.{TakesIn, HandsOut, bytes_of, to_go, ahead, pending};
 ghost use Rattle.chess_sockets.specs.Closings.{IsSound, IsForeign, IsTrouble, WasRefused};
 ghost use Rattle.text_lines.specs.Lines.{IsUnfinished};
 ghost use Rattle.chess_sockets.specs.Incoming.{held};
@@ -273,9 +273,9 @@ impl<S: Read + Write> Client<S> {
     // it, that of a peer that begins as another protocol does.
     fn hand_on<D: Device>(&mut self, hub: &mut Hub<D>, room: &mut Room)
         requires { IsOpen hub.old.sessions self.old.sid }
-        ensures gives { IfSome (session_at hub.old.sessions self.old.sid) (λ s. GivesOn room.old.lines room.new.lines
-            room.old.longest (waiting self.old.outgoing) (held self.old.incoming) (held self.new.incoming)
-            (standing self.old) (standing self.new) s (session_at hub.new.sessions self.old.sid)) }
+        ensures gives { IfSome (session_at hub.old.sessions self.old.sid) (λ s.
+            GivesOn (ahead room.old.longest (waiting self.old.outgoing)) (pending self.old room.old.lines)
+            (pending self.new room.new.lines) s (session_at hub.new.sessions self.old.sid)) }
         ensures longest { room.new.longest ≡ room.old.longest }
         ensures peer { (self.new.sid ≡ self.old.sid) × (waiting self.new.outgoing ≡ waiting self.old.outgoing) }
         ensures quiet { self.new.is_quiet ≡ self.old.is_quiet }
@@ -326,10 +326,10 @@ impl<S: Read + Write> Client<S> {
         room: &mut Room,
     ) -> bool
         requires { IsOpen hub.old.sessions self.old.sid }
-        ensures taken { IfSome (session_at hub.old.sessions self.old.sid) (λ s. TakesIn room.old.lines room.new.lines
-            room.old.longest (S.remaining self.old.wire.stream) (S.remaining self.new.wire.stream)
-            (waiting self.old.outgoing) (held self.old.incoming) (held self.new.incoming) (standing self.old)
-            (standing self.new) s (session_at hub.new.sessions self.old.sid)) }
+        ensures taken { IfSome (session_at hub.old.sessions self.old.sid) (λ s.
+            TakesIn (S.remaining self.old.wire.stream) (S.remaining self.new.wire.stream)
+            (ahead room.old.longest (waiting self.old.outgoing)) (pending self.old room.old.lines)
+            (pending self.new room.new.lines) s (session_at hub.new.sessions self.old.sid)) }
         ensures longest { room.new.longest ≡ room.old.longest }
         ensures peer { (self.new.sid ≡ self.old.sid) × (waiting self.new.outgoing ≡ waiting self.old.outgoing) }
         ensures heard { IsHeardAt (S.remaining self.old.wire.stream)

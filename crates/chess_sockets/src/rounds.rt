@@ -6,7 +6,7 @@ ghost use Rattle.text_lines.specs.Lines.{IsUnfinished};
 ghost use Rattle.chess_sockets.specs.Clients.{standing, IsOpen, IsSilent, IsLongest};
 ghost use Rattle.chess_sockets.specs.Incoming.{held};
 ghost use Rattle.chess_sockets.specs.Sending.{waiting};
-ghost use Rattle.chess_sockets.specs.Rounds.{intake, AreRead, IsRead, AreWritten, IsWritten};
+ghost use Rattle.chess_sockets.specs.Rounds.{intake, times, AreRead, IsRead, AreWritten, IsWritten};
 
 use crate::client::Client;
 use crate::closing::Closing;
@@ -83,7 +83,7 @@ fn read_for<S: Read + Write, D: Device>(
     piece: &mut [u8; PIECE_ROOM],
     room: &mut Room,
 ) -> bool
-    ensures read { IsRead S.remaining reading.silence reading.at room.old.longest client.old client.new
+    ensures read { IsRead S.remaining (times reading.at reading.silence) room.old.longest client.old client.new
         (intake hub.old.sessions room.old.lines) (intake hub.new.sessions room.new.lines) }
     ensures longest { room.new.longest ≡ room.old.longest }
     ensures store { hub.new.store ≡ hub.old.store }
@@ -135,8 +135,8 @@ pub fn take_in_all<S: Read + Write, D: Device>(
     hub: &mut Hub<D>,
     reading: Reading,
 ) -> bool
-    ensures read { AreRead S.remaining reading.silence reading.at clients.old.items clients.new.items hub.old.sessions
-        hub.new.sessions }
+    ensures read { AreRead S.remaining (times reading.at reading.silence) clients.old.items clients.new.items
+        hub.old.sessions hub.new.sessions }
     ensures all { length clients.new.items ≡ length clients.old.items }
     // Where there are no clients there is nothing to do.
     ensures more { result ≡ true → 0 < length clients.old.items }

@@ -2,11 +2,12 @@
 ghost use Rattle.std.specs.Prelude.{◌≡◌, ◌<◌, ◌+◌, ◌↔◌, ◌⊎◌, true, false, [], Some, None, Ok, IsTrue, IsSomeAnd, IfOk};
 ghost use Rattle.std.specs.Prelude.{IfErr, OnOk, length};
 ghost use Rattle.std.specs.Bool.{OnTrue, OnFalse};
-ghost use Rattle.chess_store.specs.Kept.{IsStoreKept};
-ghost use Rattle.chess_hub.specs.Faults.{CountsFault, refusals_after};
-ghost use Rattle.chess_hub.specs.Turning.{MayBeAsked, TurnLasts, TurnTried};
-ghost use Rattle.chess_sockets.specs.Serving.{state_of, Welcomes, IsWelcomed, IsAskedFor, HasServed, HasGoneRound};
-ghost use Rattle.chess_sockets.specs.Serving.{open_in};
+ghost use Rattle.chess_hub.specs.Faults.{refusals_after};
+ghost use Rattle.chess_hub.specs.Law.{hub_state};
+ghost use Rattle.chess_hub.specs.Storing.{StoreMayBeAsked, StoreRefuses, StoreLasts, StoreTried, StoreCounts};
+ghost use Rattle.chess_sockets.specs.Rounds.{times};
+ghost use Rattle.chess_sockets.specs.Serving.{Welcomes, IsWelcomed, IsAskedFor, HasServed, HasGoneRound, open_in};
+ghost use Rattle.chess_sockets.specs.Serving.{served, state_of_server};
 ghost use Rattle.chess_sockets.specs.Turns.{EndsServing, IsRefusal, IsTurnRefusal};
 
 use crate::fault::ServerFault;
@@ -87,8 +88,8 @@ fn admit<S: Read + Write + From<Connection> + Drop, D: Device>(
     connection: Connection,
     at: u64,
 ) -> bool
-    ensures welcomes { Welcomes S.from_gives at clients.old.items clients.new.items
-        (state_of hub.old.sessions hub.old.store.table) (state_of hub.new.sessions hub.new.store.table) }
+    ensures welcomes { Welcomes S.from_gives at clients.old.items clients.new.items (hub_state hub.old)
+        (hub_state hub.new) }
     ensures store { hub.new.store ≡ hub.old.store }
     ensures refusals { hub.new.refusals ≡ hub.old.refusals }
     ensures waits { watch.new.calm_waits ≡ watch.old.calm_waits }
@@ -120,24 +121,19 @@ pub fn serve_clients<S: Read + Write, D: Device>(
     ensures fault { IfErr result EndsServing }
     // Want of memory ends serving only where a turn of the hub was refused it.
     ensures counts { hub.new.refusals ≡ refusals_after result hub.old.refusals }
-    ensures refused { IfErr result (λ fault. IsRefusal S.remaining reading.silence fault reading.at
-        hub.old.store.journal.header.seq hub.old.store.failed clients.old.items clients.new.items
-        (state_of hub.old.sessions hub.old.store.table) (state_of hub.new.sessions hub.new.store.table)) }
+    ensures refused { IfErr result (λ fault. IsRefusal S.remaining (times reading.at reading.silence)
+        (StoreRefuses hub.old.store hub.new.store) fault (served clients.old.items (hub_state hub.old))
+        (served clients.new.items (hub_state hub.new))) }
     // Where there are no clients there is nothing to do.
     ensures more { IfOk result (λ more. more ≡ true → 0 < length clients.old.items) }
     // Each session hears what its client's stream gave, and nothing else, but for what comes behind a line that is too
     // long; and what it is given goes to that stream, as far as that takes it, unless the session is closed.
-    ensures served { OnOk result (HasServed S.remaining S.contents reading.silence (MayBeAsked hub.old.store.failed
-        hub.old.store.journal.header.seq hub.old.store.table.entries) reading.at clients.old.items clients.new.items
-        (state_of hub.old.sessions hub.old.store.table) (state_of hub.new.sessions hub.new.store.table)) }
-    ensures tried { OnOk result (TurnTried D.state D.sector_count D.failures hub.old.store.journal.device
-        hub.new.store.journal.device (Ok (tt {0})) hub.old.store.table hub.new.store.table hub.old.store.failed
-        hub.new.store.failed) }
-    ensures cause_err { IfErr result (λ fault. CountsFault fault (D.failures hub.old.store.journal.device)
-        (D.failures hub.new.store.journal.device)) }
-    ensures lasts { IsStoreKept hub.old.store
-        → TurnLasts result (D.state hub.old.store.journal.device) (D.state hub.new.store.journal.device)
-        hub.new.store.journal.header hub.new.store.journal.compaction hub.old.store.table hub.new.store.table }
+    ensures served { OnOk result (HasServed S.remaining S.contents (times reading.at reading.silence)
+        (StoreMayBeAsked hub.old.store) (served clients.old.items (hub_state hub.old))
+        (served clients.new.items (hub_state hub.new))) }
+    ensures tried { OnOk result (StoreTried hub.old.store hub.new.store (Ok (tt {0}))) }
+    ensures cause_err { IfErr result (StoreCounts hub.old.store hub.new.store) }
+    ensures lasts { StoreLasts hub.old.store hub.new.store result }
 {
     let has_read = take_in_all(clients, hub, reading);
     if let Err(fault) = hub.turn(reading.at, LINES) {
@@ -222,11 +218,7 @@ impl<D: Device, S: Read + Write + From<Connection> + Drop> Server<D, S> {
         ensures came { OnTrue result (self.new.listener.given ≡ self.old.listener.given + 1) }
         ensures nobody { OnFalse result (self.new.listener.given ≡ self.old.listener.given) }
         ensures stay { OnFalse result (self.new.clients.items ≡ self.old.clients.items) }
-        ensures welcomes { IsWelcomed S.from_gives at self.old.listener.given self.new.listener.given
-            self.old.turned_away
-            self.new.turned_away self.old.clients.items self.new.clients.items
-            (state_of self.old.hub.sessions self.old.hub.store.table)
-            (state_of self.new.hub.sessions self.new.hub.store.table) }
+        ensures welcomes { IsWelcomed S.from_gives at (state_of_server self.old) (state_of_server self.new) }
         ensures store { self.new.hub.store ≡ self.old.hub.store }
         ensures refusals { self.new.hub.refusals ≡ self.old.hub.refusals }
         ensures silence { self.new.silence ≡ self.old.silence }
@@ -285,17 +277,11 @@ impl<D: Device, S: Read + Write + From<Connection> + Drop> Server<D, S> {
         ensures fault { IfErr result EndsServing }
         ensures counts { self.new.hub.refusals ≡ refusals_after result self.old.hub.refusals }
         // The store's own fault tells why it refused what lines ask for.
-        ensures refused { IfErr result (λ fault. IsTurnRefusal S.from_gives S.remaining self.old.silence
-            self.old.listener.given self.new.listener.given self.old.turned_away self.new.turned_away fault at
-            self.old.hub.store.journal.header.seq self.old.hub.store.failed
-            self.old.clients.items self.new.clients.items
-            (state_of self.old.hub.sessions self.old.hub.store.table)
-            (state_of self.new.hub.sessions self.new.hub.store.table)) }
-        ensures tried { OnOk result (TurnTried D.state D.sector_count D.failures self.old.hub.store.journal.device
-            self.new.hub.store.journal.device (Ok (tt {0})) self.old.hub.store.table self.new.hub.store.table
-            self.old.hub.store.failed self.new.hub.store.failed) }
-        ensures cause_err { IfErr result (λ fault. CountsFault fault
-            (D.failures self.old.hub.store.journal.device) (D.failures self.new.hub.store.journal.device)) }
+        ensures refused { IfErr result (λ fault. IsTurnRefusal S.from_gives S.remaining (times at self.old.silence)
+            (StoreRefuses self.old.hub.store self.new.hub.store) fault (state_of_server self.old)
+            (state_of_server self.new)) }
+        ensures tried { OnOk result (StoreTried self.old.hub.store self.new.hub.store (Ok (tt {0}))) }
+        ensures cause_err { IfErr result (StoreCounts self.old.hub.store self.new.hub.store) }
         // Whoever may wait is asked for, in each turn, and what comes is work.
         ensures asked { IsAskedFor self.old.rested self.old.listener self.new.listener }
         ensures came { IfOk result (λ turned. turned ≡ Turned.Idle
@@ -308,19 +294,12 @@ impl<D: Device, S: Read + Write + From<Connection> + Drop> Server<D, S> {
         ensures again { OnOk result (self.new.rested ≡ Rested.Not) }
         // Each session hears what its client's stream gave, and what it is given goes to that stream, whatever the
         // streams are. At most one comes, who is a client or is counted as turned away.
-        ensures served { OnOk result (HasGoneRound S.from_gives S.remaining S.contents self.old.silence
-            self.old.listener.given self.new.listener.given self.old.turned_away self.new.turned_away
-            (MayBeAsked self.old.hub.store.failed
-            self.old.hub.store.journal.header.seq self.old.hub.store.table.entries) at self.old.clients.items
-            self.new.clients.items (state_of self.old.hub.sessions self.old.hub.store.table)
-            (state_of self.new.hub.sessions self.new.hub.store.table)) }
+        ensures served { OnOk result (HasGoneRound S.from_gives S.remaining S.contents (times at self.old.silence)
+            (StoreMayBeAsked self.old.hub.store) (state_of_server self.old) (state_of_server self.new)) }
         ensures silence { self.new.silence ≡ self.old.silence }
         ensures waits { self.new.watch.calm_waits ≡ self.old.watch.calm_waits }
         ensures blind { self.old.watch.is_blind ≡ true → self.new.watch.is_blind ≡ true }
-        ensures lasts { IsStoreKept self.old.hub.store
-            → TurnLasts result (D.state self.old.hub.store.journal.device) (D.state self.new.hub.store.journal.device)
-            self.new.hub.store.journal.header self.new.hub.store.journal.compaction self.old.hub.store.table
-            self.new.hub.store.table }
+        ensures lasts { StoreLasts self.old.hub.store self.new.hub.store result }
     {
         // A number of a session that was closed may be given again.
         self.part();

@@ -31,6 +31,10 @@ it has changed.
 With --stopped an arbiter stops all clocks, and has them run again: name the file beside the
 journal of a server with --clock serving, as club.journal.stopped. Nobody else acts meanwhile.
 
+With --decisions an arbiter decides results of boards from the page: name the folder with the
+rounds' files. What he decides of round 1 is put into round1.decisions, by round1.csv, as the
+word decide puts it.
+
 It goes on until it is ended: kill it, by any signal. Nothing is lost by that.
 
 The line is not encrypted. On an address other than 127.0.0.1 whoever is on the way reads
@@ -242,6 +246,13 @@ const ITS_LOG: OptionText = OptionText {
     is_required: true,
 };
 
+const DECISIONS: OptionText = OptionText {
+    name: "decisions",
+    value: OptionValue::Text("FOLDER"),
+    help: "The folder of the rounds' files, to whose decisions an arbiter's are put",
+    is_required: false,
+};
+
 pub const LOBBY: WordText = WordText {
     name: "lobby",
     about: "Serves the page and its players, over a game server",
@@ -260,6 +271,7 @@ pub const LOBBY: WordText = WordText {
         GAMES_FILES,
         LOG,
         STOPPED,
+        DECISIONS,
         WAITING_MOST,
         PLAYING_MOST,
         OVER_MOST,
@@ -371,6 +383,7 @@ pub fn serving_of<'a>(
         games: values.get_str("games-files"),
         log: values.get_str("log"),
         stopped: values.get_str("stopped"),
+        decisions: values.get_str("decisions"),
         hosts,
     }))
 }

@@ -102,7 +102,7 @@ It writes who stands where, as CSV: players by points, and among those who are t
 tie-break after another, in the order of --by, as FIDE's Handbook has them (C.07, of 2024):
   DE    the direct encounter        BH   Buchholz
   BHC1  Buchholz, Cut 1             SB   Sonneborn-Berger
-  WIN   wins                        BP   board points, of teams
+  WIN   wins                        BP   board points, with --teams alone
 Results are looked for, and counted, as for trf. With --form crosstable it writes who met whom
 in each round, and with --form json what the lobby serves by its --round, for the page. With
 --teams it does so for teams: a match is the boards of a round at which two of them meet.
@@ -649,17 +649,22 @@ fn reporting_of<'a>(
     }))
 }
 
-// The tie-breaks that are asked for; none where a word is none.
+// The tie-breaks that are asked for, of players or of teams; none where a word is none of theirs.
 fn criteria_of(
     alloc: Global,
     values: &ArgMatches<'_>,
-    without: &str,
+    of_teams: bool,
 ) -> Result<Option<Vec<Criterion>>, AllocError> {
+    let without = if of_teams {
+        "BP,DE,BHC1,BH,SB,WIN"
+    } else {
+        "DE,BHC1,BH,SB,WIN"
+    };
     let words = parts(alloc, values.get_str("by").unwrap_or(without), ',')?;
     words
         .as_slice()
         .iter()
-        .map(|word| criterion_of(word))
+        .map(|word| criterion_of(word, of_teams))
         .collect(alloc)
 }
 
@@ -681,14 +686,9 @@ fn asked_of<'a>(
     names: NameForm,
     of_teams: bool,
 ) -> Result<Option<Standing<'a>>, AllocError> {
-    let without = if of_teams {
-        "BP,DE,BHC1,BH,SB,WIN"
-    } else {
-        "DE,BHC1,BH,SB,WIN"
-    };
     let (Some(reporting), Some(criteria), Some(form)) = (
         reporting_of(alloc, values)?,
-        criteria_of(alloc, values, without)?,
+        criteria_of(alloc, values, of_teams)?,
         form,
     ) else {
         return Ok(None);

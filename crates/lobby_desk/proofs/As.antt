@@ -11,7 +11,7 @@ use Rattle.std.proofs.lemmas.Slice.Eq.{bytes_eq-Decides}
 use Rattle.lobby_words.specs.declared.words.Call.TheVariants as calls
 use Rattle.lobby_words.specs.declared.words.Sort.{Sort}
 use Rattle.lobby_words.specs.declared.words.Sort.TheVariants as sorts
-use Rattle.lobby_words.specs.Words.{word_of, rest_of, as_name, as_line, black_name, pair_times, pair_line, is_as_word, is_act_sort, is_message, is_message_byte, is_play_word, is_question, is_read, is_show_word, is_act_word, as_sort, own_sort, whole_sort, is_stop, sort_of, is_as_sort, is_pair_sort}
+use Rattle.lobby_words.specs.Words.{word_of, rest_of, as_name, as_line, black_name, pair_times, pair_line, is_as_word, is_act_sort, is_message, is_message_byte, is_play_word, is_question, is_read, is_show_word, is_act_word, as_sort, own_sort, whole_sort, is_stop, is_decision, sort_of, is_as_sort, is_pair_sort}
 use Rattle.lobby_desk.proofs.Lines.{message}
 
 -- ---- where a message asks for that, LINE is an act
@@ -19,21 +19,22 @@ use Rattle.lobby_desk.proofs.Lines.{message}
 abbrev may_pair : List ℕ → Bool
 may_pair text = not (bytes_eq (as_name text) (black_name text)) && nat_le 1 (length (pair_times text)) && nat_le (length (pair_times text)) 244
 
-whole_none : (z a b o c d e f g h i : Bool) →
+whole_none : (z a b o c d e f g h i j : Bool) →
     is_as_sort (if z then sorts.Unpair else (if a then sorts.Players else (if b then sorts.Who else (if o then sorts.Offers else (if c then sorts.Pause else (if d then sorts.Resume
-    else (if e then sorts.Lobby else (if f then sorts.LeaveLobby else (if g then sorts.Call calls.StopClocks else (if h then sorts.Call calls.StartClocks else (if i then sorts.Call calls.Announce else sorts.Nothing))))))))))) ≡ false
-whole_none true a b o c d e f g h i = refl
-whole_none false true b o c d e f g h i = refl
-whole_none false false true o c d e f g h i = refl
-whole_none false false false true c d e f g h i = refl
-whole_none false false false false true d e f g h i = refl
-whole_none false false false false false true e f g h i = refl
-whole_none false false false false false false true f g h i = refl
-whole_none false false false false false false false true g h i = refl
-whole_none false false false false false false false false true h i = refl
-whole_none false false false false false false false false false true i = refl
-whole_none false false false false false false false false false false true = refl
-whole_none false false false false false false false false false false false = refl
+    else (if e then sorts.Lobby else (if f then sorts.LeaveLobby else (if g then sorts.Call calls.StopClocks else (if h then sorts.Call calls.StartClocks else (if i then sorts.Call calls.Announce else (if j then sorts.Call calls.Decide else sorts.Nothing)))))))))))) ≡ false
+whole_none true a b o c d e f g h i j = refl
+whole_none false true b o c d e f g h i j = refl
+whole_none false false true o c d e f g h i j = refl
+whole_none false false false true c d e f g h i j = refl
+whole_none false false false false true d e f g h i j = refl
+whole_none false false false false false true e f g h i j = refl
+whole_none false false false false false false true f g h i j = refl
+whole_none false false false false false false false true g h i j = refl
+whole_none false false false false false false false false true h i j = refl
+whole_none false false false false false false false false false true i j = refl
+whole_none false false false false false false false false false false true j = refl
+whole_none false false false false false false false false false false false true = refl
+whole_none false false false false false false false false false false false false = refl
 
 own_none : (a b c r m d e f g p : Bool) (last : Sort) → is_as_sort last ≡ false →
     is_as_sort (if a then sorts.Login else (if b then sorts.Watch else (if c then sorts.Line else (if r then sorts.Room else (if m then sorts.Moves else (if d then sorts.Leave
@@ -56,7 +57,7 @@ own_not_as w text =
     (bytes_eq w (codes "room")) (bytes_eq w (codes "moves")) (bytes_eq w (codes "leave") && not (bytes_eq text (codes "leave lobby"))) (bytes_eq w (codes "link")) (bytes_eq w (codes "close"))
     (bytes_eq w (codes "pair")) (may_pair text) (if bytes_eq w (codes "unpair") then sorts.Unpair else whole_sort text)
     (whole_none (bytes_eq w (codes "unpair")) (bytes_eq text (codes "players")) (bytes_eq text (codes "who")) (bytes_eq text (codes "offers")) (bytes_eq text (codes "pause entries"))
-    (bytes_eq text (codes "resume entries")) (bytes_eq text (codes "lobby")) (bytes_eq text (codes "leave lobby")) (is_stop text) (bytes_eq text (codes "start clocks")) (bytes_eq (word_of text) (codes "announce")))
+    (bytes_eq text (codes "resume entries")) (bytes_eq text (codes "lobby")) (bytes_eq text (codes "leave lobby")) (is_stop text) (bytes_eq text (codes "start clocks")) (bytes_eq (word_of text) (codes "announce")) (is_decision text && nat_le 1 (length (as_line (pair_times text)))))
 
 plays_if : (a b c d e p : Bool) (last : Sort) → is_as_sort last ≡ false →
     is_as_sort (if a then sorts.Name else (if b then sorts.Read else (if c then sorts.Act else (if d then sorts.Drop
@@ -274,21 +275,22 @@ own_pair false false false false false false false false true true last none h =
 own_pair false false false false false false false false true false last none h = absurd (false≢true h)
 own_pair false false false false false false false false false p last none h = absurd (false≢true (sym none ∙ h))
 
-whole_no_pair : (z a b o c d e f g h i : Bool) →
+whole_no_pair : (z a b o c d e f g h i j : Bool) →
     is_pair_sort (if z then sorts.Unpair else (if a then sorts.Players else (if b then sorts.Who else (if o then sorts.Offers else (if c then sorts.Pause else (if d then sorts.Resume
-    else (if e then sorts.Lobby else (if f then sorts.LeaveLobby else (if g then sorts.Call calls.StopClocks else (if h then sorts.Call calls.StartClocks else (if i then sorts.Call calls.Announce else sorts.Nothing))))))))))) ≡ false
-whole_no_pair true a b o c d e f g h i = refl
-whole_no_pair false true b o c d e f g h i = refl
-whole_no_pair false false true o c d e f g h i = refl
-whole_no_pair false false false true c d e f g h i = refl
-whole_no_pair false false false false true d e f g h i = refl
-whole_no_pair false false false false false true e f g h i = refl
-whole_no_pair false false false false false false true f g h i = refl
-whole_no_pair false false false false false false false true g h i = refl
-whole_no_pair false false false false false false false false true h i = refl
-whole_no_pair false false false false false false false false false true i = refl
-whole_no_pair false false false false false false false false false false true = refl
-whole_no_pair false false false false false false false false false false false = refl
+    else (if e then sorts.Lobby else (if f then sorts.LeaveLobby else (if g then sorts.Call calls.StopClocks else (if h then sorts.Call calls.StartClocks else (if i then sorts.Call calls.Announce else (if j then sorts.Call calls.Decide else sorts.Nothing)))))))))))) ≡ false
+whole_no_pair true a b o c d e f g h i j = refl
+whole_no_pair false true b o c d e f g h i j = refl
+whole_no_pair false false true o c d e f g h i j = refl
+whole_no_pair false false false true c d e f g h i j = refl
+whole_no_pair false false false false true d e f g h i j = refl
+whole_no_pair false false false false false true e f g h i j = refl
+whole_no_pair false false false false false false true f g h i j = refl
+whole_no_pair false false false false false false false true g h i j = refl
+whole_no_pair false false false false false false false false true h i j = refl
+whole_no_pair false false false false false false false false false true i j = refl
+whole_no_pair false false false false false false false false false false true j = refl
+whole_no_pair false false false false false false false false false false false true = refl
+whole_no_pair false false false false false false false false false false false false = refl
 
 as_no_pair : (p : Bool) → is_pair_sort (if p then sorts.As else sorts.Nothing) ≡ false
 as_no_pair true = refl
@@ -302,7 +304,7 @@ pairs_so text is =
     (bytes_eq w (codes "room")) (bytes_eq w (codes "moves")) (bytes_eq w (codes "leave") && not (bytes_eq text (codes "leave lobby"))) (bytes_eq w (codes "link")) (bytes_eq w (codes "close"))
     (bytes_eq w (codes "pair")) (may_pair text) (if bytes_eq w (codes "unpair") then sorts.Unpair else whole_sort text)
     (whole_no_pair (bytes_eq w (codes "unpair")) (bytes_eq text (codes "players")) (bytes_eq text (codes "who")) (bytes_eq text (codes "offers")) (bytes_eq text (codes "pause entries"))
-    (bytes_eq text (codes "resume entries")) (bytes_eq text (codes "lobby")) (bytes_eq text (codes "leave lobby")) (is_stop text) (bytes_eq text (codes "start clocks")) (bytes_eq (word_of text) (codes "announce")))
+    (bytes_eq text (codes "resume entries")) (bytes_eq text (codes "lobby")) (bytes_eq text (codes "leave lobby")) (is_stop text) (bytes_eq text (codes "start clocks")) (bytes_eq (word_of text) (codes "announce")) (is_decision text && nat_le 1 (length (as_line (pair_times text)))))
     (pair_if (bytes_eq w (codes "name")) (is_read text) (is_act_word w) (bytes_eq w (codes "drop")) (bytes_eq w (codes "as"))
     (as_sort text) (own_sort w text) (as_no_pair (is_act_word (word_of (as_line text)))) (ap is_pair_sort is))
 

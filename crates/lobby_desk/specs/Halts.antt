@@ -7,7 +7,7 @@ use Rattle.lobby_words.specs.declared.planning.Plan.TheVariants as plans
 use Rattle.lobby_words.specs.declared.refusals.Refusal.{Refusal}
 use Rattle.lobby_words.specs.declared.refusals.Refusal.TheVariants as refusals
 use Rattle.lobby_words.specs.declared.words.Call.TheVariants as calls
-use Rattle.lobby_words.specs.Words.{rest_of, as_line, is_of_clocks}
+use Rattle.lobby_words.specs.Words.{rest_of, as_line, is_decision, is_of_clocks}
 use Rattle.lobby_desk.specs.declared.halts.Halts.{Halts}
 
 -- whether entries are paused, whether clocks can be stopped, and the reason for which all are: none where they run; and
@@ -56,10 +56,12 @@ halted_after plan text before = record {
 abbrev pub stop_bar : Halted → Bool → Option Refusal
 stop_bar halts is_arbiter = if is_stopped halts && not is_arbiter then Some refusals.ClocksStopped else None
 
--- a message that asks for the clocks, where none can be stopped, is none of these
-abbrev pub halts_bar : Halted → Bool → List ℕ → Option Refusal
-halts_bar halts is_arbiter text =
-    if is_of_clocks text && not halts.can_stop then Some refusals.NoClocks else stop_bar halts is_arbiter
+-- Nothing is done of a message that asks for the clocks, where none can be stopped, or of a decision that has not been
+-- put to those of its round.
+abbrev pub halts_bar : Halted → Bool → Bool → List ℕ → Option Refusal
+halts_bar halts put is_arbiter text =
+    if is_of_clocks text && not halts.can_stop then Some refusals.NoClocks
+    else (if is_decision text && not put then Some refusals.NotDecided else stop_bar halts is_arbiter)
 
 -- the line that tells that all clocks are stopped, and why; none where they run
 abbrev pub line_if : List ℕ → List ℕ → List ℕ

@@ -252,6 +252,7 @@ AreToldOffers table c tells = (text : List ℕ) × (tells ≡ to_one c text ∷ 
 -- an act.
 abbrev pub call_front : Call → List ℕ
 call_front calls.Announce = codes "told by "
+call_front calls.Decide = codes "told by "
 call_front _ = codes "clocks by "
 
 abbrev pub call_said : Call → List ℕ → List ℕ → List ℕ
@@ -261,7 +262,7 @@ abbrev pub call_logged : Call → List ℕ → List ℕ → MessageValue
 call_logged call by text = to_log (call_said call by text)
 
 -- What everybody is told then: that all clocks are stopped, and the reason that the message names, or that they run; or
--- what is announced, which is nothing where nothing stands behind the word.
+-- what is announced, which is nothing where nothing stands behind the word; or what is decided.
 abbrev pub announcement : List ℕ → List ℕ
 announcement text =
     if nat_le 1 (length text) then codes "announced " ++ text ++ codes "\n" else codes "announced\n"
@@ -270,6 +271,7 @@ abbrev pub call_line : Call → List ℕ → List ℕ
 call_line calls.StopClocks text = codes "clocks stopped " ++ as_line text ++ codes "\n"
 call_line calls.StartClocks text = codes "clocks run\n"
 call_line calls.Announce text = announcement (rest_of text)
+call_line calls.Decide text = codes "decided " ++ rest_of text ++ codes "\n"
 
 abbrev pub call_notice : List ℕ → Call → List ℕ → MessageValue
 call_notice to call text = record { to = to; kind = kinds.Whole; text = call_line call text }

@@ -8,6 +8,8 @@ use Rattle.std.specs.String.{string_bytes}
 use Rattle.player_name.specs.Name.{IsName}
 use Rattle.lobby_words.specs.declared.words.Call.{Call}
 use Rattle.lobby_words.specs.declared.words.Call.TheVariants as calls
+use Rattle.lobby_words.specs.declared.words.Sort.{Sort}
+use Rattle.lobby_words.specs.declared.words.Sort.TheVariants as sorts
 use Rattle.lobby_words.specs.declared.planning.Plan.{Plan}
 use Rattle.lobby_words.specs.declared.planning.Plan.TheVariants as plans
 use Rattle.lobby_words.specs.declared.refusals.Refusal.{Refusal}
@@ -124,6 +126,7 @@ abbrev pub call_answer : Call → List ℕ
 call_answer calls.StopClocks = codes "ok stop clocks\n"
 call_answer calls.StartClocks = codes "ok start clocks\n"
 call_answer calls.Announce = codes "ok announce\n"
+call_answer calls.Decide = codes "ok decide\n"
 
 -- what such an answer rests on: whether entries are paused, who has a seat in which game, what is offered, who watches
 -- which game, who was there when, which connections are open, and for whom each acts
@@ -296,11 +299,11 @@ or_bar None bar = bar
 or_bar (Some first) bar = Some first
 
 -- Why a message of who acts so is not done: while all clocks are stopped none of who is no arbiter is; and where this
--- lobby can stop no clocks none is that asks for it.
-abbrev pub bar_of : Limits → Known → Halted → Option Identity → List ℕ → Option Refusal
-bar_of limits k halts None text = None
-bar_of limits k halts (Some who) text =
-    or_bar (halts_bar halts who.is_arbiter text) (name_bar limits k who.is_arbiter (actor who.name text) text)
+-- lobby can stop no clocks none is that asks for it; and no decision is but one that has been put to those of its round.
+abbrev pub bar_of : Limits → Known → Halted → Bool → Option Identity → List ℕ → Option Refusal
+bar_of limits k halts put None text = None
+bar_of limits k halts put (Some who) text =
+    or_bar (halts_bar halts put who.is_arbiter text) (name_bar limits k who.is_arbiter (actor who.name text) text)
 
 -- Why the two players of a pairing may not play it, where no arbiter pairs them: all clocks are stopped, White may open
 -- no game more, or one of the two may play in no one more.
@@ -320,9 +323,9 @@ pair_bar_of limits k halts text =
 abbrev pub holder_shown : List Player → List ℕ → Option Identity
 holder_shown players text = if is_login_sort (sort_of text) then holder_of players (rest_of text) else None
 
--- what the plan for a message of a connection at a moment rests on
-abbrev pub standing_of : Desk → ℕ → List ℕ → ℕ → Standing
-standing_of desk c text at = record {
+-- what the plan for a message of a connection at a moment rests on; and whether it is a decision that has been put
+abbrev pub standing_of : Bool → Desk → ℕ → List ℕ → ℕ → Standing
+standing_of put desk c text at = record {
   who = who_of desk c;
   holder = holder_shown desk.players.items text;
   named = known_name desk.players.items (as_name text);
@@ -330,7 +333,7 @@ standing_of desk c text at = record {
   linked = known_name desk.players.items (rest_of text);
   is_here = desk.line.is_here;
   is_full = is_full desk.watches.items c (u32_in (rest_of text));
-  bar = bar_of desk.limits (known desk) (halted desk.halts) (who_of desk c) text;
+  bar = bar_of desk.limits (known desk) (halted desk.halts) put (who_of desk c) text;
   accord = accord_of desk.players.items (who_of desk) c text at (map offered desk.offers.items);
   pair_bar = pair_bar_of desk.limits (known desk) (halted desk.halts) text;
   is_paused = (opens_game text || is_pair text) && desk.halts.is_paused;
@@ -341,8 +344,22 @@ standing_of desk c text at = record {
 abbrev pub order_asked : Desk → ℕ → List ℕ → ℕ → Option Order
 order_asked desk c text at =
     if is_too_fast (until_of desk c) at then None
-    else order_of (plan_of (is_message text) (sort_of text) (standing_of desk c text at)
+    else order_of (plan_of (is_message text) (sort_of text) (standing_of false desk c text at)
     (u32_in (rest_of text)))
+
+-- Whether a message at this moment is an arbiter's that decides, and not one that comes too fast: then whoever keeps the
+-- decisions is asked to put it to those of its round.
+abbrev pub is_arbiters : Option Identity → Bool
+is_arbiters None = false
+is_arbiters (Some who) = who.is_arbiter
+
+abbrev pub decides : Sort → Bool
+decides (sorts.Call calls.Decide) = true
+decides _ = false
+
+abbrev pub decides_now : Desk → ℕ → List ℕ → ℕ → Bool
+decides_now desk c text at =
+    not (is_too_fast (until_of desk c) at) && is_message text && decides (sort_of text) && is_arbiters (who_of desk c)
 
 -- The plan for a message is carried out: these lines go out, and of the players for whom connections act no more
 -- changes than a login says.
@@ -356,7 +373,8 @@ pub record IsSaid (players : List Player) (old : View) (c : ℕ) (text : List �
   pub link : standing.linked ≡ known_name players (rest_of text)
   pub here : standing.is_here ≡ old.here
   pub full : standing.is_full ≡ is_full old.known.watches c (u32_in (rest_of text))
-  pub bar : standing.bar ≡ bar_of old.limits old.known old.halts (old.who c) text
+  pub put : Bool
+  pub bar : standing.bar ≡ bar_of old.limits old.known old.halts put (old.who c) text
   pub accord : standing.accord ≡ accord_of players old.who c text standing.at old.offers
   pub pair_bar : standing.pair_bar ≡ pair_bar_of old.limits old.known old.halts text
   pub paused : standing.is_paused ≡ ((opens_game text || is_pair text) && old.halts.paused)

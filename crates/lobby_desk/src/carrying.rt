@@ -65,6 +65,7 @@ impl Desk {
                 Ok(Some(String::from_str(alloc, "ok start clocks\n")?))
             }
             Plan::Call(Call::Announce) => Ok(Some(String::from_str(alloc, "ok announce\n")?)),
+            Plan::Call(Call::Decide) => Ok(Some(String::from_str(alloc, "ok decide\n")?)),
             Plan::Order(_) => Ok(Some(String::from_str(alloc, Refusal::NotWritten.line())?)),
             Plan::LeaveLobby => Ok(Some(String::from_str(alloc, "ok leave lobby\n")?)),
             Plan::Leave(game) => Ok(Some(headed(alloc, "ok leave ", u64::from(*game))?)),

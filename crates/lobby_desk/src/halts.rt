@@ -3,7 +3,7 @@ ghost use Rattle.std.specs.Prelude.{◌≡◌, ◌++◌, IfOk, OnOk};
 ghost use Rattle.std.specs.String.{string_bytes};
 ghost use Rattle.lobby_desk.specs.Halts as spec;
 
-use lobby_words::{Call, Plan, Refusal, as_line, cut_word, is_of_clocks};
+use lobby_words::{Call, Plan, Refusal, as_line, cut_word, is_decision, is_of_clocks};
 use std::alloc::{AllocError, Global};
 
 /// What an arbiter has halted, and what he announces.
@@ -84,12 +84,14 @@ impl Halts {
         }
     }
 
-    /// Why a message is not done, by the clocks.
-    pub fn bar(&self, is_arbiter: bool, text: &str) -> Option<Refusal>
-        ensures { result ≡ spec.halts_bar (spec.halted self.now) is_arbiter text.now }
+    /// Why a message is not done, by the clocks, or since it is a decision that has not been put to those of its round.
+    pub fn bar(&self, is_put: bool, is_arbiter: bool, text: &str) -> Option<Refusal>
+        ensures { result ≡ spec.halts_bar (spec.halted self.now) is_put is_arbiter text.now }
     {
         if is_of_clocks(text) && !self.can_stop {
             Some(Refusal::NoClocks)
+        } else if is_decision(text) && !is_put {
+            Some(Refusal::NotDecided)
         } else {
             self.stop_bar(is_arbiter)
         }

@@ -19,6 +19,8 @@ pub struct Serving<'a> {
     pub log: Option<&'a str>,
     /// The file beside the journal by which the server's clocks stand still.
     pub stopped: Option<&'a str>,
+    /// The folder of the rounds' files, to whose decisions an arbiter's are put.
+    pub decisions: Option<&'a str>,
     /// The file of games that is served as `/live.pgn`.
     pub live: Option<&'a str>,
     /// The one that is served as `/kept.pgn`.

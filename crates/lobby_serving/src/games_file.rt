@@ -47,14 +47,14 @@ fn begun<R: Files<File = DiskFile> + AllocGlobal>(rt: &R, file: &str) -> io::Res
     if found.len() > BYTES_MOST {
         return Err(io::Error::from(ErrorKind::FileTooLarge));
     }
-    match mark_in(&found) {
-        Some(mark) => Ok(Reading {
-            file,
-            mark,
-            bytes: Vec::with_capacity(rt.alloc(), found.len() as usize)?,
-        }),
-        None => Err(io::Error::from(ErrorKind::InvalidInput)),
-    }
+    let Some(mark) = mark_in(&found) else {
+        return Err(io::Error::from(ErrorKind::InvalidInput));
+    };
+    Ok(Reading {
+        file,
+        mark,
+        bytes: Vec::with_capacity(rt.alloc(), found.len() as usize)?,
+    })
 }
 
 impl Reading {
@@ -85,10 +85,9 @@ impl Reading {
 
     // Whether it stands as it did: another that has its name by now is no matter.
     fn is_same(&self) -> bool {
-        match self.file.metadata() {
-            Ok(found) => mark_in(&found) == Some(self.mark),
-            Err(_) => false,
-        }
+        self.file
+            .metadata()
+            .is_ok_and(|found| mark_in(&found) == Some(self.mark))
     }
 }
 

@@ -59,6 +59,6 @@ impl<'a> GamesFiles<'a> {
             folder.look(rt, lobby, at)?;
             is_reading = is_reading || folder.is_reading();
         }
-        Ok(if is_reading { Some(0) } else { None })
+        Ok(is_reading.then_some(0))
     }
 }

@@ -3,8 +3,8 @@
 //! Modules: `asked` has what is asked of it, `serving` takes turns, `page` has the files at the start, `health` makes
 //! the figures by `lines`, `table` asks the server whether it is up and how many games it has, which `listing` counts,
 //! `games_file` reads a file of games, `games_folder` those of a folder, `games_files` all of them, and `players` that
-//! of the players, by `mark`, which tells whether a file has changed, `links` changes links in it, `log` keeps the log
-//! in its file.
+//! of the players, by `mark`, which tells whether a file has changed, `links` changes links in it and hands decisions
+//! on, `log` keeps the log in its file.
 #![tactic(auto)]
 
 mod asked;
@@ -23,5 +23,6 @@ mod serving;
 mod table;
 
 pub use asked::Serving;
+pub use links::KeepsDecisions;
 pub use listing::{Games, Listing, Told};
 pub use serving::serve;

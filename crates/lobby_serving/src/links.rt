@@ -1,5 +1,5 @@
-//! Players' links, changed in the players' file, whether entries are paused, kept beside it, and why clocks are
-//! stopped.
+//! Players' links, changed in the players' file, whether entries are paused, kept beside it, why clocks are stopped,
+//! and what arbiters decide.
 ghost use Rattle.std.specs.Prelude.{ℕ, List, ◌≡◌, IfOk, IfSome};
 ghost use Rattle.std.specs.String.{string_bytes};
 ghost use Rattle.hex.specs.Hex.{encode_lower};
@@ -10,7 +10,7 @@ use anyhow::Result;
 use lobby_desk::{Halts, Order};
 use lobby_loop::KeepsLinks;
 use lobby_players::{ChangedFile, Hold, PauseFile, StopFile, new_token, relinked};
-use lobby_words::{Linked, Player};
+use lobby_words::{Linked, Player, cut_word, player_by_name};
 use rand::rngs::SysRng;
 use rand_core::TryRng;
 use std::fs::File;
@@ -18,18 +18,31 @@ use std::io::{self, ErrorKind};
 use std::random::RandomSource;
 use std::rt::Files;
 
-/// The links of a players' file, and what is kept of what an arbiter halts.
+/// Keeps what arbiters decide of the boards of rounds.
+pub trait KeepsDecisions {
+    /// Puts a decision, `ROUND BOARD RESULT ARTICLE REASON`, of an arbiter of this full name to those of its round. It
+    /// fails, and they are as they were, where there is no such board, or it cannot be written. At `Ok` it is on the
+    /// disk.
+    fn put(&mut self, arbiter: &str, decision: &str) -> Result<()>;
+}
+
+/// The links of a players' file, what is kept of what an arbiter halts, and who keeps what arbiters decide.
 #[derive(Drop)]
-pub struct FileLinks<'a, R> {
+pub struct FileLinks<'a, R, D> {
     rt: &'a R,
     file: &'a str,
     entries: PauseFile<'a, R>,
     clocks: Option<StopFile<'a, R>>,
+    decisions: D,
 }
 
-impl<'a, R: Files<File = File> + AllocGlobal + RandomSource + Eprint> FileLinks<'a, R> {
+impl<'a, R, D> FileLinks<'a, R, D>
+where
+    R: Files<File = File> + AllocGlobal + RandomSource + Eprint,
+    D: KeepsDecisions,
+{
     /// Those of the players' file that is served, with what was halted when it was served last.
-    pub fn open(rt: &'a R, serving: &Serving<'a>) -> Result<Self> {
+    pub fn open(rt: &'a R, serving: &Serving<'a>, decisions: D) -> Result<Self> {
         Ok(FileLinks {
             rt,
             file: serving.players,
@@ -38,15 +51,13 @@ impl<'a, R: Files<File = File> + AllocGlobal + RandomSource + Eprint> FileLinks<
                 Some(file) => Some(StopFile::new(rt, file)?),
                 None => None,
             },
+            decisions,
         })
     }
 
     /// What is halted.
     pub fn halts(&self) -> Result<Halts> {
-        let reason = match &self.clocks {
-            Some(clocks) => clocks.reason(),
-            None => "",
-        };
+        let reason = self.clocks.as_ref().map_or("", |clocks| clocks.reason());
         Ok(Halts {
             is_paused: self.entries.is_paused(),
             can_stop: self.clocks.is_some(),
@@ -94,7 +105,11 @@ impl<'a, R: Files<File = File> + AllocGlobal + RandomSource + Eprint> FileLinks<
     }
 }
 
-impl<R: Files<File = File> + AllocGlobal + RandomSource + Eprint> KeepsLinks for FileLinks<'_, R> {
+impl<R, D> KeepsLinks for FileLinks<'_, R, D>
+where
+    R: Files<File = File> + AllocGlobal + RandomSource + Eprint,
+    D: KeepsDecisions,
+{
     fn change(&mut self, order: &Order, players: &[Player]) -> Option<Linked> {
         match self.changed(order, players) {
             Ok(linked) => Some(linked),
@@ -106,17 +121,25 @@ impl<R: Files<File = File> + AllocGlobal + RandomSource + Eprint> KeepsLinks for
         }
     }
 
+    fn decide(&mut self, arbiter: &str, text: &str, players: &[Player]) -> bool {
+        let (_, decision) = cut_word(text);
+        let full_name = player_by_name(players, arbiter).map_or("", |who| who.full_name.as_str());
+        if let Err(error) = self.decisions.put(full_name, decision) {
+            let _ = eprintln!(self.rt; "what {arbiter} decides is not put down: {error:#}");
+            return false;
+        }
+        true
+    }
+
     fn keep(&mut self, halts: &Halts) -> io::Result<()> {
         self.entries.keep(halts.is_paused);
         let Some(clocks) = &mut self.clocks else {
             return Ok(());
         };
-        match clocks.keep(halts.reason.as_str()) {
-            Ok(()) => Ok(()),
-            Err(error) => {
-                let _ = eprintln!(self.rt; "whether all clocks are stopped is not kept: {error:#}");
-                Err(io::Error::from(ErrorKind::Other))
-            }
+        if let Err(error) = clocks.keep(halts.reason.as_str()) {
+            let _ = eprintln!(self.rt; "whether all clocks are stopped is not kept: {error:#}");
+            return Err(io::Error::from(ErrorKind::Other));
         }
+        Ok(())
     }
 }

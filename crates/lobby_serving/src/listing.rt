@@ -41,10 +41,7 @@ pub struct Listing {
 fn waits(row: &Row) -> bool
     ensures { result ≡ waits row.now }
 {
-    match (&row.seats.white, &row.seats.black) {
-        (None, Some(_)) | (Some(_), None) => true,
-        (None, None) | (Some(_), Some(_)) => false,
-    }
+    row.seats.white.is_some() != row.seats.black.is_some()
 }
 
 // What the first line of an answer tells, where it is a list's.
@@ -62,13 +59,11 @@ fn first_told(first: &str) -> Option<Games>
 fn row_told(before: Games, line: &str) -> Option<Games>
     ensures { result ≡ row_told before line.now }
 {
-    match row_of(line) {
-        Some(row) => Some(Games {
-            all: before.all,
-            waiting: before.waiting.saturating_add(u64::from(waits(&row))),
-        }),
-        None => None,
-    }
+    let row = row_of(line)?;
+    Some(Games {
+        all: before.all,
+        waiting: before.waiting.saturating_add(u64::from(waits(&row))),
+    })
 }
 
 impl Listing {

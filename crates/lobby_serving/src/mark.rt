@@ -47,8 +47,6 @@ pub fn mark_in(found: &Metadata) -> Option<Mark> {
 
 /// How a file of this name stands; none where it is not there, or is no regular file.
 pub fn mark_of<R: Files>(rt: &R, file: &str) -> Option<Mark> {
-    match fs::metadata(rt, file) {
-        Ok(found) => mark_in(&found),
-        Err(_) => None,
-    }
+    let found = fs::metadata(rt, file).ok()?;
+    mark_in(&found)
 }

@@ -63,10 +63,8 @@ fn push_host(hosts: &mut Vec<Vec<u8>>, alloc: Global, host: &str, port: u16) -> 
 
 /// Whether a port stands behind a host: a colon that is none of an address in brackets.
 pub fn has_port(name: &str) -> bool {
-    match name.rsplit_once(':') {
-        Some((_, port)) => !port.ends_with(']'),
-        None => false,
-    }
+    name.rsplit_once(':')
+        .is_some_and(|(_, port)| !port.ends_with(']'))
 }
 
 // A host by a name: as it is, and where it has no port with this one too.

@@ -2,7 +2,7 @@
 use crate::asked::Serving;
 use crate::games_files::GamesFiles;
 use crate::health::Health;
-use crate::links::FileLinks;
+use crate::links::{FileLinks, KeepsDecisions};
 use crate::log::FileLog;
 use crate::page::{has_port, site_of};
 use crate::players::Players;
@@ -102,24 +102,25 @@ fn within(turned: Turned, most: Option<u64>) -> Turned {
 
 // What is looked at and told beside the turns.
 #[derive(Drop)]
-struct Beside<'a, R> {
+struct Beside<'a, R, D> {
     rt: &'a R,
     telling: Telling<'a, R>,
     table: Table,
     health: Health,
     games: GamesFiles<'a>,
-    links: FileLinks<'a, R>,
+    links: FileLinks<'a, R, D>,
 }
 
-impl<'a, R> Beside<'a, R>
+impl<'a, R, D> Beside<'a, R, D>
 where
     R: Files<File = File> + AllocGlobal + Clone + Drop + Clock + Eprint + Net + RandomSource,
+    D: KeepsDecisions + Drop,
 {
     // Nothing was looked at or told.
     fn new(
         rt: &'a R,
         serving: &'a Serving<'a>,
-        links: FileLinks<'a, R>,
+        links: FileLinks<'a, R, D>,
     ) -> Result<Self, AllocError> {
         Ok(Beside {
             rt,
@@ -209,7 +210,8 @@ fn tell_address<R: Print + Eprint>(rt: &R, address: SocketAddr, hosts: &[&str]) 
 fn tell_proxy<R: Eprint>(rt: &R, serving: &Serving<'_>) -> Result<()> {
     if serving.address.ip().is_loopback() && !serving.hosts.is_empty() && serving.proxy.is_none() {
         eprintln!(rt;
-            "there is --host and no --proxy: browsers that come by a proxy on this machine count as one, without the limit of an address"
+            "there is --host and no --proxy: browsers that come by a proxy on this machine count as one, without \
+            the limit of an address"
         )?;
     }
     Ok(())
@@ -266,10 +268,10 @@ where
         + RandomSource,
 {
     // Prints the page's address, and takes turns until something is at fault.
-    fn serve_lobby<L: ActLog>(
+    fn serve_lobby<L: ActLog, D: KeepsDecisions + Drop>(
         &self,
         players: &mut Players<'_, R>,
-        links: FileLinks<'_, R>,
+        links: FileLinks<'_, R, D>,
         address: SocketAddr,
         lobby: &mut Lobby,
         log: &mut L,
@@ -282,12 +284,13 @@ where
         served
     }
 
-    // Serves browsers, with a log of acts.
-    fn serve_with<L: ActLog>(
+    // Serves browsers, with a log of acts and who keeps decisions.
+    fn serve_with<L: ActLog, D: KeepsDecisions + Drop>(
         &self,
         players: &mut Players<'_, R>,
         known: Vec<Player>,
         log: &mut L,
+        decisions: D,
     ) -> Result<()> {
         let (rt, serving) = (self.rt, self.serving);
         let asked = serving.address;
@@ -295,7 +298,7 @@ where
             "listening on {asked}"
         ))?;
         let address = listener.address()?;
-        let links = FileLinks::open(rt, serving)?;
+        let links = FileLinks::open(rt, serving, decisions)?;
         let mut lobby = self.lobby(listener, address, known, links.halts()?)?;
         let served = self.serve_lobby(players, links, address, &mut lobby, log);
         drop(lobby);
@@ -307,9 +310,9 @@ where
 const NO_LOG: &str =
     "there is no --log: who said what is recorded nowhere, so nobody acts as an arbiter";
 
-/// Serves browsers, and first prints the page's address. It ends where something is at fault: at the start the players'
-/// file, the page, the log or the address, then a turn.
-pub fn serve<R>(rt: &R, serving: &Serving<'_>) -> Result<()>
+/// Serves browsers, and first prints the page's address; what an arbiter decides is put to these decisions. It ends where
+/// something is at fault: at the start the players' file, the page, the log or the address, then a turn.
+pub fn serve<R, D>(rt: &R, serving: &Serving<'_>, decisions: D) -> Result<()>
 where
     R: Files<File = File>
         + AllocGlobal
@@ -320,14 +323,15 @@ where
         + Eprint
         + Net
         + RandomSource,
+    D: KeepsDecisions + Drop,
 {
     let server = Server { rt, serving };
     let mut players = Players::new(rt, serving.players, serving.log.is_some());
     let known = players.read()?;
     let Some(file) = serving.log else {
         eprintln!(rt; "{NO_LOG}")?;
-        return server.serve_with(&mut players, known, &mut NoActLog);
+        return server.serve_with(&mut players, known, &mut NoActLog, decisions);
     };
     let mut log = FileLog::open(rt, file).context(format_args!("opening {file}"))?;
-    server.serve_with(&mut players, known, &mut log)
+    server.serve_with(&mut players, known, &mut log, decisions)
 }

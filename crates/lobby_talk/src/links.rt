@@ -1,4 +1,4 @@
-//! Who changes players' links, and keeps what an arbiter halts.
+//! Who changes players' links, puts an arbiter's decisions down, and keeps what he halts.
 ghost use Rattle.std.specs.Prelude.{IfSome};
 ghost use Rattle.std.specs.String.{string_bytes};
 ghost use Rattle.lobby_words.specs.Players.{IsRelinked};
@@ -17,18 +17,26 @@ pub trait KeepsLinks {
         ensures { IfSome result (λ linked. IsRelinked order.now.name
             (string_bytes linked.token) players.now linked.players.items) };
 
+    /// Puts the decision of a message to those of its round: of this arbiter, who is one of these players. It answers
+    /// once it is on the disk, and `false` where that was not done: then the decisions are as they were.
+    fn decide(&mut self, arbiter: &str, text: &str, players: &[Player]) -> bool;
+
     /// This is halted now. It is told so in each turn, before browsers are told what came of it. Where it fails, since
     /// clocks would run that browsers are told to stand still, or stand still, the lobby ends.
     fn keep(&mut self, halts: &Halts) -> io::Result<()>;
 }
 
-/// No file: no link is changed, and nothing is kept.
+/// No file: no link is changed, nothing is decided, and nothing is kept.
 #[derive(Clone, Copy)]
 pub struct NoLinks;
 
 impl KeepsLinks for NoLinks {
     fn change(&mut self, _order: &Order, _players: &[Player]) -> Option<Linked> {
         None
+    }
+
+    fn decide(&mut self, _arbiter: &str, _text: &str, _players: &[Player]) -> bool {
+        false
     }
 
     fn keep(&mut self, _halts: &Halts) -> io::Result<()> {

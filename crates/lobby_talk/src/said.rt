@@ -1,8 +1,8 @@
 //! What a browser says, as the desk takes it.
-ghost use Rattle.std.specs.Prelude.{◌≡◌, Some, IfSome, OnOk};
+ghost use Rattle.std.specs.Prelude.{◌≡◌, true, Some, IfSome, OnOk};
 ghost use Rattle.std.specs.String.{string_bytes};
 ghost use Rattle.lobby_words.specs.Players.{IsRelinked};
-ghost use Rattle.lobby_desk.specs.Who.{IsReady, order_asked};
+ghost use Rattle.lobby_desk.specs.Who.{IsReady, decides_now, order_asked};
 ghost use Rattle.lobby_talk.specs.Talking.{Says, IsTextSaid, IsOrderTold};
 
 use crate::links::KeepsLinks;
@@ -57,6 +57,46 @@ fn say_order<K: KeepsLinks>(
     say_done(shown, number, talk, at, order, done)
 }
 
+// A message is said to the desk by which an arbiter decides: whoever keeps the decisions is asked first.
+fn say_decision<K: KeepsLinks>(
+    shown: &str,
+    number: u64,
+    talk: &mut Talk,
+    at: u64,
+    links: &mut K,
+) -> Result<(), AllocError>
+    requires ready { IsReady talk.old.desk number }
+    requires decides { decides_now talk.old.desk number shown.now at ≡ true }
+    ensures { OnOk result (Says shown.now number at talk.old talk.new) }
+{
+    let by = talk.player_at(number);
+    let arbiter = by.as_ref().map_or("", |by| by.as_str());
+    if links.decide(arbiter, shown, talk.players()) {
+        talk.decided(number, shown, at)?;
+    } else {
+        talk.said(number, shown, at)?;
+    }
+    Ok(())
+}
+
+// A message is said to the desk that asks for no player's link.
+fn say_plain<K: KeepsLinks>(
+    shown: &str,
+    number: u64,
+    talk: &mut Talk,
+    at: u64,
+    links: &mut K,
+) -> Result<(), AllocError>
+    requires { IsReady talk.old.desk number }
+    ensures { OnOk result (Says shown.now number at talk.old talk.new) }
+{
+    if talk.decides(number, shown, at) {
+        return say_decision(shown, number, talk, at, links);
+    }
+    talk.said(number, shown, at)?;
+    Ok(())
+}
+
 // A message is said to the desk.
 fn say<K: KeepsLinks>(
     shown: &str,
@@ -69,14 +109,8 @@ fn say<K: KeepsLinks>(
     ensures { OnOk result (Says shown.now number at talk.old talk.new) }
 {
     match talk.order(number, shown, at) {
-        None => {
-            talk.said(number, shown, at)?;
-            Ok(())
-        }
-        Some(order) => {
-            say_order(shown, number, talk, at, &order, links)?;
-            Ok(())
-        }
+        None => say_plain(shown, number, talk, at, links),
+        Some(order) => say_order(shown, number, talk, at, &order, links),
     }
 }
 

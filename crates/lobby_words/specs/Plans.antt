@@ -32,6 +32,7 @@ refusal_text refusals.NearlyFull = codes "no 44 NearlyFull\n"
 refusal_text refusals.TooManyOver = codes "no 45 TooManyOver\n"
 refusal_text refusals.ClocksStopped = codes "no 46 ClocksStopped\n"
 refusal_text refusals.NoClocks = codes "no 47 NoClocks\n"
+refusal_text refusals.NotDecided = codes "no 48 NotDecided\n"
 
 -- what asks for the server
 abbrev pub asked : Standing → Plan → Plan

@@ -98,17 +98,23 @@ abbrev pub actor : List ℕ → List ℕ → List ℕ
 actor by text = if is_as_word (word_of text) then as_name text else by
 
 -- What an arbiter has everybody told: `stop clocks REASON`, where REASON has one byte at least and stands where LINE
--- does in `as NAME LINE`; `start clocks`; and `announce TEXT`, or `announce` alone.
+-- does in `as NAME LINE`; `start clocks`; `announce TEXT`, or `announce` alone; and `decide ROUND BOARD RESULT ARTICLE
+-- REASON`, where RESULT stands where TIMES do in `pair WHITE BLACK TIMES`, and REASON has one byte at least.
 abbrev pub is_stop : List ℕ → Bool
 is_stop text =
     bytes_eq (word_of text) (codes "stop") && bytes_eq (as_name text) (codes "clocks")
     && nat_le 1 (length (as_line text))
 
+abbrev pub is_decision : List ℕ → Bool
+is_decision text = bytes_eq (word_of text) (codes "decide")
+
 abbrev pub call_sort : List ℕ → Sort
 call_sort text =
     if is_stop text then sorts.Call calls.StopClocks
     else (if bytes_eq text (codes "start clocks") then sorts.Call calls.StartClocks
-    else (if bytes_eq (word_of text) (codes "announce") then sorts.Call calls.Announce else sorts.Nothing))
+    else (if bytes_eq (word_of text) (codes "announce") then sorts.Call calls.Announce
+    else (if is_decision text && nat_le 1 (length (as_line (pair_times text))) then sorts.Call calls.Decide
+    else sorts.Nothing)))
 
 -- whether a message is of the clocks, by its word
 abbrev pub is_of_clocks : List ℕ → Bool

@@ -39,6 +39,8 @@ pub enum Refusal {
     ClocksStopped,
     /// This lobby can stop no clocks.
     NoClocks,
+    /// The decision was not put to those of its round.
+    NotDecided,
 }
 
 impl Refusal {
@@ -64,6 +66,7 @@ impl Refusal {
             Refusal::TooManyOver => "no 45 TooManyOver\n",
             Refusal::ClocksStopped => "no 46 ClocksStopped\n",
             Refusal::NoClocks => "no 47 NoClocks\n",
+            Refusal::NotDecided => "no 48 NotDecided\n",
         }
     }
 }

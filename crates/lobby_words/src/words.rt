@@ -12,6 +12,8 @@ pub enum Call {
     StartClocks,
     /// What he announces, or that he announces nothing any more.
     Announce,
+    /// Which result a board has by his decision.
+    Decide,
 }
 
 /// What a message asks for.
@@ -69,7 +71,7 @@ pub fn cut_word(text: &str) -> (&str, &str)
 pub fn are_message_bytes(bytes: &[u8]) -> bool
     ensures { result ≡ list_all words.is_message_byte bytes.now }
 {
-    bytes.iter().all(|byte| 32 <= *byte && *byte <= 126)
+    bytes.iter().all(|byte| (32..=126).contains(byte))
 }
 
 /// Whether a message may be passed on as a line: 1 to 255 bytes, each of them 32 to 126.
@@ -92,7 +94,7 @@ fn is_show_word(word: &str) -> bool
 fn are_digit_bytes(bytes: &[u8]) -> bool
     ensures { result ≡ list_all words.is_digit bytes.now }
 {
-    bytes.iter().all(|byte| 48 <= *byte && *byte <= 57)
+    bytes.iter().all(|byte| (48..=57).contains(byte))
 }
 
 // Whether a text has digits alone, one or more.
@@ -252,9 +254,19 @@ fn call_sort(text: &str) -> Sort
         Sort::Call(Call::StartClocks)
     } else if word == "announce" {
         Sort::Call(Call::Announce)
+    } else if is_decision(text) && !as_line(pair_times(text)).is_empty() {
+        Sort::Call(Call::Decide)
     } else {
         Sort::Nothing
     }
+}
+
+/// Whether a message is an arbiter's decision, by its word.
+pub fn is_decision(text: &str) -> bool
+    ensures { result ≡ words.is_decision text.now }
+{
+    let (word, _) = cut_word(text);
+    word == "decide"
 }
 
 /// Whether a message is of the clocks, by its word.

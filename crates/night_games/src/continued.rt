@@ -42,15 +42,10 @@ fn second_of(halves: &[Halves], first: u32) -> Option<u32> {
     second
 }
 
-/// The PGN of a game where another continues it: it says by which. None where no game does, and its PGN is told as it
-/// was kept.
-pub fn pgn_continued(
-    alloc: Global,
-    kept: &Kept,
-    halves: &[Halves],
-) -> Result<Option<String>, AllocError> {
+/// The PGN of a game as it was kept; where another continues it, it says by which.
+pub fn pgn_continued(alloc: Global, kept: &Kept, halves: &[Halves]) -> Result<String, AllocError> {
     match second_of(halves, kept.game) {
-        Some(second) => Ok(Some(with_tag(alloc, kept.pgn.as_str(), "ContinuedBy", second)?)),
-        None => Ok(None),
+        Some(second) => with_tag(alloc, kept.pgn.as_str(), "ContinuedBy", second),
+        None => kept.pgn.clone(),
     }
 }

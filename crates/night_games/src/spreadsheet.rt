@@ -71,14 +71,6 @@ fn push_cells(
     Ok(())
 }
 
-// The PGN of a game, as `export` writes it.
-fn pgn_of(alloc: Global, kept: &Kept, halves: &[Halves]) -> Result<String, AllocError> {
-    match pgn_continued(alloc, kept, halves)? {
-        Some(pgn) => Ok(pgn),
-        None => kept.pgn.clone(),
-    }
-}
-
 // Puts the row of a game behind the others.
 fn push_game(
     rows: &mut Vec<u8>,
@@ -88,7 +80,7 @@ fn push_game(
 ) -> Result<(), AllocError> {
     let mut cells = Vec::new(alloc);
     push_cells(&mut cells, alloc, kept.game, kept.pgn.as_str())?;
-    let pgn = pgn_of(alloc, kept, halves)?;
+    let pgn = pgn_continued(alloc, kept, halves)?;
     cells.push(Cell::of_text(alloc, pgn.as_str())?)?;
     push_row(rows, alloc, cells.as_slice())
 }

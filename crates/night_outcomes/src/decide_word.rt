@@ -1,11 +1,13 @@
-//! The word that puts an arbiter's decision about a board to those of its round.
+//! An arbiter's decision about a board that is put to those of its round: by the word `decide`, and by the lobby's.
 use crate::asked::Deciding;
 use crate::decisions::put_decision;
 use anyhow::{Context, Result, bail};
 use command_lines::unix_time;
+use lobby_words::{cut_word, number_named};
 use night_boards::pairings_of;
 use night_rounds::{
-    Against, Decision, Ground, Pairing, Players, decision_of, decision_text, verdict_text,
+    Against, Decision, Ground, Pairing, Players, decision_of, decision_text, verdict_of,
+    verdict_text,
 };
 use std::alloc::Global;
 use std::fs::File;
@@ -76,14 +78,49 @@ where
     put_decision(rt, deciding.file, pairings, line.as_slice())
 }
 
+// Puts a decision to those of its round.
+fn put_deciding<R>(rt: &R, deciding: &Deciding<'_>) -> Result<()>
+where
+    R: Files<File = File> + AllocGlobal + Clock + Eprint,
+{
+    let pairings = pairings_of(rt, deciding.pairings)?;
+    decide_board(rt, deciding, pairings.as_slice())
+}
+
+/// Puts a decision `ROUND BOARD RESULT ARTICLE REASON` of an arbiter to those of its round: by the pairings of
+/// `roundROUND.csv` in a folder into `roundROUND.decisions` there. An ARTICLE `-` is none. It fails where the text has
+/// no such form, and as `decide_result` does.
+pub fn decide_in<R>(rt: &R, folder: &str, arbiter: &str, text: &str) -> Result<()>
+where
+    R: Files<File = File> + AllocGlobal + Clock + Eprint,
+{
+    let (round, rest) = cut_word(text);
+    let (board, rest) = cut_word(rest);
+    let (result, rest) = cut_word(rest);
+    let (article, reason) = cut_word(rest);
+    let round = number_named(round).context("no round is named")?;
+    let front = format!(in rt.alloc(); "{folder}/round{round}")?;
+    let pairings = format!(in rt.alloc(); "{front}.csv")?;
+    let file = format!(in rt.alloc(); "{front}.decisions")?;
+    let deciding = Deciding {
+        pairings: pairings.as_str(),
+        file: file.as_str(),
+        board: number_named(board).context("no board is named")?,
+        verdict: verdict_of(result).context("there is no such result")?,
+        article: if article == "-" { "" } else { article },
+        arbiter,
+        reason,
+    };
+    put_deciding(rt, &deciding)
+}
+
 /// Puts a decision to those of its round, and tells it. It fails where the pairings have no such board or a bye there,
 /// where a text has a control character, and as `put_decision` does.
 pub fn decide_result<R>(rt: &R, deciding: &Deciding<'_>) -> Result<()>
 where
     R: Files<File = File> + AllocGlobal + Clock + Print + Eprint,
 {
-    let pairings = pairings_of(rt, deciding.pairings)?;
-    decide_board(rt, deciding, pairings.as_slice())?;
+    put_deciding(rt, deciding)?;
     let (board, verdict) = (deciding.board, verdict_text(deciding.verdict));
     println!(rt; "board {board}: {verdict} is decided")?;
     Ok(())

@@ -1,5 +1,5 @@
-//! What the Laws of Chess say of a result on which no legal move may bear: a flag that fell, or a resignation, where the
-//! opponent cannot mate (FIDE articles 6.9 and 5.1.2), and a position in which nobody can mate (5.2.2). It decides
+//! What the Laws of Chess say of a result on which no legal move may bear: a flag that fell, or a resignation, where
+//! the opponent cannot mate (FIDE articles 6.9 and 5.1.2), and a position in which nobody can mate (5.2.2). It decides
 //! nothing: an arbiter does.
 use crate::outcomes::Ended;
 use chess_bits::Colour;

@@ -19,7 +19,7 @@ mod results_word;
 mod tags;
 
 pub use asked::{Asking, Deciding, Reporting, Source};
-pub use decide_word::decide_result;
+pub use decide_word::{decide_in, decide_result};
 pub use decisions::decisions_of;
 pub use entrants::{entrants_of, shown_names};
 pub use meetings::{Met, met_in};

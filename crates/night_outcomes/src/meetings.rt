@@ -66,6 +66,7 @@ fn opponent_of(players: &[Particulars<'_>], pairing: &Pairing) -> Result<Opponen
 // What a board is in the report.
 fn meeting_of(players: &[Particulars<'_>], pairing: &Pairing, scored: Scored) -> Result<Meeting> {
     Ok(Meeting {
+        board: pairing.board,
         white: number_of(players, &pairing.white)?,
         black: opponent_of(players, pairing)?,
         score: scored.score,
@@ -92,7 +93,7 @@ fn met_at(
     meeting_of(players, pairing, scored).context(format_args!("board {board}"))
 }
 
-// The meetings of a round's boards.
+// The meetings of a round's boards, in the order of their numbers.
 fn meetings_by(
     alloc: Global,
     boards: Boards<'_>,
@@ -104,10 +105,11 @@ fn meetings_by(
     for pairing in pairings {
         meetings.push(met_at(boards, pairing, players, outcomes)?)?;
     }
+    meetings.sort_by_key(|meeting| meeting.board)?;
     Ok(meetings)
 }
 
-// The meetings of a round.
+// The meetings of a round. A fault of a board names the file of the pairings; one of a file names that.
 fn meetings_of<R: Files + AllocGlobal + Eprint>(
     rt: &R,
     round: Round<'_>,
@@ -128,16 +130,7 @@ fn meetings_of<R: Files + AllocGlobal + Eprint>(
         players,
         outcomes,
     )
-}
-
-// The same, where a fault names the file of the pairings.
-fn meetings_with_context<R: Files + AllocGlobal + Eprint>(
-    rt: &R,
-    round: Round<'_>,
-    players: &[Particulars<'_>],
-    outcomes: &mut Outcomes<'_>,
-) -> Result<Vec<Meeting>> {
-    meetings_of(rt, round, players, outcomes).context(round.pairings)
+    .context(round.pairings)
 }
 
 // The meetings of each round.
@@ -149,7 +142,7 @@ fn rounds_of<R: Files + AllocGlobal + Eprint>(
 ) -> Result<Vec<Vec<Meeting>>> {
     let mut met = Vec::new(rt.alloc());
     for round in rounds {
-        met.push(meetings_with_context(rt, *round, players, outcomes)?)?;
+        met.push(meetings_of(rt, *round, players, outcomes)?)?;
     }
     Ok(met)
 }

@@ -1,5 +1,5 @@
 -- What a player's round is in a report.
-use Rattle.std.specs.Prelude.{ℕ, ◌==◌, Bool, false, List, [], ◌∷◌, if◌then◌else◌}
+use Rattle.std.specs.Prelude.{ℕ, ◌==◌, Bool, true, false, List, [], ◌∷◌, if◌then◌else◌}
 use Rattle.night_report.specs.declared.cells.Opponent.{Opponent}
 use Rattle.night_report.specs.declared.cells.Opponent.TheVariants as opponents
 use Rattle.night_report.specs.declared.cells.Bye.{Bye}
@@ -32,6 +32,12 @@ abbrev pub half_play : Play → Play
 half_play plays.Board = plays.Board
 half_play plays.Short = plays.Short
 half_play plays.Forfeit = plays.Board
+
+-- not played: a player, or of a match whoever plays at any of its boards, did not come
+abbrev pub is_forfeit : Play → Bool
+is_forfeit plays.Board = false
+is_forfeit plays.Short = false
+is_forfeit plays.Forfeit = true
 
 -- White's sign and half points; a game that goes on has a space
 abbrev pub white_sign : Score → Play → ℕ
@@ -76,13 +82,20 @@ bye_halves byes.Half = 1
 bye_halves byes.Zero = 0
 
 abbrev pub bye_cell : Bye → Cell
-bye_cell bye = record { opponent = 0; colour = 45; sign = bye_sign bye; halves = bye_halves bye }
+bye_cell bye =
+    record { opponent = 0; colour = 45; sign = bye_sign bye; halves = bye_halves bye; is_forfeit = false }
 
 -- `w`, and White's opponent, or a bye
 abbrev pub white_cell : Meeting → Opponent → Cell
 white_cell m (opponents.Bye bye) = bye_cell bye
 white_cell m (opponents.Player black) =
-    record { opponent = black; colour = 119; sign = white_sign m.score m.play; halves = white_halves m.score }
+    record {
+      opponent = black;
+      colour = 119;
+      sign = white_sign m.score m.play;
+      halves = white_halves m.score;
+      is_forfeit = is_forfeit m.play;
+    }
 
 abbrev pub black_cell : Meeting → Cell
 black_cell m =
@@ -91,6 +104,7 @@ black_cell m =
       colour = 98;
       sign = white_sign (turned m.score) m.play;
       halves = white_halves (turned m.score);
+      is_forfeit = is_forfeit m.play;
     }
 
 -- who is not paired: `Z`, no point

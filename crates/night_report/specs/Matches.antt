@@ -1,17 +1,19 @@
 -- Matches of teams. Teams are numbered from 1 on, and 0 is none; `sides` has the team of each player, by the starting
--- numbers. A match is the boards of a round at which players of two teams meet, and its result is theirs.
-use Rattle.std.specs.Prelude.{ℕ, zero, suc, ◌+◌, ◌-◌, ◌==◌, ◌&&◌, ◌||◌, not, Bool, true, false, nat_lt, List, [], ◌∷◌, ◌++◌}
-use Rattle.std.specs.Prelude.{map, sum_by, get_or, Option, None, Some, if◌then◌else◌}
+-- numbers. A match is the boards of a round at which players of two teams meet, and its result is theirs, and that of
+-- the byes that players of these teams have: against them nobody was there. Boards stand in the order of their numbers.
+use Rattle.std.specs.Prelude.{ℕ, zero, suc, ◌+◌, ◌-◌, ◌%◌, ◌==◌, ◌&&◌, ◌||◌, not, Bool, true, false, nat_lt, nat_le}
+use Rattle.std.specs.Prelude.{List, [], ◌∷◌, ◌++◌, length, map, sum_by, get_or, Option, None, Some, if◌then◌else◌}
 use Rattle.std.specs.List.{list_all, list_any}
+use Rattle.std.specs.Option.{option_to_list}
+use Rattle.std.specs.Global.{Vec}
 use Rattle.night_report.specs.declared.cells.Meeting.{Meeting}
 use Rattle.night_report.specs.declared.cells.Opponent.{Opponent}
 use Rattle.night_report.specs.declared.cells.Opponent.TheVariants as opponents
-use Rattle.night_report.specs.declared.cells.Play.{Play}
 use Rattle.night_report.specs.declared.cells.Play.TheVariants as plays
 use Rattle.night_report.specs.declared.cells.Score.{Score}
 use Rattle.night_report.specs.declared.cells.Score.TheVariants as scores
 use Rattle.night_report.specs.declared.teams.Team.{Team}
-use Rattle.night_report.specs.Cells.{white_halves, turned}
+use Rattle.night_report.specs.Cells.{white_cell, black_cell, is_forfeit}
 
 -- the number of the first of these teams, numbered from this on, that has a player
 abbrev pub has_member : ℕ → Team → Bool
@@ -53,16 +55,16 @@ is_between sides one other m =
     (side sides m.white == one && black_side sides m.black == other)
     || (side sides m.white == other && black_side sides m.black == one)
 
--- a team's half points at such a board; one without a result is worth nothing so far
-abbrev pub halves_on : List ℕ → ℕ → Meeting → ℕ
-halves_on sides team m = if side sides m.white == team then white_halves m.score else white_halves (turned m.score)
+-- what a board is worth to a team, in half points: what its player has there, also by a bye; without a result nothing
+-- so far
+abbrev pub points_on : List ℕ → ℕ → Meeting → ℕ
+points_on sides team m =
+    if side sides m.white == team then (white_cell m m.black).halves
+    else (if black_side sides m.black == team then (black_cell m).halves else 0)
 
--- a team's board points against another one in a round, in half points
-abbrev pub points_on : List ℕ → ℕ → ℕ → Meeting → ℕ
-points_on sides team other m = if is_between sides team other m then halves_on sides team m else 0
-
-abbrev pub board_points : List ℕ → ℕ → ℕ → List Meeting → ℕ
-board_points sides team other round = sum_by (points_on sides team other) round
+-- a team's board points in a round
+abbrev pub board_points : List ℕ → ℕ → List Meeting → ℕ
+board_points sides team round = sum_by (points_on sides team) round
 
 abbrev pub is_open : Score → Bool
 is_open scores.White = false
@@ -72,11 +74,6 @@ is_open scores.HalfWhite = false
 is_open scores.HalfBlack = false
 is_open scores.Neither = false
 is_open scores.Open = true
-
-abbrev pub is_forfeit : Play → Bool
-is_forfeit plays.Board = false
-is_forfeit plays.Short = false
-is_forfeit plays.Forfeit = true
 
 -- A match goes on while one of its boards has no result, and is a forfeit where each board is one.
 abbrev pub goes_on : List ℕ → ℕ → ℕ → List Meeting → Bool
@@ -93,25 +90,37 @@ match_score ours theirs =
     else (if nat_lt ours theirs then scores.Black
     else (if ours == 0 then scores.Neither else scores.Draw))
 
--- the match of two teams in a round, in which one is named first
-abbrev pub match_of : List ℕ → ℕ → ℕ → List Meeting → Meeting
-match_of sides one other round =
+-- the match of two teams in a round, in which one is named first; it has the number of its first board
+abbrev pub match_of : List ℕ → (first one other : ℕ) → List Meeting → Meeting
+match_of sides first one other round =
     record {
+      board = first;
       white = one;
       black = opponents.Player other;
       score =
           if goes_on sides one other round then scores.Open
-          else match_score (board_points sides one other round) (board_points sides other one round);
+          else match_score (board_points sides one round) (board_points sides other round);
       play = if is_unplayed sides one other round then plays.Forfeit else plays.Board;
     }
 
--- A match is named after the team that has White at its first board.
-abbrev pub led_by : List ℕ → ℕ → List Meeting → Option Meeting → List Meeting
-led_by sides team round None = []
-led_by sides team round (Some m) =
-    if side sides m.white == team then match_of sides team (black_side sides m.black) round ∷ [] else []
+-- the first bye in a round that a player of a team has, as that of the team
+abbrev pub bye_at : List ℕ → ℕ → Meeting → Opponent → Option Meeting → Option Meeting
+bye_at sides team m (opponents.Bye bye) later =
+    if side sides m.white == team then Some (record m { white = team }) else later
+bye_at sides team m (opponents.Player n) later = later
 
--- the matches of a round, and of each round, among so many teams
+abbrev pub bye_of : List ℕ → ℕ → List Meeting → Option Meeting
+bye_of sides team [] = None
+bye_of sides team (m ∷ ms) = bye_at sides team m m.black (bye_of sides team ms)
+
+-- A match is named after the team that has White at its first board. A team that has none has a bye where one of its
+-- players has one.
+abbrev pub led_by : List ℕ → ℕ → List Meeting → Option Meeting → List Meeting
+led_by sides team round None = option_to_list (bye_of sides team round)
+led_by sides team round (Some m) =
+    if side sides m.white == team then match_of sides m.board team (black_side sides m.black) round ∷ [] else []
+
+-- the matches and byes of a round, and of each round, among so many teams
 abbrev pub matches_in : List ℕ → List Meeting → ℕ → List Meeting
 matches_in sides round zero = []
 matches_in sides round (suc count) =
@@ -120,20 +129,10 @@ matches_in sides round (suc count) =
 abbrev pub all_matches : List ℕ → ℕ → List (List Meeting) → List (List Meeting)
 all_matches sides count rounds = map (λ round. matches_in sides round count) rounds
 
--- a team's board points in a round, and in all
-abbrev pub points_against : List ℕ → ℕ → List Meeting → Option Meeting → ℕ
-points_against sides team round None = 0
-points_against sides team round (Some m) =
-    if side sides m.white == team then board_points sides team (black_side sides m.black) round
-    else board_points sides team (side sides m.white) round
-
-abbrev pub round_points : List ℕ → ℕ → List Meeting → ℕ
-round_points sides team round = points_against sides team round (first_of sides team round)
-
+-- a team's board points in all rounds, and those of so many teams
 abbrev pub total_points : List ℕ → ℕ → List (List Meeting) → ℕ
-total_points sides team rounds = sum_by (round_points sides team) rounds
+total_points sides team rounds = sum_by (board_points sides team) rounds
 
--- these of so many teams
 abbrev pub all_points : List ℕ → List (List Meeting) → ℕ → List ℕ
 all_points sides rounds zero = []
 all_points sides rounds (suc count) = all_points sides rounds count ++ (total_points sides (suc count) rounds ∷ [])
@@ -151,12 +150,17 @@ is_matched sides round m (opponents.Player n) =
     && is_against sides (side sides m.white) (side sides n) (first_of sides (side sides m.white) round)
     && is_against sides (side sides m.white) (side sides n) (first_of sides (side sides n) round)
 
--- Whether colours alternate from board to board of a match, as FIDE's rules for teams have it: the team that is named
--- first has White at the first board, the third, and so on.
-abbrev pub alternates : List ℕ → ℕ → ℕ → Bool → List Meeting → Bool
-alternates sides one other is_white [] = true
-alternates sides one other is_white (m ∷ ms) =
-    if is_between sides one other m
-    then (if is_white then side sides m.white == one else side sides m.white == other)
-    && alternates sides one other (not is_white) ms
-    else alternates sides one other is_white ms
+-- Whether colours alternate by the numbers of the boards of a match, as FIDE's rules for teams have it: the team that
+-- is named first has White at its first board, at the second behind that, and so on, also where there is no game at a
+-- board between them.
+abbrev pub has_colours : List ℕ → (first one other : ℕ) → Meeting → Bool
+has_colours sides first one other m =
+    not (is_between sides one other m)
+    || (if m.board % 2 == first % 2 then side sides m.white == one else side sides m.white == other)
+
+abbrev pub alternates : List ℕ → (first one other : ℕ) → List Meeting → Bool
+alternates sides first one other round = list_all (has_colours sides first one other) round
+
+-- whether no round has more boards than there may be players
+abbrev pub are_few : List (Vec Meeting) → Bool
+are_few rounds = list_all (λ round. nat_le (length round.items) 9_999) rounds

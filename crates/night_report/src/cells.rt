@@ -45,22 +45,25 @@ pub enum Opponent {
     Bye(Bye),
 }
 
-/// Two players of a round by their starting numbers, or one who has a bye.
+/// Two players of a round by their starting numbers, or one who has a bye, and the number of their board.
 #[derive(Clone, Copy)]
 pub struct Meeting {
+    pub board: u32,
     pub white: u32,
     pub black: Opponent,
     pub score: Score,
     pub play: Play,
 }
 
-/// A player's round: the opponent's starting number or 0, the sign of the colour, that of the result, and half points.
+/// A player's round: the opponent's starting number or 0, the sign of the colour, that of the result, half points, and
+/// whether it was not played, by a forfeit.
 #[derive(Clone, Copy)]
 pub struct Cell {
     pub opponent: u32,
     pub colour: u8,
     pub sign: u8,
     pub halves: u8,
+    pub is_forfeit: bool,
 }
 
 fn win_sign(play: Play) -> u8
@@ -116,8 +119,8 @@ fn white_sign(score: Score, play: Play) -> u8
     }
 }
 
-/// White's half points.
-pub(crate) fn white_halves(score: Score) -> u8
+// White's half points.
+fn white_halves(score: Score) -> u8
     ensures halves { result ≡ spec.white_halves score }
     ensures few { result ≤ 2 }
 {
@@ -128,8 +131,8 @@ pub(crate) fn white_halves(score: Score) -> u8
     }
 }
 
-/// The score with the colours changed.
-pub(crate) fn turned(score: Score) -> Score
+// The score with the colours changed.
+fn turned(score: Score) -> Score
     ensures { result ≡ spec.turned score }
 {
     match score {
@@ -175,10 +178,12 @@ fn bye_cell(bye: Bye) -> Cell
         colour: b'-',
         sign: bye_sign(bye),
         halves: bye_halves(bye),
+        is_forfeit: false,
     }
 }
 
-fn white_cell(meeting: Meeting) -> Cell
+/// White's round.
+pub(crate) fn white_cell(meeting: Meeting) -> Cell
     ensures cell { result ≡ spec.white_cell meeting meeting.black }
     ensures few { result.halves ≤ 2 }
 {
@@ -189,11 +194,13 @@ fn white_cell(meeting: Meeting) -> Cell
             colour: b'w',
             sign: white_sign(meeting.score, meeting.play),
             halves: white_halves(meeting.score),
+            is_forfeit: matches!(meeting.play, Play::Forfeit),
         },
     }
 }
 
-fn black_cell(meeting: Meeting) -> Cell
+/// Black's round.
+pub(crate) fn black_cell(meeting: Meeting) -> Cell
     ensures cell { result ≡ spec.black_cell meeting }
     ensures few { result.halves ≤ 2 }
 {
@@ -203,6 +210,7 @@ fn black_cell(meeting: Meeting) -> Cell
         colour: b'b',
         sign: white_sign(score, meeting.play),
         halves: white_halves(score),
+        is_forfeit: matches!(meeting.play, Play::Forfeit),
     }
 }
 

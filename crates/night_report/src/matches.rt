@@ -1,12 +1,10 @@
 //! Matches of teams, by the boards at which their players meet.
-ghost use Rattle.std.specs.Prelude.{◌≡◌, ◌≤◌, ◌<◌, ◌*◌, true, length, map, IfOk};
-ghost use Rattle.std.specs.Prelude.{◌==◌};
-ghost use Rattle.std.specs.List.{list_any};
+ghost use Rattle.std.specs.Prelude.{◌≡◌, ◌≤◌, ◌<◌, ◌*◌, ◌==◌, true, length, map, IfOk};
+ghost use Rattle.std.specs.List.{list_any, list_all};
 ghost use Rattle.std.specs.Option.{option_to_list};
 ghost use Rattle.night_report.specs.Matches as spec;
 
-use crate::cells::{Meeting, Opponent, Play, Score, turned, white_halves};
-use crate::columns::Fault;
+use crate::cells::{Meeting, Opponent, Play, Score, black_cell, white_cell};
 use crate::teams::Team;
 use std::alloc::{AllocError, Global};
 
@@ -91,29 +89,29 @@ fn is_between(sides: &[u32], one: u32, other: u32, meeting: Meeting) -> bool
     (white == one && black == other) || (white == other && black == one)
 }
 
-// A team's half points at a board, where it is one against the other.
-fn points_on(sides: &[u32], team: u32, other: u32, meeting: Meeting) -> u32
-    ensures points { result ≡ spec.points_on sides.now team other meeting }
+// What a board is worth to a team, in half points.
+fn points_on(sides: &[u32], team: u32, meeting: Meeting) -> u32
+    ensures points { result ≡ spec.points_on sides.now team meeting }
     ensures few { result ≤ 2 }
 {
-    if !is_between(sides, team, other, meeting) {
-        0
-    } else if side(sides, meeting.white) == team {
-        u32::from(white_halves(meeting.score))
+    if side(sides, meeting.white) == team {
+        u32::from(white_cell(meeting).halves)
+    } else if black_side(sides, meeting.black) == team {
+        u32::from(black_cell(meeting).halves)
     } else {
-        u32::from(white_halves(turned(meeting.score)))
+        0
     }
 }
 
-/// A team's board points against another one in a round, in half points.
-pub fn board_points(sides: &[u32], team: u32, other: u32, round: &[Meeting]) -> u32
+/// A team's board points in a round, in half points: those of its players.
+pub fn board_points(sides: &[u32], team: u32, round: &[Meeting]) -> u32
     requires { length round.now ≤ 9999 }
-    ensures points { result ≡ spec.board_points sides.now team other round.now }
+    ensures points { result ≡ spec.board_points sides.now team round.now }
     ensures few { result ≤ 2 * length round.now }
 {
     let mut points: u32 = 0;
     for meeting in round {
-        points += points_on(sides, team, other, *meeting);
+        points += points_on(sides, team, *meeting);
     }
     points
 }
@@ -150,14 +148,15 @@ fn match_score(ours: u32, theirs: u32) -> Score
     }
 }
 
-// The match of two teams in a round, of which one is named first.
-fn match_of(sides: &[u32], one: u32, other: u32, round: &[Meeting]) -> Meeting
+// The match of two teams in a round, of which one is named first, by the number of its first board.
+fn match_of(sides: &[u32], first: u32, one: u32, other: u32, round: &[Meeting]) -> Meeting
     requires { length round.now ≤ 9999 }
-    ensures { result ≡ spec.match_of sides.now one other round.now }
+    ensures { result ≡ spec.match_of sides.now first one other round.now }
 {
-    let ours = board_points(sides, one, other, round);
-    let theirs = board_points(sides, other, one, round);
+    let ours = board_points(sides, one, round);
+    let theirs = board_points(sides, other, round);
     Meeting {
+        board: first,
         white: one,
         black: Opponent::Player(other),
         score: if goes_on(sides, one, other, round) {
@@ -173,16 +172,32 @@ fn match_of(sides: &[u32], one: u32, other: u32, round: &[Meeting]) -> Meeting
     }
 }
 
-// The match in which a team is named first.
+// The first bye in a round that a player of a team has, as that of the team.
+fn bye_of(sides: &[u32], team: u32, round: &[Meeting]) -> Option<Meeting>
+    ensures { result ≡ spec.bye_of sides.now team round.now }
+{
+    for meeting in round {
+        if matches!(meeting.black, Opponent::Bye(_)) && side(sides, meeting.white) == team {
+            return Some(Meeting {
+                white: team,
+                ..*meeting
+            });
+        }
+    }
+    None
+}
+
+// The match in which a team is named first, or its bye.
 fn led_by(sides: &[u32], team: u32, round: &[Meeting]) -> Option<Meeting>
     requires { length round.now ≤ 9999 }
     ensures { option_to_list result ≡ spec.led_by sides.now team round.now (spec.first_of sides.now team round.now) }
 {
     match first_of(sides, team, round) {
-        None => None,
+        None => bye_of(sides, team, round),
         Some(first) => {
             if side(sides, first.white) == team {
-                Some(match_of(sides, team, black_side(sides, first.black), round))
+                let other = black_side(sides, first.black);
+                Some(match_of(sides, first.board, team, other, round))
             } else {
                 None
             }
@@ -191,7 +206,7 @@ fn led_by(sides: &[u32], team: u32, round: &[Meeting]) -> Option<Meeting>
 }
 
 /// The matches of a round among so many teams, by the numbers of those that are named first, which have White at the
-/// first board: whoever has more board points has won.
+/// first board: whoever has more board points has won. A team without a match has the bye of its first player with one.
 pub fn matches_in(
     alloc: Global,
     sides: &[u32],
@@ -210,82 +225,59 @@ pub fn matches_in(
     Ok(matches)
 }
 
-/// The matches of each round. It fails where a round has more than 9,999 boards.
+/// Whether no round has more boards than there may be players.
+pub fn are_few(rounds: &[Vec<Meeting>]) -> bool
+    ensures { result ≡ spec.are_few rounds.now }
+{
+    rounds.iter().all(|round| round.len() <= 9_999)
+}
+
+/// The matches of each round. It fails where memory is refused.
 pub fn all_matches(
     alloc: Global,
     sides: &[u32],
     rounds: &[Vec<Meeting>],
     count: u32,
-) -> Result<Vec<Vec<Meeting>>, Fault>
+) -> Result<Vec<Vec<Meeting>>, AllocError>
+    requires { spec.are_few rounds.now ≡ true }
     ensures { IfOk result (λ all. map (λ round. round.items) all.items
         ≡ spec.all_matches sides.now count (map (λ round. round.items) rounds.now)) }
 {
     let mut all = Vec::new(alloc);
     for at in 0..rounds.len() {
-        let round = rounds[at].as_slice();
-        if round.len() > 9_999 {
-            return Err(Fault::TooManyPlayers);
-        }
-        if all.push(matches_in(alloc, sides, round, count)?).is_err() {
-            return Err(Fault::NoMemory);
-        }
+        all.push(matches_in(alloc, sides, rounds[at].as_slice(), count)?)?;
     }
     Ok(all)
 }
 
-// A team's board points in a round.
-fn round_points(sides: &[u32], team: u32, round: &[Meeting]) -> u32
-    requires { length round.now ≤ 9999 }
-    ensures points { result ≡ spec.round_points sides.now team round.now }
-    ensures few { result ≤ 2 * 9999 }
-{
-    match first_of(sides, team, round) {
-        None => 0,
-        Some(first) => {
-            let white = side(sides, first.white);
-            if white == team {
-                let black = black_side(sides, first.black);
-                board_points(sides, team, black, round)
-            } else {
-                board_points(sides, team, white, round)
-            }
-        }
-    }
-}
-
 // A team's board points in all rounds.
-fn total_points(sides: &[u32], team: u32, rounds: &[Vec<Meeting>]) -> Result<u64, Fault>
-    requires { length rounds.now ≤ 99 }
-    ensures { IfOk result (λ points. points
-        ≡ spec.total_points sides.now team (map (λ round. round.items) rounds.now)) }
+fn total_points(sides: &[u32], team: u32, rounds: &[Vec<Meeting>]) -> u64
+    requires rounds { length rounds.now ≤ 99 }
+    requires boards { spec.are_few rounds.now ≡ true }
+    ensures { result ≡ spec.total_points sides.now team (map (λ round. round.items) rounds.now) }
 {
     let mut points: u64 = 0;
     for at in 0..rounds.len() {
-        let round = rounds[at].as_slice();
-        if round.len() > 9_999 {
-            return Err(Fault::TooManyPlayers);
-        }
-        points += u64::from(round_points(sides, team, round));
+        points += u64::from(board_points(sides, team, rounds[at].as_slice()));
     }
-    Ok(points)
+    points
 }
 
-/// The board points of so many teams, in half points. It fails where a round has more than 9,999 boards.
+/// The board points of so many teams, in half points. It fails where memory is refused.
 pub fn all_board_points(
     alloc: Global,
     sides: &[u32],
     rounds: &[Vec<Meeting>],
     count: u32,
-) -> Result<Vec<u64>, Fault>
-    requires { length rounds.now ≤ 99 }
+) -> Result<Vec<u64>, AllocError>
+    requires rounds { length rounds.now ≤ 99 }
+    requires boards { spec.are_few rounds.now ≡ true }
     ensures { IfOk result (λ all. all.items
         ≡ spec.all_points sides.now (map (λ round. round.items) rounds.now) count) }
 {
     let mut all = Vec::new(alloc);
     for at in 0..count {
-        if all.push(total_points(sides, at + 1, rounds)?).is_err() {
-            return Err(Fault::NoMemory);
-        }
+        all.push(total_points(sides, at + 1, rounds))?;
     }
     Ok(all)
 }
@@ -300,8 +292,8 @@ fn is_against(sides: &[u32], team: u32, one: u32, other: u32, round: &[Meeting])
     }
 }
 
-/// Whether a board of a round is of a match: two teams meet there, and neither meets another one before. A bye, which is
-/// of none, passes.
+/// Whether a board of a round is of a match: two teams meet there, and neither meets another one before. A bye, which
+/// is of none, passes.
 pub fn is_matched(sides: &[u32], round: &[Meeting], meeting: Meeting) -> bool
     ensures { result ≡ spec.is_matched sides.now round.now meeting meeting.black }
 {
@@ -316,18 +308,18 @@ pub fn is_matched(sides: &[u32], round: &[Meeting], meeting: Meeting) -> bool
     }
 }
 
-/// Whether colours alternate at the boards of a match, of which the team that is named first has White at the first.
-pub fn alternates(sides: &[u32], one: u32, other: u32, round: &[Meeting]) -> bool
-    ensures { result ≡ spec.alternates sides.now one other true round.now }
+/// Whether colours alternate by the numbers of the boards of a match, of which the team that is named first has White
+/// at this first board.
+pub fn alternates(sides: &[u32], first: u32, one: u32, other: u32, round: &[Meeting]) -> bool
+    ensures { result ≡ spec.alternates sides.now first one other round.now }
 {
-    let mut is_white = true;
-    for meeting in round {
-        if is_between(sides, one, other, *meeting) {
-            if side(sides, meeting.white) != (if is_white { one } else { other }) {
-                return false;
+    round.iter().all(|meeting| {
+        let white = side(sides, meeting.white);
+        !is_between(sides, one, other, *meeting)
+            || if meeting.board % 2 == first % 2 {
+                white == one
+            } else {
+                white == other
             }
-            is_white = !is_white;
-        }
-    }
-    true
+    })
 }

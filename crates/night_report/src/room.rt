@@ -90,7 +90,7 @@ fn all_rounds(tournament: &Tournament<'_>, rounds: usize) -> usize
 }
 
 /// Why a report of so many days of rounds has no room; `None` where it has.
-pub(crate) fn fault_in(
+pub fn fault_in(
     tournament: &Tournament<'_>,
     days: usize,
     players: &[Particulars<'_>],

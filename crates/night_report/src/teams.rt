@@ -9,17 +9,6 @@ pub struct Team<'a> {
     pub numbers: Vec<u32>,
 }
 
-// The names of the teams, in the order in which players have them.
-fn names_of<'a>(alloc: Global, players: &[Particulars<'a>]) -> Result<Vec<&'a str>, AllocError> {
-    let mut names = Vec::new(alloc);
-    for player in players {
-        if !player.team.is_empty() && !names.as_slice().contains(&player.team) {
-            names.push(player.team)?;
-        }
-    }
-    Ok(names)
-}
-
 // The starting numbers of a team's players, in the order of their boards; who has none is behind the others.
 fn numbers_of(
     alloc: Global,
@@ -46,13 +35,13 @@ pub fn teams_of<'a>(
     alloc: Global,
     players: &[Particulars<'a>],
 ) -> Result<Vec<Team<'a>>, AllocError> {
-    let names = names_of(alloc, players)?;
-    let mut teams = Vec::new(alloc);
-    for name in names.as_slice() {
-        teams.push(Team {
-            name: *name,
-            numbers: numbers_of(alloc, players, name)?,
-        })?;
+    let mut teams: Vec<Team<'_>> = Vec::new(alloc);
+    for player in players {
+        let name = player.team;
+        if !name.is_empty() && !teams.iter().any(|team| team.name == name) {
+            let numbers = numbers_of(alloc, players, name)?;
+            teams.push(Team { name, numbers })?;
+        }
     }
     Ok(teams)
 }

@@ -4,10 +4,10 @@
 //! Modules: `times` has times as a text, `rows` a row of the CSV file, `reading` the file, `notes` the notes of a
 //! round's file, `steps` what is to be done about a board, `decisions` the lines of arbiters' decisions, `counting`
 //! which of these counts for a board, `outcomes` the results, `law` the laws. `specs/Newer` says which of two games is
-//! newer, and `specs/Runs` what may become of a board over runs of `start` that are killed. `proofs/RowByRow` reads rows
-//! one after another, `proofs/TimesBack` and `NotesBack` show that times and notes come back, `proofs/DecisionTexts` is
-//! of the texts of decisions, `proofs/NewestKept` of the newest game, and `proofs/RunsKept` has what always holds of a
-//! board.
+//! newer, and `specs/Runs` what may become of a board over runs of `start` that are killed. `proofs/RowByRow` reads
+//! rows one after another, `proofs/TimesBack` and `NotesBack` show that times and notes come back,
+//! `proofs/DecisionTexts` is of the texts of decisions, `proofs/NewestKept` of the newest game, and `proofs/RunsKept`
+//! has what always holds of a board.
 #![tactic(auto)]
 
 mod counting;

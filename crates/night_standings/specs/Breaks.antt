@@ -13,13 +13,9 @@ use Rattle.night_report.specs.Cells.{cell_in}
 abbrev pub rounds_of : ℕ → List (List Meeting) → List Cell
 rounds_of n rounds = map (λ round. cell_in n round) rounds
 
--- won or lost by a forfeit
-abbrev pub is_forfeit : Cell → Bool
-is_forfeit c = c.sign == 43 || c.sign == 45
-
--- a round that was played: there is an opponent, and both came
+-- a round that was played: there is an opponent, and it is no forfeit; of teams, nor a match of forfeits alone
 abbrev pub is_played : Cell → Bool
-is_played c = not (c.opponent == 0) && not (is_forfeit c)
+is_played c = not (c.opponent == 0) && not c.is_forfeit
 
 -- a bye for half a point or for none, `H` or `Z`, as of who is away
 abbrev pub is_asked_for : Cell → Bool

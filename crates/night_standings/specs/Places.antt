@@ -1,7 +1,7 @@
 -- Places of players by points, and among those who are tied by one tie-break after another: FIDE's Handbook, C.07.
-use Rattle.std.specs.Prelude.{ℕ, zero, suc, ◌+◌, ◌-◌, ◌*◌, ◌==◌, ◌&&◌, ◌||◌, not, Bool, true, false, nat_lt, List, [], ◌∷◌}
-use Rattle.std.specs.Prelude.{◌++◌, map, sum_by, count_by, get_or, Option, None, Some, if◌then◌else◌}
-use Rattle.std.specs.Prelude.{slice_get}
+use Rattle.std.specs.Prelude.{ℕ, zero, suc, ◌+◌, ◌-◌, ◌*◌, ◌==◌, ◌&&◌, ◌||◌, not, Bool, true, false, nat_lt}
+use Rattle.std.specs.Prelude.{List, [], ◌∷◌, ◌++◌, map, sum_by, count_by, get_or, slice_get, Option, None, Some}
+use Rattle.std.specs.Prelude.{if◌then◌else◌}
 use Rattle.std.specs.List.{list_all, list_any}
 use Rattle.night_report.specs.declared.cells.Cell.{Cell}
 use Rattle.night_report.specs.declared.cells.Meeting.{Meeting}
@@ -28,8 +28,8 @@ ranks_of places values zero = []
 ranks_of places values (suc n) =
     ranks_of places values n ++ (record { place = get_or places n 0; value = get_or values n 0 } ∷ [])
 
--- The direct encounter (article 6): among those who are tied, the games that they played against each other and that are
--- over.
+-- The direct encounter (article 6): among those who are tied, the games that they played against each other and that
+-- are over.
 abbrev pub is_encounter : Cell → Bool
 is_encounter c = is_played c && not (c.sign == 32)
 
@@ -104,8 +104,8 @@ leaves_sure all t other = not (other.place == t.place) || nat_lt other.won t.won
 abbrev pub is_ranked : List Tied → Tied → Bool
 is_ranked all t = list_all (leaves_sure all t) all
 
--- Where all have met each other, the points against each other count; else the first rank is given to who has it whatever
--- the missing games bring, then so the second, and so on, and the others stay tied.
+-- Where all have met each other, the points against each other count; else the first rank is given to who has it
+-- whatever the missing games bring, then so the second, and so on, and the others stay tied.
 abbrev pub direct_value : List Tied → Tied → ℕ
 direct_value all t =
     if is_complete all t then t.won else (if is_ranked all t then t.won + 1 else 0)
@@ -150,22 +150,26 @@ values_by k rounds scores boards count places =
     if is_direct k then all_won rounds places count
     else (if is_of_boards k then boards else all_values k scores rounds count)
 
-abbrev pub places_by : Criterion → List (List Meeting) → List ℕ → List ℕ → ℕ → List ℕ → List ℕ
-places_by k rounds scores boards count places =
-    if is_direct k then settled rounds count count places
-    else places_in (ranks_of places (values_by k rounds scores boards count places) count)
+abbrev pub places_by : Criterion → List (List Meeting) → (values : List ℕ) → ℕ → List ℕ → List ℕ
+places_by k rounds values count places =
+    if is_direct k then settled rounds count count places else places_in (ranks_of places values count)
+
+-- both of these
+abbrev pub places_next : Criterion → List (List Meeting) → List ℕ → List ℕ → ℕ → List ℕ → List ℕ
+places_next k rounds scores boards count places =
+    places_by k rounds (values_by k rounds scores boards count places) count places
 
 -- the places by one tie-break after another, and what players have by each
 abbrev pub places_behind : List Criterion → List (List Meeting) → List ℕ → List ℕ → ℕ → List ℕ → List ℕ
 places_behind [] rounds scores boards count places = places
 places_behind (k ∷ ks) rounds scores boards count places =
-    places_behind ks rounds scores boards count (places_by k rounds scores boards count places)
+    places_behind ks rounds scores boards count (places_next k rounds scores boards count places)
 
 abbrev pub columns_behind : List Criterion → List (List Meeting) → List ℕ → List ℕ → ℕ → List ℕ → List (List ℕ)
 columns_behind [] rounds scores boards count places = []
 columns_behind (k ∷ ks) rounds scores boards count places =
     values_by k rounds scores boards count places
-    ∷ columns_behind ks rounds scores boards count (places_by k rounds scores boards count places)
+    ∷ columns_behind ks rounds scores boards count (places_next k rounds scores boards count places)
 
 -- the places by points alone: before these none is before another
 abbrev pub places_by_points : List (List Meeting) → ℕ → List ℕ

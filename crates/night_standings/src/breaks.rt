@@ -20,18 +20,11 @@ pub enum Criterion {
     Wins,
 }
 
-// Whether a round was won or lost by a forfeit.
-fn is_forfeit(cell: Cell) -> bool
-    ensures { result ≡ spec.is_forfeit cell }
-{
-    cell.sign == b'+' || cell.sign == b'-'
-}
-
 /// Whether a round was played: there is an opponent, and both came.
 pub fn is_played(cell: Cell) -> bool
     ensures { result ≡ spec.is_played cell }
 {
-    cell.opponent != 0 && !is_forfeit(cell)
+    cell.opponent != 0 && !cell.is_forfeit
 }
 
 // Whether it is a bye for half a point or for none.

@@ -103,7 +103,8 @@ fn tied_of(
 ) -> Result<Tied, AllocError>
     requires rounds { length rounds.now ≤ 99 }
     requires at { at < count }
-    ensures { IfOk result (λ tied. tied ≡ spec.tied_of (map (λ round. round.items) rounds.now) places.now count (at + 1)) }
+    ensures { IfOk result (λ tied. tied
+        ≡ spec.tied_of (map (λ round. round.items) rounds.now) places.now count (at + 1)) }
 {
     let number = at + 1;
     let cells = rounds_of(alloc, number, rounds)?;

@@ -48,7 +48,7 @@ fn result_of(score: Score, play: Play) -> &'static str {
     }
 }
 
-// The sign of a bye, and what it is worth.
+// The sign of a bye, and what it is worth to a player.
 fn bye_texts(bye: Bye) -> (&'static str, &'static str) {
     match bye {
         Bye::Pairing => ("U", "1"),
@@ -70,8 +70,8 @@ fn put_result(
     let result = result_of(meeting.score, meeting.play);
     match table.boards {
         Some(boards) if !matches!(meeting.score, Score::Open) => {
-            let ours = boards.points_text(alloc, round, meeting.white, black)?;
-            let theirs = boards.points_text(alloc, round, black, meeting.white)?;
+            let ours = boards.points_text(alloc, round, meeting.white)?;
+            let theirs = boards.points_text(alloc, round, black)?;
             let points = format!(in alloc; "{ours}-{theirs}")?;
             put_string(out, "result", points.as_str())
         }
@@ -95,7 +95,13 @@ fn put_meeting(
             let (sign, worth) = bye_texts(bye);
             put_string(out, "bye", sign)?;
             put(out, ",")?;
-            put_string(out, "result", worth)
+            match table.boards {
+                None => put_string(out, "result", worth),
+                Some(boards) => {
+                    let points = boards.points_text(alloc, round, white)?;
+                    put_string(out, "result", points.as_str())
+                }
+            }
         }
         Opponent::Player(black) => {
             let second = format!(in alloc; "\"black\":{black},")?;

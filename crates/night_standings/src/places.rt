@@ -126,25 +126,23 @@ fn values_by(
     }
 }
 
-// The places by a tie-break, by what players have.
+// The places by a tie-break, by which players have these values.
 fn places_by(
     alloc: Global,
     criterion: Criterion,
     rounds: &[Vec<Meeting>],
-    scores: &[u32],
-    boards: &[u64],
+    values: &[u64],
     count: u32,
     places: &[usize],
 ) -> Result<Vec<usize>, AllocError>
     requires { length rounds.now ≤ 99 }
     ensures { IfOk result (λ next. next.items
-        ≡ spec.places_by criterion (map (λ round. round.items) rounds.now) scores.now boards.now count places.now) }
+        ≡ spec.places_by criterion (map (λ round. round.items) rounds.now) values.now count places.now) }
 {
-    if matches!(criterion, Criterion::Direct) {
-        return settled(alloc, rounds, count, places);
+    match criterion {
+        Criterion::Direct => settled(alloc, rounds, count, places),
+        _ => placed(alloc, places, values, count),
     }
-    let values = values_by(alloc, criterion, rounds, scores, boards, count, places)?;
-    placed(alloc, places, values.as_slice(), count)
 }
 
 // The places by points.
@@ -164,7 +162,8 @@ pub fn standings_of(
     criteria: &[Criterion],
 ) -> Result<Standings, AllocError>
     requires { length rounds.now ≤ 99 }
-    ensures points { IfOk result (λ told. told.points.items ≡ sums.all_points (map (λ round. round.items) rounds.now) count) }
+    ensures points { IfOk result (λ told. told.points.items
+        ≡ sums.all_points (map (λ round. round.items) rounds.now) count) }
     ensures places { IfOk result (λ told. told.places.items
         ≡ spec.places_of criteria.now (map (λ round. round.items) rounds.now) boards.now count) }
     ensures columns { IfOk result (λ told. map (λ column. column.items) told.columns.items
@@ -177,16 +176,7 @@ pub fn standings_of(
     let mut places = places_by_points(alloc, points.as_slice(), count)?;
     let mut columns = Vec::new(alloc);
     for criterion in criteria {
-        columns.push(values_by(
-            alloc,
-            *criterion,
-            rounds,
-            scores.as_slice(),
-            boards,
-            count,
-            places.as_slice(),
-        )?)?;
-        places = places_by(
+        let values = values_by(
             alloc,
             *criterion,
             rounds,
@@ -195,6 +185,15 @@ pub fn standings_of(
             count,
             places.as_slice(),
         )?;
+        places = places_by(
+            alloc,
+            *criterion,
+            rounds,
+            values.as_slice(),
+            count,
+            places.as_slice(),
+        )?;
+        columns.push(values)?;
     }
     Ok(Standings {
         places,

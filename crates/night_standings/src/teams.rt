@@ -5,8 +5,8 @@ use crate::places::{Standings, standings_of};
 use crate::texts::{Boards, Table};
 use anyhow::{Result, bail, ensure};
 use night_report::{
-    Meeting, Opponent, Particulars, Team, all_board_points, all_matches, alternates, is_matched,
-    sides_of, teams_of,
+    Meeting, Opponent, Particulars, Team, all_board_points, all_matches, alternates, are_few,
+    is_matched, sides_of, teams_of,
 };
 use std::alloc::{AllocError, Global};
 
@@ -33,14 +33,14 @@ fn check_round(
     }
     for meeting in matches {
         if let Opponent::Player(black) = meeting.black
-            && !alternates(sides, meeting.white, black, round)
+            && !alternates(sides, meeting.board, meeting.white, black, round)
         {
             let white = meeting.white as usize;
             let name = teams
                 .get(white.saturating_sub(1))
                 .map_or("", |team| team.name);
             bail!(
-                "round {number}: colours do not alternate from board to board in the match of {name}"
+                "round {number}: colours do not alternate by the numbers of the boards in the match of {name}"
             );
         }
     }
@@ -126,6 +126,10 @@ fn text_by(
 ) -> Result<Vec<u8>> {
     ensure!(rounds.len() <= 99, "standings are of 99 rounds at most");
     ensure!(teams.len() <= 9_999, "standings are of 9,999 teams at most");
+    ensure!(
+        are_few(rounds),
+        "standings are of 9,999 boards a round at most"
+    );
     let count = teams.len() as u32;
     let matches = all_matches(alloc, sides, rounds, count)?;
     check_rounds(players, teams, sides, rounds, matches.as_slice())?;

@@ -5,10 +5,10 @@ use night_report::cells::cell_of;
 use night_report::{Cell, Meeting, board_points, push_header, push_row};
 use std::alloc::{AllocError, Global};
 
-/// The tie-break of a word, as it heads its column.
-pub fn criterion_of(word: &str) -> Option<Criterion> {
+/// The tie-break of a word, as it heads its column; board points are one of teams alone.
+pub fn criterion_of(word: &str, of_teams: bool) -> Option<Criterion> {
     match word {
-        "BP" => Some(Criterion::BoardPoints),
+        "BP" if of_teams => Some(Criterion::BoardPoints),
         "DE" => Some(Criterion::Direct),
         "BHC1" => Some(Criterion::BuchholzCut),
         "BH" => Some(Criterion::Buchholz),
@@ -118,18 +118,10 @@ pub struct Boards<'a> {
 }
 
 impl Boards<'_> {
-    /// A team's board points against another one in the round before which so many are, as points.
-    pub fn points_text(
-        self,
-        alloc: Global,
-        at: usize,
-        team: u32,
-        other: u32,
-    ) -> Result<String, AllocError> {
+    /// A team's board points in the round before which so many are, as points.
+    pub fn points_text(self, alloc: Global, at: usize, team: u32) -> Result<String, AllocError> {
         let halves = match self.rounds.get(at) {
-            Some(round) if round.len() <= 9_999 => {
-                board_points(self.sides, team, other, round.as_slice())
-            }
+            Some(round) if round.len() <= 9_999 => board_points(self.sides, team, round.as_slice()),
             _ => 0,
         };
         points_text(alloc, u64::from(halves))
@@ -180,17 +172,18 @@ impl Table<'_, '_> {
     ) -> Result<String, AllocError> {
         let number = u32::try_from(at).map_or(0, |at| at.saturating_add(1));
         let cell = cell_of(number, round);
-        let sign = char::from(cell.sign);
-        if cell.opponent == 0 {
-            return format!(in alloc; "{sign}");
-        }
-        let line = line_of(order, cell.opponent);
-        let colour = char::from(cell.colour);
+        let (colour, sign) = (char::from(cell.colour), char::from(cell.sign));
+        let text = if cell.opponent == 0 {
+            format!(in alloc; "{sign}")?
+        } else {
+            let line = line_of(order, cell.opponent);
+            format!(in alloc; "{line}{colour}{sign}")?
+        };
         match self.boards {
-            None => format!(in alloc; "{line}{colour}{sign}"),
+            None => Ok(text),
             Some(boards) => {
-                let points = boards.points_text(alloc, place, number, cell.opponent)?;
-                format!(in alloc; "{line}{colour}{sign}:{points}")
+                let points = boards.points_text(alloc, place, number)?;
+                format!(in alloc; "{text}:{points}")
             }
         }
     }
@@ -261,7 +254,7 @@ impl Table<'_, '_> {
 
     /// The crosstable as CSV: `line,name`, a column for each round and `points`, a row for each player by the places.
     /// A round is the opponent's line, `w` or `b`, and the sign of the result, as `3w1`; of a bye its sign; and of a
-    /// match the board points behind them, as `3w1:2.5`.
+    /// team the board points behind them, as `3w1:2.5`.
     pub fn crosstable_csv(
         self,
         alloc: Global,

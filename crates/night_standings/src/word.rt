@@ -23,15 +23,14 @@ fn boards_of(
     paired: &Paired,
     meetings: &[Meeting],
 ) -> Result<Vec<Board>, AllocError> {
-    let mut boards = Vec::new(alloc);
-    for (pairing, meeting) in paired.pairings.as_slice().iter().zip(meetings) {
-        boards.push(Board {
-            number: pairing.board,
-            game: noted_game(paired.notes.as_slice(), pairing.board),
+    meetings
+        .iter()
+        .map(|meeting| Board {
+            number: meeting.board,
+            game: noted_game(paired.notes.as_slice(), meeting.board),
             meeting: *meeting,
-        })?;
-    }
-    Ok(boards)
+        })
+        .collect(alloc)
 }
 
 // The boards of each round.

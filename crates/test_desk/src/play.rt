@@ -134,6 +134,19 @@ impl Play {
         Ok(())
     }
 
+    // A browser says an arbiter's decision, which has been put.
+    fn decide(&mut self, given: &str, wire: &mut Vec<u8>, told: &mut Vec<Message>) -> Result<()> {
+        let (from, text) = leading_number(given)?;
+        if !self.desk.is_ready(from) {
+            bail!("browser {from} waits for an answer, or is not there");
+        }
+        if !self.desk.decides(from, text, self.now) {
+            bail!("browser {from} may not decide by: {text}");
+        }
+        self.desk.decided(from, text, self.now, wire, told)?;
+        Ok(())
+    }
+
     // A browser says a text, where nothing of it is waited for.
     fn say(&mut self, given: &str, wire: &mut Vec<u8>, told: &mut Vec<Message>) -> Result<()> {
         let (from, text) = leading_number(given)?;
@@ -155,6 +168,7 @@ impl Play {
             "leave" => self.desk.closed(leading_number(given)?.0),
             "say" => self.say(given, wire, told)?,
             "link" => self.link(given, told)?,
+            "decide" => self.decide(given, wire, told)?,
             "renew" => self.renew(given)?,
             "anew" => self.begin_anew()?,
             "wait" => self.now = self.now.saturating_add(leading_number(given)?.0),

@@ -87,6 +87,10 @@ impl KeepsLinks for Once {
         Some(new.linked)
     }
 
+    fn decide(&mut self, arbiter: &str, text: &str, _players: &[Player]) -> bool {
+        arbiter == "eve" && text == "decide 1 3 0-1 6.7 white did not come"
+    }
+
     fn keep(&mut self, halts: &Halts) -> io::Result<()> {
         self.is_paused = halts.is_paused;
         Ok(())
@@ -341,7 +345,7 @@ static CASES: [Case; 17] = [
     ),
 ];
 
-static ACTS: [Case; 7] = [
+static ACTS: [Case; 8] = [
     // half a frame, and an answer in two pieces
     (
         (
@@ -372,6 +376,19 @@ static ACTS: [Case; 7] = [
         b"",
         b"ok login eve arbiter eve\n\x81\x0fno 38 NoPlayer\n\x81\x2dok link ann 07070707070707070707070707070707\n\
         \x81\x11no 40 NotWritten\n\x81\x12ok who open 1\neve\n",
+    ),
+    // an arbiter decides: everybody is told what is put, and nobody what is not
+    (
+        (
+            b"UP~\x81\xa6\0\0\0\0login eeeeeeeeeeeeeeeeeeeeeeeeeeeeeeee\x81\xa5\0\0\0\0decide 1 4 0-1 6.7 white did \
+            not come~\x81\xa5\0\0\0\0decide 1 3 0-1 6.7 white did not come",
+            b"",
+            How::Plainly,
+        ),
+        (40, 1),
+        b"",
+        b"ok login eve arbiter eve\n\x81\x11no 48 NotDecided\n\x81\x0aok decide\n\
+        \x81\x27decided 1 3 0-1 6.7 white did not come\n",
     ),
     // an arbiter pauses entries
     (

@@ -108,6 +108,7 @@ fn what_has_no_room_is_refused(rt: HostRuntime) {
 
 // A draw in which nobody made a move.
 const SHORT: Meeting = Meeting {
+    board: 1,
     white: 1,
     black: Opponent::Player(2),
     score: Score::Draw,
@@ -231,7 +232,7 @@ const WRONG: [(&[u8], RosterFault); 14] = [
         RosterFault::Row(2, RowFault::BadBoard),
     ),
     (
-        b"name\nann\nbob\nann\n",
+        b"name,team\nann,Leeds\nbob,York\nann,York\n",
         RosterFault::Row(2, RowFault::NameTwice),
     ),
 ];

@@ -1,5 +1,8 @@
 //! Standings of tournaments that were reckoned by hand, by the articles of FIDE's Handbook, C.07.
-use night_report::{Bye, Meeting, Opponent, Play, Score, alternates, is_matched};
+use night_report::{
+    Bye, Meeting, Opponent, Play, Score, all_board_points, all_matches, alternates, are_few,
+    is_matched,
+};
 use night_standings::{Criterion, Standings, standings_of};
 use std::alloc::Global;
 use std::process::Abort;
@@ -13,6 +16,7 @@ const ALL: [Criterion; 5] = [
 ];
 
 const WIN: Meeting = Meeting {
+    board: 1,
     white: 1,
     black: Opponent::Player(2),
     score: Score::White,
@@ -20,6 +24,7 @@ const WIN: Meeting = Meeting {
 };
 
 const DRAW: Meeting = Meeting {
+    board: 2,
     white: 3,
     black: Opponent::Player(4),
     score: Score::Draw,
@@ -147,6 +152,122 @@ fn boards_of_no_match(rt: HostRuntime) {
     for (board, wanted) in boards.iter().zip(&[false, false, true, false, false]) {
         assert!(rt; is_matched(&sides, &boards, *board) == *wanted);
     }
-    assert!(rt; !alternates(&sides, 1, 2, &[met(1, 3), met(2, 4)]));
-    assert!(rt; alternates(&sides, 1, 2, &[met(1, 3), met(5, 6), met(4, 2)]));
+}
+
+// Boards of a match by their numbers: whether the colours of two teams alternate.
+const COLOURS: [(&[(u32, u32, u32)], bool); 5] = [
+    (&[(1, 1, 3), (2, 2, 4)], false),
+    (&[(1, 1, 3), (2, 5, 6), (4, 4, 2)], true),
+    (&[(1, 1, 3), (3, 2, 4)], true),
+    (&[(1, 1, 3), (3, 4, 2)], false),
+    (&[(2, 1, 3), (3, 4, 2), (6, 1, 4)], true),
+];
+
+#[test]
+fn colours_alternate_by_the_numbers_of_boards(rt: HostRuntime) {
+    let sides = [1, 1, 2, 2, 3, 3];
+    for (boards, wanted) in COLOURS {
+        let mut round = Vec::new(rt.alloc());
+        for (board, white, black) in boards {
+            let meeting = Meeting {
+                board: *board,
+                ..met(*white, *black)
+            };
+            round.push(meeting).expect(&rt, "memory");
+        }
+        let first = round.first().map_or(0, |meeting| meeting.board);
+        assert!(rt; alternates(&sides, first, 1, 2, round.as_slice()) == wanted);
+    }
+}
+
+const BYE: Meeting = Meeting {
+    black: Opponent::Bye(Bye::Pairing),
+    ..WIN
+};
+
+// Two teams of two, and one of two that has a bye in the first round. In the second the third team has one player
+// alone, who wins: the other board of the first is a bye; and the second team is away.
+const LEAGUE: [&[Meeting]; 2] = [
+    &[
+        Meeting {
+            black: Opponent::Player(3),
+            ..WIN
+        },
+        Meeting {
+            board: 2,
+            white: 4,
+            ..WIN
+        },
+        Meeting {
+            board: 3,
+            white: 5,
+            ..BYE
+        },
+        Meeting {
+            board: 4,
+            white: 6,
+            ..BYE
+        },
+    ],
+    &[
+        Meeting {
+            white: 5,
+            black: Opponent::Player(1),
+            ..WIN
+        },
+        Meeting {
+            board: 2,
+            white: 2,
+            ..BYE
+        },
+    ],
+];
+
+// The standings of a league's three teams by board points, of these rounds.
+fn league_told(rt: &impl Abort, alloc: Global, rounds: &[&[Meeting]]) -> Standings {
+    let sides = [1, 1, 2, 2, 3, 3];
+    let mut all = Vec::new(alloc);
+    for round in rounds {
+        let meetings = Vec::from_slice(alloc, round).expect(rt, "memory");
+        all.push(meetings).expect(rt, "memory");
+    }
+    assert!(rt; all.len() <= 99);
+    assert!(rt; are_few(all.as_slice()));
+    let points = all_board_points(alloc, &sides, all.as_slice(), 3).expect(rt, "memory");
+    let matches = all_matches(alloc, &sides, all.as_slice(), 3).expect(rt, "memory");
+    assert!(rt; matches.len() <= 99);
+    let criteria = [Criterion::BoardPoints, Criterion::Direct];
+    standings_of(alloc, matches.as_slice(), points.as_slice(), 3, &criteria).expect(rt, "memory")
+}
+
+#[test]
+fn a_team_has_a_bye_and_a_point_where_nobody_came(rt: HostRuntime) {
+    let told = league_told(&rt, rt.alloc(), &LEAGUE);
+    assert!(rt; told.points.as_slice() == [2, 1, 3].as_slice());
+    let boards = told.columns.as_slice().first();
+    assert!(rt; boards.is_some_and(|boards| boards.as_slice() == [4, 2, 6].as_slice()));
+    assert!(rt; told.places.as_slice() == [1, 2, 0].as_slice());
+}
+
+// A match of two boards, at each of which the other team's player did not come.
+const NOBODY: [&[Meeting]; 1] = [&[
+    Meeting {
+        black: Opponent::Player(3),
+        play: Play::Forfeit,
+        ..WIN
+    },
+    Meeting {
+        board: 2,
+        white: 4,
+        play: Play::Forfeit,
+        ..WIN
+    },
+]];
+
+#[test]
+fn a_match_of_forfeits_alone_is_no_encounter(rt: HostRuntime) {
+    let told = league_told(&rt, rt.alloc(), &NOBODY);
+    assert!(rt; told.points.as_slice() == [1, 1, 0].as_slice());
+    let won = told.columns.as_slice().get(1);
+    assert!(rt; won.is_some_and(|won| won.as_slice() == [0, 0, 0].as_slice()));
 }

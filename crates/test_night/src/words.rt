@@ -143,7 +143,7 @@ fn check_line(rt: &impl Abort, alloc: Global, line: &str, wanted: Result<&str, E
 }
 
 // Command lines, and what each asks for, or why it is refused.
-static LINES: [(&str, Result<&str, ErrorKind>); 49] = [
+static LINES: [(&str, Result<&str, ErrorKind>); 51] = [
     (
         "chess-club lobby --players p --server 127.0.0.1:1",
         Ok("lobby p 127.0.0.1:8080 page 0 4 8 32"),
@@ -242,6 +242,14 @@ static LINES: [(&str, Result<&str, ErrorKind>); 49] = [
     (
         "chess-club standings --teams --players p --archive a --rounds a,b",
         Ok("standings p 1 6 false true"),
+    ),
+    (
+        "chess-club standings --teams --players p --archive a --rounds a,b --by BP,DE",
+        Ok("standings p 1 2 false true"),
+    ),
+    (
+        "chess-club standings --players p --archive a --rounds a,b --by BP,DE",
+        Err(ErrorKind::InvalidValue),
     ),
     (
         "chess-club standings --players p --archive a --rounds a,b --by SB,,DE",

@@ -9,7 +9,6 @@ use Rattle.text_parts.specs.Strings.{unescaped_from}
 use Rattle.server_answers.specs.declared.values.Side.{Side}
 use Rattle.server_answers.specs.declared.values.Side.TheVariants as sides
 use Rattle.server_answers.specs.declared.values.Clocks.{Clocks}
-use Rattle.server_answers.specs.declared.values.Offers.{Offers}
 use Rattle.server_answers.specs.declared.values.Ending.{Ending}
 use Rattle.chess_board.specs.declared.moves.Move.{Move}
 use Rattle.chess_board.specs.Position.{Position, IsValid, IsInCheck}

@@ -1,9 +1,10 @@
 -- What the loop over lines says of a session is said of the run.
 use Rattle.std.proofs.Common.{refl, inr}
 use Rattle.std.proofs.lemmas.Result.{err_from_is_err_and}
-use Rattle.chess_hub.specs.Running.{kept, standing}
+use Rattle.chess_hub.specs.Running.{standing}
 use Rattle.chess_hub.proofs.RunLemmas.{whole-run, long-run, ended-ok, ended-err, of_source}
 use Rattle.chess_hub.proofs.running.run_reads.Goals as goal
+use Rattle.chess_hub.specs.Turning.{kept}
 
 pub returns-in-Err-clause-ended : goal.returns-in-Err-clause-ended
 returns-in-Err-clause-ended g c = inr (c.in-Err.ensures.fault, record { read = refl; written = refl })

@@ -4,10 +4,11 @@ use Rattle.std.specs.Prelude.{IfErr}
 use Rattle.std.proofs.lemmas.Result.{err_from_is_err_and}
 use Rattle.chess_hub.specs.declared.fault.HubFault.TheVariants.{NoMemory}
 use Rattle.chess_hub.specs.Answers.{name_at}
-use Rattle.chess_hub.specs.Running.{kept, waits}
+use Rattle.chess_hub.specs.Running.{waits}
 use Rattle.chess_hub.proofs.TalkLemmas.{alone-first, alone-name}
 use Rattle.chess_hub.proofs.RunLemmas.{stands-is, few-none, connect-fault}
 use Rattle.chess_hub.proofs.talk.begin.Goals as goal
+use Rattle.chess_hub.specs.Turning.{kept}
 
 pub returns-clause-talks : goal.returns-clause-talks
 returns-clause-talks g c = (

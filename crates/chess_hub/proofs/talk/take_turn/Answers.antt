@@ -2,12 +2,13 @@ use Rattle.std.proofs.Common.{◌≡◌, sym, subst, Ok, IfErr}
 use Rattle.std.proofs.lemmas.Result.{err_from_is_err_and}
 use Rattle.std.specs.Io.BufRead.{strip_last}
 use Rattle.chess_hub.specs.Storing.{StoreMayBeAsked, StoreRefuses}
-use Rattle.chess_hub.specs.Turning.{IsTurnFault}
-use Rattle.chess_hub.specs.Running.{asks, kept, Serves, IsAlone, IsTold, LineAsksFor}
+use Rattle.chess_hub.specs.Turning.{IsTurnFault, kept, measures}
+use Rattle.chess_hub.specs.Running.{asks, Serves, IsAlone, IsTold, LineAsksFor}
 use Rattle.text_lines.specs.Lines.{IsUnfinished}
 use Rattle.chess_hub.specs.Session.{said}
 use Rattle.chess_hub.proofs.TalkLemmas.{alone-open, turned-told, asks-line, told-is, told-some, fault-map, serves-as, serves-err}
 use Rattle.chess_hub.proofs.talk.take_turn.Goals as goal
+use Rattle.chess_hub.specs.Law.{state_of}
 
 pub output-requires : goal.output-requires
 output-requires g c =
@@ -31,8 +32,7 @@ returns-clause-told g c = λ name part u h.
     let s = c.args.hub.now.sessions in
     let mid = c.turn.new.self in
     let turned = turned-told c.args.at c.args.sid name part s u h mid.sessions _ _ c.in_ok-turn.ensures.turned in
-    subst (λ store. IsTold c.args.at name (strip_last 13 part) (said c.in-Some.reply) c.args.hub.now.store.table
-    store.table c.output.new.self.sessions c.args.sid) (sym c.in-Some.ensures.store)
+    subst (λ store. IsTold c.args.at name (strip_last 13 part) (said c.in-Some.reply) c.args.hub.now.store.table (state_of c.output.new.self.sessions store.table) c.args.sid) (sym c.in-Some.ensures.store)
     (told-is c.args.at c.args.sid name (strip_last 13 part) _ _ mid.sessions c.output.new.self.sessions
     c.in-Some.reply turned c.in-Some.ensures.given c.in-Some.ensures.after)
 
@@ -45,7 +45,7 @@ pub returns-clause-serves : goal.returns-clause-serves
 returns-clause-serves g c =
     let old = c.args.hub.now.store in
     let mid = c.turn.new.self.store in
-    subst (λ store. Serves g.D.Device.state g.D.Device.sector_count g.D.Device.failures (kept old) (kept store) (Ok tt))
+    subst (λ store. Serves (measures g.D.Device.state g.D.Device.sector_count g.D.Device.failures) (kept old) (kept store) (Ok tt))
     (sym c.in-Some.ensures.store)
     (serves-as g.D.Device.state g.D.Device.sector_count g.D.Device.failures (kept old) (kept mid) c.turn.result c.turn.ensures.lasts c.turn.ensures.tried (Ok tt) c.in_ok-turn.was)
 

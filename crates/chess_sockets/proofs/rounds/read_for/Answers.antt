@@ -11,7 +11,7 @@ use Rattle.chess_sockets.specs.Closings.{HasFailed, WasRefused, IsForeign, IsRea
 use Rattle.chess_sockets.specs.Incoming.{held}
 use Rattle.chess_sockets.specs.Sending.{waiting}
 use Rattle.chess_sockets.proofs.TakingLemmas.{some_closed, up_unfinished}
-use Rattle.chess_sockets.specs.Rounds.{intake, IsRead}
+use Rattle.chess_sockets.specs.Rounds.{intake, IsRead, times}
 use Rattle.chess_sockets.proofs.HeardLemmas.{heard_on, end_on}
 use Rattle.chess_sockets.proofs.RoundLemmas.{not_closed, passed_over, is_read, read_nothing, sends, unchanged_by, silent_written, silent_reason, reason_of_trouble, both_true, on_false}
 use Rattle.chess_sockets.proofs.rounds.read_for.Goals as goal
@@ -55,7 +55,7 @@ returns-then-is_quiet-clause-read g c =
     let (idle, kept, same, stays, left, wait, none) = c.take_in-any.ensures.quiet (sym c.is_quiet.ensures ∙ c.if-is_quiet.true) in
     let open_now = subst (λ sid. IsSome (session_at old sid)) c.sid.ensures
     (c.is_open.ensures.0 c.if-not-is_open.false) in
-    subst (λ n. IsRead rest silence at longest client last (intake old room) (intake new n)) (sym left)
+    subst (λ n. IsRead rest (times at silence) longest client last (intake old room) (intake new n)) (sym left)
     (read_nothing rest silence at longest client last room old new done (sid ∙ peer.0) (waits_on ∙ peer.1)
     (heard_on (rest client.wire.stream) (rest after.wire.stream) (rest last.wire.stream) at client.heard_at after.heard_at last.heard_at
     c.take_in-any.ensures.heard (ap rest stream) heard_at)

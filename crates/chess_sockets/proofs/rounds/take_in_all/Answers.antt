@@ -3,7 +3,7 @@ use Rattle.std.proofs.Common.{◌<◌, ◌+◌, ℕ, List, length, set, ap, refl
 use Rattle.std.proofs.lemmas.Bool.{false≢true}
 use Rattle.std.proofs.lemmas.List.{with_items_is}
 use Rattle.chess_sockets.specs.declared.client.Client.{Client}
-use Rattle.chess_sockets.specs.Rounds.{intake, Holds, AreEach, IsRead}
+use Rattle.chess_sockets.specs.Rounds.{intake, Holds, AreEach, IsRead, times}
 use Rattle.chess_sockets.specs.Clients.{IsLongest}
 use Rattle.chess_sockets.proofs.RoundLemmas.{IsDoneTo, holds-refl, read_after, done_none, done_further, done_all}
 use Rattle.chess_sockets.proofs.rounds.take_in_all.Goals as goal
@@ -15,7 +15,7 @@ loop-client-init g c =
     let items = c.deref_mut-client-items.result.now in
     let room = c.new-room.result in
     let start = intake sessions 1 in
-    let Done = IsRead g.S.Read.remaining c.args.reading.silence c.args.reading.at room.longest in
+    let Done = IsRead g.S.Read.remaining (times c.args.reading.at c.args.reading.silence) room.longest in
     record {
       done = subst (λ (n : ℕ). IsDoneTo Holds Done 0 clients items start (intake sessions n)) (sym c.new-room.ensures.lines)
           (done_none Holds holds-refl Done clients items start start c.deref_mut-client-items.ensures.value (holds-refl start));
@@ -43,12 +43,12 @@ loop-client-preserved g c =
     let lt : c.loop-client.client-index < length items =
     omega (arith, c.loop-client-test.true, c.loop-client.auto.client-items) in
     record {
-      done = subst (λ (n : ℕ). IsDoneTo Holds (IsRead g.S.Read.remaining c.args.reading.silence c.args.reading.at n)
+      done = subst (λ (n : ℕ). IsDoneTo Holds (IsRead g.S.Read.remaining (times c.args.reading.at c.args.reading.silence) n)
           (c.loop-client.client-index + 1) c.args.clients.now.items
           (set items c.loop-client.client-index c.read_for-any.new.client) (intake c.args.hub.now.sessions 1)
           (intake c.read_for-any.new.hub.sessions last.lines)) (sym same)
           (done_further Holds holds-refl
-          (IsRead g.S.Read.remaining c.args.reading.silence c.args.reading.at room.longest)
+          (IsRead g.S.Read.remaining (times c.args.reading.at c.args.reading.silence) room.longest)
           (read_after g.S.Read.remaining c.args.reading.silence c.args.reading.at room.longest)
           c.args.clients.now.items items c.loop-client.client-index c.client-item.result c.read_for-any.new.client
           (intake c.args.hub.now.sessions 1) (intake c.loop-client.hub.sessions room.lines)
@@ -74,7 +74,7 @@ returns-clause-read g c =
     let room = c.loop-client.room in
     let old = intake c.args.hub.now.sessions 1 in
     let new = intake c.loop-client.hub.sessions room.lines in
-    let Done = IsRead g.S.Read.remaining c.args.reading.silence c.args.reading.at room.longest in
+    let Done = IsRead g.S.Read.remaining (times c.args.reading.at c.args.reading.silence) room.longest in
     let same = with_items_is clients items (so_far.whole ∙ sym clients.ok.0) in (
       room.lines,
       room.longest,

@@ -1,9 +1,9 @@
 -- A session begins for the connection, or none.
 use Rattle.std.proofs.Common.{◌∙◌, [], ◌∷◌, ◌++◌, ap, subst, sym, append-nil}
 use Rattle.chess_hub.specs.Calls.{Connected}
-use Rattle.chess_sockets.specs.Serving.{state_of}
 use Rattle.chess_sockets.proofs.ServingLemmas.{one_step, stays-refl}
 use Rattle.chess_sockets.proofs.server.admit.Goals as goal
+use Rattle.chess_hub.specs.Law.{state_of}
 
 pub returns-clause-welcomes : goal.returns-clause-welcomes
 returns-clause-welcomes g c =

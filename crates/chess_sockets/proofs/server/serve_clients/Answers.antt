@@ -4,10 +4,14 @@ use Rattle.std.proofs.Common.{◌≡◌, ◌∙◌, Bool, Err, length, ap, refl,
 use Rattle.std.proofs.lemmas.Result.{IfErr-at_err}
 use Rattle.chess_hub.specs.Faults.{CountsFault}
 use Rattle.chess_hub.specs.Turning.{AsksFor, AreRefused, IsTurnFault}
-use Rattle.chess_sockets.specs.Serving.{state_of}
+use Rattle.chess_sockets.specs.Serving.{served, HasServed}
 use Rattle.chess_sockets.proofs.ServingLemmas.{are_read, are_written, some_there}
 use Rattle.chess_sockets.proofs.StoreLemmas.{lasts_over, lasts_refused, of_answered, of_refused, turn_ends, turn_refusal, counts_refused, counts_done}
 use Rattle.chess_sockets.proofs.server.serve_clients.Goals as goal
+use Rattle.chess_hub.specs.Storing.{StoreMayBeAsked, StoreRefuses}
+use Rattle.chess_sockets.specs.Rounds.{times}
+use Rattle.chess_sockets.specs.Turns.{IsRefusal}
+use Rattle.chess_hub.specs.Law.{state_of}
 
 -- ---- who is served
 
@@ -16,12 +20,16 @@ returns-clause-served g c =
     let old = c.args.hub.now in
     let heard = c.take_in_all-has_read.new.hub in
     let answered = c.turn.new.self in
-    let written = c.hand_out_all-has_written.new.hub.sessions in
+    let written = c.hand_out_all-has_written.new.hub in
     let read = c.take_in_all-has_read.new.clients.items in
+    let last = c.hand_out_all-has_written.new.clients.items in
+    let when = times c.args.reading.at c.args.reading.silence in
+    let serves : HasServed g.S.Read.remaining g.S.Write.contents when (StoreMayBeAsked old.store)
+    (served c.args.clients.now.items (state_of old.sessions old.store.table))
+    (served last (state_of written.sessions written.store.table)) =
     rw (c.hand_out_all-has_written.ensures.store, sym c.take_in_all-has_read.ensures.store)
     (record {
-      read = read;
-      answered = state_of answered.sessions answered.store.table;
+      answered = served read (state_of answered.sessions answered.store.table);
       answers = record {
         heard = state_of heard.sessions heard.store.table;
         reads = are_read heard.store.table g.S.Read.remaining c.args.reading.silence c.args.reading.at c.args.clients.now.items read old.sessions heard.sessions
@@ -29,9 +37,10 @@ returns-clause-served g c =
         turned = of_answered c.turn.result tt c.in_default.is c.turn.ensures.turned;
         works = of_answered c.turn.result tt c.in_default.is c.turn.ensures.works;
       };
-      writes = are_written answered.store.table g.S.Write.contents read c.hand_out_all-has_written.new.clients.items
-          answered.sessions written c.hand_out_all-has_written.ensures.written;
-    })
+      writes = are_written answered.store.table g.S.Write.contents read last answered.sessions written.sessions
+          c.hand_out_all-has_written.ensures.written;
+    }) in
+    serves
 
 -- ---- whether there is more to do
 
@@ -78,6 +87,10 @@ returns-in-Err-clause-refused g c =
     let n = c.turn.new.self.store in
     let heard = c.take_in_all-has_read.new.hub.sessions in
     let read = c.take_in_all-has_read.new.clients.items in
+    let when = times c.args.reading.at c.args.reading.silence in
+    let refusal : IsRefusal g.S.Read.remaining when (StoreRefuses old.store n) c.in-Err.fault
+    (served c.args.clients.now.items (state_of old.sessions old.store.table))
+    (served read (state_of c.turn.new.self.sessions n.table)) =
     rw (sym c.take_in_all-has_read.ensures.store)
     (turn_refusal (n ≡ s) c.args.reading.at heard s.journal.header.seq s.failed s.table n.table _ c.args.reading.silence
     c.args.clients.now.items read (state_of old.sessions s.table) (state_of c.turn.new.self.sessions n.table) s.table
@@ -85,7 +98,8 @@ returns-in-Err-clause-refused g c =
     (of_refused c.turn.result c.in-Err.fault c.in-Err.is c.turn.ensures.unchanged) refl refl
     (λ e. ap (λ s. s.table) e) c.in-Err.fault
     (IfErr-at_err (λ fault. IsTurnFault fault (n ≡ s) (λ refused. AsksFor c.args.reading.at 64 heard
-    (AreRefused refused s.journal.header.seq s.failed s.table n.table))) c.in-Err.is c.turn.ensures.fault))
+    (AreRefused refused s.journal.header.seq s.failed s.table n.table))) c.in-Err.is c.turn.ensures.fault)) in
+    refusal
 
 -- ---- the count of failures
 

@@ -3,9 +3,10 @@ use Rattle.std.proofs.lemmas.Result.{err_from_is_err_and}
 use Rattle.std.specs.Io.BufRead.{strip_last}
 use Rattle.chess_hub.specs.Answers.{name_at}
 use Rattle.chess_hub.specs.declared.fault.HubFault.{HubFault}
-use Rattle.chess_hub.specs.Running.{kept, standing, RefusesLine}
+use Rattle.chess_hub.specs.Running.{standing, RefusesLine}
 use Rattle.chess_hub.proofs.TalkLemmas.{answers-line, refuses-line}
 use Rattle.chess_hub.proofs.talk.TalkAnswerer.answer.Goals as goal
+use Rattle.chess_hub.specs.Turning.{kept, measures}
 
 pub take_turn-requires : goal.take_turn-requires
 take_turn-requires g c = record {
@@ -52,9 +53,9 @@ returns-in_err-reply-clause-broken g c =
     let text = strip_last 13 c.args.line.now in
     let after = standing c.take_turn.new.hub s.sid c.next.new.self in
     let before = standing s.hub s.sid s.moments in
-    subst (λ r. IfErr r (λ fault. RefusesLine g.D.Device.state g.D.Device.sector_count g.D.Device.failures
+    subst (λ r. IfErr r (λ fault. RefusesLine (measures g.D.Device.state g.D.Device.sector_count g.D.Device.failures)
     g.M.Moments.gives before text fault after)) (sym e.1)
-    (subst (λ (f : HubFault). RefusesLine g.D.Device.state g.D.Device.sector_count g.D.Device.failures
+    (subst (λ (f : HubFault). RefusesLine (measures g.D.Device.state g.D.Device.sector_count g.D.Device.failures)
     g.M.Moments.gives before text f after) (sym e.2)
     (refuses-line g.D.Device.state g.D.Device.sector_count g.D.Device.failures g.M.Moments.gives
     (kept old) (kept mid) (kept new) name c.take_turn.new.hub.sessions s.sid c.next.result s.moments c.next.new.self text

@@ -2,7 +2,7 @@
 use Rattle.std.proofs.Common.{◌∙◌, ℕ, List, IfSome, ap, inl, inr, length, length-append, refl, subst, sym, rules, arith}
 use Rattle.chess_hub.specs.Session.{session_at}
 use Rattle.std.proofs.lemmas.Bool.{false≢true, lt-ltb, le-ltb}
-use Rattle.chess_sockets.specs.Clients.{standing, GivesOn}
+use Rattle.chess_sockets.specs.Clients.{standing, GivesOn, ahead, pends}
 use Rattle.chess_sockets.specs.Protocols.{AreOfAnotherProtocol}
 use Rattle.chess_sockets.proofs.ClosingLemmas.{is_foreign}
 use Rattle.chess_sockets.specs.Incoming.{held}
@@ -121,8 +121,7 @@ returns-then-is_foreign-clause-gives g c =
     let n = session_at c.close.new.hub.sessions client.sid in
     let unsent = waiting client.outgoing in
     let (sid, ended, quiet, keeps, waits, stream, heard_at, still) = c.close.ensures.peer in
-    subst (λ (l : List ℕ). IfSome m (λ s. GivesOn room.lines room.lines room.longest unsent holds l (standing client)
-    (standing after) s n)) (sym keeps)
+    subst (λ (l : List ℕ). IfSome m (λ s. GivesOn (ahead room.longest unsent) (pends holds (standing client) room.lines) (pends l (standing after) room.lines) s n)) (sym keeps)
     (gives-closed (standing client) (standing after) room.lines room.lines room.longest m n unsent holds (omega arith)
     c.close.ensures.closed.changed still)
 

@@ -2,7 +2,7 @@
 use Rattle.std.proofs.Common.{◌≡◌, ◌∙◌, ◌⊎◌, ℕ, List, Option, None, IfSome, inl, inr, ap, refl, subst, sym, arith}
 use Rattle.std.proofs.lemmas.Bool.{false≢true}
 use Rattle.chess_hub.specs.Session.{Changes, session_at}
-use Rattle.chess_sockets.specs.Clients.{Standing, standing, GivesOn, TakesIn}
+use Rattle.chess_sockets.specs.Clients.{Standing, standing, GivesOn, TakesIn, ahead, pends}
 use Rattle.chess_sockets.specs.Closings.{WasRefused, IsTrouble}
 use Rattle.chess_sockets.specs.Incoming.{held}
 use Rattle.chess_sockets.specs.Sending.{waiting}
@@ -35,9 +35,7 @@ returns-then-not-is_unfinished-clause-taken g c =
     let rest = g.S.Read.remaining in
     let room = c.args.room.now in
     let unsent = waiting client.outgoing in
-    subst (λ (b : Option (List ℕ)). IfSome (session_at old client.sid) (λ s. TakesIn room.lines
-    c.hand_on.new.room.lines room.longest (rest client.wire.stream) b unsent (held client.incoming) (held after.incoming)
-    (standing client) (standing after) s (session_at new client.sid))) (sym (ap rest c.hand_on.ensures.stream))
+    subst (λ (b : Option (List ℕ)). IfSome (session_at old client.sid) (λ s. TakesIn (rest client.wire.stream) b (ahead room.longest unsent) (pends (held client.incoming) (standing client) room.lines) (pends (held after.incoming) (standing after) c.hand_on.new.room.lines) s (session_at new client.sid))) (sym (ap rest c.hand_on.ensures.stream))
     (takes-in (standing client) (standing after) room.lines c.hand_on.new.room.lines room.longest (session_at old client.sid)
     (session_at new client.sid) (rest client.wire.stream) (rest client.wire.stream) unsent (held client.incoming)
     (held client.incoming) (held after.incoming) (takes-nothing (rest client.wire.stream) (held client.incoming))
@@ -66,13 +64,9 @@ returns-in-Fault-clause-taken g c =
     let unsent = waiting client.outgoing in
     let closed = subst (λ (n : ℕ). Changes old new n None) c.read_more.ensures.peer.0 c.close.ensures.closed in
     let (sid, ended, quiet, holds, waits, stream, heard_at, wait) = c.close.ensures.peer in
-    subst (λ (b : Option (List ℕ)). IfSome (session_at old client.sid) (λ s. TakesIn room room longest
-    (rest client.wire.stream) b unsent (held client.incoming) (held after.incoming) (standing client) (standing after) s
-    (session_at new client.sid)))
+    subst (λ (b : Option (List ℕ)). IfSome (session_at old client.sid) (λ s. TakesIn (rest client.wire.stream) b (ahead longest unsent) (pends (held client.incoming) (standing client) room) (pends (held after.incoming) (standing after) room) s (session_at new client.sid)))
     (sym (ap rest stream))
-    (subst (λ (l : List ℕ). IfSome (session_at old client.sid) (λ s. TakesIn room room longest (rest client.wire.stream)
-    (rest between.wire.stream) unsent (held client.incoming) l (standing client) (standing after) s
-    (session_at new client.sid)))
+    (subst (λ (l : List ℕ). IfSome (session_at old client.sid) (λ s. TakesIn (rest client.wire.stream) (rest between.wire.stream) (ahead longest unsent) (pends (held client.incoming) (standing client) room) (pends l (standing after) room) s (session_at new client.sid)))
     (sym holds)
     (takes-in (standing client) (standing after) room room longest (session_at old client.sid) (session_at new client.sid)
     (rest client.wire.stream) (rest between.wire.stream) unsent (held client.incoming) (held between.incoming)
@@ -103,16 +97,11 @@ returns-in-Bytes-clause-taken g c =
     let rest = g.S.Read.remaining in
     let unsent = waiting client.outgoing in
     let (same, waits, still) = c.read_more.ensures.peer in
-    let gives = subst (λ (n : ℕ). IfSome (session_at old n) (λ s. GivesOn room left longest unsent (held between.incoming)
-    (held after.incoming) (standing client) (standing after) s (session_at new n))) same
-    (subst (λ (w : Standing). IfSome (session_at old between.sid) (λ s. GivesOn room left longest unsent (held between.incoming)
-    (held after.incoming) w (standing after) s (session_at new between.sid))) still
-    (subst (λ (u : List ℕ). IfSome (session_at old between.sid) (λ s. GivesOn room left longest u (held between.incoming)
-    (held after.incoming) (standing between) (standing after) s (session_at new between.sid))) waits
+    let gives = subst (λ (n : ℕ). IfSome (session_at old n) (λ s. GivesOn (ahead longest unsent) (pends (held between.incoming) (standing client) room) (pends (held after.incoming) (standing after) left) s (session_at new n))) same
+    (subst (λ (w : Standing). IfSome (session_at old between.sid) (λ s. GivesOn (ahead longest unsent) (pends (held between.incoming) w room) (pends (held after.incoming) (standing after) left) s (session_at new between.sid))) still
+    (subst (λ (u : List ℕ). IfSome (session_at old between.sid) (λ s. GivesOn (ahead longest u) (pends (held between.incoming) (standing between) room) (pends (held after.incoming) (standing after) left) s (session_at new between.sid))) waits
     c.hand_on-in-Bytes.ensures.gives)) in
-    subst (λ (b : Option (List ℕ)). IfSome (session_at old client.sid) (λ s. TakesIn room left longest
-    (rest client.wire.stream) b unsent (held client.incoming) (held after.incoming) (standing client) (standing after) s
-    (session_at new client.sid)))
+    subst (λ (b : Option (List ℕ)). IfSome (session_at old client.sid) (λ s. TakesIn (rest client.wire.stream) b (ahead longest unsent) (pends (held client.incoming) (standing client) room) (pends (held after.incoming) (standing after) left) s (session_at new client.sid)))
     (sym (ap rest c.hand_on-in-Bytes.ensures.stream))
     (takes-in (standing client) (standing after) room left longest (session_at old client.sid) (session_at new client.sid)
     (rest client.wire.stream) (rest between.wire.stream) unsent (held client.incoming) (held between.incoming)

@@ -2,11 +2,14 @@
 use Rattle.std.proofs.Common.{◌∙◌, Ok, ap, refl, sym}
 use Rattle.std.proofs.lemmas.Result.{err_from_is_err_and}
 use Rattle.chess_hub.specs.Faults.{CountsFault}
-use Rattle.chess_sockets.specs.Serving.{state_of}
-use Rattle.chess_sockets.specs.Turns.{EndsServing, IsTurnRefusal}
+use Rattle.chess_sockets.specs.Serving.{served, server_state, HasServed}
+use Rattle.chess_sockets.specs.Turns.{EndsServing, IsTurnRefusal, IsRefusal}
 use Rattle.chess_sockets.proofs.StoreLemmas.{lasts_over, lasts_handed, of_fault, counts_refused, counts_done}
 use Rattle.chess_sockets.proofs.ServingLemmas.{welcomed_there, welcomed_on, asked_there, has_worked}
 use Rattle.chess_sockets.proofs.server.Server.turn.Goals as goal
+use Rattle.chess_hub.specs.Storing.{StoreMayBeAsked, StoreRefuses}
+use Rattle.chess_hub.specs.Law.{hub_state, state_of}
+use Rattle.chess_sockets.specs.Rounds.{times}
 
 -- ---- what is left of the store
 
@@ -39,6 +42,15 @@ returns-clause-served g c =
     let w = c.welcome-came.new.self in
     let n = c.serve_clients.new in
     let left = c.part-2.new.self in
+    let serves : HasServed g.S.Read.remaining g.S.Write.contents (times c.args.at old.silence)
+    (StoreMayBeAsked old.hub.store) (served w.clients.items (state_of w.hub.sessions w.hub.store.table))
+    (served n.clients.items (state_of left.hub.sessions left.hub.store.table)) =
+    rw (
+      c.part-2.ensures.hub,
+      sym (c.welcome-came.ensures.store ∙ ap (λ h. h.store) c.part.ensures.hub),
+      sym (c.welcome-came.ensures.silence ∙ c.part.ensures.silence),
+    )
+    c.in_ok-has_served.ensures.served in
     record {
       asked = w.clients.items;
       begun = state_of w.hub.sessions w.hub.store.table;
@@ -49,12 +61,7 @@ returns-clause-served g c =
           c.part.new.self.turned_away old.turned_away w.turned_away _ _ _ _ c.part.ensures.hub c.part.ensures.stay
           c.part.ensures.turned_away c.part.ensures.listener c.welcome-came.ensures.welcomes);
       written = n.clients.items;
-      serves = rw (
-        c.part-2.ensures.hub,
-        sym (c.welcome-came.ensures.store ∙ ap (λ h. h.store) c.part.ensures.hub),
-        sym (c.welcome-came.ensures.silence ∙ c.part.ensures.silence),
-      )
-          c.in_ok-has_served.ensures.served;
+      serves = serves;
       stay = rw c.part-2.ensures.hub c.part-2.ensures.stay;
     }
 
@@ -86,10 +93,15 @@ returns-in_err-has_served-clause-refused g c =
     let same = c.welcome-came.ensures.store ∙ ap (λ h. h.store) c.part.ensures.hub in
     let w = c.welcome-came.new.self in
     let n = c.serve_clients.new in
+    let refusal : IsRefusal g.S.Read.remaining (times c.args.at old.silence) (StoreRefuses old.hub.store n.hub.store)
+    c.in_err-has_served.field-0.0 (served w.clients.items (state_of w.hub.sessions w.hub.store.table))
+    (served n.clients.items (state_of n.hub.sessions n.hub.store.table)) =
+    rw (sym same, sym (c.welcome-came.ensures.silence ∙ c.part.ensures.silence))
+    c.in_err-has_served.ensures.refused in
     of_fault r.result e.0 c.in_err-has_served.field-0.0
-    (λ fault. IsTurnRefusal g.S.From.from_gives g.S.Read.remaining old.silence old.listener.given w.listener.given
-    old.turned_away w.turned_away fault c.args.at old.hub.store.journal.header.seq old.hub.store.failed old.clients.items n.clients.items
-    (state_of old.hub.sessions old.hub.store.table) (state_of n.hub.sessions n.hub.store.table)) e.1 e.2
+    (λ fault. IsTurnRefusal g.S.From.from_gives g.S.Read.remaining (times c.args.at old.silence)
+    (StoreRefuses old.hub.store n.hub.store) fault (server_state old.listener.given old.turned_away old.clients.items
+    (hub_state old.hub)) (server_state w.listener.given w.turned_away n.clients.items (hub_state n.hub))) e.1 e.2
     (record {
       asked = w.clients.items;
       begun = state_of w.hub.sessions w.hub.store.table;
@@ -97,8 +109,7 @@ returns-in_err-has_served-clause-refused g c =
           (λ hub. state_of hub.sessions hub.store.table) c.part.new.self.listener old.listener w.listener.given
           c.part.new.self.turned_away old.turned_away w.turned_away _ _ _ _ c.part.ensures.hub c.part.ensures.stay
           c.part.ensures.turned_away c.part.ensures.listener c.welcome-came.ensures.welcomes;
-      refusal = rw (sym same, sym (c.welcome-came.ensures.silence ∙ c.part.ensures.silence))
-          c.in_err-has_served.ensures.refused;
+      refusal = refusal;
     })
 
 pub returns-in_err-has_served-clause-cause_err : goal.returns-in_err-has_served-clause-cause_err

@@ -1,11 +1,12 @@
 -- Nobody came, or who came is greeted.
 use Rattle.std.proofs.Common.{◌∙◌, refl, sym, rules}
 use Rattle.std.proofs.lemmas.Bool.{false≢true}
-use Rattle.chess_sockets.specs.Serving.{state_of, IsAskedFor}
+use Rattle.chess_sockets.specs.Serving.{IsAskedFor}
 use Rattle.chess_sockets.proofs.ServingLemmas.{away_counted, client_counted, nobody_came}
 use Rattle.chess_sockets.proofs.server.Server.welcome.Given.{Over}
 use Rattle.chess_sockets.proofs.server.Server.welcome.Goals.{After-next_connection}
 use Rattle.chess_sockets.proofs.server.Server.welcome.Goals as goal
+use Rattle.chess_hub.specs.Law.{state_of}
 
 pub returns-then-not-asks_for_one-clause-welcomes : goal.returns-then-not-asks_for_one-clause-welcomes
 returns-then-not-asks_for_one-clause-welcomes g c =

@@ -1,6 +1,0 @@
-use Rattle.lobby_talk.proofs.Saying.{said_says}
-use Rattle.lobby_talk.proofs.said.say.Goals as goal
-
-pub returns-in_ok-said-in-None : goal.returns-in_ok-said-in-None
-returns-in_ok-said-in-None g c =
-    said_says c.args.shown.now c.args.number c.args.at c.args.talk.now c.said.new.self c.in_ok-said-in-None.ensures
