@@ -92,7 +92,7 @@ pub record TurnLasts {T : Type 0} (result : Result T HubFault) (old new : State)
 -- ---- the device
 
 -- What is told of a device: its state, how many sectors it has, and how often it has failed.
-pub record Measures (D : Type 0) : Type 0 where
+pub record Measures (D : Type 0) : Type 1 where
   pub state : D → State
   pub sector_count : D → ℕ
   pub failures : D → ℕ
