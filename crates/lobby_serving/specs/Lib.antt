@@ -1,2 +1,3 @@
 pub mod Marks
 pub mod Listing
+pub mod Knowing

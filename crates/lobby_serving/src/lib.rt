@@ -1,10 +1,10 @@
 //! The word that serves browsers: the page, the figures and the files that are looked at, the log of acts.
 //!
 //! Modules: `asked` has what is asked of it, `serving` takes turns, `page` has the files at the start, `health` makes
-//! the figures by `lines`, `table` asks the server whether it is up and how many games it has, which `listing` counts,
-//! `games_file` reads a file of games, `games_folder` those of a folder, `games_files` all of them, and `players` that
-//! of the players, by `mark`, which tells whether a file has changed, `links` changes links in it and hands decisions
-//! on, `log` keeps the log in its file.
+//! the figures by `lines`, `table` asks the server whether it is up and how many games it has, by a `question`, of
+//! whose answer `listing` counts them, `games_file` reads a file of games, `games_folder` those of a folder,
+//! `games_files` all of them, and `players` that of the players, by `mark`, which tells whether a file has changed,
+//! `links` changes links in it and hands decisions on, `log` keeps the log in its file.
 #![tactic(auto)]
 
 mod asked;
@@ -19,6 +19,7 @@ mod log;
 mod mark;
 mod page;
 mod players;
+mod question;
 mod serving;
 mod table;
 

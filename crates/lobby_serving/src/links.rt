@@ -1,6 +1,6 @@
 //! Players' links, changed in the players' file, whether entries are paused, kept beside it, why clocks are stopped,
 //! and what arbiters decide.
-ghost use Rattle.std.specs.Prelude.{ℕ, List, ◌≡◌, IfOk, IfSome};
+ghost use Rattle.std.specs.Prelude.{ℕ, List, [], ◌≡◌, IfOk, IfSome};
 ghost use Rattle.std.specs.String.{string_bytes};
 ghost use Rattle.hex.specs.Hex.{encode_lower};
 ghost use Rattle.lobby_words.specs.Players.{IsRelinked};
@@ -55,8 +55,11 @@ where
         })
     }
 
-    /// What is halted.
-    pub fn halts(&self) -> Result<Halts> {
+    /// What is halted. Nothing is announced yet.
+    pub fn halts(&self) -> Result<Halts>
+        ensures paused { IfOk result (λ halts. halts.is_paused ≡ self.now.entries.is_paused) }
+        ensures announced { IfOk result (λ halts. string_bytes halts.announced ≡ []) }
+    {
         let reason = self.clocks.as_ref().map_or("", |clocks| clocks.reason());
         Ok(Halts {
             is_paused: self.entries.is_paused(),
@@ -94,13 +97,20 @@ where
     }
 
     // The same, where nobody else holds the file. Where the link is closed nobody is told the token.
-    fn changed(&mut self, order: &Order, players: &[Player]) -> Result<Linked>
-        ensures { IfOk result (λ linked. IsRelinked order.now.name
+    fn changed<G: TryRng>(
+        &mut self,
+        source: &mut G,
+        order: &Order,
+        players: &[Player],
+    ) -> Result<Linked>
+        ensures relinked { IfOk result (λ linked. IsRelinked order.now.name
             (string_bytes linked.token) players.now linked.players.items) }
+        ensures given { IfOk result (λ linked.
+            (bytes : List ℕ) × G.may_fill source.old bytes source.new
+            × (string_bytes linked.token ≡ encode_lower bytes)) }
     {
         let _hold = Hold::at_once(self.rt, self.file)?;
-        let mut source = SysRng::new(self.rt);
-        let new = self.put(&mut source, order, players)?;
+        let new = self.put(source, order, players)?;
         Ok(new.linked)
     }
 }
@@ -111,7 +121,8 @@ where
     D: KeepsDecisions,
 {
     fn change(&mut self, order: &Order, players: &[Player]) -> Option<Linked> {
-        match self.changed(order, players) {
+        let mut source = SysRng::new(self.rt);
+        match self.changed(&mut source, order, players) {
             Ok(linked) => Some(linked),
             Err(error) => {
                 let name = order.name.as_str();

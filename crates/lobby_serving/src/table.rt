@@ -1,14 +1,11 @@
 //! Whether the server answers, and how many games it has: it is asked by a connection of its own, once the lobby's is
 //! made and while somebody asks for figures.
-use crate::listing::{Games, Listing, Told};
+use crate::listing::Games;
+use crate::question::{Question, Seen, begin};
 use lobby_loop::Lobby;
-use sockets::{ServerAddress, begin};
+use sockets::{Call, ServerAddress};
 use std::alloc::{AllocError, Global};
-use std::io::{ErrorKind, Read, Write};
 use std::net::Net;
-
-/// What is asked, with its end.
-const LIST: &[u8] = b"list\n";
 
 /// So many milliseconds lie between two questions.
 const EVERY: u64 = 10_000;
@@ -24,93 +21,6 @@ const FRESH: u64 = 30_000;
 /// So many milliseconds lie between two looks at a question that is not answered: its socket wakes nobody.
 const LOOK_EVERY: u64 = 20;
 
-/// So many bytes a read takes, and so many reads a look.
-const ROOM: usize = 16_384;
-
-const READS: u32 = 16;
-
-/// A question on its way.
-#[derive(Drop)]
-struct Call {
-    stream: sockets::Call,
-    is_said: bool,
-    listing: Listing,
-    until: u64,
-}
-
-/// Whether there is more to be seen of a question.
-#[derive(Clone, Copy)]
-enum Seen {
-    /// Not for now.
-    Nothing,
-    Games(Games),
-    /// There are no games: the server says something else, or has closed the connection, as where it serves all that it
-    /// may.
-    Lost,
-    /// It took too long.
-    Silent,
-}
-
-// What a fault of a stream that does not wait says.
-fn seen_at(kind: ErrorKind) -> Seen {
-    match kind {
-        ErrorKind::WouldBlock | ErrorKind::Interrupted | ErrorKind::NotConnected => Seen::Nothing,
-        _ => Seen::Lost,
-    }
-}
-
-impl Call {
-    // Says the line, once the connection is made. It is so short that it goes as a whole, or not at all.
-    fn say(&mut self) -> Seen {
-        if self.is_said {
-            return Seen::Nothing;
-        }
-        match self.stream.write(LIST) {
-            Ok(count) if count == LIST.len() => {
-                self.is_said = true;
-                Seen::Nothing
-            }
-            Ok(_) => Seen::Lost,
-            Err(error) => seen_at(error.kind()),
-        }
-    }
-
-    // Reads a piece. It tells nothing where there may be more at once.
-    fn read(&mut self, piece: &mut [u8; ROOM]) -> Result<Option<Seen>, AllocError> {
-        match self.stream.read(piece) {
-            Ok(0) => Ok(Some(Seen::Lost)),
-            Ok(count) => match self.listing.take(&piece[..count])? {
-                Told::Nothing => Ok(None),
-                Told::Games(games) => Ok(Some(Seen::Games(games))),
-                Told::NoList => Ok(Some(Seen::Lost)),
-            },
-            Err(error) => Ok(Some(seen_at(error.kind()))),
-        }
-    }
-
-    // Reads what is there of the answer.
-    fn hear(&mut self) -> Result<Seen, AllocError> {
-        let mut piece = [0u8; ROOM];
-        for _ in 0..READS {
-            if let Some(seen) = self.read(&mut piece)? {
-                return Ok(seen);
-            }
-        }
-        Ok(Seen::Nothing)
-    }
-
-    // Goes on with the question.
-    fn look(&mut self, at: u64) -> Result<Seen, AllocError> {
-        if at >= self.until {
-            return Ok(Seen::Silent);
-        }
-        match self.say() {
-            Seen::Nothing if self.is_said => self.hear(),
-            seen => Ok(seen),
-        }
-    }
-}
-
 /// The server's table, as it told last.
 #[derive(Drop)]
 pub struct Table {
@@ -120,7 +30,7 @@ pub struct Table {
     // slow.
     is_here: bool,
     is_answering: bool,
-    call: Option<Call>,
+    question: Option<Question<Call>>,
     next_at: u64,
     // How often figures had been asked for at the last look, and until when they are wanted since.
     asked: u64,
@@ -137,7 +47,7 @@ impl Table {
             server,
             is_here: false,
             is_answering: false,
-            call: None,
+            question: None,
             next_at: 0,
             asked: 0,
             wanted_until: 0,
@@ -156,27 +66,27 @@ impl Table {
 
     // Whether a question is to be begun.
     fn is_due(&self, at: u64) -> bool {
-        self.call.is_none() && at >= self.next_at && at < self.wanted_until
+        self.question.is_none() && at >= self.next_at && at < self.wanted_until
     }
 
     // Begins a question.
     fn begin(&mut self, net: &impl Net, at: u64) {
         self.next_at = at.saturating_add(EVERY);
-        if let Ok(stream) = begin(net, &self.server) {
-            self.call = Some(Call {
-                stream,
-                is_said: false,
-                listing: Listing::new(self.alloc),
-                until: at.saturating_add(PATIENCE),
-            });
-        }
+        let until = at.saturating_add(PATIENCE);
+        self.question = begin(net, self.alloc, &self.server, until);
     }
 
     // Goes on with a question, where one is on its way.
     fn go_on(&mut self, at: u64) -> Result<Seen, AllocError> {
-        match &mut self.call {
-            Some(call) => call.look(at),
-            None => Ok(Seen::Nothing),
+        let Some(question) = &mut self.question else {
+            return Ok(Seen::Nothing);
+        };
+        if at >= question.until {
+            return Ok(Seen::Silent);
+        }
+        match question.say() {
+            Seen::Nothing => question.hear(),
+            seen => Ok(seen),
         }
     }
 
@@ -185,7 +95,7 @@ impl Table {
         if matches!(seen, Seen::Nothing) {
             return;
         }
-        self.call = None;
+        self.question = None;
         self.is_answering = !matches!(seen, Seen::Silent);
         if let Seen::Games(games) = seen {
             self.games = Some(games);
@@ -195,7 +105,7 @@ impl Table {
 
     // What was told is told no more.
     fn forget(&mut self) {
-        self.call = None;
+        self.question = None;
         self.is_answering = false;
         self.games = None;
         self.next_at = 0;
@@ -236,7 +146,7 @@ impl Table {
 
     /// After so many milliseconds it is to be looked at again, though no socket is ready; none where that is no matter.
     pub fn rest(&self, at: u64) -> Option<u64> {
-        if self.call.is_some() {
+        if self.question.is_some() {
             Some(LOOK_EVERY)
         } else if self.is_here && self.next_at < self.wanted_until {
             Some(self.next_at.saturating_sub(at))
