@@ -72,20 +72,18 @@ impl<R: Eprint> Telling<'_, R> {
         }
     }
 
-    // That connections were turned away, so many since it began.
-    fn tell_turned_away(&mut self, count: u64, at: u64) {
-        if self.turned_away.is_news(count, at) {
+    // How many connections were turned away, and how many logins were refused, since it began.
+    fn tell_counts(&mut self, lobby: &Lobby, at: u64) {
+        let turned_away = lobby.turned_away();
+        if self.turned_away.is_news(turned_away, at) {
             let _ = eprintln!(self.rt;
-                "so many connections were turned away or made room by now: {count}"
+                "so many connections were turned away or made room by now: {turned_away}"
             );
         }
-    }
-
-    // That logins were refused, so many since it began.
-    fn tell_logins_refused(&mut self, count: u64, at: u64) {
-        if self.logins_refused.is_news(count, at) {
+        let refused = lobby.counts().logins_refused;
+        if self.logins_refused.is_news(refused, at) {
             let _ = eprintln!(self.rt;
-                "so many logins were refused by now, by links that hold no more or by guesses: {count}"
+                "so many logins were refused by now, by links that hold no more or by guesses: {refused}"
             );
         }
     }
@@ -166,9 +164,7 @@ where
         let games_rest = self.games.look(self.rt, lobby, at)?;
         let turned = lobby.turn(self.rt, at, log, &mut self.links)?;
         self.telling.tell_server(lobby.has_server());
-        self.telling.tell_turned_away(lobby.turned_away(), at);
-        self.telling
-            .tell_logins_refused(lobby.counts().logins_refused, at);
+        self.telling.tell_counts(lobby, at);
         lobby.rest(within(within(turned, self.table.rest(at)), games_rest))?;
         Ok(())
     }

@@ -69,13 +69,6 @@ impl Table {
         self.question.is_none() && at >= self.next_at && at < self.wanted_until
     }
 
-    // Begins a question.
-    fn begin(&mut self, net: &impl Net, at: u64) {
-        self.next_at = at.saturating_add(EVERY);
-        let until = at.saturating_add(PATIENCE);
-        self.question = begin(net, self.alloc, &self.server, until);
-    }
-
     // Goes on with a question, where one is on its way.
     fn go_on(&mut self, at: u64) -> Result<Seen, AllocError> {
         let Some(question) = &mut self.question else {
@@ -122,7 +115,9 @@ impl Table {
             return Ok(());
         }
         if !was_here || self.is_due(at) {
-            self.begin(net, at);
+            self.next_at = at.saturating_add(EVERY);
+            let until = at.saturating_add(PATIENCE);
+            self.question = begin(net, self.alloc, &self.server, until);
         }
         let seen = self.go_on(at)?;
         self.take(seen, at);
