@@ -118,7 +118,7 @@ where
 impl<R, D> KeepsLinks for FileLinks<'_, R, D>
 where
     R: Files<File = File> + AllocGlobal + RandomSource + Eprint,
-    D: KeepsDecisions,
+    D: KeepsDecisions + Drop,
 {
     fn change(&mut self, order: &Order, players: &[Player]) -> Option<Linked> {
         let mut source = SysRng::new(self.rt);
