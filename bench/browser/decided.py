@@ -34,7 +34,7 @@ def decides(hall, *words, prints):
     sue = hall.sue
     sue.click('#decide-copy').reads('#decide-copied', 'The command is copied', prints + ' is decided')
     command = shlex.split(sue.clipboard())
-    sue.is_so(command[:2] == ['./chess-club', 'decide'] and all(word in command for word in words), 'it is %s' % command)
+    sue.is_so(command[:2] == ['./chess-club', 'decide'] and {*words} <= {*command}, 'it is %s' % command)
     ran = subprocess.run([hall.lobby.program, *command[1:]], cwd=hall.lobby.folder, capture_output=True, text=True)
     sue.is_so(ran.stdout == prints + ' is decided\n', 'which decides it: %s' % ran)
 
@@ -79,7 +79,8 @@ def a_decision(hall):
     sue.reads('#decide-law', 'By 6.9 it is a draw where Black cannot mate', 'Black has: king, queen, 2 rooks',
               'depends on the position').is_so(value(sue, 'result') == '', 'which the page does not know')
     sue.click('#decide-leave', on_card(drawn, '[data-key^=decide-]'))
-    sue.reads('#decide-law', 'By 6.9 it is a draw: Black cannot mate', 'Black has: king, knight; White has: king, queen')
+    sue.reads('#decide-law', 'By 6.9 it is a draw: Black cannot mate',
+              'Black has: king, knight; White has: king, queen')
     sue.until(lambda: (value(sue, 'round'), value(sue, 'board'), value(sue, 'result')) == ('2', '1', '1/2-1/2'),
               'board and result are filled in')
     well_on_screens(sue, 'the decision')
