@@ -397,8 +397,8 @@ def room_for_all(hall):
 
 
 def read_by_all(hall):
-    """Coordinates of 4.5 to 1 on every board; each view, menu and question fits, can be read, light and dark, has names,
-    and is gone through by Tab, on every screen."""
+    """Coordinates of 4.5 to 1 on every board; each view, menu and question fits, can be read, light and dark, has
+    names, and is gone through by Tab, on every screen."""
     ann, bob, sue = hall.sit()
     number, well = hall.set_up(minutes='20'), well_on_screens
     for person, view, css in ((ann, '', '#open-game'), (sue, '', '#only-watching'), (sue, 'hall', '#hall-none'),
@@ -778,7 +778,6 @@ def the_first_minutes(hall):
                   'a word beside it is tried too: ' + said.stderr)
 
 
-NEEDS_CONTROL_TOO = (no_dead_buttons, slow_answers)
 EVENING = (no_dead_buttons, handy_moves, full_names, planned_moves, asked_first, heard_tones, own_marks, taken_men,
            boards_and_men, told_elsewhere, slow_answers, foreign_links, room_for_all, read_by_all, in_german,
            in_every_language, offers_end, a_killed_browser, looked_at_again, the_first_minutes)

@@ -14,7 +14,8 @@ LICHESS = '''[Event "Rated blitz game"]
 
 1. e4 { [%eval 0.17] [%clk 0:05:00] } 1... e5 { [%clk 0:04:59] } 2. Qh5?! { (0.19 → -0.30) Inaccuracy. Nf3 was best. } \
 { [%eval -0.3] [%clk 0:04:58] } (2. Nf3 Nc6 3. Bb5 a6 4. Ba4 Nf6 5. O-O) 2... Nc6 { [%clk 0:04:50] } 3. Bc4 Nf6?? \
-{ Checkmate is now unavoidable. } (3... g6 4. Qf3 Nf6 5. Ne2) 4. Qxf7# { [%clk 0:04:41] } { White wins by checkmate. } 1-0
+{ Checkmate is now unavoidable. } (3... g6 4. Qf3 Nf6 5. Ne2) 4. Qxf7# { [%clk 0:04:41] } { White wins by checkmate. } \
+1-0
 '''
 CHESS_COM = '''[Event "Live Chess"]
 [Site "Chess.com"]
@@ -47,7 +48,8 @@ e5 ; 2. f4?
 
 1. d4 *
 '''
-BY_HAND = '''1.e4 e5 2.♘f3 ♞c6 3. Bf1–c4 Bc5 4.0-0 Nf6 5.d3 o-o 6.Bg5 h6 7.Bh4 g5!? 8.Bg3 d6 ± 9.c3 a6 +/- 10. Nbd2!! Ba7 ?!
+BY_HAND = '''1.e4 e5 2.♘f3 ♞c6 3. Bf1–c4 Bc5 4.0-0 Nf6 5.d3 o-o 6.Bg5 h6 7.Bh4 g5!? 8.Bg3 d6 ± 9.c3 a6 +/- 10. Nbd2!! \
+Ba7 ?!
 11. Re1 ! ... 1/2'''
 WRONG = '''[Event "One"]
 
@@ -63,8 +65,8 @@ TREE = '#again-moves'
 
 def pasted_games(hall):
     """PGNs as they are met: with signs and numbers behind moves, comments of both kinds, clocks, variations within each
-    other, lines that are left out, tags that are spoilt, and moves as people write them, of which the PGN that is copied
-    has all; and what cannot be read is told with its place."""
+    other, lines that are left out, tags that are spoilt, and moves as people write them, of which the PGN that is
+    copied has all; and what cannot be read is told with its place."""
     sue = hall.sue
     hall.sit('sue')
     sue.goes('again').finds('#again-board', 'the board')
@@ -83,16 +85,16 @@ def pasted_games(hall):
             sue.until(lambda: sue.clipboard() == copied, 'which is the same again')
         return copied
 
-    copied = puts(LICHESS, '1.e4e52.Qh5?!(0.19 → -0.30) Inaccuracy. Nf3 was best.(2.Nf3Nc63.Bb5a64.Ba4Nf65.O-O)2…Nc63.Bc4'
-                  'Nf6??Checkmate is now unavoidable.(3…g64.Qf3Nf65.Ne2)4.Qxf7#White wins by checkmate.')
+    copied = puts(LICHESS, '1.e4e52.Qh5?!(0.19 → -0.30) Inaccuracy. Nf3 was best.(2.Nf3Nc63.Bb5a64.Ba4Nf65.O-O)2…Nc6'
+                  '3.Bc4Nf6??Checkmate is now unavoidable.(3…g64.Qf3Nf65.Ne2)4.Qxf7#White wins by checkmate.')
     sue.is_so('2. Qh5 $6 ' in copied and '[%clk 0:04:41]' in copied, 'the PGN has signs and clocks: ' + copied)
     sue.click('#again-last').shows('#again-clocks', 'Clocks: 4:41 – 4:50', 'the clocks of the position')
     sue.reads('#again-who', 'anna – bert')
     sue.click('#again-first').until(lambda: not sue.text('#again-clocks'), 'none at the start')
     puts(CHESS_COM, '1.f3e52.g4Qh4#')
     sue.click('#again-last').shows('#again-clocks', 'Clocks: 2:57 – 2:55', 'clocks with tenths')
-    puts(CHESSBASE, 'A long comment [over lines] with (brackets) and 1. e4 $1 in it1.e4!goode5?!(1…c5!?2.Nf3+=(2.c3d5(2…Nf6'
-         '3.e5=)3.exd5)2…d6)(1…e6French2.d4d5⇆)2.Nf3NNc63.Bb5a6⊕4.Ba4Nf65.O-O+-')
+    puts(CHESSBASE, 'A long comment [over lines] with (brackets) and 1. e4 $1 in it1.e4!goode5?!(1…c5!?2.Nf3+=(2.c3d5'
+         '(2…Nf63.e5=)3.exd5)2…d6)(1…e6French2.d4d5⇆)2.Nf3NNc63.Bb5a6⊕4.Ba4Nf65.O-O+-')
     puts(LINES, '1.e4the <b>king\'s</b> pawn no comment begins heree52. f4?2.Nf3Nc63.Bb5')
     copied = puts(BY_HAND, '1.e4e52.Nf3Nc63.Bc4Bc54.O-ONf65.d3O-O6.Bg5h67.Bh4g5!?8.Bg3d6±9.c3a6±10.Nbd2!!Ba7?!11.Re1!')
     sue.is_so(copied.rstrip().endswith('1/2-1/2') and '[Result "1/2-1/2"]' in copied, 'its result: ' + copied)

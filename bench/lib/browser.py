@@ -10,7 +10,7 @@ from selenium.webdriver.common.by import By
 from selenium.webdriver.common.keys import Keys
 
 from lib.chromium import chromium
-from lib.program import Wrong
+from lib.program import Wrong, wrong_if
 
 PATIENCE = 60
 # What the page sends is written down before the socket takes it, and what stands behind # when the body begins.
@@ -140,13 +140,11 @@ class Person:
                 error = ''
             except (WebDriverException, TypeError, AttributeError) as now:
                 error = ' (%s)' % str(now).splitlines()[0]
-            if time.monotonic() > end:
-                raise Wrong('%s: %s%s' % (self.name, what, error))
+            wrong_if(time.monotonic() > end, '%s: %s%s' % (self.name, what, error))
             time.sleep(0.03)
 
     def is_so(self, holds, what):
-        if not holds:
-            raise Wrong('%s: %s' % (self.name, what))
+        wrong_if(not holds, '%s: %s' % (self.name, what))
         self.checked(what)
         return self
 

@@ -9,7 +9,7 @@ import sys
 import time
 
 from lib.disk import die_with_parent
-from lib.program import Wrong, is_soon, put
+from lib.program import Wrong, is_soon, put, wrong_if
 
 SYSTEMD = ('systemd', 'systemd-sysv', 'sudo', 'procps')
 
@@ -195,6 +195,5 @@ class Joined(Machine):
     def run(self, commands):
         """What commands say there, none of which may fail."""
         status, text = self.said(commands, 300)
-        if status != 0:
-            raise Wrong('%s says to %r: %s' % (self.name, commands, text))
+        wrong_if(status != 0, '%s says to %r: %s' % (self.name, commands, text))
         return text
