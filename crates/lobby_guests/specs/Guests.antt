@@ -21,7 +21,7 @@ use Rattle.lobby_guests.specs.declared.guest.Guest.{Guest}
 use Rattle.lobby_guests.specs.declared.origin.Origin.{Origin}
 use Rattle.lobby_talk.specs.declared.talk.Talk.{Talk}
 use Rattle.lobby_talk.specs.Talking.{Moves, Opens, IsTextSaid, acts_at}
-use Rattle.lobby_talk.specs.Counting.{is_for, is_answer}
+use Rattle.lobby_talk.specs.Counting.{is_for, is_answer, refuses_login}
 use Rattle.lobby_talk.specs.Keeping.{IsMadeOf}
 use Rattle.lobby_talk.specs.declared.kept_answer.KeptAnswer.{KeptAnswer}
 use Rattle.lobby_guests.specs.declared.waiting.Waiting.{Waiting}
@@ -165,6 +165,10 @@ pub record IsServed {S : Type 0} (remaining : S → Option (List ℕ)) (site : S
 abbrev pub is_beyond : ℕ → ℕ → Bool
 is_beyond at until = nat_lt 48000 (until - at)
 
+-- until when its time for that is taken, once it was told a text: 12 seconds more where that refuses a login
+abbrev pub logins_after : ℕ → List ℕ → ℕ → ℕ
+logins_after at text until = if refuses_login text then taken_until at until 12000 else until
+
 -- Something is done to each, one after the other and each once, and with each something else changes.
 abbrev pub InTurn : {A B : Type 0} → (A → A → B → B → Type 0) → List A → List A → B → B → Type 0
 InTurn does [] after old new = (after ≡ []) × (new ≡ old)
@@ -257,7 +261,7 @@ IsOthersTurn remaining site at old new room after =
 
 -- So many of them at most are attended in a turn.
 abbrev pub others_most : ℕ
-others_most = 16
+others_most = 8
 
 -- So many of them are there that a turn does not attend them all: who was read and heard keeps nobody out.
 abbrev pub is_crowded : {S : Type 0} → List (Guest S) → Bool

@@ -2,5 +2,6 @@ pub mod Guests
 pub mod Origins
 pub mod Place
 pub mod Counting
+pub mod Rounds
 pub mod Waiting
 pub mod Waking

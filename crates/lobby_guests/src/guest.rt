@@ -1,8 +1,8 @@
 //! A browser's connection: its socket, what it says, and what it is told.
-ghost use Rattle.std.specs.Prelude.{ℕ, ◌≡◌, ◌<◌, ◌≤◌, ◌+◌, ◌/◌, ◌↔◌, None, Some, [], length, true, false, IsTrue, OnOk};
+ghost use Rattle.std.specs.Prelude.{ℕ, ◌≡◌, ◌<◌, ◌≤◌, ◌+◌, ◌/◌, ◌↔◌, ◌||◌, ◌&&◌, None, Some, [], length, true, false, IsTrue, OnOk};
 ghost use Rattle.std.specs.Prelude.{◌≢◌};
 ghost use Rattle.lobby_desk.specs.Who.{IsReady, at_table};
-ghost use Rattle.lobby_guests.specs.Guests.{has_time, is_beyond, IsNewGuest, ComesFrom, IsAsBefore, IsRead};
+ghost use Rattle.lobby_guests.specs.Guests.{has_time, is_beyond, logins_after, IsNewGuest, ComesFrom, IsAsBefore, IsRead};
 ghost use Rattle.lobby_guests.specs.Guests.{IsHeardAs, IsHeard, IsAsked, MaySpeak, IsSaid, IsTold, AreTold, IsWritten};
 ghost use Rattle.lobby_guests.specs.Guests.{IsPutBehind, IsNextTold, IsCaughtUp, IsFirst, IsSameVisit, IsStill};
 ghost use Rattle.lobby_guests.specs.Guests.{IsPinged};
@@ -55,6 +55,9 @@ const COME_A_MILLISECOND: u64 = 40;
 
 /// So many bytes of one are read in a turn at most: more than the head of a browser's request has.
 const READ_MOST: usize = 1_024;
+
+/// So many bytes are written at once to each player: more, to some of them in a turn.
+const LITTLE: usize = 2_048;
 
 /// One for which more messages wait than these is let go.
 const WAITING_MOST: usize = 1_024;
@@ -239,6 +242,11 @@ impl<S> Guest<S> {
     /// Whether something waits to be written that its socket may take.
     pub fn has_to_write(&self) -> bool {
         self.can_write && !self.is_lost && !self.browser.out().is_empty()
+    }
+
+    /// Whether what is written to it next is short.
+    pub fn has_little_to_write(&self) -> bool {
+        self.browser.out().len() <= LITTLE
     }
 
     /// Its socket may be ready.
@@ -430,19 +438,17 @@ impl<S> Guest<S> {
         self.take_time(at, bytes as u64 / BYTES_A_MILLISECOND);
     }
 
-    // A login of it was refused, if this answer says so. It is to be closed where there were too many.
+    // A login of it was refused, if this answer says so: that takes 12 seconds of its time for it. It is to be closed
+    // where there were too many.
     fn note_login(&mut self, at: u64, text: &str)
         ensures before { IsAsBefore self.old self.new }
-        ensures closes { refuses_login text.now ≡ true → is_beyond at self.old.logins_until ≡ true
-            → self.new.is_lost ≡ true }
+        ensures taken { self.new.logins_until ≡ logins_after at text.now self.old.logins_until }
+        ensures closes { self.new.is_lost
+            ≡ (self.old.is_lost || (refuses_login text.now && is_beyond at self.old.logins_until)) }
     {
         if is_refused_login(text) {
-            let ahead = self.logins_until.saturating_sub(at);
-            let from = self.logins_until.max(at);
-            self.logins_until = from.saturating_add(A_REFUSED_LOGIN);
-            if ahead > LOGINS_AHEAD {
-                self.is_lost = true;
-            }
+            self.is_lost |= self.logins_until.saturating_sub(at) > LOGINS_AHEAD;
+            self.logins_until = self.logins_until.max(at).saturating_add(A_REFUSED_LOGIN);
         }
     }
 

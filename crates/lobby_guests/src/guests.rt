@@ -12,6 +12,7 @@ ghost use Rattle.lobby_guests.specs.Guests.{IsAsBefore, IsServed, IsPlayersTurn,
 ghost use Rattle.lobby_guests.specs.Guests.{AreAttended, AreTold, AreDelivered, IsWritten, IsLookedAfter, IsClosedIf};
 ghost use Rattle.lobby_guests.specs.Guests.{AreClosed, AreParted, IsCaughtUp, first_wanted, has_waiting};
 ghost use Rattle.lobby_guests.specs.Guests.{LeavesOthers, LeavesStranger};
+ghost use Rattle.lobby_guests.specs.Rounds.{others_room};
 ghost use Rattle.lobby_guests.specs.Waking.{IsAwake, StaysUnlessNamed, IsAwakeIfNamed, NamesGrow, IsPlaceNamed};
 ghost use Rattle.lobby_guests.specs.Waking.{number_named};
 ghost use Rattle.lobby_guests.specs.Waiting as waiting;
@@ -20,7 +21,7 @@ ghost use Rattle.lobby_talk.specs.Talking.{IsTalkAsBefore, acts_at};
 ghost use Rattle.lobby_talk.specs.Keeping.{AreKept};
 
 use crate::guest::Guest;
-use crate::rounds::{ATTENDED_MOST, Round, Rounds};
+use crate::rounds::{ATTENDED_MOST, Round, Rounds, Strangers};
 use lobby_desk::Message;
 use lobby_talk::{Coming, Counts, KeepsLinks, KeptAnswer, PIECE_ROOM, Talk};
 use lobby_web::Site;
@@ -28,7 +29,7 @@ use std::alloc::{AllocError, Global};
 use std::io::{Read, Write};
 
 /// So many browsers are told an answer to `line G` in a turn at most: each may be long.
-const ANSWERED_MOST: usize = 4;
+const ANSWERED_MOST: usize = 1;
 
 // Reads for a browser, and says to the desk what came next of it. It tells whether there was anything.
 fn attend<S: Read + Write, K: KeepsLinks>(
@@ -90,7 +91,7 @@ fn attend_players<S: Read + Write, K: KeepsLinks>(
 // Attends a browser if it acts for nobody, and it is its turn.
 fn attend_other<S: Read + Write, K: KeepsLinks>(
     guest: &mut Guest<S>,
-    round: &mut Round,
+    strangers: &mut Strangers,
     site: &Site,
     talk: &mut Talk,
     at: u64,
@@ -98,20 +99,22 @@ fn attend_other<S: Read + Write, K: KeepsLinks>(
     piece: &mut [u8; PIECE_ROOM],
     coming: &mut Coming,
 ) -> Result<bool, AllocError>
-    ensures { OnOk result (IsOthersTurn S.remaining site.now at guest.old guest.new
-        (record { talk = talk.old; left = round.old.left }) (record { talk = talk.new; left = round.new.left })) }
+    ensures { OnOk result (IsOthersTurn S.remaining site.now at guest.old guest.new (others_room talk.old strangers.old)
+        (others_room talk.new strangers.new)) }
 {
-    if !round.is_at(guest.key()) || !guest.is_due(at) || talk.acts(guest.number()) {
+    if !guest.is_due(at) || talk.acts(guest.number()) {
         return Ok(false);
     }
-    round.take(guest.key());
+    if !strangers.take(guest.key(), guest.is_unheard()) {
+        return Ok(false);
+    }
     attend(guest, site, talk, at, links, piece, coming)
 }
 
 // Attends some of those who act for nobody, and tells whether there was anything or more can be attended at once.
 fn attend_others<S: Read + Write, K: KeepsLinks>(
     guests: &mut Vec<Guest<S>>,
-    round: &mut Round,
+    strangers: &mut Strangers,
     site: &Site,
     talk: &mut Talk,
     at: u64,
@@ -123,11 +126,11 @@ fn attend_others<S: Read + Write, K: KeepsLinks>(
         × InTurn (IsOthersTurn S.remaining site.now at) guests.old.items guests.new.items (full_room talk.old) room) }
 {
     let mut any = false;
-    round.begin_attending();
+    strangers.begin(count_unheard(guests.as_slice()));
     for guest in guests.iter_mut() {
-        any |= attend_other(guest, round, site, talk, at, links, piece, coming)?;
+        any |= attend_other(guest, strangers, site, talk, at, links, piece, coming)?;
     }
-    let can_more = round.end();
+    let can_more = strangers.round.end();
     Ok(any | can_more)
 }
 
@@ -135,7 +138,7 @@ fn attend_others<S: Read + Write, K: KeepsLinks>(
 fn attend_unless<S: Read + Write, K: KeepsLinks>(
     guests: &mut Vec<Guest<S>>,
     waits: bool,
-    round: &mut Round,
+    strangers: &mut Strangers,
     site: &Site,
     talk: &mut Talk,
     at: u64,
@@ -150,7 +153,7 @@ fn attend_unless<S: Read + Write, K: KeepsLinks>(
     if waits {
         return Ok(false);
     }
-    attend_others(guests, round, site, talk, at, links, piece, coming)
+    attend_others(guests, strangers, site, talk, at, links, piece, coming)
 }
 
 /// Reads for players, and says to the desk what came next of each of them; and then for some of those who act for
@@ -171,12 +174,11 @@ pub fn attend_all<S: Read + Write, K: KeepsLinks>(
     ensures logins { OnOk result (counts.new.logins_refused ≡ counts.old.logins_refused) }
 {
     let mut coming = Coming::new();
-    let round = &mut rounds.attended;
     let players = attend_players(guests, site, talk, at, links, piece, &mut coming)?;
     let others = attend_unless(
         guests,
         is_short,
-        round,
+        &mut rounds.strangers,
         site,
         talk,
         at,
@@ -301,17 +303,43 @@ fn has_for_player<S>(guest: &Guest<S>, talk: &Talk) -> bool
     guest.has_to_write() && talk.acts(guest.number())
 }
 
-// Writes to each that acts for a player what it takes.
-fn write_players<S: Read + Write>(guests: &mut Vec<Guest<S>>, site: &Site, talk: &Talk) -> bool
+// Whether something is to be written to a browser that acts for a player: at once where that is short, and else where
+// it is its turn; then it has it.
+fn has_players_turn<S>(guest: &Guest<S>, talk: &Talk, round: &mut Round) -> bool
+    ensures { acts_at talk.now.desk guest.now.number ≡ false → result ≡ false }
+{
+    if !has_for_player(guest, talk) {
+        return false;
+    }
+    if guest.has_little_to_write() {
+        return true;
+    }
+    let is_turn = round.is_at(guest.key());
+    if is_turn {
+        round.take(guest.key());
+    }
+    is_turn
+}
+
+// Writes to each that acts for a player what it takes, where that is much to some of them. It tells whether that was
+// anything, or more can be written.
+fn write_players<S: Read + Write>(
+    guests: &mut Vec<Guest<S>>,
+    round: &mut Round,
+    site: &Site,
+    talk: &Talk,
+) -> bool
     ensures written { AllZip (IsWritten S.contents site.now) guests.old.items guests.new.items }
     ensures strangers { AllZip (LeavesStranger talk.now.desk) guests.old.items guests.new.items }
 {
     let mut any = false;
+    round.begin_telling();
     for guest in guests.iter_mut() {
-        let is_turn = has_for_player(guest, talk);
+        let is_turn = has_players_turn(guest, talk, round);
         any |= guest.write_out(site, is_turn);
     }
-    any
+    let can_more = round.end();
+    any | can_more
 }
 
 // Whether it is the turn of a browser that something is written to it; then it has it.
@@ -372,7 +400,7 @@ pub fn write_all<S: Read + Write>(
         × AllZip (IsWritten S.contents site.now) first guests.new.items }
     ensures short { is_short ≡ true → AllZip (LeavesStranger talk.now.desk) guests.old.items guests.new.items }
 {
-    let players = write_players(guests, site, talk);
+    let players = write_players(guests, &mut rounds.told, site, talk);
     let others = write_unless(guests, is_short, site, talk, &mut rounds.written);
     rounds.has_others |= others;
     players
