@@ -1,6 +1,6 @@
 use Rattle.lobby_talk.proofs.Saying.{said_says}
 use Rattle.lobby_talk.proofs.said.say_plain.Goals as goal
 
-pub returns-in_ok-said : goal.returns-in_ok-said
-returns-in_ok-said g c =
+pub returns : goal.returns
+returns g c =
     said_says c.args.shown.now c.args.number c.args.at c.args.talk.now c.said.new.self c.in_ok-said.ensures.moves
