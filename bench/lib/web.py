@@ -104,7 +104,7 @@ class Line:
 
 
 # How a message begins that is no answer, of one who is not told of the table.
-NOTICES = ('told ', 'server ', 'clocks ')
+NOTICES = ('told ', 'server ', 'clocks ', 'decided ')
 
 
 class Guest(Line):
