@@ -15,11 +15,27 @@ export class Challenges {
   constructor(app) {
     this.app = app;
     this.items = new Map();            // of each offer that is shown, by its row, the element
+    this.isLooking = this.isStale = false;
     setInterval(() => this.items.size && this.look(), LOOKS);
   }
 
-  /** Which stand, as the lobby tells them. */
+  /** Which stand: asked for one question at a time, and once more where something was told meanwhile. */
   async look() {
+    this.isStale = this.isLooking;
+    if (this.isLooking) return;
+    this.isLooking = true;
+    try {
+      do {
+        this.isStale = false;
+        await this.ask();
+      } while (this.isStale);
+    } finally {
+      this.isLooking = false;
+    }
+  }
+
+  /** Shows them as the lobby tells them. */
+  async ask() {
     const { app } = this, me = app.me();
     if (!me || !app.wire.state.open) return this.show([]);
     const [head, ...rows] = await app.wire.say('offers', true);

@@ -611,7 +611,7 @@ def a_killed_browser(hall):
     hall.ann.dies()
     bob.loses(join, 'who was killed is not joined', 40).reads('#open-list', 'not connected')
     bob.goes('game/' + number).reads('#outcome', hall.lobby.full['ann'] + ' is not connected.')
-    bob.lacks('#join', 'nor at the game').reads('.player .away', 'not connected')
+    bob.lacks('#join', 'nor at the game').reads('.player.white .away', 'not connected')
     reads_well(bob, 'a game whose player is away')
     hall.signs_in(sue, 'ann', 'back in another browser')
     bob.finds('#join', 'it can be joined', 40).goes('').finds(join, 'at the table too', 40)
