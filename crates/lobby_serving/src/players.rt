@@ -67,7 +67,7 @@ pub struct Players<'a, R> {
 }
 
 impl<'a, R: Files + AllocGlobal + Clock + Eprint> Players<'a, R> {
-    ghost use Rattle.lobby_serving.specs.Knowing.{known_of, Looks};
+    ghost use Rattle.lobby_serving.specs.Knowing.{known_of, Looks, Takes};
 
     /// The file, as it stands. Without a log an arbiter's acts would be nobody's: so it has no arbiter then.
     pub fn new(rt: &'a R, file: &'a str, has_log: bool) -> Self
@@ -99,6 +99,15 @@ impl<'a, R: Files + AllocGlobal + Clock + Eprint> Players<'a, R> {
         Ok(self.known(players_of(self.rt, self.file)?))
     }
 
+    // The lobby has these players from now on, where some were read.
+    fn take(&self, lobby: &mut Lobby, read: Option<Vec<Player>>)
+        ensures { Takes self.now.has_log read lobby.old.hall lobby.new.hall }
+    {
+        if let Some(players) = read {
+            lobby.renew(self.known(players));
+        }
+    }
+
     // A look at the file, where the last one was half a second ago: by how it stands, and by who is in it.
     fn look_by<S: FnOnce() -> Sight + Drop, L: FnOnce() -> Option<Vec<Player>> + Drop>(
         &mut self,
@@ -122,9 +131,7 @@ impl<'a, R: Files + AllocGlobal + Clock + Eprint> Players<'a, R> {
             return;
         }
         self.seen = found.mark;
-        if let Some(players) = later() {
-            lobby.renew(self.known(players));
-        }
+        self.take(lobby, later());
     }
 
     /// Looks at the file, where the last look was half a second ago. Where it has changed, and nobody has written it
