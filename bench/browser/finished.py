@@ -143,7 +143,7 @@ def a_kept_game(hall):
     for row in KEPT:
         sue.goes('game/%d' % row[0]).shows('#game-white', row[1], 'any other')
         sue.reads('#outcome', 'Article ' + row[5])
-    sue.goes('game/%d' % (NOBODY + 9)).reads('#no-game', 'There is no game of this number')
+    sue.goes('game/%d' % (NOBODY + 9)).reads('#no-game-words', 'is not being played')
     hall.signs_in(sue, 'eve', 'an arbiter')
     sue.goes('arbiter').click('#adjourned-games > summary').reads('#adjourned-draws', 'Game %s: ' % NUMBERS[2], BOB)
     drawn = '#adjourned-draws [data-key="draw-%s"]' % NUMBERS[2]
