@@ -604,7 +604,7 @@ def a_killed_browser(hall):
     """A browser that is killed takes no game back: the table and the game's page say that its player is not connected,
     and nobody can join there until the player is back, in whatever browser."""
     hall.seat_anew('ann', 'bob', 'sue')
-    _, bob, sue = hall.sit('ann', 'bob')
+    _, bob, sue = hall.sit()
     number = hall.set_up()
     join = '[data-key="join-%s"]' % number
     bob.finds(join, 'it waits')

@@ -4,7 +4,7 @@
 //! `night_keeping`, `night_boards`, `night_outcomes` and `night_standings`.
 #![tactic(auto)]
 
-use anyhow::{Context, Result};
+use anyhow::{Result, bail};
 use club_words::{Word, command, read_words};
 use command_lines::{CLUB, NotDone, end_of, words_given};
 use lobby_players::add_player;
@@ -16,17 +16,19 @@ use night_outcomes::{decide_in, decide_result, write_results};
 use night_standings::write_standings;
 use std::process::ExitCode;
 
-// The files of rounds in a folder, if there is one, to whose decisions an arbiter's are put.
+// The files of rounds in a folder, to whose decisions an arbiter's are put; without a name there is none.
 #[derive(Drop)]
 struct RoundFiles<'a> {
     rt: &'a HostRuntime,
-    folder: Option<&'a str>,
+    folder: &'a str,
 }
 
 impl KeepsDecisions for RoundFiles<'_> {
     fn put(&mut self, arbiter: &str, decision: &str) -> Result<()> {
-        let folder = self.folder.context("there is no --decisions")?;
-        decide_in(self.rt, folder, arbiter, decision)
+        if self.folder.is_empty() {
+            bail!("there is no --decisions");
+        }
+        decide_in(self.rt, self.folder, arbiter, decision)
     }
 }
 
@@ -39,7 +41,7 @@ fn do_words(rt: &HostRuntime) -> std::result::Result<(), NotDone> {
     let words = words_given(rt, command(rt.alloc())?)?;
     match read_words(rt.alloc(), words.as_slice())? {
         Word::Lobby(serving) => {
-            let folder = serving.decisions;
+            let folder = serving.decisions.unwrap_or_default();
             serve(rt, &serving, RoundFiles { rt, folder })
         }
         Word::Player(adding) => add_player(rt, &adding),
