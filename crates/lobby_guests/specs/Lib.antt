@@ -1,6 +1,8 @@
+pub mod Front
 pub mod Guests
 pub mod Origins
 pub mod Place
 pub mod Counting
+pub mod Rounds
 pub mod Waiting
 pub mod Waking

@@ -15,10 +15,12 @@ ghost use Rattle.lobby_talk.specs.Counting.{is_for};
 ghost use Rattle.lobby_guests.specs.Waiting as waiting;
 ghost use Rattle.lobby_guests.specs.Guests.{IsLookedAfter, is_in_time, taken_until, MayHave, may_have, IsDue};
 ghost use Rattle.lobby_guests.specs.Guests.{due_at, ahead_at, is_unheard, IsPaid, owed_after, paid_for, since_after};
-ghost use Rattle.lobby_web.specs.Browsing.{WantsBytes};
+ghost use Rattle.lobby_web.specs.Browsing.{WantsBytes, unread};
+ghost use Rattle.lobby_guests.specs.Front.{has_act};
 ghost use Rattle.lobby_talk.specs.Counting.{refuses_login, counted_up, one_if, refuses, refusals_of};
 ghost use Rattle.lobby_guests.specs.Place.{role_by, role_of, player_of, place_of, Yields};
 
+use crate::front::has_act;
 use crate::origin::Origin;
 use crate::place::{Place, Role, is_gone};
 use crate::waiting::{Waiting, is_line};
@@ -55,6 +57,9 @@ const COME_A_MILLISECOND: u64 = 40;
 
 /// So many bytes of one are read in a turn at most: more than the head of a browser's request has.
 const READ_MOST: usize = 1_024;
+
+/// So many bytes are written at once to each player: more, to some of them in a turn.
+const LITTLE: usize = 2_048;
 
 /// One for which more messages wait than these is let go.
 const WAITING_MOST: usize = 1_024;
@@ -241,6 +246,11 @@ impl<S> Guest<S> {
         self.can_write && !self.is_lost && !self.browser.out().is_empty()
     }
 
+    /// Whether what is written to it next is short.
+    pub fn has_little_to_write(&self) -> bool {
+        self.browser.out().len() <= LITTLE
+    }
+
     /// Its socket may be ready.
     pub fn wake(&mut self)
         ensures { IsAwake self.old self.new }
@@ -315,6 +325,19 @@ impl<S> Guest<S> {
             None => true,
             Some(number) => talk.is_ready(number),
         }
+    }
+
+    /// Whether what comes next of it begins as an act or a login does.
+    pub fn has_act(&self) -> bool
+        ensures { result ≡ has_act (unread self.now.browser.stage) }
+    {
+        has_act(self.browser.unread())
+    }
+
+    /// Whether its socket is to be asked what came next: something may have come, nothing waits for it, and the desk
+    /// takes it.
+    pub fn may_be_asked(&self, talk: &Talk) -> bool {
+        self.has_more && !self.is_lost && self.waits.is_empty() && self.may_speak(talk)
     }
 
     // What its socket gave is said to the desk.

@@ -9,6 +9,8 @@ ghost use Rattle.lobby_guests.specs.Counting.{refusals_in, CountsLogins};
 ghost use Rattle.lobby_talk.specs.Counting.{counted_up};
 ghost use Rattle.lobby_guests.specs.Guests as guests;
 ghost use Rattle.lobby_guests.specs.Guests.{IsAsBefore, IsServed, IsPlayersTurn, IsOthersTurn, InTurn, Room, full_room};
+ghost use Rattle.lobby_guests.specs.Guests.{IsPlayerHeard, Asking, IsAnswered, AsksInTurn, asked_most};
+ghost use Rattle.lobby_guests.specs.Rounds.{room_of, others_room};
 ghost use Rattle.lobby_guests.specs.Guests.{AreAttended, AreTold, AreDelivered, IsWritten, IsLookedAfter, IsClosedIf};
 ghost use Rattle.lobby_guests.specs.Guests.{AreClosed, AreParted, IsCaughtUp, first_wanted, has_waiting};
 ghost use Rattle.lobby_guests.specs.Guests.{LeavesOthers, LeavesStranger};
@@ -20,7 +22,7 @@ ghost use Rattle.lobby_talk.specs.Talking.{IsTalkAsBefore, acts_at};
 ghost use Rattle.lobby_talk.specs.Keeping.{AreKept};
 
 use crate::guest::Guest;
-use crate::rounds::{ATTENDED_MOST, Round, Rounds};
+use crate::rounds::{ATTENDED_MOST, Asks, Round, Rounds, Strangers};
 use lobby_desk::Message;
 use lobby_talk::{Coming, Counts, KeepsLinks, KeptAnswer, PIECE_ROOM, Talk};
 use lobby_web::Site;
@@ -28,7 +30,7 @@ use std::alloc::{AllocError, Global};
 use std::io::{Read, Write};
 
 /// So many browsers are told an answer to `line G` in a turn at most: each may be long.
-const ANSWERED_MOST: usize = 4;
+const ANSWERED_MOST: usize = 1;
 
 // Reads for a browser, and says to the desk what came next of it. It tells whether there was anything.
 fn attend<S: Read + Write, K: KeepsLinks>(
@@ -48,9 +50,32 @@ fn attend<S: Read + Write, K: KeepsLinks>(
     Ok(has_read | has_heard)
 }
 
+// Says to the desk what came next of a player's browser: an act at once, and else where it is its turn.
+fn hear_player<S, K: KeepsLinks>(
+    guest: &mut Guest<S>,
+    asks: &mut Asks,
+    talk: &mut Talk,
+    at: u64,
+    links: &mut K,
+    coming: &mut Coming,
+) -> Result<bool, AllocError>
+    ensures { OnOk result (IsPlayerHeard at guest.old guest.new (room_of talk.old asks.old)
+        (room_of talk.new asks.new)) }
+{
+    if guest.has_act() {
+        return guest.hear(talk, at, links, coming);
+    }
+    if !asks.round.is_at(guest.key()) || !guest.may_be_asked(talk) {
+        return Ok(false);
+    }
+    asks.take(guest.key(), guest.number());
+    guest.hear(talk, at, links, coming)
+}
+
 // Attends a browser if it acts for a player, and has time.
 fn attend_player<S: Read + Write, K: KeepsLinks>(
     guest: &mut Guest<S>,
+    asks: &mut Asks,
     site: &Site,
     talk: &mut Talk,
     at: u64,
@@ -58,18 +83,32 @@ fn attend_player<S: Read + Write, K: KeepsLinks>(
     piece: &mut [u8; PIECE_ROOM],
     coming: &mut Coming,
 ) -> Result<bool, AllocError>
-    ensures { OnOk result (IsPlayersTurn S.remaining site.now at guest.old guest.new talk.old talk.new) }
+    ensures { OnOk result (IsPlayersTurn S.remaining site.now at guest.old guest.new (room_of talk.old asks.old)
+        (room_of talk.new asks.new)) }
 {
     let is_turn = talk.acts(guest.number()) && guest.has_time(at);
     if !is_turn {
         return Ok(false);
     }
-    attend(guest, site, talk, at, links, piece, coming)
+    let has_read = guest.read_in(true, site, at, piece, coming);
+    let has_heard = hear_player(guest, asks, talk, at, links, coming)?;
+    Ok(has_read | has_heard)
 }
 
-// Attends each that acts for a player.
+// Whether the server has answered what this connection asked last.
+fn is_answered(asker: Option<u64>, talk: &Talk) -> bool
+    ensures { result ≡ true → IsAnswered talk.now.desk asker }
+{
+    match asker {
+        None => true,
+        Some(number) => !talk.acts(asker) || talk.is_ready(number),
+    }
+}
+
+// Attends each that acts for a player. It tells whether there was anything, or more can be taken at once.
 fn attend_players<S: Read + Write, K: KeepsLinks>(
     guests: &mut Vec<Guest<S>>,
+    asks: &mut Asks,
     site: &Site,
     talk: &mut Talk,
     at: u64,
@@ -77,20 +116,25 @@ fn attend_players<S: Read + Write, K: KeepsLinks>(
     piece: &mut [u8; PIECE_ROOM],
     coming: &mut Coming,
 ) -> Result<bool, AllocError>
-    ensures { OnOk result (InTurn (IsPlayersTurn S.remaining site.now at) guests.old.items guests.new.items talk.old
-        talk.new) }
+    ensures { OnOk result ((room : Asking) × (room.talk ≡ talk.old) × (room.asker ≡ asks.old.asker)
+        × (room.left ≤ asked_most true) × (0 < room.left → IsAnswered talk.old.desk asks.old.asker)
+        × InTurn (IsPlayersTurn S.remaining site.now at) guests.old.items guests.new.items room
+        (room_of talk.new asks.new)) }
 {
     let mut any = false;
+    let is_free = is_answered(asks.asker, talk);
+    asks.begin(is_free);
     for guest in guests.iter_mut() {
-        any |= attend_player(guest, site, talk, at, links, piece, coming)?;
+        any |= attend_player(guest, asks, site, talk, at, links, piece, coming)?;
     }
-    Ok(any)
+    let can_more = is_free && asks.round.end();
+    Ok(any | can_more)
 }
 
 // Attends a browser if it acts for nobody, and it is its turn.
 fn attend_other<S: Read + Write, K: KeepsLinks>(
     guest: &mut Guest<S>,
-    round: &mut Round,
+    strangers: &mut Strangers,
     site: &Site,
     talk: &mut Talk,
     at: u64,
@@ -98,20 +142,22 @@ fn attend_other<S: Read + Write, K: KeepsLinks>(
     piece: &mut [u8; PIECE_ROOM],
     coming: &mut Coming,
 ) -> Result<bool, AllocError>
-    ensures { OnOk result (IsOthersTurn S.remaining site.now at guest.old guest.new
-        (record { talk = talk.old; left = round.old.left }) (record { talk = talk.new; left = round.new.left })) }
+    ensures { OnOk result (IsOthersTurn S.remaining site.now at guest.old guest.new (others_room talk.old strangers.old)
+        (others_room talk.new strangers.new)) }
 {
-    if !round.is_at(guest.key()) || !guest.is_due(at) || talk.acts(guest.number()) {
+    if !guest.is_due(at) || talk.acts(guest.number()) {
         return Ok(false);
     }
-    round.take(guest.key());
+    if !strangers.take(guest.key(), guest.is_unheard()) {
+        return Ok(false);
+    }
     attend(guest, site, talk, at, links, piece, coming)
 }
 
 // Attends some of those who act for nobody, and tells whether there was anything or more can be attended at once.
 fn attend_others<S: Read + Write, K: KeepsLinks>(
     guests: &mut Vec<Guest<S>>,
-    round: &mut Round,
+    strangers: &mut Strangers,
     site: &Site,
     talk: &mut Talk,
     at: u64,
@@ -123,11 +169,11 @@ fn attend_others<S: Read + Write, K: KeepsLinks>(
         × InTurn (IsOthersTurn S.remaining site.now at) guests.old.items guests.new.items (full_room talk.old) room) }
 {
     let mut any = false;
-    round.begin_attending();
+    strangers.begin(count_unheard(guests.as_slice()));
     for guest in guests.iter_mut() {
-        any |= attend_other(guest, round, site, talk, at, links, piece, coming)?;
+        any |= attend_other(guest, strangers, site, talk, at, links, piece, coming)?;
     }
-    let can_more = round.end();
+    let can_more = strangers.round.end();
     Ok(any | can_more)
 }
 
@@ -135,7 +181,7 @@ fn attend_others<S: Read + Write, K: KeepsLinks>(
 fn attend_unless<S: Read + Write, K: KeepsLinks>(
     guests: &mut Vec<Guest<S>>,
     waits: bool,
-    round: &mut Round,
+    strangers: &mut Strangers,
     site: &Site,
     talk: &mut Talk,
     at: u64,
@@ -150,7 +196,7 @@ fn attend_unless<S: Read + Write, K: KeepsLinks>(
     if waits {
         return Ok(false);
     }
-    attend_others(guests, round, site, talk, at, links, piece, coming)
+    attend_others(guests, strangers, site, talk, at, links, piece, coming)
 }
 
 /// Reads for players, and says to the desk what came next of each of them; and then for some of those who act for
@@ -167,16 +213,25 @@ pub fn attend_all<S: Read + Write, K: KeepsLinks>(
     counts: &mut Counts,
 ) -> Result<bool, AllocError>
     ensures attended { OnOk result ((attended : AreAttended S.remaining site.now at guests.old.items guests.new.items
-        talk.old talk.new) × (is_short ≡ true → LeavesOthers attended)) }
+        talk.old talk.new) × (is_short ≡ true → LeavesOthers attended)
+        × AsksInTurn rounds.old.asks.asker rounds.new.asks.asker attended) }
     ensures logins { OnOk result (counts.new.logins_refused ≡ counts.old.logins_refused) }
 {
     let mut coming = Coming::new();
-    let round = &mut rounds.attended;
-    let players = attend_players(guests, site, talk, at, links, piece, &mut coming)?;
+    let players = attend_players(
+        guests,
+        &mut rounds.asks,
+        site,
+        talk,
+        at,
+        links,
+        piece,
+        &mut coming,
+    )?;
     let others = attend_unless(
         guests,
         is_short,
-        round,
+        &mut rounds.strangers,
         site,
         talk,
         at,
@@ -301,17 +356,43 @@ fn has_for_player<S>(guest: &Guest<S>, talk: &Talk) -> bool
     guest.has_to_write() && talk.acts(guest.number())
 }
 
-// Writes to each that acts for a player what it takes.
-fn write_players<S: Read + Write>(guests: &mut Vec<Guest<S>>, site: &Site, talk: &Talk) -> bool
+// Whether something is to be written to a browser that acts for a player: at once where that is short, and else where
+// it is its turn; then it has it.
+fn has_players_turn<S>(guest: &Guest<S>, talk: &Talk, round: &mut Round) -> bool
+    ensures { acts_at talk.now.desk guest.now.number ≡ false → result ≡ false }
+{
+    if !has_for_player(guest, talk) {
+        return false;
+    }
+    if guest.has_little_to_write() {
+        return true;
+    }
+    let is_turn = round.is_at(guest.key());
+    if is_turn {
+        round.take(guest.key());
+    }
+    is_turn
+}
+
+// Writes to each that acts for a player what it takes, where that is much to some of them. It tells whether that was
+// anything, or more can be written.
+fn write_players<S: Read + Write>(
+    guests: &mut Vec<Guest<S>>,
+    round: &mut Round,
+    site: &Site,
+    talk: &Talk,
+) -> bool
     ensures written { AllZip (IsWritten S.contents site.now) guests.old.items guests.new.items }
     ensures strangers { AllZip (LeavesStranger talk.now.desk) guests.old.items guests.new.items }
 {
     let mut any = false;
+    round.begin_telling();
     for guest in guests.iter_mut() {
-        let is_turn = has_for_player(guest, talk);
+        let is_turn = has_players_turn(guest, talk, round);
         any |= guest.write_out(site, is_turn);
     }
-    any
+    let can_more = round.end();
+    any | can_more
 }
 
 // Whether it is the turn of a browser that something is written to it; then it has it.
@@ -372,7 +453,7 @@ pub fn write_all<S: Read + Write>(
         × AllZip (IsWritten S.contents site.now) first guests.new.items }
     ensures short { is_short ≡ true → AllZip (LeavesStranger talk.now.desk) guests.old.items guests.new.items }
 {
-    let players = write_players(guests, site, talk);
+    let players = write_players(guests, &mut rounds.told, site, talk);
     let others = write_unless(guests, is_short, site, talk, &mut rounds.written);
     rounds.has_others |= others;
     players

@@ -1,12 +1,22 @@
-//! Whose turn it is among those who act for nobody: a few of them in each turn, and in a round.
-ghost use Rattle.std.specs.Prelude.{◌≡◌, ◌<◌, ◌&&◌, nat_lt, nat_le, true};
-ghost use Rattle.lobby_guests.specs.Guests.{others_most};
+//! Whose turn it is where a turn of the lobby does not do what is to be done for all: a few in each, in a round.
+ghost use Rattle.std.specs.Prelude.{◌≡◌, ◌<◌, ◌+◌, ◌&&◌, nat_lt, nat_le, true, false};
+ghost use Rattle.lobby_guests.specs.Guests.{others_most, asked_most};
 
 /// So many of them are attended in a turn at most.
-pub const ATTENDED_MOST: usize = 16;
+pub const ATTENDED_MOST: usize = 8;
+
+/// Of these so many at most of whom nothing was heard yet, out of the round: who is about to show a token is heard soon
+/// then, whatever the others do.
+const FRESH_MOST: usize = 6;
+
+/// So many messages of players that are no acts are taken in a turn at most: their answers may be long.
+pub const ASKED_MOST: usize = 1;
+
+/// To so many players more than a little is written in a turn at most.
+const TOLD_MOST: usize = 8;
 
 /// To so many of them something is written in a turn at most.
-const WRITTEN_MOST: usize = 32;
+const WRITTEN_MOST: usize = 16;
 
 /// A round, by the names of their sockets.
 #[derive(Clone, Copy)]
@@ -37,16 +47,14 @@ impl Round {
         self.left = most;
     }
 
-    /// Some of those who are attended have a turn from now on.
-    pub fn begin_attending(&mut self)
-        ensures { self.new.left ≡ others_most }
-    {
-        self.begin(ATTENDED_MOST);
-    }
-
     /// Some of those to whom something is written have a turn from now on.
     pub fn begin_writing(&mut self) {
         self.begin(WRITTEN_MOST);
+    }
+
+    /// Some of the players to whom much is written have a turn from now on.
+    pub fn begin_telling(&mut self) {
+        self.begin(TOLD_MOST);
     }
 
     /// Whether it may be the turn of this one.
@@ -76,12 +84,78 @@ impl Round {
     }
 }
 
-/// The rounds of those who act for nobody: of who is attended, and of all to whom something is written.
+/// Whose turn it is among players to ask what is no act.
+#[derive(Clone, Copy)]
+pub struct Asks {
+    pub round: Round,
+    /// The number at the desk of the connection that asked last.
+    pub asker: Option<u64>,
+}
+
+impl Asks {
+    /// One has a turn from now on, or nobody where the last one is not answered.
+    pub fn begin(&mut self, is_free: bool)
+        ensures left { self.new.round.left ≡ asked_most is_free }
+        ensures asker { self.new.asker ≡ self.old.asker }
+    {
+        self.round.begin(if is_free { ASKED_MOST } else { 0 });
+    }
+
+    /// A connection of this number, whose socket has this name, has its turn.
+    pub fn take(&mut self, key: usize, number: Option<u64>)
+        requires { 0 < self.old.round.left }
+        ensures left { self.new.round.left < self.old.round.left }
+        ensures asker { self.new.asker ≡ number }
+    {
+        self.round.take(key);
+        self.asker = number;
+    }
+}
+
+/// Whose turn it is among those who act for nobody.
+#[derive(Clone, Copy)]
+pub struct Strangers {
+    pub round: Round,
+    /// So many more of whom nothing was heard yet have a turn, out of the round.
+    pub fresh: usize,
+}
+
+impl Strangers {
+    /// Some of them have a turn from now on, of whom so many were not heard yet.
+    pub fn begin(&mut self, unheard: usize)
+        ensures { self.new.round.left + self.new.fresh ≡ others_most }
+    {
+        self.fresh = unheard.min(FRESH_MOST);
+        self.round.begin(ATTENDED_MOST - self.fresh);
+    }
+
+    /// Whether it is the turn of one whose socket has this name, and of whom nothing was heard yet, or not; then it has
+    /// it.
+    pub fn take(&mut self, key: usize, is_unheard: bool) -> bool
+        ensures taken { result ≡ true → self.new.round.left + self.new.fresh < self.old.round.left + self.old.fresh }
+        ensures left { result ≡ false → self.new ≡ self.old }
+    {
+        if is_unheard && self.fresh > 0 {
+            self.fresh -= 1;
+            return true;
+        }
+        let is_turn = self.round.is_at(key);
+        if is_turn {
+            self.round.take(key);
+        }
+        is_turn
+    }
+}
+
+/// All rounds: of players who ask, and to whom much is written; and of those who act for nobody, and to whom of them
+/// something is written.
 #[derive(Clone, Copy)]
 pub struct Rounds {
-    pub attended: Round,
+    pub asks: Asks,
+    pub told: Round,
+    pub strangers: Strangers,
     pub written: Round,
-    /// Whether there may be more to be done for them.
+    /// Whether there may be more to be done for who acts for nobody.
     pub has_others: bool,
 }
 
@@ -89,7 +163,15 @@ impl Rounds {
     /// Each begins with the first.
     pub fn new() -> Rounds {
         Rounds {
-            attended: Round::new(),
+            asks: Asks {
+                round: Round::new(),
+                asker: None,
+            },
+            told: Round::new(),
+            strangers: Strangers {
+                round: Round::new(),
+                fresh: 0,
+            },
             written: Round::new(),
             has_others: false,
         }

@@ -11,7 +11,7 @@ use std::io;
 use std::net::{IpAddr, Net, SocketAddr};
 
 /// So many who wait are accepted in a turn at most.
-const ACCEPTED_MOST: usize = 32;
+const ACCEPTED_MOST: usize = 16;
 
 /// What accepts connections, and watches them.
 pub trait Acceptor {
@@ -100,7 +100,7 @@ fn take_in<A: Acceptor>(
     hall.turn_away();
 }
 
-/// Accepts those who wait, up to 32.
+/// Accepts those who wait, up to 16.
 pub fn welcome<A: Acceptor>(acceptor: &mut A, hall: &mut Hall<A::Stream>, at: u64) -> Welcomed
     ensures { (streams : List A.Stream) × AreAdmitted streams hall.old hall.new }
 {

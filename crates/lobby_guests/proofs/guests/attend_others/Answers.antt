@@ -1,5 +1,5 @@
 -- One browser more.
-use Rattle.std.proofs.Common.{ℕ, ◌<◌, ◌∙◌, List, length, subst, sym, refl, arith}
+use Rattle.std.proofs.Common.{ℕ, ◌<◌, ◌+◌, ◌∙◌, List, length, subst, sym, refl, arith}
 use Rattle.std.proofs.lemmas.List.{with_items_is}
 use Rattle.lobby_guests.specs.declared.guest.Guest.{Guest}
 use Rattle.lobby_guests.specs.Guests.{InTurn, IsOthersTurn, Room, full_room}
@@ -10,7 +10,7 @@ pub loop-guest-init : goal.loop-guest-init
 loop-guest-init g c =
     let does = IsOthersTurn g.S.Read.remaining c.args.site.now c.args.at in
     subst (λ (n : ℕ). IsTurnedTo does 0 c.args.guests.now.items c.deref_mut-guest-items.result.now (full_room c.args.talk.now)
-    (record { talk = c.args.talk.now; left = n })) (sym c.begin_attending.ensures)
+    (record { talk = c.args.talk.now; left = n })) (sym c.begin.ensures)
     (turned_none does c.args.guests.now.items c.deref_mut-guest-items.result.now (full_room c.args.talk.now)
     c.deref_mut-guest-items.ensures.value)
 
@@ -19,8 +19,8 @@ loop-guest-preserved g c =
     let items = c.loop-guest.guest-items in
     let lt : c.loop-guest.guest-index < length items =
     omega (arith, c.loop-guest-test.true, c.loop-guest.auto.guest-items) in
-    let so_far : Room = record { talk = c.loop-guest.talk; left = c.loop-guest.round.left } in
-    let after : Room = record { talk = c.attend_other.new.talk; left = c.attend_other.new.round.left } in
+    let so_far : Room = record { talk = c.loop-guest.talk; left = c.loop-guest.strangers.round.left + c.loop-guest.strangers.fresh } in
+    let after : Room = record { talk = c.attend_other.new.talk; left = c.attend_other.new.strangers.round.left + c.attend_other.new.strangers.fresh } in
     turned_further (IsOthersTurn g.S.Read.remaining c.args.site.now c.args.at) c.args.guests.now.items items
     c.loop-guest.guest-index c.guest-item.result c.attend_other.new.guest (full_room c.args.talk.now) so_far after lt
     c.loop-guest.invariant c.in_ok-any.ensures
@@ -32,7 +32,7 @@ returns g c =
     let so_far = c.loop-guest.invariant in
     let same = with_items_is guests items (so_far.whole ∙ sym guests.ok.0) in
     let does = IsOthersTurn g.S.Read.remaining c.args.site.now c.args.at in
-    let last : Room = record { talk = c.loop-guest.talk; left = c.loop-guest.round.left } in (
+    let last : Room = record { talk = c.loop-guest.talk; left = c.loop-guest.strangers.round.left + c.loop-guest.strangers.fresh } in (
       last,
       refl,
       subst (λ (l : List (Guest g.row.S.Denot)). InTurn does guests.items l (full_room c.args.talk.now) last) (sym same)

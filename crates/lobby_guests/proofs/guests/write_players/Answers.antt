@@ -9,7 +9,7 @@ loop-guest-preserved g c =
     zipped_further (IsWrittenFirst g.S.Write.contents c.args.site.now c.args.talk.now.desk) c.args.guests.now.items c.loop-guest.guest-items
     c.loop-guest.guest-index c.guest-item.result
     c.write_out-any.new.self (omega (arith, c.loop-guest-test.true, c.loop-guest.auto.guest-items)) c.loop-guest.invariant
-    (record { written = c.write_out-any.ensures.written; stranger = λ none. c.write_out-any.ensures.waits (c.has_for_player-is_turn.ensures none) })
+    (record { written = c.write_out-any.ensures.written; stranger = λ none. c.write_out-any.ensures.waits (c.has_players_turn-is_turn.ensures none) })
 
 pub returns-clause-written : goal.returns-clause-written
 returns-clause-written g c =
