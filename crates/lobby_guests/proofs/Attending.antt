@@ -1,21 +1,12 @@
 -- Who has its turn is attended, and to who has none nothing happens.
-use Rattle.std.proofs.Common.{◌≡◌, ℕ, ◌<◌, ◌≤◌, ◌&&◌, Bool, true, false, List, [], ◌∷◌, Option, Some, None, inl, inr, refl, ap, arith}
+use Rattle.std.proofs.Common.{◌≡◌, ℕ, ◌&&◌, Bool, true, false, List, [], ◌∷◌, Option, Some, None, inl, inr, refl, ap, arith}
 use Rattle.std.specs.Io.KnownBytes.{Consumes}
 use Rattle.lobby_web.specs.declared.site.Site.{Site}
 use Rattle.lobby_guests.specs.declared.guest.Guest.{Guest}
 use Rattle.lobby_talk.specs.declared.talk.Talk.{Talk}
-use Rattle.lobby_guests.specs.Guests.{InTurn, IsAttended, IsHeard, IsPlayerHeard, IsServedIf, IsPlayersTurn, IsOthersTurn, Room, Asking, asked_most, has_time}
+use Rattle.lobby_guests.specs.Guests.{InTurn, IsAttended, IsHeard, IsPlayerHeard, IsServedIf, IsPlayersTurn, IsOthersTurn, Room, Asking, has_time}
 use Rattle.lobby_talk.specs.Talking.{acts_at}
 use Rattle.lobby_guests.proofs.EachGuest.{in_turn_as}
-
--- one message at most, and none where an answer is owed
-pub one_at_most : (is_free : Bool) → asked_most is_free ≤ asked_most true
-one_at_most true = omega arith
-one_at_most false = omega arith
-
-pub none_unless : (is_free : Bool) → 0 < asked_most is_free → is_free ≡ true
-none_unless true some = refl
-none_unless false some = absurd (omega (arith, some))
 
 module _ {S : Type 0} (remaining : S → Option (List ℕ)) (site : Site) (at : ℕ) where
   -- nothing comes
@@ -41,8 +32,9 @@ module _ {S : Type 0} (remaining : S → Option (List ℕ)) (site : Site) (at : 
   -- who acts for a player is read for, and heard or put off
   heard_or_not : (old new : Guest S) (room after : Asking) → IsPlayerHeard at old new room after → IsHeard at old new room.talk after.talk
   heard_or_not old new room after (inl acts) = acts.heard.heard
-  heard_or_not old new room after (inr (inl asks)) = asks.heard.heard
-  heard_or_not old new room after (inr (inr off)) = inr (off.guest, ap (λ (r : Asking). r.talk) off.rest)
+  heard_or_not old new room after (inr (inl brief)) = brief.heard.heard
+  heard_or_not old new room after (inr (inr (inl long))) = long.heard.heard
+  heard_or_not old new room after (inr (inr (inr off))) = inr (off.guest, ap (λ (r : Asking). r.talk) off.rest)
 
   served_if : (b : Bool) (old new : Guest S) (room after : Asking) → IsServedIf b remaining site at old new room after →
       IsAttended remaining site at old new room.talk after.talk

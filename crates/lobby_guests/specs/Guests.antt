@@ -17,12 +17,12 @@ use Rattle.lobby_web.specs.declared.socket.Heard.{Heard}
 use Rattle.lobby_web.specs.declared.socket.Heard.TheVariants as heards
 use Rattle.lobby_web.specs.declared.socket.Unsaid.{Unsaid}
 use Rattle.lobby_web.specs.Browsing.{IsNew, pending, unread, WantsBytes, Takes, HearsNext, SaysTo, Writes}
-use Rattle.lobby_guests.specs.Front.{has_act}
+use Rattle.lobby_guests.specs.Front.{has_act, has_brief}
 use Rattle.lobby_guests.specs.declared.guest.Guest.{Guest}
 use Rattle.lobby_guests.specs.declared.origin.Origin.{Origin}
 use Rattle.lobby_talk.specs.declared.talk.Talk.{Talk}
 use Rattle.lobby_talk.specs.Talking.{Moves, Opens, IsTextSaid, acts_at}
-use Rattle.lobby_talk.specs.Counting.{is_for, is_answer}
+use Rattle.lobby_talk.specs.Counting.{is_for, is_answer, refuses_login}
 use Rattle.lobby_talk.specs.Keeping.{IsMadeOf}
 use Rattle.lobby_talk.specs.declared.kept_answer.KeptAnswer.{KeptAnswer}
 use Rattle.lobby_guests.specs.declared.waiting.Waiting.{Waiting}
@@ -166,6 +166,10 @@ pub record IsServed {S : Type 0} (remaining : S → Option (List ℕ)) (site : S
 abbrev pub is_beyond : ℕ → ℕ → Bool
 is_beyond at until = nat_lt 48000 (until - at)
 
+-- until when its time for that is taken, once it was told a text: 12 seconds more where that refuses a login
+abbrev pub logins_after : ℕ → List ℕ → ℕ → ℕ
+logins_after at text until = if refuses_login text then taken_until at until 12000 else until
+
 -- Something is done to each, one after the other and each once, and with each something else changes.
 abbrev pub InTurn : {A B : Type 0} → (A → A → B → B → Type 0) → List A → List A → B → B → Type 0
 InTurn does [] after old new = (after ≡ []) × (new ≡ old)
@@ -179,16 +183,15 @@ abbrev pub has_time : ℕ → ℕ → Bool
 has_time at until = nat_le (until - at) 10000
 
 -- what players may still ask in a turn that is no act: so many more messages are taken, over all connections; and whose
--- was taken last, by its number at the desk
+-- was taken last that may ask for much, by its number at the desk
 pub record Asking : Type 0 where
   pub talk : Talk
   pub left : ℕ
   pub asker : Option ℕ
 
--- So many are taken in a turn at most, and none while the server has not answered the last one: their answers may be
--- long.
-abbrev pub asked_most : Bool → ℕ
-asked_most is_free = if is_free then 1 else 0
+-- So many are taken in a turn at most.
+abbrev pub asked_most : ℕ
+asked_most = 8
 
 -- Nothing is owed to the connection that asked last, or it acts for nobody any more, as where it is gone.
 abbrev pub IsAnswered : Desk → Option ℕ → Type 0
@@ -209,10 +212,19 @@ pub record IsActing {S : Type 0} (at : ℕ) (old new : Guest S) (room after : As
   pub left : after.left ≡ room.left
   pub asker : after.asker ≡ room.asker
 
--- All else is heard where it is its turn.
-pub record IsAsking {S : Type 0} (at : ℕ) (old new : Guest S) (room after : Asking) : Type 0 where
+-- All else takes a turn that is left: what asks for little, and
+pub record IsBrief {S : Type 0} (at : ℕ) (old new : Guest S) (room after : Asking) : Type 0 where
+  pub brief : has_brief (unread old.browser.stage) ≡ true
   pub heard : IsHeardNow at old new room.talk after.talk
   pub takes : after.left < room.left
+  pub asker : after.asker ≡ room.asker
+
+-- what may ask for much, where the last such is answered; nobody behind it asks in the turn.
+pub record IsLong {S : Type 0} (at : ℕ) (old new : Guest S) (room after : Asking) : Type 0 where
+  pub answered : IsAnswered room.talk.desk room.asker
+  pub heard : IsHeardNow at old new room.talk after.talk
+  pub some : 0 < room.left
+  pub last : after.left ≡ 0
   pub asker : after.asker ≡ old.number
 
 -- Or it stays where it is.
@@ -223,7 +235,8 @@ pub record IsPutOff {S : Type 0} (old new : Guest S) (room after : Asking) : Typ
 
 abbrev pub IsPlayerHeard : {S : Type 0} → ℕ → Guest S → Guest S → Asking → Asking → Type 0
 IsPlayerHeard at old new room after =
-    IsActing at old new room after ⊎ (IsAsking at old new room after ⊎ IsPutOff old new room after)
+    IsActing at old new room after ⊎ IsBrief at old new room after ⊎ IsLong at old new room after
+    ⊎ IsPutOff old new room after
 
 -- It is read for, and heard.
 pub record IsPlayerServed {S : Type 0} (remaining : S → Option (List ℕ)) (site : Site) (at : ℕ)
@@ -323,17 +336,15 @@ is_crowded guests = nat_lt others_most (count_by is_unheard guests)
 abbrev pub full_room : Talk → Room
 full_room talk = record { talk = talk; left = others_most }
 
--- In a turn players are served first, each of them, and at most one is asked for what is no act; and then some of those
--- who act for nobody.
+-- In a turn players are served first, each of them, and of what they ask that is no act so much is taken; and then some
+-- of those who act for nobody are.
 pub record AreAttended {S : Type 0} (remaining : S → Option (List ℕ)) (site : Site) (at : ℕ) (old new : List (Guest S))
     (talk after : Talk) : Type 0 where
-  pub left : ℕ
-  pub few : left ≤ asked_most true
   pub asker : Option ℕ
   pub first : List (Guest S)
   pub said : Asking
   pub players : InTurn (IsPlayersTurn remaining site at) old first
-      (record { talk = talk; left = left; asker = asker }) said
+      (record { talk = talk; left = asked_most; asker = asker }) said
   pub last : Room
   pub others : InTurn (IsOthersTurn remaining site at) first new (full_room said.talk) last
   pub after_is : after ≡ last.talk
@@ -343,14 +354,11 @@ abbrev pub LeavesOthers : {S : Type 0} → {remaining : S → Option (List ℕ)}
     → {old new : List (Guest S)} → {talk after : Talk} → AreAttended remaining site at old new talk after → Type 0
 LeavesOthers {new = new} {after = after} attended = (new ≡ attended.first) × (after ≡ attended.said.talk)
 
--- Nothing that is no act is asked while the server owes an answer to the connection that asked last; and it is known
--- who asked last.
-pub record AsksInTurn {S : Type 0} {remaining : S → Option (List ℕ)} {site : Site} {at : ℕ} {old new : List (Guest S)}
-    {talk after : Talk} (before behind : Option ℕ) (attended : AreAttended remaining site at old new talk after)
-    : Type 0 where
-  pub from : attended.asker ≡ before
-  pub room : 0 < attended.left → IsAnswered talk.desk before
-  pub last : behind ≡ attended.said.asker
+-- It is known who asked for much last.
+abbrev pub KnowsAsker : {S : Type 0} → {remaining : S → Option (List ℕ)} → {site : Site} → {at : ℕ}
+    → {old new : List (Guest S)} → {talk after : Talk} → Option ℕ → Option ℕ
+    → AreAttended remaining site at old new talk after → Type 0
+KnowsAsker before behind attended = (attended.asker ≡ before) × (behind ≡ attended.said.asker)
 
 -- ---- what goes
 

@@ -1,8 +1,8 @@
 //! A browser's connection: its socket, what it says, and what it is told.
-ghost use Rattle.std.specs.Prelude.{ℕ, ◌≡◌, ◌<◌, ◌≤◌, ◌+◌, ◌/◌, ◌↔◌, None, Some, [], length, true, false, IsTrue, OnOk};
+ghost use Rattle.std.specs.Prelude.{ℕ, ◌≡◌, ◌<◌, ◌≤◌, ◌+◌, ◌/◌, ◌↔◌, ◌||◌, ◌&&◌, None, Some, [], length, true, false, IsTrue, OnOk};
 ghost use Rattle.std.specs.Prelude.{◌≢◌};
 ghost use Rattle.lobby_desk.specs.Who.{IsReady, at_table};
-ghost use Rattle.lobby_guests.specs.Guests.{has_time, is_beyond, IsNewGuest, ComesFrom, IsAsBefore, IsRead};
+ghost use Rattle.lobby_guests.specs.Guests.{has_time, is_beyond, logins_after, IsNewGuest, ComesFrom, IsAsBefore, IsRead};
 ghost use Rattle.lobby_guests.specs.Guests.{IsHeardAs, IsHeard, IsAsked, MaySpeak, IsSaid, IsTold, AreTold, IsWritten};
 ghost use Rattle.lobby_guests.specs.Guests.{IsPutBehind, IsNextTold, IsCaughtUp, IsFirst, IsSameVisit, IsStill};
 ghost use Rattle.lobby_guests.specs.Guests.{IsPinged};
@@ -16,11 +16,11 @@ ghost use Rattle.lobby_guests.specs.Waiting as waiting;
 ghost use Rattle.lobby_guests.specs.Guests.{IsLookedAfter, is_in_time, taken_until, MayHave, may_have, IsDue};
 ghost use Rattle.lobby_guests.specs.Guests.{due_at, ahead_at, is_unheard, IsPaid, owed_after, paid_for, since_after};
 ghost use Rattle.lobby_web.specs.Browsing.{WantsBytes, unread};
-ghost use Rattle.lobby_guests.specs.Front.{has_act};
+ghost use Rattle.lobby_guests.specs.Front.{has_act, has_brief};
 ghost use Rattle.lobby_talk.specs.Counting.{refuses_login, counted_up, one_if, refuses, refusals_of};
 ghost use Rattle.lobby_guests.specs.Place.{role_by, role_of, player_of, place_of, Yields};
 
-use crate::front::has_act;
+use crate::front::{has_act, has_brief};
 use crate::origin::Origin;
 use crate::place::{Place, Role, is_gone};
 use crate::waiting::{Waiting, is_line};
@@ -334,6 +334,13 @@ impl<S> Guest<S> {
         has_act(self.browser.unread())
     }
 
+    /// Whether it begins as what asks for little.
+    pub fn has_brief(&self) -> bool
+        ensures { result ≡ has_brief (unread self.now.browser.stage) }
+    {
+        has_brief(self.browser.unread())
+    }
+
     /// Whether its socket is to be asked what came next: something may have come, nothing waits for it, and the desk
     /// takes it.
     pub fn may_be_asked(&self, talk: &Talk) -> bool {
@@ -453,19 +460,17 @@ impl<S> Guest<S> {
         self.take_time(at, bytes as u64 / BYTES_A_MILLISECOND);
     }
 
-    // A login of it was refused, if this answer says so. It is to be closed where there were too many.
+    // A login of it was refused, if this answer says so: that takes 12 seconds of its time for it. It is to be closed
+    // where there were too many.
     fn note_login(&mut self, at: u64, text: &str)
         ensures before { IsAsBefore self.old self.new }
-        ensures closes { refuses_login text.now ≡ true → is_beyond at self.old.logins_until ≡ true
-            → self.new.is_lost ≡ true }
+        ensures taken { self.new.logins_until ≡ logins_after at text.now self.old.logins_until }
+        ensures closes { self.new.is_lost
+            ≡ (self.old.is_lost || (refuses_login text.now && is_beyond at self.old.logins_until)) }
     {
         if is_refused_login(text) {
-            let ahead = self.logins_until.saturating_sub(at);
-            let from = self.logins_until.max(at);
-            self.logins_until = from.saturating_add(A_REFUSED_LOGIN);
-            if ahead > LOGINS_AHEAD {
-                self.is_lost = true;
-            }
+            self.is_lost |= self.logins_until.saturating_sub(at) > LOGINS_AHEAD;
+            self.logins_until = self.logins_until.max(at).saturating_add(A_REFUSED_LOGIN);
         }
     }
 

@@ -9,8 +9,8 @@ ghost use Rattle.lobby_guests.specs.Counting.{refusals_in, CountsLogins};
 ghost use Rattle.lobby_talk.specs.Counting.{counted_up};
 ghost use Rattle.lobby_guests.specs.Guests as guests;
 ghost use Rattle.lobby_guests.specs.Guests.{IsAsBefore, IsServed, IsPlayersTurn, IsOthersTurn, InTurn, Room, full_room};
-ghost use Rattle.lobby_guests.specs.Guests.{IsPlayerHeard, Asking, IsAnswered, AsksInTurn, asked_most};
-ghost use Rattle.lobby_guests.specs.Rounds.{room_of, others_room};
+ghost use Rattle.lobby_guests.specs.Guests.{Asking, IsAnswered, KnowsAsker, asked_most};
+ghost use Rattle.lobby_guests.specs.Rounds.{room_of, others_room, TakesTurn, IsToAsk};
 ghost use Rattle.lobby_guests.specs.Guests.{AreAttended, AreTold, AreDelivered, IsWritten, IsLookedAfter, IsClosedIf};
 ghost use Rattle.lobby_guests.specs.Guests.{AreClosed, AreParted, IsCaughtUp, first_wanted, has_waiting};
 ghost use Rattle.lobby_guests.specs.Guests.{LeavesOthers, LeavesStranger};
@@ -50,26 +50,41 @@ fn attend<S: Read + Write, K: KeepsLinks>(
     Ok(has_read | has_heard)
 }
 
-// Says to the desk what came next of a player's browser: an act at once, and else where it is its turn.
-fn hear_player<S, K: KeepsLinks>(
-    guest: &mut Guest<S>,
-    asks: &mut Asks,
-    talk: &mut Talk,
-    at: u64,
-    links: &mut K,
-    coming: &mut Coming,
-) -> Result<bool, AllocError>
-    ensures { OnOk result (IsPlayerHeard at guest.old guest.new (room_of talk.old asks.old)
-        (room_of talk.new asks.new)) }
+// Whether the server has answered what this connection asked last.
+fn is_answered(asker: Option<u64>, talk: &Talk) -> bool
+    ensures { result ≡ true → IsAnswered talk.now.desk asker }
 {
-    if guest.has_act() {
-        return guest.hear(talk, at, links, coming);
+    match asker {
+        None => true,
+        Some(number) => !talk.acts(asker) || talk.is_ready(number),
     }
+}
+
+// Whether a player's browser in whose front no act stands has its turn; then it has it: one that may ask for much only
+// where the last such is answered.
+fn takes_turn<S>(guest: &Guest<S>, asks: &mut Asks, talk: &Talk) -> bool
+    ensures { TakesTurn result talk.now.desk guest.now asks.old asks.new }
+{
     if !asks.round.is_at(guest.key()) || !guest.may_be_asked(talk) {
-        return Ok(false);
+        return false;
     }
-    asks.take(guest.key(), guest.number());
-    guest.hear(talk, at, links, coming)
+    if guest.has_brief() {
+        asks.take_brief(guest.key());
+        return true;
+    }
+    let is_free = is_answered(asks.asker, talk);
+    if is_free {
+        asks.take_long(guest.key(), guest.number());
+    }
+    is_free
+}
+
+// Whether a player's browser is asked what came next: where an act stands in front at once, and else where it is its
+// turn.
+fn is_to_ask<S>(guest: &Guest<S>, asks: &mut Asks, talk: &Talk) -> bool
+    ensures { IsToAsk result talk.now.desk guest.now asks.old asks.new }
+{
+    guest.has_act() || takes_turn(guest, asks, talk)
 }
 
 // Attends a browser if it acts for a player, and has time.
@@ -86,23 +101,16 @@ fn attend_player<S: Read + Write, K: KeepsLinks>(
     ensures { OnOk result (IsPlayersTurn S.remaining site.now at guest.old guest.new (room_of talk.old asks.old)
         (room_of talk.new asks.new)) }
 {
-    let is_turn = talk.acts(guest.number()) && guest.has_time(at);
-    if !is_turn {
+    let is_served = talk.acts(guest.number()) && guest.has_time(at);
+    if !is_served {
         return Ok(false);
     }
     let has_read = guest.read_in(true, site, at, piece, coming);
-    let has_heard = hear_player(guest, asks, talk, at, links, coming)?;
-    Ok(has_read | has_heard)
-}
-
-// Whether the server has answered what this connection asked last.
-fn is_answered(asker: Option<u64>, talk: &Talk) -> bool
-    ensures { result ≡ true → IsAnswered talk.now.desk asker }
-{
-    match asker {
-        None => true,
-        Some(number) => !talk.acts(asker) || talk.is_ready(number),
+    if !is_to_ask(guest, asks, talk) {
+        return Ok(has_read);
     }
+    let has_heard = guest.hear(talk, at, links, coming)?;
+    Ok(has_read | has_heard)
 }
 
 // Attends each that acts for a player. It tells whether there was anything, or more can be taken at once.
@@ -116,18 +124,15 @@ fn attend_players<S: Read + Write, K: KeepsLinks>(
     piece: &mut [u8; PIECE_ROOM],
     coming: &mut Coming,
 ) -> Result<bool, AllocError>
-    ensures { OnOk result ((room : Asking) × (room.talk ≡ talk.old) × (room.asker ≡ asks.old.asker)
-        × (room.left ≤ asked_most true) × (0 < room.left → IsAnswered talk.old.desk asks.old.asker)
-        × InTurn (IsPlayersTurn S.remaining site.now at) guests.old.items guests.new.items room
-        (room_of talk.new asks.new)) }
+    ensures { OnOk result (InTurn (IsPlayersTurn S.remaining site.now at) guests.old.items guests.new.items
+        (record { talk = talk.old; left = asked_most; asker = asks.old.asker }) (room_of talk.new asks.new)) }
 {
     let mut any = false;
-    let is_free = is_answered(asks.asker, talk);
-    asks.begin(is_free);
+    asks.begin();
     for guest in guests.iter_mut() {
         any |= attend_player(guest, asks, site, talk, at, links, piece, coming)?;
     }
-    let can_more = is_free && asks.round.end();
+    let can_more = asks.round.end();
     Ok(any | can_more)
 }
 
@@ -214,7 +219,7 @@ pub fn attend_all<S: Read + Write, K: KeepsLinks>(
 ) -> Result<bool, AllocError>
     ensures attended { OnOk result ((attended : AreAttended S.remaining site.now at guests.old.items guests.new.items
         talk.old talk.new) × (is_short ≡ true → LeavesOthers attended)
-        × AsksInTurn rounds.old.asks.asker rounds.new.asks.asker attended) }
+        × KnowsAsker rounds.old.asks.asker rounds.new.asks.asker attended) }
     ensures logins { OnOk result (counts.new.logins_refused ≡ counts.old.logins_refused) }
 {
     let mut coming = Coming::new();

@@ -9,8 +9,8 @@ pub const ATTENDED_MOST: usize = 8;
 /// then, whatever the others do.
 const FRESH_MOST: usize = 6;
 
-/// So many messages of players that are no acts are taken in a turn at most: their answers may be long.
-pub const ASKED_MOST: usize = 1;
+/// So many messages of players that are no acts are taken in a turn at most.
+pub const ASKED_MOST: usize = 8;
 
 /// To so many players more than a little is written in a turn at most.
 const TOLD_MOST: usize = 8;
@@ -93,21 +93,31 @@ pub struct Asks {
 }
 
 impl Asks {
-    /// One has a turn from now on, or nobody where the last one is not answered.
-    pub fn begin(&mut self, is_free: bool)
-        ensures left { self.new.round.left ≡ asked_most is_free }
+    /// Some have a turn from now on.
+    pub fn begin(&mut self)
+        ensures left { self.new.round.left ≡ asked_most }
         ensures asker { self.new.asker ≡ self.old.asker }
     {
-        self.round.begin(if is_free { ASKED_MOST } else { 0 });
+        self.round.begin(ASKED_MOST);
     }
 
-    /// A connection of this number, whose socket has this name, has its turn.
-    pub fn take(&mut self, key: usize, number: Option<u64>)
+    /// A connection whose socket has this name asks for little.
+    pub fn take_brief(&mut self, key: usize)
         requires { 0 < self.old.round.left }
         ensures left { self.new.round.left < self.old.round.left }
+        ensures asker { self.new.asker ≡ self.old.asker }
+    {
+        self.round.take(key);
+    }
+
+    /// A connection of this number, whose socket has this name, may ask for much: nobody behind it asks in this turn.
+    pub fn take_long(&mut self, key: usize, number: Option<u64>)
+        requires { 0 < self.old.round.left }
+        ensures left { self.new.round.left ≡ 0 }
         ensures asker { self.new.asker ≡ number }
     {
         self.round.take(key);
+        self.round.left = 0;
         self.asker = number;
     }
 }

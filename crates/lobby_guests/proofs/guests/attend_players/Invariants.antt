@@ -7,4 +7,4 @@ use Rattle.lobby_guests.proofs.guests.attend_players.Given as goal
 abbrev pub invariant-loop-guest : goal.invariant-loop-guest
 invariant-loop-guest g l =
     IsTurnedTo (IsPlayersTurn g.S.Read.remaining l.site l.at) l.guest-index l.fn.guests.items l.guest-items
-    (record { talk = l.fn.talk; left = asked_most l.is_free; asker = l.fn.asks.asker }) (room_of l.talk l.asks)
+    (record { talk = l.fn.talk; left = asked_most; asker = l.fn.asks.asker }) (room_of l.talk l.asks)
