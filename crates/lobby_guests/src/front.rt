@@ -54,7 +54,7 @@ fn is_short_text(first: u8, second: u8) -> bool
 // The first letters of the text in the first frame of what came; zeros where that is no such frame.
 #[tactic(auto, unfolding(crate::specs::Front::letters))]
 fn letters(unread: &[u8]) -> [u8; 5]
-    ensures { result.items ≡ letters unread.now }
+    ensures { result ≡ letters unread.now }
 {
     match unread {
         [first, second, j, k, l, m, a, b, c, d, e, ..] if is_short_text(*first, *second) => {

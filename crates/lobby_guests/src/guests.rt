@@ -9,7 +9,7 @@ ghost use Rattle.lobby_guests.specs.Counting.{refusals_in, CountsLogins};
 ghost use Rattle.lobby_talk.specs.Counting.{counted_up};
 ghost use Rattle.lobby_guests.specs.Guests as guests;
 ghost use Rattle.lobby_guests.specs.Guests.{IsAsBefore, IsServed, IsPlayersTurn, IsOthersTurn, InTurn, Room, full_room};
-ghost use Rattle.lobby_guests.specs.Guests.{Asking, IsAnswered, KnowsAsker, asked_most};
+ghost use Rattle.lobby_guests.specs.Guests.{IsPlayerServed, IsAnswered, KnowsAsker, asked_most};
 ghost use Rattle.lobby_guests.specs.Rounds.{room_of, others_room, TakesTurn, IsToAsk};
 ghost use Rattle.lobby_guests.specs.Guests.{AreAttended, AreTold, AreDelivered, IsWritten, IsLookedAfter, IsClosedIf};
 ghost use Rattle.lobby_guests.specs.Guests.{AreClosed, AreParted, IsCaughtUp, first_wanted, has_waiting};
@@ -87,6 +87,28 @@ fn is_to_ask<S>(guest: &Guest<S>, asks: &mut Asks, talk: &Talk) -> bool
     guest.has_act() || takes_turn(guest, asks, talk)
 }
 
+// Reads for a player's browser, and says to the desk what came next of it, where it is asked for that.
+fn serve_player<S: Read + Write, K: KeepsLinks>(
+    guest: &mut Guest<S>,
+    asks: &mut Asks,
+    site: &Site,
+    talk: &mut Talk,
+    at: u64,
+    links: &mut K,
+    piece: &mut [u8; PIECE_ROOM],
+    coming: &mut Coming,
+) -> Result<bool, AllocError>
+    ensures { OnOk result (IsPlayerServed S.remaining site.now at guest.old guest.new (room_of talk.old asks.old)
+        (room_of talk.new asks.new)) }
+{
+    let has_read = guest.read_in(true, site, at, piece, coming);
+    if !is_to_ask(guest, asks, talk) {
+        return Ok(has_read);
+    }
+    let has_heard = guest.hear(talk, at, links, coming)?;
+    Ok(has_read | has_heard)
+}
+
 // Attends a browser if it acts for a player, and has time.
 fn attend_player<S: Read + Write, K: KeepsLinks>(
     guest: &mut Guest<S>,
@@ -101,16 +123,11 @@ fn attend_player<S: Read + Write, K: KeepsLinks>(
     ensures { OnOk result (IsPlayersTurn S.remaining site.now at guest.old guest.new (room_of talk.old asks.old)
         (room_of talk.new asks.new)) }
 {
-    let is_served = talk.acts(guest.number()) && guest.has_time(at);
-    if !is_served {
+    let is_turn = talk.acts(guest.number()) && guest.has_time(at);
+    if !is_turn {
         return Ok(false);
     }
-    let has_read = guest.read_in(true, site, at, piece, coming);
-    if !is_to_ask(guest, asks, talk) {
-        return Ok(has_read);
-    }
-    let has_heard = guest.hear(talk, at, links, coming)?;
-    Ok(has_read | has_heard)
+    serve_player(guest, asks, site, talk, at, links, piece, coming)
 }
 
 // Attends each that acts for a player. It tells whether there was anything, or more can be taken at once.
