@@ -10,3 +10,4 @@ pub mod RoundLemmas
 pub mod WaitLemmas
 pub mod HeardLemmas
 pub mod ClosingLemmas
+pub mod CountLemmas

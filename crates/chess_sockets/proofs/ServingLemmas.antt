@@ -16,6 +16,7 @@ use Rattle.chess_sockets.specs.Rounds as rounds
 use Rattle.chess_sockets.specs.Rounds.{AreEach, IsSent, AreGivenTo, IsGivenOut, IsRead, IsWritten, intake, Holds, times}
 use Rattle.chess_sockets.specs.Serving.{LeadsOn, IsLedBy, IsOfReading, IsOfWriting, AreRead, AreWritten, Welcomes, AreCounted, IsWelcomed, IsAskedFor, server_state}
 use Rattle.chess_sockets.specs.declared.server.Rested.{Rested}
+use Rattle.chess_sockets.specs.declared.closing.ClosedClients.{ClosedClients}
 
 -- ---- calls
 
@@ -137,8 +138,8 @@ module _ (table : TableState) where
 
 module _ {C S : Type 0} (IsMade : C → S → Type 0) (at : ℕ) where
   -- nobody comes
-  pub nobody_came : (given gives count : ℕ) (clients : List (Client S)) (s : HubState) → gives ≡ given →
-      IsWelcomed IsMade at (server_state given count clients s) (server_state gives count clients s)
+  pub nobody_came : {p q : ClosedClients} (given gives count : ℕ) (clients : List (Client S)) (s : HubState) → gives ≡ given →
+      IsWelcomed IsMade at (server_state given count q clients s) (server_state gives count p clients s)
   nobody_came given gives count clients s same = record {
     welcomes = record { came = []; whole = sym (append-nil clients); welcomed = stays-refl s };
     counts = inl (same, refl);
@@ -157,44 +158,50 @@ module _ {C S : Type 0} (IsMade : C → S → Type 0) (at : ℕ) where
   one_client clients [] given gives count counted same one is = absurd (omega (arith, same))
   one_client clients (client ∷ came) given gives count counted same one is = (one, is)
 
-  module _ (given gives count counted : ℕ) (clients after : List (Client S)) (old new : HubState)
+  module _ {p q : ClosedClients} (given gives count counted : ℕ) (clients after : List (Client S)) (old new : HubState)
       (one : gives ≡ given + 1) (w : Welcomes IsMade at clients after old new) where
     many : length after ≡ length clients + length w.came
     many = ap length w.whole ∙ length-append clients w.came
 
     pub away_counted : after ≡ clients → counted ≡ min (count + 1) (2 ^ 64 - 1)
-        → IsWelcomed IsMade at (server_state given count clients old) (server_state gives counted after new)
+        → IsWelcomed IsMade at (server_state given count q clients old) (server_state gives counted p after new)
     away_counted same is = record {
       welcomes = w;
       counts = one_away clients w.came given gives count counted (sym (ap length same) ∙ many) one is;
     }
 
     pub client_counted : length after ≡ length clients + 1 → counted ≡ count
-        → IsWelcomed IsMade at (server_state given count clients old) (server_state gives counted after new)
+        → IsWelcomed IsMade at (server_state given count q clients old) (server_state gives counted p after new)
     client_counted same is = record {
       welcomes = w;
       counts = one_client clients w.came given gives count counted (sym same ∙ many) one is;
     }
 
   -- said of a hub, a listener and a count that are those from before
-  pub welcomed_there : {H : Type 0} (h k : H) (to : H → HubState) (listener last : LocalListener) (gives n m counted : ℕ)
+  pub welcomed_there : {H : Type 0} {p q : ClosedClients} (h k : H) (to : H → HubState) (listener last : LocalListener) (gives n m counted : ℕ)
       (kept clients asked : List (Client S)) (begun : HubState) → h ≡ k → kept ≡ clients → n ≡ m → listener ≡ last →
-      IsWelcomed IsMade at (server_state listener.given n kept (to h)) (server_state gives counted asked begun) →
-      IsWelcomed IsMade at (server_state last.given m clients (to k)) (server_state gives counted asked begun)
-  welcomed_there {H = H} h k to listener last gives n m counted kept clients asked begun same are count still w =
-      subst (λ (d : LocalListener). IsWelcomed IsMade at (server_state d.given m clients (to k)) (server_state gives counted asked begun)) still
-      (subst (λ (x : H). IsWelcomed IsMade at (server_state listener.given m clients (to x)) (server_state gives counted asked begun)) same
-      (subst (λ (l : List (Client S)). IsWelcomed IsMade at (server_state listener.given m l (to h)) (server_state gives counted asked begun)) are
-      (subst (λ (x : ℕ). IsWelcomed IsMade at (server_state listener.given x kept (to h)) (server_state gives counted asked begun)) count w)))
+      IsWelcomed IsMade at (server_state listener.given n q kept (to h)) (server_state gives counted p asked begun) →
+      IsWelcomed IsMade at (server_state last.given m q clients (to k)) (server_state gives counted p asked begun)
+  welcomed_there {H = H} {p = p} {q = q} h k to listener last gives n m counted kept clients asked begun same are count still w =
+      subst (λ (d : LocalListener). IsWelcomed IsMade at (server_state d.given m q clients (to k)) (server_state gives counted p asked begun)) still
+      (subst (λ (x : H). IsWelcomed IsMade at (server_state listener.given m q clients (to x)) (server_state gives counted p asked begun)) same
+      (subst (λ (l : List (Client S)). IsWelcomed IsMade at (server_state listener.given m q l (to h)) (server_state gives counted p asked begun)) are
+      (subst (λ (x : ℕ). IsWelcomed IsMade at (server_state listener.given x q kept (to h)) (server_state gives counted p asked begun)) count w)))
+
+  -- whatever is told of who was closed
+  pub welcomed_over : {c d e f : ClosedClients} {given gives count counted : ℕ} {clients after : List (Client S)}
+      {old new : HubState} → IsWelcomed IsMade at (server_state given count c clients old) (server_state gives counted d after new) →
+      IsWelcomed IsMade at (server_state given count e clients old) (server_state gives counted f after new)
+  welcomed_over w = record { welcomes = w.welcomes; counts = w.counts }
 
   -- the same listener and the same count
-  pub welcomed_on : (given : ℕ) (listener next : LocalListener) (n counted after : ℕ) (clients asked : List (Client S))
+  pub welcomed_on : {p q : ClosedClients} (given : ℕ) (listener next : LocalListener) (n counted after : ℕ) (clients asked : List (Client S))
       (s t : HubState) → next ≡ listener → after ≡ counted →
-      IsWelcomed IsMade at (server_state given n clients s) (server_state listener.given counted asked t) →
-      IsWelcomed IsMade at (server_state given n clients s) (server_state next.given after asked t)
-  welcomed_on given listener next n counted after clients asked s t same is w =
-      subst (λ (d : LocalListener). IsWelcomed IsMade at (server_state given n clients s) (server_state d.given after asked t)) (sym same)
-      (subst (λ (x : ℕ). IsWelcomed IsMade at (server_state given n clients s) (server_state listener.given x asked t)) (sym is) w)
+      IsWelcomed IsMade at (server_state given n q clients s) (server_state listener.given counted p asked t) →
+      IsWelcomed IsMade at (server_state given n q clients s) (server_state next.given after p asked t)
+  welcomed_on {p = p} {q = q} given listener next n counted after clients asked s t same is w =
+      subst (λ (d : LocalListener). IsWelcomed IsMade at (server_state given n q clients s) (server_state d.given after p asked t)) (sym same)
+      (subst (λ (x : ℕ). IsWelcomed IsMade at (server_state given n q clients s) (server_state listener.given x p asked t)) (sym is) w)
 
 -- ---- who is asked for
 

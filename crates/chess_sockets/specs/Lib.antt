@@ -9,3 +9,4 @@ pub mod Sending
 pub mod Clients
 pub mod Closings
 pub mod Rounds
+pub mod Counts

@@ -16,7 +16,9 @@ use Rattle.chess_sockets.specs.declared.client.Client.{Client}
 use Rattle.sockets.specs.declared.listener.LocalListener.{LocalListener}
 use Rattle.sockets.specs.declared.listener.AcceptOutcome.TheVariants.{Nobody}
 use Rattle.sockets.specs.Listeners.{IsAsked}
+use Rattle.chess_sockets.specs.declared.closing.ClosedClients.{ClosedClients}
 use Rattle.chess_sockets.specs.Closings.{IsSound}
+use Rattle.chess_sockets.specs.Counts.{all_counted}
 use Rattle.chess_sockets.specs.Incoming.{held}
 use Rattle.chess_sockets.specs.Rounds as rounds
 use Rattle.chess_sockets.specs.Rounds.{ReadingTimes}
@@ -108,22 +110,23 @@ AreCounted [] given gives count counted =
     (gives ≡ given) × (counted ≡ count) ⊎ (gives ≡ given + 1) × (counted ≡ min (count + 1) (2 ^ 64 - 1))
 AreCounted (client ∷ more) given gives count counted = (gives ≡ given + 1) × (counted ≡ count)
 
--- How a server stands: how many connections its listener has given, and how many of them were turned away; its clients,
--- and its hub.
+-- How a server stands: how many connections its listener has given, and how many of them were turned away; how many
+-- clients were closed for which reason; those that are there, and its hub.
 pub record ServerState (S : Type 0) : Type 0 where
   pub given : ℕ
   pub turned_away : ℕ
+  pub closed : ClosedClients
   pub clients : List (Client S)
   pub hub : HubState
 
-abbrev pub server_state : {S : Type 0} → ℕ → ℕ → List (Client S) → HubState → ServerState S
-server_state given turned_away clients hub =
-    record { given = given; turned_away = turned_away; clients = clients; hub = hub }
+abbrev pub server_state : {S : Type 0} → ℕ → ℕ → ClosedClients → List (Client S) → HubState → ServerState S
+server_state given turned_away closed clients hub =
+    record { given = given; turned_away = turned_away; closed = closed; clients = clients; hub = hub }
 
 -- that of a server
 abbrev pub state_of_server : {D S : Type 0} {ghosts : Ghosts D} → Server D S ghosts → ServerState S
 state_of_server server =
-    server_state server.listener.given server.turned_away server.clients.items (hub_state server.hub)
+    server_state server.listener.given server.turned_away server.closed server.clients.items (hub_state server.hub)
 
 -- At most one connection comes; it is a client, or is counted as turned away.
 pub record IsWelcomed {C S : Type 0} (IsMade : C → S → Type 0) (at : ℕ) (old new : ServerState S) : Type 0 where
@@ -160,7 +163,8 @@ pub record HasServed {S : Type 0} (remaining contents : S → Option (List ℕ))
   pub answers : HasReadAndAnswered remaining when May old answered
   pub writes : AreWritten contents answered.clients new.clients answered.hub new.hub
 
--- A turn of the server: each client whose session is open, and who came, is served. Who is left has an open session.
+-- A turn of the server: each client whose session is open, and who came, is served. Who is left has an open session, and
+-- who is not is counted by the reason for which that was closed.
 pub record HasGoneRound {C S : Type 0} (IsMade : C → S → Type 0) (remaining contents : S → Option (List ℕ))
     (when : ReadingTimes) (May : List Command → Type 0) (old new : ServerState S) : Type 0 where
   pub asked : List (Client S)
@@ -170,3 +174,4 @@ pub record HasGoneRound {C S : Type 0} (IsMade : C → S → Type 0) (remaining 
   pub written : List (Client S)
   pub serves : HasServed remaining contents when May (served asked begun) (served written new.hub)
   pub stay : new.clients ≡ open_in new.hub.sessions written
+  pub closed : new.closed ≡ all_counted new.hub.sessions written (all_counted old.hub.sessions old.clients old.closed)

@@ -97,6 +97,13 @@ impl<S> Client<S> {
         self.sid
     }
 
+    /// Why its session was closed, where it was.
+    pub(crate) fn closing(&self) -> Option<Closing>
+        ensures { result ≡ self.now.closing }
+    {
+        self.closing
+    }
+
     /// Whether all that had come was read. Then there is nothing to read until its socket is ready.
     pub(crate) fn is_quiet(&self) -> bool
         ensures { result ≡ self.now.is_quiet }

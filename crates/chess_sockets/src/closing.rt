@@ -1,4 +1,6 @@
-//! Why the session of a client is closed.
+//! Why the session of a client is closed, and how many clients were for which reason.
+ghost use Rattle.std.specs.Prelude.{◌≡◌};
+ghost use Rattle.chess_sockets.specs.Counts.{none_closed, with_closed};
 
 /// Why the session of a client is closed.
 #[derive(Clone, Copy, PartialEq, Eq)]
@@ -15,4 +17,50 @@ pub enum Closing {
     End,
     /// Its farewell is written.
     Farewell,
+}
+
+/// How many clients were closed for each of the reasons that an operator is told; each count goes up to 2^64 - 1.
+#[derive(Clone, Copy, PartialEq, Eq)]
+pub struct ClosedClients {
+    /// Their connections have failed.
+    pub failed: u64,
+    /// Memory was refused for them.
+    pub refused: u64,
+    /// They began as HTTP or TLS does.
+    pub foreign: u64,
+    /// They were silent for longer than they may be.
+    pub silent: u64,
+}
+
+impl ClosedClients {
+    /// None yet.
+    pub fn new() -> ClosedClients
+        ensures { result ≡ none_closed }
+    {
+        ClosedClients {
+            failed: 0,
+            refused: 0,
+            foreign: 0,
+            silent: 0,
+        }
+    }
+
+    /// One more, for this reason.
+    pub(crate) fn counting(self, closing: Option<Closing>) -> ClosedClients
+        ensures { result ≡ with_closed self closing }
+    {
+        let ClosedClients {
+            failed,
+            refused,
+            foreign,
+            silent,
+        } = self;
+        match closing {
+            Some(Closing::Fault) => ClosedClients { failed: failed.saturating_add(1), refused, foreign, silent },
+            Some(Closing::NoMemory) => ClosedClients { failed, refused: refused.saturating_add(1), foreign, silent },
+            Some(Closing::OtherProtocol) => ClosedClients { failed, refused, foreign: foreign.saturating_add(1), silent },
+            Some(Closing::Silence) => ClosedClients { failed, refused, foreign, silent: silent.saturating_add(1) },
+            Some(Closing::End | Closing::Farewell) | None => self,
+        }
+    }
 }

@@ -3,7 +3,7 @@
 //! far as the connection takes it.
 //!
 //! Modules: `server` is a turn over the hub and its clients, `rounds` goes through all clients, `client` is a
-//! connection and its session, `closing` why that is closed, `wire` its stream and whether that has failed, `incoming`
+//! connection and its session, `closing` why that is closed and how many were, `wire` its stream and whether that has failed, `incoming`
 //! what came and the session was not given yet, `memory` gives it to the session and knows whether memory was refused
 //! for it, `outgoing` is what is to be written, `room` what a turn has room for. `proofs/ServingLemmas` shows that what
 //! is done for clients are calls of the hub (`IsLedBy`), `proofs/ProtocolLemmas` how another protocol begins.
@@ -22,7 +22,7 @@ mod server;
 mod wire;
 
 pub use client::Client;
-pub use closing::Closing;
+pub use closing::{ClosedClients, Closing};
 pub use fault::ServerFault;
 pub use laws::law_of_short_answers;
 pub use rounds::{Reading, hand_out_all, take_in_all};

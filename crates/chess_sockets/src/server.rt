@@ -1,15 +1,17 @@
 //! The server.
 ghost use Rattle.std.specs.Prelude.{◌≡◌, ◌<◌, ◌+◌, ◌↔◌, ◌⊎◌, true, false, [], Some, None, Ok, IsTrue, IsSomeAnd, IfOk};
-ghost use Rattle.std.specs.Prelude.{IfErr, OnOk, length};
+ghost use Rattle.std.specs.Prelude.{IfErr, OnOk, OnErr, length};
 ghost use Rattle.std.specs.Bool.{OnTrue, OnFalse};
 ghost use Rattle.chess_hub.specs.Faults.{refusals_after};
 ghost use Rattle.chess_hub.specs.Law.{hub_state};
 ghost use Rattle.chess_hub.specs.Storing.{StoreMayBeAsked, StoreRefuses, StoreLasts, StoreTried, StoreCounts};
+ghost use Rattle.chess_sockets.specs.Counts.{none_closed, counted, all_counted};
 ghost use Rattle.chess_sockets.specs.Rounds.{times};
 ghost use Rattle.chess_sockets.specs.Serving.{Welcomes, IsWelcomed, IsAskedFor, HasServed, HasGoneRound, open_in};
 ghost use Rattle.chess_sockets.specs.Serving.{served, state_of_server};
 ghost use Rattle.chess_sockets.specs.Turns.{EndsServing, IsRefusal, IsTurnRefusal};
 
+use crate::closing::ClosedClients;
 use crate::fault::ServerFault;
 use crate::{Client, Reading, hand_out_all, take_in_all};
 use chess_hub::{Hub, HubFault};
@@ -53,6 +55,8 @@ pub struct Server<D: Device, S = Connection> {
     silence: Option<u64>,
     /// How many connections were dropped for want of a place or of memory.
     turned_away: u64,
+    /// How many clients were closed for which reason.
+    closed: ClosedClients,
 }
 
 /// The most lines that a turn takes: one at least of each session that has one.
@@ -111,6 +115,32 @@ fn admit<S: Read + Write + From<Connection> + Drop, D: Device>(
     true
 }
 
+// One more client, where its session is closed.
+fn counted<S, D: Device>(client: &Client<S>, hub: &Hub<D>, closed: ClosedClients) -> ClosedClients
+    ensures { result ≡ counted hub.now.sessions client.now closed }
+{
+    if hub.is_open(client.sid()) {
+        closed
+    } else {
+        closed.counting(client.closing())
+    }
+}
+
+// Counts the clients whose session is closed.
+fn count_closed<S, D: Device>(
+    clients: &[Client<S>],
+    hub: &Hub<D>,
+    closed: ClosedClients,
+) -> ClosedClients
+    ensures { result ≡ all_counted hub.now.sessions clients.now closed }
+{
+    let mut counts = closed;
+    for client in clients {
+        counts = counted(client, hub, counts);
+    }
+    counts
+}
+
 /// Reads for each session, has the hub answer lines that wait, and writes; and tells whether there was anything to read
 /// or to write.
 pub fn serve_clients<S: Read + Write, D: Device>(
@@ -158,6 +188,7 @@ impl<D: Device, S: Read + Write + From<Connection> + Drop> Server<D, S> {
         ensures nobody { IfOk result (λ server. server.clients.items ≡ []) }
         ensures silence { IfOk result (λ server. server.silence ≡ None) }
         ensures away { IfOk result (λ server. server.turned_away ≡ 0) }
+        ensures closed { IfOk result (λ server. server.closed ≡ none_closed) }
     {
         let listener = LocalListener::bind(net, port)?;
         Server::new(net, alloc, listener, None, hub)
@@ -179,6 +210,7 @@ impl<D: Device, S: Read + Write + From<Connection> + Drop> Server<D, S> {
         ensures nobody { IfOk result (λ server. server.clients.items ≡ []) }
         ensures silence { IfOk result (λ server. server.silence ≡ silence) }
         ensures away { IfOk result (λ server. server.turned_away ≡ 0) }
+        ensures closed { IfOk result (λ server. server.closed ≡ none_closed) }
     {
         let mut watch = Watch::new(net, alloc)?;
         let port = listener.port()?;
@@ -193,6 +225,7 @@ impl<D: Device, S: Read + Write + From<Connection> + Drop> Server<D, S> {
             rested: Rested::Not,
             silence,
             turned_away: 0,
+            closed: ClosedClients::new(),
         })
     }
 
@@ -210,6 +243,13 @@ impl<D: Device, S: Read + Write + From<Connection> + Drop> Server<D, S> {
         self.turned_away
     }
 
+    /// How many clients were closed since it began, and have gone, for which reason.
+    pub fn closed(&self) -> ClosedClients
+        ensures { result ≡ self.now.closed }
+    {
+        self.closed
+    }
+
     // Accepts at most one connection, and tells whether one came; after calm rests none, unless one may wait. One that
     // came and is no client is counted. What fails at it ends nothing, and is no turn's work, so that a rest comes
     // before the next.
@@ -222,6 +262,7 @@ impl<D: Device, S: Read + Write + From<Connection> + Drop> Server<D, S> {
         ensures store { self.new.hub.store ≡ self.old.hub.store }
         ensures refusals { self.new.hub.refusals ≡ self.old.hub.refusals }
         ensures silence { self.new.silence ≡ self.old.silence }
+        ensures closed { self.new.closed ≡ self.old.closed }
         ensures waits { self.new.watch.calm_waits ≡ self.old.watch.calm_waits }
         ensures blind { self.old.watch.is_blind ≡ true → self.new.watch.is_blind ≡ true }
     {
@@ -247,8 +288,10 @@ impl<D: Device, S: Read + Write + From<Connection> + Drop> Server<D, S> {
         }
     }
 
-    // Lets the connections go whose session is closed.
+    // Lets the connections go whose session is closed, and counts them.
     fn part(&mut self)
+        ensures closed { self.new.closed
+            ≡ all_counted self.old.hub.sessions self.old.clients.items self.old.closed }
         ensures stay { self.new.clients.items ≡ open_in self.old.hub.sessions self.old.clients.items }
         ensures hub { self.new.hub ≡ self.old.hub }
         ensures rested { self.new.rested ≡ self.old.rested }
@@ -258,6 +301,7 @@ impl<D: Device, S: Read + Write + From<Connection> + Drop> Server<D, S> {
         ensures waits { self.new.watch.calm_waits ≡ self.old.watch.calm_waits }
         ensures blind { self.old.watch.is_blind ≡ true → self.new.watch.is_blind ≡ true }
     {
+        self.closed = count_closed(&self.clients, &self.hub, self.closed);
         let hub = &self.hub;
         self.clients.retain(|client| hub.is_open(client.sid()));
     }
@@ -296,6 +340,9 @@ impl<D: Device, S: Read + Write + From<Connection> + Drop> Server<D, S> {
         // streams are. At most one comes, who is a client or is counted as turned away.
         ensures served { OnOk result (HasGoneRound S.from_gives S.remaining S.contents (times at self.old.silence)
             (StoreMayBeAsked self.old.hub.store) (state_of_server self.old) (state_of_server self.new)) }
+        // Who was closed before the turn is counted too where it fails; who is closed by it is once it is done.
+        ensures closed_err { OnErr result (self.new.closed
+            ≡ all_counted self.old.hub.sessions self.old.clients.items self.old.closed) }
         ensures silence { self.new.silence ≡ self.old.silence }
         ensures waits { self.new.watch.calm_waits ≡ self.old.watch.calm_waits }
         ensures blind { self.old.watch.is_blind ≡ true → self.new.watch.is_blind ≡ true }
@@ -328,6 +375,7 @@ impl<D: Device, S: Read + Write + From<Connection> + Drop> Server<D, S> {
             × (self.new.watch.is_blind ≡ true) }
         ensures woken { self.old.rested ≡ Rested.Woken → self.new.rested ≡ Rested.Woken }
         ensures turned_away { self.new.turned_away ≡ self.old.turned_away }
+        ensures closed { self.new.closed ≡ self.old.closed }
         ensures silence { self.new.silence ≡ self.old.silence }
     {
         let is_calm = self.watch.rest();

@@ -10,4 +10,4 @@ mod telling;
 
 pub use device::TellingDevice;
 pub use streams::{INPUT, OUTPUT, TellingReader, TellingWriter};
-pub use telling::{Found, Teller, TurnedAway};
+pub use telling::{Found, Teller, ToldCount};

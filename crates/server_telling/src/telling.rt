@@ -21,23 +21,23 @@ pub struct Found {
     pub took: u64,
 }
 
-/// After so many milliseconds connections that were turned away are told of again.
+/// After so many milliseconds what is counted is told of again.
 const MINUTE: u64 = 60_000;
 
-/// How many connections were turned away that were told of, and when the last were.
+/// How many of what is counted were told of, as connections that were turned away, and when the last were.
 #[derive(Clone, Copy)]
-pub struct TurnedAway {
+pub struct ToldCount {
     told: u64,
     at: Option<u64>,
 }
 
-impl TurnedAway {
+impl ToldCount {
     /// None yet.
-    pub fn new() -> TurnedAway
+    pub fn new() -> ToldCount
         ensures told { result.told ≡ 0 }
         ensures at { result.at ≡ None }
     {
-        TurnedAway { told: 0, at: None }
+        ToldCount { told: 0, at: None }
     }
 
     /// How many more there are than were told of, where there are some and a minute has passed since the last were:
@@ -145,6 +145,13 @@ impl<'a, R: Eprint> Teller<'a, R> {
             let _ = eprintln!(self.rt;
                 "{more} connections were turned away: all 64 places are taken, or memory was refused"
             );
+        }
+    }
+
+    /// How many clients were closed for a reason.
+    pub fn closed(&self, more: u64, reason: &str) {
+        if !self.is_quiet {
+            let _ = eprintln!(self.rt; "{more} clients were closed: {reason}");
         }
     }
 

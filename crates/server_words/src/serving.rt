@@ -4,14 +4,14 @@ ghost use Rattle.server_words.specs.PlayFaults.{IsServeFault};
 
 use crate::{Fault, Pacing, Place, Serving, found_in, open_file, open_on, printed, told};
 use chess_hub::Hub;
-use chess_sockets::{Server, ServerFault, Turned};
+use chess_sockets::{ClosedClients, Server, ServerFault, Turned};
 use chess_store::{Store, StoreFault};
 use sector_dev::{Device, FileDevice};
 use server_clock::{
     Beats, Beside, ServingClock, SteadyClock, TurnMoments, milliseconds_since, open_clock,
     read_beats,
 };
-use server_telling::{Found, Teller, TellingDevice, TurnedAway};
+use server_telling::{Found, Teller, TellingDevice, ToldCount};
 use sockets::LocalListener;
 use std::alloc::Global;
 use std::fs::File;
@@ -19,6 +19,51 @@ use std::net::{Net, TcpListener, TcpStream};
 use std::rt::{Clock, Files};
 use std::time::Instant;
 use std::{fs, io};
+
+// What was told of connections that were turned away, and of clients that were closed.
+#[derive(Clone, Copy)]
+struct ToldCounts {
+    away: ToldCount,
+    failed: ToldCount,
+    refused: ToldCount,
+    foreign: ToldCount,
+    silent: ToldCount,
+}
+
+impl ToldCounts {
+    fn new() -> ToldCounts {
+        ToldCounts {
+            away: ToldCount::new(),
+            failed: ToldCount::new(),
+            refused: ToldCount::new(),
+            foreign: ToldCount::new(),
+            silent: ToldCount::new(),
+        }
+    }
+
+    // Tells of those that were turned away since.
+    fn tell_away<R: Eprint>(&mut self, teller: &Teller<'_, R>, count: u64, at: u64) {
+        if let Some(more) = self.away.news(count, at) {
+            teller.turned_away(more);
+        }
+    }
+
+    // Tells of those that were closed since, each reason by itself.
+    fn tell_closed<R: Eprint>(&mut self, teller: &Teller<'_, R>, closed: ClosedClients, at: u64) {
+        if let Some(more) = self.failed.news(closed.failed, at) {
+            teller.closed(more, "their connections failed");
+        }
+        if let Some(more) = self.refused.news(closed.refused, at) {
+            teller.closed(more, "memory was refused for them");
+        }
+        if let Some(more) = self.foreign.news(closed.foreign, at) {
+            teller.closed(more, "they began as HTTP or TLS does");
+        }
+        if let Some(more) = self.silent.news(closed.silent, at) {
+            teller.closed(more, "nothing came from them for as long as they may be silent");
+        }
+    }
+}
 
 // Takes the turns of a server: so many, or as many as 64 bits count.
 fn take_turns<R: Eprint, D: Device, M: TurnMoments>(
@@ -29,7 +74,7 @@ fn take_turns<R: Eprint, D: Device, M: TurnMoments>(
 ) -> Result<(), Fault>
     ensures { IfErr result IsServeFault }
 {
-    let mut away = TurnedAway::new();
+    let mut told = ToldCounts::new();
     for _ in 0..turns.map_or(u64::MAX, u64::from) {
         let at = clock.next();
         match server.turn(at) {
@@ -38,9 +83,8 @@ fn take_turns<R: Eprint, D: Device, M: TurnMoments>(
             Err(fault) => return Err(Fault::Hub(fault)),
         }
         clock.tick();
-        if let Some(more) = away.news(server.turned_away(), clock.reading()) {
-            teller.turned_away(more);
-        }
+        told.tell_away(teller, server.turned_away(), clock.reading());
+        told.tell_closed(teller, server.closed(), clock.reading());
     }
     Ok(())
 }

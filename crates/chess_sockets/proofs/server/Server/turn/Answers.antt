@@ -5,11 +5,13 @@ use Rattle.chess_hub.specs.Faults.{CountsFault}
 use Rattle.chess_sockets.specs.Serving.{served, server_state, HasServed}
 use Rattle.chess_sockets.specs.Turns.{EndsServing, IsTurnRefusal, IsRefusal}
 use Rattle.chess_sockets.proofs.StoreLemmas.{lasts_over, lasts_handed, of_fault, counts_refused, counts_done}
-use Rattle.chess_sockets.proofs.ServingLemmas.{welcomed_there, welcomed_on, asked_there, has_worked}
+use Rattle.chess_sockets.proofs.ClosingLemmas.{on_err}
+use Rattle.chess_sockets.proofs.ServingLemmas.{welcomed_there, welcomed_on, welcomed_over, asked_there, has_worked}
 use Rattle.chess_sockets.proofs.server.Server.turn.Goals as goal
 use Rattle.chess_hub.specs.Storing.{StoreMayBeAsked, StoreRefuses}
 use Rattle.chess_hub.specs.Law.{hub_state, state_of}
 use Rattle.chess_sockets.specs.Rounds.{times}
+use Rattle.chess_sockets.specs.Counts.{all_counted}
 
 -- ---- what is left of the store
 
@@ -54,15 +56,17 @@ returns-clause-served g c =
     record {
       asked = w.clients.items;
       begun = state_of w.hub.sessions w.hub.store.table;
-      welcomes = welcomed_on g.S.From.from_gives c.args.at old.listener.given w.listener left.listener old.turned_away w.turned_away
+      welcomes = welcomed_over g.S.From.from_gives c.args.at (welcomed_on g.S.From.from_gives c.args.at old.listener.given w.listener left.listener old.turned_away w.turned_away
           left.turned_away _ _ _ _ c.part-2.ensures.listener c.part-2.ensures.turned_away
           (welcomed_there g.S.From.from_gives c.args.at c.part.new.self.hub old.hub
           (λ hub. state_of hub.sessions hub.store.table) c.part.new.self.listener old.listener w.listener.given
           c.part.new.self.turned_away old.turned_away w.turned_away _ _ _ _ c.part.ensures.hub c.part.ensures.stay
-          c.part.ensures.turned_away c.part.ensures.listener c.welcome-came.ensures.welcomes);
+          c.part.ensures.turned_away c.part.ensures.listener c.welcome-came.ensures.welcomes));
       written = n.clients.items;
       serves = serves;
       stay = rw c.part-2.ensures.hub c.part-2.ensures.stay;
+      closed = rw c.part-2.ensures.hub (c.part-2.ensures.closed
+          ∙ ap (all_counted n.hub.sessions n.clients.items) (c.welcome-came.ensures.closed ∙ c.part.ensures.closed));
     }
 
 -- ---- what was work
@@ -100,15 +104,16 @@ returns-in_err-has_served-clause-refused g c =
         c.in_err-has_served.ensures.refused in
     of_fault r.result e.0 c.in_err-has_served.field-0.0
     (λ fault. IsTurnRefusal g.S.From.from_gives g.S.Read.remaining (times c.args.at old.silence)
-    (StoreRefuses old.hub.store n.hub.store) fault (server_state old.listener.given old.turned_away old.clients.items
-    (hub_state old.hub)) (server_state w.listener.given w.turned_away n.clients.items (hub_state n.hub))) e.1 e.2
+    (StoreRefuses old.hub.store n.hub.store) fault (server_state old.listener.given old.turned_away old.closed
+    old.clients.items (hub_state old.hub)) (server_state w.listener.given w.turned_away w.closed n.clients.items
+    (hub_state n.hub))) e.1 e.2
     (record {
       asked = w.clients.items;
       begun = state_of w.hub.sessions w.hub.store.table;
-      welcomes = welcomed_there g.S.From.from_gives c.args.at c.part.new.self.hub old.hub
+      welcomes = welcomed_over g.S.From.from_gives c.args.at (welcomed_there g.S.From.from_gives c.args.at c.part.new.self.hub old.hub
           (λ hub. state_of hub.sessions hub.store.table) c.part.new.self.listener old.listener w.listener.given
           c.part.new.self.turned_away old.turned_away w.turned_away _ _ _ _ c.part.ensures.hub c.part.ensures.stay
-          c.part.ensures.turned_away c.part.ensures.listener c.welcome-came.ensures.welcomes;
+          c.part.ensures.turned_away c.part.ensures.listener c.welcome-came.ensures.welcomes);
       refusal = refusal;
     })
 
@@ -158,3 +163,11 @@ returns-in_err-has_served-clause-asked g c =
     let w = c.welcome-came.new.self in
     asked_there p.rested old.rested p.listener old.listener w.listener w.listener c.part.ensures.rested c.part.ensures.listener refl
     c.welcome-came.ensures.asked
+
+-- ---- who was closed
+
+pub returns-in_err-has_served-clause-closed_err : goal.returns-in_err-has_served-clause-closed_err
+returns-in_err-has_served-clause-closed_err g c =
+    let r = c.from_residual in
+    let e = err_from_is_err_and r.result r.ensures.1 in
+    on_err r.result _ (c.welcome-came.ensures.closed ∙ c.part.ensures.closed)
