@@ -49,18 +49,14 @@ impl ClosedClients {
     pub(crate) fn counting(self, closing: Option<Closing>) -> ClosedClients
         ensures { result ≡ with_closed self closing }
     {
-        let ClosedClients {
-            failed,
-            refused,
-            foreign,
-            silent,
-        } = self;
+        let mut counts = self;
         match closing {
-            Some(Closing::Fault) => ClosedClients { failed: failed.saturating_add(1), refused, foreign, silent },
-            Some(Closing::NoMemory) => ClosedClients { failed, refused: refused.saturating_add(1), foreign, silent },
-            Some(Closing::OtherProtocol) => ClosedClients { failed, refused, foreign: foreign.saturating_add(1), silent },
-            Some(Closing::Silence) => ClosedClients { failed, refused, foreign, silent: silent.saturating_add(1) },
-            Some(Closing::End | Closing::Farewell) | None => self,
+            Some(Closing::Fault) => counts.failed = counts.failed.saturating_add(1),
+            Some(Closing::NoMemory) => counts.refused = counts.refused.saturating_add(1),
+            Some(Closing::OtherProtocol) => counts.foreign = counts.foreign.saturating_add(1),
+            Some(Closing::Silence) => counts.silent = counts.silent.saturating_add(1),
+            Some(Closing::End | Closing::Farewell) | None => {}
         }
+        counts
     }
 }
