@@ -48,8 +48,8 @@ pub(crate) const NOT_KEPT: &str =
 // What an operator is told of what is no clock's file.
 const FOREIGN: &str = "it is no server's clock: put it away";
 
-/// A clock's file of two sectors, which is made where it isn't there; `None` where it cannot be opened or made, which is
-/// told. `Foreign` where the name has something else than a regular file, which is told too.
+/// A clock's file of two sectors, which is made where it isn't there; `None` where it cannot be opened or made, which
+/// is told. `Foreign` where the name has something else than a regular file, which is told too.
 pub fn open_clock<R: Files<File = File> + Eprint>(
     rt: &R,
     teller: &Teller<'_, R>,

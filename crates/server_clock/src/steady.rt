@@ -42,7 +42,8 @@ impl<'a, R: Clock> SteadyClock<'a, R> {
         SteadyClock::starting(clock, system_moment(clock), u64::MAX)
     }
 
-    /// A clock that begins at a moment, in milliseconds, and of a gap between two of its moments counts so many at most.
+    /// A clock that begins at a moment, in milliseconds, and of a gap between two of its moments counts so many at
+    /// most.
     pub fn starting(clock: &'a R, moment: u64, longest: u64) -> Self
         ensures { result.pace ≡ record { moment = moment; reading = 0; longest = longest; is_stopped = false } }
     {
