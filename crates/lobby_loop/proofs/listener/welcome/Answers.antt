@@ -7,6 +7,10 @@ pub loop-preserved : goal.loop-preserved
 loop-preserved g c =
     elim c.match-accept_one.branch [
       | in-Ok w ↦ rw w.hall-is
-          (w.take_in.ensures.0 ∷ c.loop.invariant.0, (c.loop.hall, c.loop.invariant.1, w.take_in.ensures.1))
+          (
+            w.take_in.ensures.0 ∷ c.loop.invariant.0,
+            (w.take_in.ensures.1, c.loop.invariant.1),
+            (c.loop.hall, c.loop.invariant.2, w.take_in.ensures.2),
+          )
       | in-Err-Lost w ↦ rw w.hall-is c.loop.invariant
     ]
