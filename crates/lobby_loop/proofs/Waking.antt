@@ -140,10 +140,10 @@ module _ {S : Type 0} where
     admits = admits_behind comer.stream a b c same admits;
     comes = elim by [
       | inl comes ↦ inl (
-          room,
-          names ∙ (next ∙ ap (λ (n : ℕ). n + 1) is),
-          comes_behind key comer.peer at a b c same is comes,
-        )
+        room,
+        names ∙ (next ∙ ap (λ (n : ℕ). n + 1) is),
+        comes_behind key comer.peer at a b c same is comes,
+      )
       | inr away ↦ inr (less a.next_key b.next_key c.next_key key names next is, away_behind a b c same counted away)
     ];
   }
