@@ -24,9 +24,9 @@ returns-else-must_wait-clause-told g c =
     let at = c.args.counts.now.at in
     let notes = subst (λ (l : List ℕ). NotesLogin at l old mid) c.as_str-2.ensures.value
     (subst (λ (n : ℕ). NotesLogin n c.as_str-2.result.now old mid) c.note_login.ensures.at c.note_login-2.ensures) in
-    let said = subst (λ (l : List ℕ). IsSaid l mid new) c.as_str-3.ensures.value c.tell.ensures.said in
+    let said = subst (λ (l : List ℕ). IsSaid l mid new) c.as_str-else-must_wait.ensures.value c.tell.ensures.said in
     let paid = c.tell.ensures.paid
-    ∙ ap (λ (n : ℕ). paid_for n c.as_str-3.result.now mid.paid_until) c.note_login.ensures.at
-    ∙ ap (λ (l : List ℕ). paid_for at l mid.paid_until) c.as_str-3.ensures.value in
+    ∙ ap (λ (n : ℕ). paid_for n c.as_str-else-must_wait.result.now mid.paid_until) c.note_login.ensures.at
+    ∙ ap (λ (l : List ℕ). paid_for at l mid.paid_until) c.as_str-else-must_wait.ensures.value in
     told_on at c.args.made.now old mid new notes c.requires false (sym c.must_wait.ensures ∙ c.if-must_wait.false)
     (said, c.tell.ensures.waits, paid) said.number
