@@ -811,7 +811,7 @@ fn who_was_read_keeps_nobody_out(rt: &impl Abort, lab: &mut Lab) {
                 .admit(Peer::new(lab.alloc, browser, 1_000), key, NEAR, 0);
         }
         assert!(rt; lab.hall.is_crowded());
-        for _ in 0..9 {
+        for _ in 0..20 {
             lab.turn_alone(rt, 0);
         }
         assert!(rt; !lab.hall.is_crowded());
