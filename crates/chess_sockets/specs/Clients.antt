@@ -97,8 +97,8 @@ pub record HasSpokenOn (holds fed : List ℕ) (old new : Bool) : Type 0 where
   pub kept : fed ≡ [] → new ≡ old
   pub foreign : old ≡ false → AreOfAnotherProtocol holds → fed ≡ []
 
--- What stands before a client's line: for how many turns somebody waits who comes first, and the answers that the client
--- has not taken yet.
+-- What stands before a client's line: for how many turns somebody waits who comes first, and the answers that the
+-- client has not taken yet.
 pub record Ahead : Type 0 where
   pub longest : ℕ
   pub unsent : List ℕ
@@ -106,8 +106,8 @@ pub record Ahead : Type 0 where
 abbrev pub ahead : ℕ → List ℕ → Ahead
 ahead longest unsent = record { longest = longest; unsent = unsent }
 
--- What is left to be given of a client: the bytes that are held back, how it stands, and for how many lines that ask for
--- much the turn has room yet.
+-- What is left to be given of a client: the bytes that are held back, how it stands, and for how many lines that ask
+-- for much the turn has room yet.
 pub record Pending : Type 0 where
   pub holds : List ℕ
   pub stands : Standing

@@ -43,8 +43,9 @@ IsRefusal remaining when Refuses Busy old new = ⊥
 IsRefusal remaining when Refuses LineTooLong old new = ⊥
 
 -- Why a turn of the server ended: so it ended for those whose session is open and who came.
-pub record IsTurnRefusal {C S : Type 0} (IsMade : C → S → Type 0) (remaining : S → Option (List ℕ)) (when : ReadingTimes)
-    (Refuses : StoreFault → List Command → Type 0) (fault : HubFault) (old new : ServerState S) : Type 0 where
+pub record IsTurnRefusal {C S : Type 0} (IsMade : C → S → Type 0) (remaining : S → Option (List ℕ))
+    (when : ReadingTimes) (Refuses : StoreFault → List Command → Type 0) (fault : HubFault) (old new : ServerState S)
+    : Type 0 where
   pub asked : List (Client S)
   pub begun : HubState
   pub welcomes : IsWelcomed IsMade when.at (record old { clients = open_in old.hub.sessions old.clients })
