@@ -23,6 +23,16 @@ pub record State : Type 1 where
   -- what a crash at some moment from that one on might have left, before, within or after a call
   pub image_since : ℕ → Sectors → Type 0
 
+-- What is told of a device: its state, how many sectors it has, and how often it has failed.
+pub record Measures (D : Type 0) : Type 1 where
+  pub state : D → State
+  pub sector_count : D → ℕ
+  pub failures : D → ℕ
+
+abbrev pub measures : {D : Type 0} → (D → State) → (D → ℕ) → (D → ℕ) → Measures D
+measures state sector_count failures =
+    record { state = state; sector_count = sector_count; failures = failures }
+
 -- What holds of the state of each device that keeps the model.
 pub record IsCoherent (sector_count : ℕ) (now : State) : Type 0 where
   -- this moment is one of those since an earlier one
