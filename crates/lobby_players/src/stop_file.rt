@@ -28,8 +28,8 @@ pub struct StopFile<'a, R> {
 }
 
 impl<'a, R: Files<File = File> + AllocGlobal + Eprint> StopFile<'a, R> {
-    /// As it is kept in this file; where clocks are stopped that is told. It fails where the system does not tell, where
-    /// something else than a file has its name, or where none can be written beside it.
+    /// As it is kept in this file; where clocks are stopped that is told. It fails where the system does not tell,
+    /// where something else than a file has its name, or where none can be written beside it.
     pub fn new(rt: &'a R, file: &'a str) -> Result<Self> {
         let bytes = read_file(rt, file)?;
         let tried = format!(in rt.alloc(); "{file}.try")?;

@@ -30,19 +30,6 @@ pub fn put_number(
 }
 
 /// Puts a row of a figure that has several, by what they are told apart.
-pub fn put_labelled_text(
-    text: &mut String,
-    alloc: Global,
-    name: &str,
-    label: &str,
-    value: &str,
-    shown: &str,
-) -> Result<(), AllocError> {
-    let line = format!(in alloc; "chess_lobby_{name}{{{label}=\"{value}\"}} {shown}\n")?;
-    text.push_str(line.as_str())
-}
-
-/// Puts a row that is a whole number.
 pub fn put_labelled(
     text: &mut String,
     alloc: Global,
@@ -51,8 +38,8 @@ pub fn put_labelled(
     value: &str,
     number: u64,
 ) -> Result<(), AllocError> {
-    let shown = format!(in alloc; "{number}")?;
-    put_labelled_text(text, alloc, name, label, value, shown.as_str())
+    let line = format!(in alloc; "chess_lobby_{name}{{{label}=\"{value}\"}} {number}\n")?;
+    text.push_str(line.as_str())
 }
 
 /// Milliseconds as seconds.

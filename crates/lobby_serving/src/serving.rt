@@ -306,8 +306,8 @@ where
 const NO_LOG: &str =
     "there is no --log: who said what is recorded nowhere, so nobody acts as an arbiter";
 
-/// Serves browsers, and first prints the page's address; what an arbiter decides is put to these decisions. It ends where
-/// something is at fault: at the start the players' file, the page, the log or the address, then a turn.
+/// Serves browsers, and first prints the page's address; what an arbiter decides is put to these decisions. It ends
+/// where something is at fault: at the start the players' file, the page, the log or the address, then a turn.
 pub fn serve<R, D>(rt: &R, serving: &Serving<'_>, decisions: D) -> Result<()>
 where
     R: Files<File = File>

@@ -2,27 +2,14 @@
 use crate::archive::games_of_file;
 use crate::reading::game_of;
 use anyhow::{Context, Result};
-use night_files::{cut_lines, tell_left_out, whole_length};
-use std::alloc::Global;
+use night_files::{end_last_line, tell_left_out, whole_length};
+use std::alloc::{AllocError, Global};
 use std::fs;
 use std::rt::Files;
 
-// Whether what stands behind the lines is a game's line that lacks only its line feed.
-fn lacks_feed(alloc: Global, bytes: &[u8]) -> Result<bool> {
-    let (_, behind) = cut_lines(bytes);
-    match str::from_utf8(behind) {
-        Ok(line) => Ok(game_of(alloc, line)?.is_some()),
-        Err(_) => Ok(false),
-    }
-}
-
 /// Ends the last line of an archive's bytes where it lacks only its line feed, and answers whether it did.
-pub fn end_last_line(alloc: Global, bytes: &mut Vec<u8>) -> Result<bool> {
-    let lacks = lacks_feed(alloc, bytes.as_slice())?;
-    if lacks {
-        bytes.push(b'\n')?;
-    }
-    Ok(lacks)
+pub fn end_game(alloc: Global, bytes: &mut Vec<u8>) -> Result<bool, AllocError> {
+    end_last_line(bytes, |line| Ok(game_of(alloc, line)?.is_some()))
 }
 
 /// The lines of an archive's bytes, without what stands behind them. It fails where one is no game's, where a game has
@@ -37,7 +24,7 @@ pub fn lines_in(alloc: Global, file: &str, bytes: &[u8]) -> Result<String> {
 // The bytes of an archive's file, whose last line may lack its line feed.
 fn bytes_of<R: Files + AllocGlobal>(rt: &R, file: &str) -> Result<Vec<u8>> {
     let mut bytes = fs::read(rt, file).context(format_args!("reading {file}"))?;
-    end_last_line(rt.alloc(), &mut bytes)?;
+    end_game(rt.alloc(), &mut bytes)?;
     Ok(bytes)
 }
 

@@ -1,6 +1,6 @@
 //! An archive's file that was opened, with the lines that it had.
 use crate::archive::Archive;
-use crate::lines::{end_last_line, lines_in};
+use crate::lines::{end_game, lines_in};
 use anyhow::{Context, Result};
 use night_files::{AppendedFile, DiskFile, TornFile};
 use std::fs::File;
@@ -17,7 +17,7 @@ pub struct Opened {
 fn lines_ended<R: AllocGlobal>(rt: &R, path: &str, file: &mut DiskFile) -> Result<String> {
     let mut bytes = Vec::new(rt.alloc());
     file.read_all(&mut bytes)?;
-    let was_ended = end_last_line(rt.alloc(), &mut bytes)?;
+    let was_ended = end_game(rt.alloc(), &mut bytes)?;
     let lines = lines_in(rt.alloc(), path, bytes.as_slice())?;
     if was_ended {
         file.append(b"\n")?;

@@ -1,8 +1,8 @@
 //! The files that are only read.
 use anyhow::{Context, Result, bail};
-use night_files::{cut_lines, tell_left_out, torn_fault};
+use night_files::{cut_lines, end_last_line, tell_left_out, torn_fault};
 use night_rounds::{Against, Note, Pairing, note_of, read};
-use std::alloc::Global;
+use std::alloc::{AllocError, Global};
 use std::fs;
 use std::rt::Files;
 use text_parts::parts;
@@ -44,22 +44,9 @@ fn notes_of_lines(alloc: Global, lines: &[&str]) -> Result<Vec<Note>> {
     Ok(notes)
 }
 
-// Whether the last line is a note's which lacks only its line feed.
-fn lacks_feed(alloc: Global, bytes: &[u8]) -> Result<bool> {
-    let (_, behind) = cut_lines(bytes);
-    match str::from_utf8(behind) {
-        Ok(line) => Ok(note_of(alloc, line)?.is_some()),
-        Err(_) => Ok(false),
-    }
-}
-
 /// Ends the last line of a round's bytes where it lacks only its line feed, and answers whether it did.
-pub fn end_last_line(alloc: Global, bytes: &mut Vec<u8>) -> Result<bool> {
-    let lacks = lacks_feed(alloc, bytes.as_slice())?;
-    if lacks {
-        bytes.push(b'\n')?;
-    }
-    Ok(lacks)
+pub fn end_note(alloc: Global, bytes: &mut Vec<u8>) -> Result<bool, AllocError> {
+    end_last_line(bytes, |line| Ok(note_of(alloc, line)?.is_some()))
 }
 
 /// The notes of the lines in a round's file, in their order. It fails where a line is no note's, and where what stands
@@ -80,7 +67,7 @@ fn notes_of_bytes(alloc: Global, bytes: &[u8]) -> Result<Vec<Note>> {
 // told on standard error.
 fn notes_of<R: Files + AllocGlobal + Eprint>(rt: &R, file: &str) -> Result<Vec<Note>> {
     let mut bytes = fs::read(rt, file).context(format_args!("reading {file}"))?;
-    end_last_line(rt.alloc(), &mut bytes)?;
+    end_note(rt.alloc(), &mut bytes)?;
     let notes = notes_in(rt.alloc(), file, bytes.as_slice())?;
     tell_left_out(rt, file, bytes.as_slice());
     Ok(notes)
