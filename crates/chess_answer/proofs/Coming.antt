@@ -20,7 +20,7 @@ use Rattle.chess_entry.specs.declared.verdicts.Verdict.{Verdict}
 use Rattle.chess_entry.specs.declared.verdicts.Verdict.TheVariants.{Refuse, Enter, Read}
 use Rattle.chess_entry.specs.State.{GameState, TableState, ply_of, is_joined, is_over, find_game}
 use Rattle.chess_entry.specs.Parsed.{Parsed, IsMoveParsed, bytes_of}
-use Rattle.chess_entry.specs.Verdict.{Check, refuse, first_of, are_times, is_start, is_finished, is_full, is_long, is_read, has_offer, in_game, by_side, while_running, in_turn, for_move, for_stated, offered, for_accept, opening_for, opened_from, move_entered, join_verdict, move_verdict, offer_verdict, accept_verdict, decline_verdict, resign_verdict, claim_verdict, flag_verdict, drop_verdict, in_seat, side_of, player_verdict, name_or_none, effective, verdict, IsParsed}
+use Rattle.chess_entry.specs.Verdict.{Check, refuse, first_of, are_times, is_start, is_finished, is_full, is_long, is_read, has_offer, in_game, by_side, while_running, in_turn, for_move, for_stated, offered, for_accept, opening_for, opened_from, move_entered, join_verdict, move_verdict, offer_verdict, accept_verdict, decline_verdict, resign_verdict, claim_asked, claim_verdict, flag_verdict, drop_verdict, in_seat, side_of, player_verdict, name_or_none, effective, verdict, IsParsed}
 use Rattle.chess_entry.specs.Table.{IsTable, IsOnTable}
 use Rattle.chess_entry.proofs.Entering.{find_game-number}
 use Rattle.chess_game.specs.Turn.{IsPlayable}
@@ -150,7 +150,7 @@ each-stated P table game false move = tt
 claim-comes : (table : TableState) (number at ply : ℕ) (fifty : Bool) (text : Option (List ℕ)) (move : Option Move)
     (game : GameState) (side : Colour) → IsTable table → find_game number table.games ≡ Some game
     → IsMoveParsed (find_game number table.games) text move
-    → Enters (Comes table) (claim_verdict table at ply fifty (is_some text) move game side)
+    → Enters (Comes table) (claim_verdict table at (claim_asked ply fifty (is_some text) move) game side)
 claim-comes table number at ply fifty text move game side is found told =
     let P : Option GameState → Type 0 = λ o. IsMoveParsed o text move in
     let ev : Event = event.Claim (record { by = side; fifty = fifty; mv = move; ply = ply_of game }) in
@@ -164,7 +164,7 @@ claim-comes table number at ply fifty text move game side is found told =
 claim-given : (table : TableState) (number at ply : ℕ) (fifty : Bool) (text : Option ArrayString) (move : Option Move)
     (game : GameState) (side : Colour) → IsTable table → find_game number table.games ≡ Some game
     → IsMoveParsed (find_game number table.games) (bytes_of text) move
-    → Enters (Comes table) (claim_verdict table at ply fifty (is_some text) move game side)
+    → Enters (Comes table) (claim_verdict table at (claim_asked ply fifty (is_some text) move) game side)
 claim-given table number at ply fifty None move game side is found told =
     claim-comes table number at ply fifty None move game side is found told
 claim-given table number at ply fifty (Some text) move game side is found told =
@@ -216,7 +216,7 @@ player-comes table at name parsed (act.Resign game) is says =
     running table game at g [] (Enter (entry g.number at (event.Resign side)))
     found tt (λ none. comes table game at g (event.Resign side) found tt))
 player-comes table at name parsed (act.Claim game ply fifty text) is says =
-    Enters-in_seat (Comes table) table name game (claim_verdict table at ply fifty (is_some text) parsed.move)
+    Enters-in_seat (Comes table) table name game (claim_verdict table at (claim_asked ply fifty (is_some text) parsed.move))
     (λ g side found. claim-given table game at ply fifty text parsed.move g side is found says.1)
 player-comes table at name parsed (act.Flag game) is says =
     Enters-in_seat (Comes table) table name game (flag_verdict at) (λ g side found.

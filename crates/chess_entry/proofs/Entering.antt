@@ -21,7 +21,7 @@ use Rattle.chess_entry.specs.declared.verdicts.Verdict.TheVariants.{Refuse, Ente
 use Rattle.chess_entry.specs.declared.refusals.Refusal.TheVariants.{OfferStands, AlreadyClaimed, FlagUp}
 use Rattle.chess_entry.specs.State.{GameState, TableState, position_of, ply_of, seat_of, is_joined, is_over, find_game}
 use Rattle.chess_entry.specs.Parsed.{Parsed}
-use Rattle.chess_entry.specs.Verdict.{Check, refuse, first_of, is_period, are_times, is_start, is_finished, is_full, is_long, is_on_move, has_offer, has_fallen, in_game, by_side, while_running, in_turn, for_move, for_stated, offered, for_accept, opening_for, opened_from, move_entered, open_verdict, join_verdict, move_verdict, offer_verdict, accept_verdict, decline_verdict, resign_verdict, claim_verdict, flag_verdict, drop_verdict, in_seat, side_of, player_verdict, name_or_none, is_read, effective, verdict}
+use Rattle.chess_entry.specs.Verdict.{Check, refuse, first_of, is_period, are_times, is_start, is_finished, is_full, is_long, is_on_move, has_offer, has_fallen, in_game, by_side, while_running, in_turn, for_move, for_stated, offered, for_accept, opening_for, opened_from, move_entered, open_verdict, join_verdict, move_verdict, offer_verdict, accept_verdict, decline_verdict, resign_verdict, claim_asked, claim_verdict, flag_verdict, drop_verdict, in_seat, side_of, player_verdict, name_or_none, is_read, effective, verdict}
 use Rattle.chess_entry.proofs.Allowed.{IsPlaying, IsInTime, IsAllowed}
 use Rattle.chess_entry.proofs.InPlay.{none-not_some}
 
@@ -202,7 +202,7 @@ resign-enters table number at game side e found h =
     (λ up rest. (event.Resign side, up.playing, entered _ e rest))
 
 claim-enters : (table : TableState) (ply : ℕ) (fifty states : Bool) (move : Option Move) →
-    EntersIn table (λ at. claim_verdict table at ply fifty states move)
+    EntersIn table (λ at. claim_verdict table at (claim_asked ply fifty states move))
 claim-enters table ply fifty states move number at game side e found h =
     let v : Verdict = Enter (entry game.number at
     (event.Claim (record { by = side; fifty = fifty; mv = move; ply = ply_of game }))) in
@@ -282,7 +282,7 @@ player-enters table at name parsed (act.Decline game) e h =
 player-enters table at name parsed (act.Resign game) e h =
     inr (in_seat-entered table name game at resign_verdict e (resign-enters table) h)
 player-enters table at name parsed (act.Claim game ply fifty text) e h =
-    inr (in_seat-entered table name game at (λ at. claim_verdict table at ply fifty (is_some text) parsed.move) e
+    inr (in_seat-entered table name game at (λ at. claim_verdict table at (claim_asked ply fifty (is_some text) parsed.move)) e
     (claim-enters table ply fifty (is_some text) parsed.move) h)
 player-enters table at name parsed (act.Flag game) e h =
     inr (in_seat-entered table name game at flag_verdict e (flag-enters table) h)

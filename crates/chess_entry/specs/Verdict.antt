@@ -202,11 +202,24 @@ resign_verdict at game side = first_of (while_running game at) (Enter (entry gam
 abbrev pub for_stated : TableState → GameState → Bool → Option Move → List Check
 for_stated table game states move = if states then for_move table game move else []
 
-abbrev pub claim_verdict : TableState → ℕ → ℕ → Bool → Bool → Option Move → GameState → Colour → Verdict
-claim_verdict table at ply fifty states move game side = first_of
+-- what a claim says: of which ply it is, whether of fifty moves or of repetition, and whether it states a move, and
+-- which, where its text tells one
+pub record ClaimAsked : Type 0 where
+  pub ply : ℕ
+  pub fifty : Bool
+  pub states : Bool
+  pub move : Option Move
+
+abbrev pub claim_asked : ℕ → Bool → Bool → Option Move → ClaimAsked
+claim_asked ply fifty states move = record { ply = ply; fifty = fifty; states = states; move = move }
+
+abbrev pub claim_verdict : TableState → ℕ → ClaimAsked → GameState → Colour → Verdict
+claim_verdict table at claim game side = first_of
     (while_running game at ++
-    (in_turn game side ply ++ (refuse game.claimed AlreadyClaimed ∷ for_stated table game states move)))
-    (Enter (entry game.number at (event.Claim (record { by = side; fifty = fifty; mv = move; ply = ply_of game }))))
+    (in_turn game side claim.ply ++
+    (refuse game.claimed AlreadyClaimed ∷ for_stated table game claim.states claim.move)))
+    (Enter (entry game.number at
+    (event.Claim (record { by = side; fifty = claim.fifty; mv = claim.move; ply = ply_of game }))))
 
 abbrev pub flag_verdict : ℕ → GameState → Colour → Verdict
 flag_verdict at game side = first_of (while_running game at) (Refuse FlagUp)
@@ -234,7 +247,7 @@ player_verdict table at name parsed (act.Accept game) = in_seat table name game 
 player_verdict table at name parsed (act.Decline game) = in_seat table name game (decline_verdict at)
 player_verdict table at name parsed (act.Resign game) = in_seat table name game (resign_verdict at)
 player_verdict table at name parsed (act.Claim game ply fifty text) =
-    in_seat table name game (claim_verdict table at ply fifty (is_some text) parsed.move)
+    in_seat table name game (claim_verdict table at (claim_asked ply fifty (is_some text) parsed.move))
 player_verdict table at name parsed (act.Flag game) = in_seat table name game (flag_verdict at)
 player_verdict table at name parsed (act.Remove game) = in_seat table name game (drop_verdict at)
 player_verdict table at name parsed (act.Show game) = in_game (λ _. Read) (find_game game table.games)

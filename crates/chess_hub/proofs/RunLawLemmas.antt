@@ -8,7 +8,7 @@ use Rattle.std.proofs.lemmas.List.Sums.{sum_by-cons, sum_by-append}
 use Rattle.std.specs.Prelude.{cond, map, ◌==◌, ◌&&◌, if◌then◌else◌, slice_index, slice_index_or}
 use Rattle.std.specs.List.{AllZip, concat}
 use Rattle.text_lines.specs.Lines.{lines_of, has_long_line}
-use Rattle.sector_dev.specs.Device.{State}
+use Rattle.sector_dev.specs.Device.{State, measures}
 use Rattle.chess_entry.specs.State.{TableState}
 use Rattle.chess_hub.specs.Session.{Said, farewell, is_none_waiting}
 use Rattle.chess_hub.specs.Turn.{SessionLine, session_line, turn_lines, IsReading}
@@ -19,7 +19,7 @@ use Rattle.chess_hub.specs.Calls.{Call, Connected, Fed, Turned, which, input_of}
 use Rattle.chess_hub.specs.Sessions.{Merged, taken_count, lines_left, AreOpenIn, IsMergedAs, AreMerged, name_from, IsLineAnswered, AreAnsweredAfter, answers_to}
 use Rattle.chess_hub.specs.Running.{Standing, stands, written, AnswersLine}
 use Rattle.chess_hub.specs.RunLaw.{written_all, IsOfTheFirst, GiveAll, sent_after, turns_after, AreTold, IsSessionText}
-use Rattle.chess_hub.specs.Turning.{Kept, measures}
+use Rattle.chess_hub.specs.Turning.{Kept}
 
 name-behind : (session : ℕ) (name : Option (List ℕ)) (before : List Merged) (m : Merged) →
     name_from session name (before ++ m ∷ []) ≡ name_from session (name_from session name before) (m ∷ [])

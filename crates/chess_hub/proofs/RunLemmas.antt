@@ -3,20 +3,20 @@ use Rattle.std.proofs.Common.{◌≡◌, ℕ, suc, ◌≤◌, List, [], ◌∷�
 use Rattle.std.specs.Prelude.{◌⊎◌, Bool, option_map, is_some, count_by, IsErrOf, OnOk, slice_index_or}
 use Rattle.std.specs.Io.KnownBytes.{Appends}
 use Rattle.slab.specs.Slab.{get}
-use Rattle.sector_dev.specs.Device.{State}
+use Rattle.sector_dev.specs.Device.{State, measures}
 use Rattle.chess_hub.specs.declared.sessions.Session.{Session}
 use Rattle.chess_hub.specs.declared.sessions.Sessions.{Sessions}
 use Rattle.chess_hub.specs.Session.{shown, session_at, session_count}
 use Rattle.text_lines.specs.declared.answerer.LoopFault.{LoopFault}
 use Rattle.text_lines.specs.declared.answerer.LoopFault.TheVariants as loop
-use Rattle.text_lines.specs.Texts.{IsRun, IsText, AnswersAll, FindsNone, IsOfSource, Ended}
+use Rattle.text_lines.specs.Texts.{IsRun, IsText, AnswersAll, FindsNone, IsOfSource, Ended, Streams, streams}
 use Rattle.chess_hub.specs.declared.fault.HubFault.{HubFault}
 use Rattle.chess_hub.specs.declared.fault.HubFault.TheVariants.{Busy, NoMemory, LineTooLong, Store as OfStore}
 use Rattle.chess_hub.specs.declared.running.RunFault.{RunFault}
 use Rattle.chess_hub.specs.declared.running.RunFault.TheVariants as faults
 use Rattle.chess_hub.specs.Faults.{IsConnectFault}
-use Rattle.chess_hub.specs.Running.{Standing, stands, AnswersLine, RefusesLine, of_loop, IsRunText, RunsOn, RunEnds, RunIsOfSource, streams}
-use Rattle.chess_hub.specs.Turning.{Kept, measures}
+use Rattle.chess_hub.specs.Running.{Standing, stands, AnswersLine, RefusesLine, of_loop, IsRunText, RunsOn, RunEnds, RunIsOfSource}
+use Rattle.chess_hub.specs.Turning.{Kept}
 
 -- ---- the same, seen through a map of states
 
@@ -35,9 +35,8 @@ module _ {S T : Type 0} (A : S → List ℕ → List ℕ → S → Type 0) (B : 
     whole = h.whole;
   }
 
-  all-map : (before after old new : Option (List ℕ)) (s t : S) → AnswersAll A before after old new s t →
-      AnswersAll B before after old new (f s) (f t)
-  all-map before after old new s t h = record {
+  all-map : (old new : Streams) (s t : S) → AnswersAll A old new s t → AnswersAll B old new (f s) (f t)
+  all-map old new s t h = record {
     taken = h.taken;
     consumed = h.consumed;
     text = h.text;
@@ -59,11 +58,11 @@ module _ {S T : Type 0} (A : S → List ℕ → List ℕ → S → Type 0) (B : 
       breaks = n mid finds.line finds.fault end finds.breaks;
     })
 
-    pub ended-map : (result : Result (Unit {0}) (LoopFault F)) (before after old new : Option (List ℕ)) (s t : S) →
-        Ended A C result before after old new s t → Ended B D result before after old new (f s) (f t)
-    ended-map (Ok done) before after old new s t h = all-map before after old new s t h
-    ended-map (Err loop.Read) before after old new s t h = all-map before after old new s t h
-    ended-map (Err loop.Write) before after old new s t h = record {
+    pub ended-map : (result : Result (Unit {0}) (LoopFault F)) (old new : Streams) (s t : S) →
+        Ended A C result old new s t → Ended B D result old new (f s) (f t)
+    ended-map (Ok done) old new s t h = all-map old new s t h
+    ended-map (Err loop.Read) old new s t h = all-map old new s t h
+    ended-map (Err loop.Write) old new s t h = record {
       taken = h.taken;
       consumed = h.consumed;
       done = h.done;
@@ -81,7 +80,7 @@ module _ {S T : Type 0} (A : S → List ℕ → List ℕ → S → Type 0) (B : 
       some = h.some;
       appended = h.appended;
     }
-    ended-map (Err loop.LineTooLong) before after old new s t h = record {
+    ended-map (Err loop.LineTooLong) old new s t h = record {
       taken = h.taken;
       consumed = h.consumed;
       text = h.text;
@@ -89,7 +88,7 @@ module _ {S T : Type 0} (A : S → List ℕ → List ℕ → S → Type 0) (B : 
       appended = h.appended;
       long = h.long;
     }
-    ended-map (Err (loop.Unanswered fault)) before after old new s t h = record {
+    ended-map (Err (loop.Unanswered fault)) old new s t h = record {
       taken = h.taken;
       consumed = h.consumed;
       done = h.done;
@@ -139,14 +138,14 @@ module _ {D M : Type 0} (state : D → State) (sector_count failures : D → ℕ
   }
 
   pub runs-on : (result : Result (Unit {0}) (LoopFault HubFault)) (before after old new : Option (List ℕ)) →
-      Ended Answers Breaks result before after old new talk end →
+      Ended Answers Breaks result (streams before old) (streams after new) talk end →
       RunsOn (measures state sector_count failures) gives result (streams before old) (streams after new) (stands store None moments)
   runs-on result before after old new h = record {
     end = view end;
     ended = subst (λ (x : Standing D M). Ended (AnswersLine (measures state sector_count failures) gives)
-        (RefusesLine (measures state sector_count failures) gives) result before after old new x (view end)) begins
+        (RefusesLine (measures state sector_count failures) gives) result (streams before old) (streams after new) x (view end)) begins
         (ended-map Answers (AnswersLine (measures state sector_count failures) gives) view (λ s l x t h. h) Breaks
-        (RefusesLine (measures state sector_count failures) gives) (λ s l x t h. h) result before after old new talk end h);
+        (RefusesLine (measures state sector_count failures) gives) (λ s l x t h. h) result (streams before old) (streams after new) talk end h);
   }
 
   pub run-fault : (fault : LoopFault HubFault) (before after old new : Option (List ℕ)) →
@@ -176,21 +175,21 @@ module _ {D M : Type 0} (state : D → State) (sector_count failures : D → ℕ
 
   pub ended-ok : (given : Result (Unit {0}) (LoopFault HubFault)) (x : Unit {0})
       (before after old new : Option (List ℕ)) → given ≡ Ok x →
-      Ended Answers Breaks given before after old new talk end →
+      Ended Answers Breaks given (streams before old) (streams after new) talk end →
       RunsOn (measures state sector_count failures) gives (Ok x) (streams before old) (streams after new) (stands store None moments)
   ended-ok given x before after old new was h =
       runs-on (Ok x) before after old new (subst (λ (r : Result (Unit {0}) (LoopFault HubFault)).
-      Ended Answers Breaks r before after old new talk end) was h)
+      Ended Answers Breaks r (streams before old) (streams after new) talk end) was h)
 
   pub ended-err : (given : Result (Unit {0}) (LoopFault HubFault)) (fault : LoopFault HubFault)
       (made : Result (Unit {0}) RunFault) (y : RunFault) (before after old new : Option (List ℕ)) →
       given ≡ Err fault → made ≡ Err y → y ≡ of_loop fault →
-      Ended Answers Breaks given before after old new talk end →
+      Ended Answers Breaks given (streams before old) (streams after new) talk end →
       RunEnds (measures state sector_count failures) gives made (streams before old) (streams after new) (stands store None moments)
   ended-err given fault made y before after old new was is same h =
       subst (λ (r : Result (Unit {0}) RunFault). RunEnds (measures state sector_count failures) gives r (streams before old) (streams after new) (stands store None moments)) (sym (is ∙ ap (λ (f : RunFault). Err f) same))
       (run-fault fault before after old new (runs-on (Err fault) before after old new
-      (subst (λ (r : Result (Unit {0}) (LoopFault HubFault)). Ended Answers Breaks r before after old new talk end)
+      (subst (λ (r : Result (Unit {0}) (LoopFault HubFault)). Ended Answers Breaks r (streams before old) (streams after new) talk end)
       was h)))
 
 -- ---- where `Read` comes from

@@ -27,9 +27,9 @@ use Rattle.chess_store.specs.Batch.{IsOutcome, IsAnswered, AreAnswered}
 use Rattle.chess_hub.specs.declared.fault.HubFault.{HubFault}
 use Rattle.chess_hub.specs.declared.fault.HubFault.TheVariants.{Busy, NoMemory, LineTooLong, Store}
 use Rattle.chess_hub.specs.Faults.{IsFeedFault}
-use Rattle.chess_hub.specs.Turning.{MayBeAsked, HasTurned, AsksFor, IsTurnFault, Kept, measures}
+use Rattle.chess_hub.specs.Turning.{MayBeAsked, HasTurned, AsksFor, IsTurnFault, Kept}
 use Rattle.chess_store.specs.declared.fault.StoreFault.{StoreFault}
-use Rattle.sector_dev.specs.Device.{State}
+use Rattle.sector_dev.specs.Device.{State, measures}
 use Rattle.chess_store.specs.Means.{IsKept}
 use Rattle.chess_hub.specs.Turning.{AreRefused, TurnLasts, TurnTried}
 use Rattle.chess_hub.specs.Sessions.{IsLineAnswered}

@@ -4,7 +4,7 @@ use Rattle.std.proofs.Common.{refl, sym, subst, arith}
 use Rattle.std.specs.Option.{MatchOption}
 use Rattle.rec_codec.specs.declared.header.Header.{Header}
 use Rattle.rec_codec.specs.declared.record.Entry.{Entry}
-use Rattle.sector_dev.specs.Device.{State, IsCoherent}
+use Rattle.sector_dev.specs.Device.{State, Measures, measures, IsCoherent}
 use Rattle.sector_dev.specs.Runs.{LeavesOnly}
 use Rattle.sector_journal.specs.declared.compactions.Compaction.{Compaction}
 use Rattle.chess_entry.specs.declared.commands.Command.{Command}
@@ -25,7 +25,7 @@ use Rattle.chess_store.proofs.CallLemmas.{ok_was}
 use Rattle.chess_hub.specs.declared.fault.HubFault.{HubFault}
 use Rattle.chess_hub.specs.declared.fault.HubFault.TheVariants.{Busy, NoMemory, LineTooLong, Store}
 use Rattle.chess_hub.specs.Faults.{UnlessDevice, IsDevice, CountsFault}
-use Rattle.chess_hub.specs.Turning.{IsBatchFault, IsTurnFault, TurnLasts, TurnTried, Measures, measures, Kept}
+use Rattle.chess_hub.specs.Turning.{IsBatchFault, IsTurnFault, TurnLasts, TurnTried, Kept}
 
 -- ---- the replies of a batch
 

@@ -2,13 +2,14 @@
 use Rattle.std.specs.Prelude.{ℕ, ◌≡◌, List, [], ◌∷◌, ◌++◌, None, map}
 use Rattle.std.specs.List.{AllZip, concat}
 use Rattle.text_lines.specs.Lines.{lines_of}
+use Rattle.sector_dev.specs.Device.{Measures}
 use Rattle.chess_entry.specs.State.{TableState}
 use Rattle.chess_hub.specs.Session.{Said}
 use Rattle.chess_hub.specs.Turn.{IsReading}
 use Rattle.text_lines.specs.Texts.{IsRun, IsText}
 use Rattle.chess_hub.specs.Calls.{Call, Connected, Fed, Turned}
 use Rattle.chess_hub.specs.Sessions.{Merged, AreMerged, AreAnsweredAfter, answers_to, session_text}
-use Rattle.chess_hub.specs.Turning.{Measures, Kept}
+use Rattle.chess_hub.specs.Turning.{Kept}
 use Rattle.chess_hub.specs.Running.{Standing, stands, written, AnswersLine}
 
 -- answers as they are written, one behind the other

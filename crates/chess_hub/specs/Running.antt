@@ -6,6 +6,7 @@ use Rattle.text_lines.specs.Lines.{IsUnfinished}
 use Rattle.text_lines.specs.Heard.{heard}
 use Rattle.chess_entry.specs.declared.commands.Command.{Command}
 use Rattle.sector_dev.specs.declared.device.Device.{Ghosts}
+use Rattle.sector_dev.specs.Device.{Measures}
 use Rattle.chess_entry.specs.State.{TableState}
 use Rattle.chess_line.specs.declared.lines.Line.{Line}
 use Rattle.chess_hub.specs.declared.sessions.Sessions.{Sessions}
@@ -16,7 +17,7 @@ use Rattle.chess_store.specs.declared.fault.StoreFault.{StoreFault}
 use Rattle.chess_store.specs.Means.{IsKept}
 use Rattle.text_lines.specs.declared.answerer.LoopFault.{LoopFault}
 use Rattle.text_lines.specs.declared.answerer.LoopFault.TheVariants as loop
-use Rattle.text_lines.specs.Texts.{IsText, Ended}
+use Rattle.text_lines.specs.Texts.{IsText, Streams, Ended}
 use Rattle.chess_hub.specs.declared.hub.Hub.{Hub}
 use Rattle.chess_hub.specs.declared.fault.HubFault.{HubFault}
 use Rattle.chess_hub.specs.declared.fault.HubFault.TheVariants.{NoMemory, Store as OfStore}
@@ -24,7 +25,7 @@ use Rattle.chess_hub.specs.declared.running.RunFault.{RunFault}
 use Rattle.chess_hub.specs.declared.running.RunFault.TheVariants as faults
 use Rattle.chess_hub.specs.Sessions.{IsLineAnswered}
 use Rattle.chess_hub.specs.Law.{HubState}
-use Rattle.chess_hub.specs.Turning.{Measures, Kept, kept, TurnLasts, TurnTried, MayBeAsked, AreRefused}
+use Rattle.chess_hub.specs.Turning.{Kept, kept, TurnLasts, TurnTried, MayBeAsked, AreRefused}
 
 -- ---- one line
 
@@ -118,14 +119,6 @@ RunIsOfSource (Err faults.Write) before after = after ≡ before
 RunIsOfSource (Err faults.LineTooLong) before after = after ≡ before
 RunIsOfSource (Err (faults.Hub fault)) before after = after ≡ before
 
--- what a reader has left, where that is known, and what a writer has been given
-pub record Streams : Type 0 where
-  pub unread : Option (List ℕ)
-  pub written : Option (List ℕ)
-
-abbrev pub streams : Option (List ℕ) → Option (List ℕ) → Streams
-streams unread written = record { unread = unread; written = written }
-
 -- No session began, for want of memory: nothing was read or written.
 pub record BeginsNot (old new : Streams) : Type 0 where
   pub read : new.unread ≡ old.unread
@@ -135,8 +128,7 @@ pub record BeginsNot (old new : Streams) : Type 0 where
 pub record RunsOn {D M : Type 0} (of : Measures D) (gives : M → ℕ → M → Type 0)
     (result : Result (Unit {0}) (LoopFault HubFault)) (old new : Streams) (start : Standing D M) : Type 0 where
   pub end : Standing D M
-  pub ended : Ended (AnswersLine of gives) (RefusesLine of gives) result old.unread new.unread old.written new.written
-      start end
+  pub ended : Ended (AnswersLine of gives) (RefusesLine of gives) result old new start end
 
 abbrev pub RunEnds : {D M : Type 0} → Measures D → (M → ℕ → M → Type 0) → Result (Unit {0}) RunFault → Streams
     → Streams → Standing D M → Type 0

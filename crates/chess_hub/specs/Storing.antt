@@ -1,13 +1,14 @@
 -- What a turn asks of a store and does to it: the words of `Turning`, said of the store.
 use Rattle.std.specs.Prelude.{List, Result}
 use Rattle.sector_dev.specs.declared.device.Device.{Ghosts}
+use Rattle.sector_dev.specs.Device.{measures}
 use Rattle.chess_entry.specs.declared.commands.Command.{Command}
 use Rattle.chess_store.specs.declared.fault.StoreFault.{StoreFault}
 use Rattle.chess_store.specs.declared.store.Store.{Store}
 use Rattle.chess_store.specs.Kept.{IsStoreKept}
 use Rattle.chess_hub.specs.declared.fault.HubFault.{HubFault}
 use Rattle.chess_hub.specs.Faults.{CountsFault}
-use Rattle.chess_hub.specs.Turning.{MayBeAsked, AreRefused, TurnLasts, TurnTried, measures, kept}
+use Rattle.chess_hub.specs.Turning.{MayBeAsked, AreRefused, TurnLasts, TurnTried, kept}
 
 -- the store may be asked these commands
 abbrev pub StoreMayBeAsked : {D : Type 0} {ghosts : Ghosts D} → Store D ghosts → List Command → Type 0

@@ -2,7 +2,7 @@
 use Rattle.std.specs.Prelude.{ℕ, ◌≡◌, ◌≤◌, ◌↔◌, Bool, true, false, List, [], length, map, Result, OnOk, IfErr}
 use Rattle.rec_codec.specs.declared.header.Header.{Header}
 use Rattle.sector_dev.specs.declared.device.Device.{Ghosts}
-use Rattle.sector_dev.specs.Device.{State}
+use Rattle.sector_dev.specs.Device.{State, Measures}
 use Rattle.sector_dev.specs.Runs.{LeavesOnly}
 use Rattle.sector_journal.specs.declared.compactions.Compaction.{Compaction}
 use Rattle.chess_entry.specs.declared.commands.Command.{Command}
@@ -90,16 +90,6 @@ pub record TurnLasts {T : Type 0} (result : Result T HubFault) (old new : State)
   pub kept_err : IfErr result (λ fault. UnlessDevice fault (IsKept new header compaction after))
 
 -- ---- the device
-
--- What is told of a device: its state, how many sectors it has, and how often it has failed.
-pub record Measures (D : Type 0) : Type 1 where
-  pub state : D → State
-  pub sector_count : D → ℕ
-  pub failures : D → ℕ
-
-abbrev pub measures : {D : Type 0} → (D → State) → (D → ℕ) → (D → ℕ) → Measures D
-measures state sector_count failures =
-    record { state = state; sector_count = sector_count; failures = failures }
 
 -- what a turn sees of its store
 pub record Kept (D : Type 0) : Type 0 where

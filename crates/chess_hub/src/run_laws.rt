@@ -1,6 +1,6 @@
 //! A law of the definitions that the contracts cite.
 ghost use Rattle.chess_hub.specs.RunLaw.{LawOfRun};
-ghost use Rattle.chess_hub.specs.Turning.{measures};
+ghost use Rattle.sector_dev.specs.Device.{measures};
 
 use crate::moments::Moments;
 use sector_dev::Device;

@@ -1,8 +1,10 @@
 //! One session from a reader to a writer.
 ghost use Rattle.std.specs.Prelude.{ℕ, ◌≡◌, List, None, IfSome, OnOk, IsErrOf};
 ghost use Rattle.std.specs.Io.KnownBytes.{Appends, IsAtEnd};
-ghost use Rattle.chess_hub.specs.Running.{IsRunText, RunEnds, RunIsOfSource, streams, stands};
-ghost use Rattle.chess_hub.specs.Turning.{measures, kept};
+ghost use Rattle.sector_dev.specs.Device.{measures};
+ghost use Rattle.text_lines.specs.Texts.{streams};
+ghost use Rattle.chess_hub.specs.Running.{IsRunText, RunEnds, RunIsOfSource, stands};
+ghost use Rattle.chess_hub.specs.Turning.{kept};
 
 use crate::fault::HubFault;
 use crate::moments::Moments;

@@ -1,12 +1,13 @@
 //! One session of a hub, whose lines are answered one a turn.
 ghost use Rattle.std.specs.Prelude.{ℕ, ◌≡◌, true, [], List, Option, None, Ok, Err, IfOk, IfErr, OnOk};
 ghost use Rattle.std.specs.Io.BufRead.{strip_last};
+ghost use Rattle.sector_dev.specs.Device.{measures};
 ghost use Rattle.text_lines.specs.Lines.{IsUnfinished};
 ghost use Rattle.chess_hub.specs.Session.{said};
 ghost use Rattle.chess_hub.specs.Answers.{name_at};
 ghost use Rattle.chess_hub.specs.Storing.{StoreMayBeAsked, StoreRefuses};
 ghost use Rattle.chess_hub.specs.Law.{hub_state};
-ghost use Rattle.chess_hub.specs.Turning.{IsTurnFault, measures, kept};
+ghost use Rattle.chess_hub.specs.Turning.{IsTurnFault, kept};
 ghost use Rattle.chess_hub.specs.Running.{Serves, IsAlone, IsTalking, IsAsking, IsTold, LineAsksFor, asks};
 ghost use Rattle.chess_hub.specs.Running.{stands, standing};
 
@@ -81,7 +82,7 @@ fn take_turn<D: Device>(hub: &mut Hub<D>, sid: Sid, at: u64) -> Result<Reply, Hu
 }
 
 impl<D: Device, M: Moments> Answerer for Talk<D, M> {
-    ghost use Rattle.chess_hub.specs.Turning.{measures};
+    ghost use Rattle.sector_dev.specs.Device.{measures};
     ghost use Rattle.chess_hub.specs.Running.{IsTalking, standing, AnswersLine, RefusesLine};
 
     type Fault = HubFault;

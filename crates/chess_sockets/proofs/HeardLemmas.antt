@@ -101,3 +101,7 @@ end_on mid after old new next seen same still = λ known. elim (seen (sym still 
   | inl before ↦ inl before
   | inr is ↦ inr (subst (λ (b : Option (List ℕ)). IsAtEnd b) (sym same) is)
 ]
+
+-- by which the contract of a read is shown
+pub ruleset reading_steps =
+    (heard_as_before, heard_now, heard_nothing, heard_interrupted, heard_end, heard_fault, end_now)

@@ -233,7 +233,7 @@ impl Wrote {
 }
 
 impl<S: Read + Write> Client<S> {
-    #[tactic(auto, using(crate::proofs::HeardLemmas::heard_as_before, crate::proofs::HeardLemmas::heard_now, crate::proofs::HeardLemmas::heard_nothing, crate::proofs::HeardLemmas::heard_interrupted, crate::proofs::HeardLemmas::heard_end, crate::proofs::HeardLemmas::heard_fault, crate::proofs::HeardLemmas::end_now))]
+    #[tactic(auto, using(crate::proofs::HeardLemmas::reading_steps))]
     // Reads at most one piece, unless the peer sends no more, and holds it back. `Nothing` where there is none to read
     // for now.
     fn read_more(&mut self, at: u64, piece: &mut [u8; PIECE_ROOM]) -> Came

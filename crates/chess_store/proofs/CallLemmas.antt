@@ -3,7 +3,7 @@ use Rattle.std.specs.Prelude.{◌≡◌, ℕ, Bool, Result, Ok, Err, OnOk, OnErr
 use Rattle.std.proofs.Common.{refl, sym, subst}
 use Rattle.std.proofs.lemmas.Bool.{false≢true}
 use Rattle.sector_dev.specs.declared.device.Device.{Ghosts}
-use Rattle.sector_dev.specs.Device.{State}
+use Rattle.sector_dev.specs.Device.{State, measures}
 use Rattle.sector_journal.specs.declared.fault.JournalFault.{JournalFault}
 use Rattle.sector_journal.proofs.CommittedLemmas.{counts_ok, counts_err}
 use Rattle.chess_store.specs.Committing.{IsTried}
@@ -98,7 +98,7 @@ module _ {D T : Type 0} (state : D → State) (sector_count failures : D → ℕ
   }
 
   module _ (old new : D) (given : Result (Unit {0}) JournalFault) {failed : Bool} {Limited : Type 0}
-      (tried : IsTried state sector_count failures old new given failed Limited) where
+      (tried : IsTried (measures state sector_count failures) old new given failed Limited) where
     -- the commit was made
     pub made_so : (x : T) (now : Bool) → now ≡ false → is_err given ≡ false
         → CallTried {T = T} state sector_count failures old new (Ok x) now

@@ -4,7 +4,6 @@ use Rattle.std.proofs.Common.{arith, ap, sym, subst, inl, inr}
 use Rattle.std.proofs.lemmas.List.{get_or-replicate}
 use Rattle.std.proofs.lemmas.Result.{IfErr-weaker}
 use Rattle.rec_codec.specs.declared.limits.Limits.{Limits}
-use Rattle.rec_codec.specs.declared.record.Entry.{Entry}
 use Rattle.rec_codec.specs.Limits.{half_sectors, need}
 use Rattle.sector_dev.specs.declared.device.Sector.TheVariants.{Bytes, Unreadable}
 use Rattle.sector_dev.specs.Image.{Sectors}
@@ -13,7 +12,6 @@ use Rattle.sector_dev.specs.declared.memory.MemoryDevice.{MemoryDevice}
 use Rattle.sector_dev.specs.InMemory.{state_of, sector_count_of, zeros}
 use Rattle.sector_journal.specs.Parts.{readable, bytes_at}
 use Rattle.sector_journal.specs.Stands.{StartsOurs, IsOurs}
-use Rattle.chess_entry.specs.declared.commands.Command.{Command}
 use Rattle.chess_entry.specs.Table.{empty_table}
 use Rattle.chess_entry.proofs.LawfulLists.{IsLawful-none}
 use Rattle.chess_store.specs.declared.fault.StoreFault.{StoreFault}
@@ -84,23 +82,22 @@ unbegun_fault NotOurs after is = absurd is
 unbegun_fault Damaged after is = absurd is
 unbegun_fault Failed after is = absurd is
 
-returned_fault : (fault : StoreFault) (IsUnarmed : Type 0) (k : List Entry) (course : Course)
-    (left : List (List Command)) (now : State) (failures after : ℕ)
-    → IsReturned fault IsUnarmed k course left now failures after → IsFaultInMemory fault
-returned_fault NoMemory IsUnarmed k course left now failures after is = tt
-returned_fault (Device pending) IsUnarmed k course left now failures after is = tt
-returned_fault Worn IsUnarmed k course left now failures after is = tt
-returned_fault Exists IsUnarmed k course left now failures after is = absurd is
-returned_fault TooSmall IsUnarmed k course left now failures after is = absurd is
-returned_fault NotOurs IsUnarmed k course left now failures after is = absurd is
-returned_fault Damaged IsUnarmed k course left now failures after is = absurd is
-returned_fault Failed IsUnarmed k course left now failures after is = absurd is
+returned_fault : (fault : StoreFault) (IsUnarmed IsWorn : Type 0) (course : Course) (failures after : ℕ)
+    → IsReturned fault IsUnarmed IsWorn course failures after → IsFaultInMemory fault
+returned_fault NoMemory IsUnarmed IsWorn course failures after is = tt
+returned_fault (Device pending) IsUnarmed IsWorn course failures after is = tt
+returned_fault Worn IsUnarmed IsWorn course failures after is = tt
+returned_fault Exists IsUnarmed IsWorn course failures after is = absurd is
+returned_fault TooSmall IsUnarmed IsWorn course failures after is = absurd is
+returned_fault NotOurs IsUnarmed IsWorn course failures after is = absurd is
+returned_fault Damaged IsUnarmed IsWorn course failures after is = absurd is
+returned_fault Failed IsUnarmed IsWorn course failures after is = absurd is
 
 ended_fault : (limits : Limits) (lives : List Life) (fault : StoreFault) (now : State) (after : ℕ)
     → IsUnbegun fault after ⊎ IsCutShort limits [] 0 lives fault now after → IsFaultInMemory fault
 ended_fault limits lives fault now after (inl is) = unbegun_fault fault after is
 ended_fault limits lives fault now after (inr is) =
-    returned_fault fault _ is.last is.stopped.course is.stopped.left now is.count after is.stopped.returned
+    returned_fault fault _ _ is.stopped.course is.count after is.stopped.returned
 
 -- ---- what came of them
 

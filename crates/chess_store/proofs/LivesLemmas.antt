@@ -143,51 +143,50 @@ pending_is pending answered None are = absurd are
 pending_is pending answered (Some batch) are = are
 
 -- a store was opened, and a batch failed
-returned-opened : (f : StoreFault) (IsUnarmed : Type 0) (k : List Entry) (course : Course) (left : List (List Command))
-    (now : State) (failures after : ℕ) → EndsWith (Some f) course.failed left failures after → (IsDevice f → IsUnarmed)
-    → (f ≡ Worn → IsFirstWorn now (length (acknowledged k course)) left)
-    → IsReturned f IsUnarmed k course left now failures after
-returned-opened (Device pending) IsUnarmed k course left now failures after ends unarmed worn =
+returned-opened : (f : StoreFault) (IsUnarmed IsWorn : Type 0) (course : Course) (left : List (List Command))
+    (failures after : ℕ) → EndsWith (Some f) course.failed left failures after → (IsDevice f → IsUnarmed)
+    → (f ≡ Worn → IsWorn) → IsReturned f IsUnarmed IsWorn course failures after
+returned-opened (Device pending) IsUnarmed IsWorn course left failures after ends unarmed worn =
     (unarmed tt, pending_is pending course.answered course.failed ends.0, ends.1)
-returned-opened NoMemory IsUnarmed k course left now failures after ends unarmed worn = ends
-returned-opened Worn IsUnarmed k course left now failures after ends unarmed worn = (ends.0, worn refl, ends.1)
-returned-opened Failed IsUnarmed k course left now failures after ends unarmed worn = absurd ends
-returned-opened Exists IsUnarmed k course left now failures after ends unarmed worn = absurd ends
-returned-opened TooSmall IsUnarmed k course left now failures after ends unarmed worn = absurd ends
-returned-opened NotOurs IsUnarmed k course left now failures after ends unarmed worn = absurd ends
-returned-opened Damaged IsUnarmed k course left now failures after ends unarmed worn = absurd ends
+returned-opened NoMemory IsUnarmed IsWorn course left failures after ends unarmed worn = ends
+returned-opened Worn IsUnarmed IsWorn course left failures after ends unarmed worn = (ends.0, worn refl, ends.1)
+returned-opened Failed IsUnarmed IsWorn course left failures after ends unarmed worn = absurd ends
+returned-opened Exists IsUnarmed IsWorn course left failures after ends unarmed worn = absurd ends
+returned-opened TooSmall IsUnarmed IsWorn course left failures after ends unarmed worn = absurd ends
+returned-opened NotOurs IsUnarmed IsWorn course left failures after ends unarmed worn = absurd ends
+returned-opened Damaged IsUnarmed IsWorn course left failures after ends unarmed worn = absurd ends
 
 -- none was opened
-returned-refused : (f : StoreFault) (IsUnarmed : Type 0) (k : List Entry) (course : Course) (left : List (List Command))
-    (now : State) (failures after : ℕ) → EndsUnopened (Some f) failures after → (IsDevice f → IsUnarmed)
-    → course.answered ≡ [] → course.failed ≡ None → IsReturned f IsUnarmed k course left now failures after
-returned-refused (Device pending) IsUnarmed k course left now failures after ends unarmed answered failed = (
+returned-refused : (f : StoreFault) (IsUnarmed IsWorn : Type 0) (course : Course) (failures after : ℕ)
+    → EndsUnopened (Some f) failures after → (IsDevice f → IsUnarmed) → course.answered ≡ [] → course.failed ≡ None
+    → IsReturned f IsUnarmed IsWorn course failures after
+returned-refused (Device pending) IsUnarmed IsWorn course failures after ends unarmed answered failed = (
   unarmed tt,
   subst (λ (b : Option Batch). IsPendingOf pending course.answered b) (sym failed) (ends.0, answered),
   ends.1,
 )
-returned-refused NoMemory IsUnarmed k course left now failures after ends unarmed answered failed = (failed, ends)
-returned-refused Worn IsUnarmed k course left now failures after ends unarmed answered failed = absurd ends
-returned-refused Failed IsUnarmed k course left now failures after ends unarmed answered failed = absurd ends
-returned-refused Exists IsUnarmed k course left now failures after ends unarmed answered failed = absurd ends
-returned-refused TooSmall IsUnarmed k course left now failures after ends unarmed answered failed = absurd ends
-returned-refused NotOurs IsUnarmed k course left now failures after ends unarmed answered failed = absurd ends
-returned-refused Damaged IsUnarmed k course left now failures after ends unarmed answered failed = absurd ends
+returned-refused NoMemory IsUnarmed IsWorn course failures after ends unarmed answered failed = (failed, ends)
+returned-refused Worn IsUnarmed IsWorn course failures after ends unarmed answered failed = absurd ends
+returned-refused Failed IsUnarmed IsWorn course failures after ends unarmed answered failed = absurd ends
+returned-refused Exists IsUnarmed IsWorn course failures after ends unarmed answered failed = absurd ends
+returned-refused TooSmall IsUnarmed IsWorn course failures after ends unarmed answered failed = absurd ends
+returned-refused NotOurs IsUnarmed IsWorn course failures after ends unarmed answered failed = absurd ends
+returned-refused Damaged IsUnarmed IsWorn course failures after ends unarmed answered failed = absurd ends
 
 returned-some : (table : TableState) (k : List Entry) (course : Course) (left : List (List Command))
     (report : LifeReport) (calls : Option ℕ) (fault : Option StoreFault) (f : StoreFault) (now : State)
     (failures after : ℕ) → returned calls fault ≡ Some f
     → (fault ≡ Some Worn → IsFirstWorn now (length (acknowledged k course)) left)
     → WasRefused course report fault failures after ⊎ WasOpened table course left report fault failures after
-    → IsReturned f (calls ≡ None) k course left now failures after
+    → IsReturned f (calls ≡ None) (IsFirstWorn now (length (acknowledged k course)) left) course failures after
 returned-some table k course left report calls fault f now failures after is worn (inl refused) =
     let passed = passed_on calls fault f is in
-    returned-refused f (calls ≡ None) k course left now failures after
+    returned-refused f (calls ≡ None) (IsFirstWorn now (length (acknowledged k course)) left) course failures after
     (subst (λ (x : Option StoreFault). EndsUnopened x failures after) passed.is refused.ends) passed.unarmed
     refused.answered refused.failed
 returned-some table k course left report calls fault f now failures after is worn (inr opened) =
     let passed = passed_on calls fault f is in
-    returned-opened f (calls ≡ None) k course left now failures after
+    returned-opened f (calls ≡ None) (IsFirstWorn now (length (acknowledged k course)) left) course left failures after
     (subst (λ (x : Option StoreFault). EndsWith x course.failed left failures after) passed.is opened.ends)
     passed.unarmed (λ same. worn (passed.is ∙ ap (λ (x : StoreFault). Some x) same))
 
@@ -402,7 +401,8 @@ stopped_at_start limits k failures lives fault now after ends unarmed lawful mea
       course = course;
       left = first_batches lives;
       is_course = record { order = refl; answered = tt; failed = tt; some = tt };
-      returned = returned-refused fault (IsFirstUnarmed lives) k course (first_batches lives) now failures after ends
+      returned = returned-refused fault (IsFirstUnarmed lives)
+          (IsFirstWorn now (length (acknowledged k course)) (first_batches lives)) course failures after ends
           unarmed refl refl;
       each = λ image possible. record {
         next = acknowledged k course;

@@ -52,14 +52,12 @@ IsFirstWorn now entries (commands ∷ left) = IsWornBefore now entries commands
 
 -- Why a life is cut short. The device failed, where its calls were not limited, and counted it. Or memory was refused,
 -- or the next batch is worn out: then the device has not failed, and every batch that was submitted is answered.
-abbrev pub IsReturned : StoreFault → (IsUnarmed : Type 0) → List Entry → Course → List (List Command) → State → ℕ → ℕ
-    → Type 0
-IsReturned (Device pending) IsUnarmed k course left now failures after =
+abbrev pub IsReturned : StoreFault → (IsUnarmed IsWorn : Type 0) → Course → ℕ → ℕ → Type 0
+IsReturned (Device pending) IsUnarmed IsWorn course failures after =
     IsUnarmed × IsPendingOf pending course.answered course.failed × HasRisen failures after
-IsReturned NoMemory IsUnarmed k course left now failures after = (course.failed ≡ None) × (after ≡ failures)
-IsReturned Worn IsUnarmed k course left now failures after =
-    (course.failed ≡ None) × IsFirstWorn now (length (acknowledged k course)) left × (after ≡ failures)
-IsReturned fault IsUnarmed k course left now failures after = ⊥
+IsReturned NoMemory IsUnarmed IsWorn course failures after = (course.failed ≡ None) × (after ≡ failures)
+IsReturned Worn IsUnarmed IsWorn course failures after = (course.failed ≡ None) × IsWorn × (after ≡ failures)
+IsReturned fault IsUnarmed IsWorn course failures after = ⊥
 
 -- The image means the table of a lawful list that a stop would leave of this course.
 pub record MeansLeft (limits : Limits) (k : List Entry) (course : Course) (image : Sectors) : Type 0 where
@@ -75,7 +73,8 @@ pub record IsStopped (limits : Limits) (k : List Entry) (failures : ℕ) (lives 
   pub course : Course
   pub left : List (List Command)
   pub is_course : IsCourse limits k (first_batches lives) course left
-  pub returned : IsReturned fault (IsFirstUnarmed lives) k course left now failures after
+  pub returned : IsReturned fault (IsFirstUnarmed lives) (IsFirstWorn now (length (acknowledged k course)) left) course
+      failures after
   pub each : (image : Sectors) → now.image image → MeansLeft limits k course image
 
 -- The faults of `lives`, on any device: those of an opening, and those of a batch that is submitted to a store that

@@ -36,7 +36,7 @@ use Rattle.chess_entry.specs.declared.verdicts.Verdict.TheVariants.{Refuse, Ente
 use Rattle.chess_entry.specs.declared.refusals.Refusal.TheVariants.{OfferStands, AlreadyClaimed, FlagUp}
 use Rattle.chess_entry.specs.State.{GameState, TableState, position_of, ply_of, is_joined, find_game}
 use Rattle.chess_entry.specs.Parsed.{Parsed, parsed, IsMoveParsed}
-use Rattle.chess_entry.specs.Verdict.{Check, refuse, first_of, has_offer, in_game, by_side, while_running, in_turn, for_move, for_stated, offered, for_accept, move_entered, join_verdict, move_verdict, offer_verdict, accept_verdict, decline_verdict, resign_verdict, claim_verdict, flag_verdict, drop_verdict, in_seat, side_of, is_named, player_verdict, is_read, verdict, IsParsed}
+use Rattle.chess_entry.specs.Verdict.{Check, refuse, first_of, has_offer, in_game, by_side, while_running, in_turn, for_move, for_stated, offered, for_accept, move_entered, join_verdict, move_verdict, offer_verdict, accept_verdict, decline_verdict, resign_verdict, claim_asked, claim_verdict, flag_verdict, drop_verdict, in_seat, side_of, is_named, player_verdict, is_read, verdict, IsParsed}
 use Rattle.chess_entry.specs.Bounds.{AreDifferent}
 use Rattle.chess_entry.specs.Table.{IsTable, IsOnTable, IsEnteredOn}
 use Rattle.chess_entry.proofs.Entering.{passed, find_game-number}
@@ -217,18 +217,18 @@ module _ (table : TableState) (e : Entry) (from : table.moment ≤ e.moment) (to
     joined_by checks v h = not-false (is_joined game) (passed (not (is_joined game)) _ _ e h).0
 
     claim-comes : (claim : Claim) (mv : Option Move) → ForSome mv (IsLegal (position_of game))
-        → claim_verdict table e.moment claim.ply claim.fifty (is_some mv) mv game claim.by ≡ Enter e
+        → claim_verdict table e.moment (claim_asked claim.ply claim.fifty (is_some mv) mv) game claim.by ≡ Enter e
         → is_joined game ≡ true → IsEnteredOn table e
     claim-comes claim None legal h joined =
         let p = seated joined claim.by in
         enters p.name (act.Claim e.game claim.ply claim.fifty None) (parsed None None) p.named refl
         (refl, unparsed (find_game e.game table.games))
-        (at_seat p.name game claim.by (claim_verdict table e.moment claim.ply claim.fifty false None) found p.sits h)
+        (at_seat p.name game claim.by (claim_verdict table e.moment (claim_asked claim.ply claim.fifty false None)) found p.sits h)
     claim-comes claim (Some m) legal h joined =
         let p = seated joined claim.by in
         enters p.name (act.Claim e.game claim.ply claim.fifty (Some (as_text (text_of m)))) (parsed None (Some m)) p.named refl
         (refl, move_parsed m (legal m refl))
-        (at_seat p.name game claim.by (claim_verdict table e.moment claim.ply claim.fifty true (Some m)) found p.sits h)
+        (at_seat p.name game claim.by (claim_verdict table e.moment (claim_asked claim.ply claim.fifty true (Some m))) found p.sits h)
 
     -- An entry that is the verdict on the act that it would have become of may come.
     pub comes : (ev : Event) → StatesLegal game ev → NamesPlayer ev → witness_verdict table e.moment game ev ≡ Enter e

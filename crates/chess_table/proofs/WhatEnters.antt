@@ -25,7 +25,7 @@ use Rattle.chess_entry.specs.declared.verdicts.Verdict.TheVariants.{Refuse, Ente
 use Rattle.chess_entry.specs.declared.refusals.Refusal.TheVariants.{OfferStands, AlreadyClaimed, FlagUp}
 use Rattle.chess_entry.specs.State.{GameState, TableState, position_of, ply_of, seat_of, is_joined, is_over, find_game}
 use Rattle.chess_entry.specs.Parsed.{Parsed, IsStartParsed, IsMoveParsed, bytes_of}
-use Rattle.chess_entry.specs.Verdict.{Check, refuse, first_of, are_times, is_start, is_finished, is_full, is_long, is_on_move, has_offer, has_fallen, in_game, by_side, while_running, in_turn, for_move, for_stated, offered, for_accept, opening_for, opened_from, move_entered, open_verdict, join_verdict, move_verdict, offer_verdict, accept_verdict, decline_verdict, resign_verdict, claim_verdict, flag_verdict, drop_verdict, in_seat, side_of, player_verdict, name_or_none, is_read, effective, verdict, IsParsed}
+use Rattle.chess_entry.specs.Verdict.{Check, refuse, first_of, are_times, is_start, is_finished, is_full, is_long, is_on_move, has_offer, has_fallen, in_game, by_side, while_running, in_turn, for_move, for_stated, offered, for_accept, opening_for, opened_from, move_entered, open_verdict, join_verdict, move_verdict, offer_verdict, accept_verdict, decline_verdict, resign_verdict, claim_asked, claim_verdict, flag_verdict, drop_verdict, in_seat, side_of, player_verdict, name_or_none, is_read, effective, verdict, IsParsed}
 use Rattle.chess_entry.specs.Games.{control_of}
 use Rattle.chess_entry.specs.Bounds.{IsStart}
 use Rattle.chess_entry.specs.Table.{IsTable, IsOnTable, IsEnteredOn}
@@ -263,7 +263,7 @@ module _ (table : TableState) (is : IsTable table) (at : ℕ) (from : table.mome
 
   claim-enters : (number ply : ℕ) (fifty : Bool) (text : Option (List ℕ)) (move : Option Move)
       → IsMoveParsed (find_game number table.games) text move
-      → EntersIn (claim_verdict table at ply fifty (is_some text) move) number
+      → EntersIn (claim_verdict table at (claim_asked ply fifty (is_some text) move)) number
   claim-enters number ply fifty text move tells game side e found h =
       let here = subst (λ (o : Option GameState). IsMoveParsed o text move) found tells in
       let claim : Event = event.Claim (record { by = side; fifty = fifty; mv = move; ply = ply_of game }) in
@@ -287,8 +287,8 @@ module _ (table : TableState) (is : IsTable table) (at : ℕ) (from : table.mome
           short = short.0;
         },
         entered _ e short.2,
-        ap (λ (n : ℕ). claim_verdict table at n fifty (is_some move) move game side) (sym turn.0)
-            ∙ ap (λ (states : Bool). claim_verdict table at ply fifty states move game side) (sym short.1)
+        ap (λ (n : ℕ). claim_verdict table at (claim_asked n fifty (is_some move) move) game side) (sym turn.0)
+            ∙ ap (λ (states : Bool). claim_verdict table at (claim_asked ply fifty states move) game side) (sym short.1)
             ∙ h,
       ))
 
@@ -385,12 +385,12 @@ module _ (table : TableState) (is : IsTable table) (at : ℕ) (from : table.mome
   player-enters name parsed (act.Resign game) e named tells h =
       by_act e (in_seat-enters name game (resign_verdict at) e (resign-enters game) h)
   player-enters name parsed (act.Claim game ply fifty text) e named tells h =
-      by_act e (in_seat-enters name game (claim_verdict table at ply fifty (is_some text) parsed.move) e
+      by_act e (in_seat-enters name game (claim_verdict table at (claim_asked ply fifty (is_some text) parsed.move)) e
       (claim_text game ply fifty text tells.1) h)
     where
       claim_text : (game ply : ℕ) (fifty : Bool) (text : Option ArrayString)
           → IsMoveParsed (find_game game table.games) (bytes_of text) parsed.move
-          → EntersIn (claim_verdict table at ply fifty (is_some text) parsed.move) game
+          → EntersIn (claim_verdict table at (claim_asked ply fifty (is_some text) parsed.move)) game
       claim_text game ply fifty None tells = claim-enters game ply fifty None parsed.move tells
       claim_text game ply fifty (Some text) tells = claim-enters game ply fifty (Some text.bytes) parsed.move tells
   player-enters name parsed (act.Flag game) e named tells h =

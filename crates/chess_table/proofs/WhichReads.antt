@@ -15,7 +15,7 @@ use Rattle.chess_entry.specs.declared.verdicts.Verdict.{Verdict}
 use Rattle.chess_entry.specs.declared.verdicts.Verdict.TheVariants.{Refuse, Enter, Read}
 use Rattle.chess_entry.specs.State.{GameState, TableState, ply_of, is_joined, is_over, find_game}
 use Rattle.chess_entry.specs.Parsed.{Parsed}
-use Rattle.chess_entry.specs.Verdict.{Check, refuse, first_of, are_times, is_start, is_finished, is_full, has_offer, is_read, in_game, by_side, while_running, in_turn, for_move, for_stated, offered, for_accept, opening_for, opened_from, move_entered, in_seat, side_of, player_verdict, name_or_none, effective, move_verdict, offer_verdict, accept_verdict, decline_verdict, resign_verdict, claim_verdict, flag_verdict, drop_verdict, join_verdict}
+use Rattle.chess_entry.specs.Verdict.{Check, refuse, first_of, are_times, is_start, is_finished, is_full, has_offer, is_read, in_game, by_side, while_running, in_turn, for_move, for_stated, offered, for_accept, opening_for, opened_from, move_entered, in_seat, side_of, player_verdict, name_or_none, effective, move_verdict, offer_verdict, accept_verdict, decline_verdict, resign_verdict, claim_asked, claim_verdict, flag_verdict, drop_verdict, join_verdict}
 use Rattle.chess_table.specs.Reading.{IsRead}
 
 -- what holds where a verdict is a read
@@ -122,7 +122,7 @@ player-reads table at name parsed (act.Resign game) =
     in_seat-reads table name game (resign_verdict at) (λ g side. first_of-reads ⊥ (while_running g at)
     (Enter (entry g.number at (event.Resign side))) (tt, (tt, (tt, tt))) tt)
 player-reads table at name parsed (act.Claim game ply fifty text) =
-    in_seat-reads table name game (claim_verdict table at ply fifty (is_some text) parsed.move)
+    in_seat-reads table name game (claim_verdict table at (claim_asked ply fifty (is_some text) parsed.move))
     (λ g side. first_of-reads ⊥
     (while_running g at
     ++ (in_turn g side ply ++ (refuse g.claimed AlreadyClaimed ∷ for_stated table g (is_some text) parsed.move)))

@@ -9,7 +9,8 @@ use Rattle.chess_entry.specs.declared.verdicts.Verdict.{Verdict}
 use Rattle.chess_entry.specs.State.{GameState, TableState}
 use Rattle.chess_entry.specs.Parsed.{parsed}
 use Rattle.chess_entry.specs.Verdict.{in_seat, move_verdict, offer_verdict, accept_verdict, decline_verdict}
-use Rattle.chess_entry.specs.Verdict.{resign_verdict, claim_verdict, flag_verdict, drop_verdict, player_verdict}
+use Rattle.chess_entry.specs.Verdict.{resign_verdict, claim_asked, claim_verdict, flag_verdict, drop_verdict}
+use Rattle.chess_entry.specs.Verdict.{player_verdict}
 use Rattle.chess_table.specs.declared.judging.Asked.{Asked}
 use Rattle.chess_table.specs.declared.judging.Asked.TheVariants as asked
 
@@ -38,7 +39,7 @@ asked_verdict table at asked.Accept = accept_verdict at
 asked_verdict table at asked.Decline = decline_verdict at
 asked_verdict table at asked.Resign = resign_verdict at
 asked_verdict table at (asked.Claim claimed) =
-    claim_verdict table at claimed.ply claimed.fifty claimed.states claimed.mv
+    claim_verdict table at (claim_asked claimed.ply claimed.fifty claimed.states claimed.mv)
 asked_verdict table at asked.Flag = flag_verdict at
 asked_verdict table at asked.Drop = drop_verdict at
 

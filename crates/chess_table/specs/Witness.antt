@@ -13,7 +13,8 @@ use Rattle.chess_entry.specs.declared.verdicts.Verdict.{Verdict}
 use Rattle.chess_entry.specs.declared.verdicts.Verdict.TheVariants.{Refuse, Enter, Read}
 use Rattle.chess_entry.specs.State.{GameState, TableState, position_of}
 use Rattle.chess_entry.specs.Verdict.{are_times, open_verdict, join_verdict, move_verdict, offer_verdict}
-use Rattle.chess_entry.specs.Verdict.{accept_verdict, decline_verdict, resign_verdict, claim_verdict, flag_verdict}
+use Rattle.chess_entry.specs.Verdict.{accept_verdict, decline_verdict, resign_verdict, flag_verdict}
+use Rattle.chess_entry.specs.Verdict.{claim_asked, claim_verdict}
 use Rattle.chess_entry.specs.Verdict.{drop_verdict}
 use Rattle.chess_table.specs.Checks.{opening_from}
 
@@ -48,7 +49,7 @@ witness_verdict table at game (event.Accept by) = accept_verdict at game by
 witness_verdict table at game (event.Decline by) = decline_verdict at game by
 witness_verdict table at game (event.Resign by) = resign_verdict at game by
 witness_verdict table at game (event.Claim claim) =
-    claim_verdict table at claim.ply claim.fifty (is_some claim.mv) claim.mv game claim.by
+    claim_verdict table at (claim_asked claim.ply claim.fifty (is_some claim.mv) claim.mv) game claim.by
 witness_verdict table at game event.Fallen = flag_verdict at game (position_of game).side
 witness_verdict table at game event.Drop = drop_verdict at game (position_of game).side
 

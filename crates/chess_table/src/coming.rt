@@ -4,7 +4,7 @@ ghost use Rattle.chess_board.specs.Position.{IsValid};
 ghost use Rattle.chess_board.specs.Legal.{IsLegal};
 ghost use Rattle.player_name.specs.Name.{IsName};
 ghost use Rattle.chess_entry.specs.State.{position_of};
-ghost use Rattle.chess_entry.specs.Verdict.{claim_verdict};
+ghost use Rattle.chess_entry.specs.Verdict.{claim_asked, claim_verdict};
 ghost use Rattle.chess_entry.specs.Table.{IsEnteredOn};
 ghost use Rattle.chess_table.specs.Witness.{StatesLegal, NamesPlayer, is_fallen, Enters, opening_verdict};
 ghost use Rattle.chess_table.specs.Witness.{witness_verdict};
@@ -47,8 +47,8 @@ fn states_legal(game: &Game, event: &Event) -> bool
 // The verdict on the claim that an entry would have become of, by whom it says.
 fn entry_claim(table: &Table, game: &Game, at: u64, claim: &Claim) -> Verdict
     requires { game.now.moment ≤ at }
-    ensures { result ≡ claim_verdict table.now at claim.now.ply claim.now.fifty (is_some claim.now.mv) claim.now.mv
-        game.now claim.now.by }
+    ensures { result ≡ claim_verdict table.now at
+        (claim_asked claim.now.ply claim.now.fifty (is_some claim.now.mv) claim.now.mv) game.now claim.now.by }
 {
     let claimed = Claimed {
         ply: claim.ply,

@@ -12,7 +12,8 @@ ghost use Rattle.chess_entry.specs.Parsed.{Parsed, parsed, bytes_of};
 ghost use Rattle.chess_entry.specs.Verdict.{while_running, in_turn, for_move, for_stated, offered, are_times, in_game};
 ghost use Rattle.chess_entry.specs.Verdict.{by_side, side_of, is_full, has_offer, open_verdict, join_verdict};
 ghost use Rattle.chess_entry.specs.Verdict.{move_verdict, offer_verdict, accept_verdict, decline_verdict};
-ghost use Rattle.chess_entry.specs.Verdict.{resign_verdict, claim_verdict, flag_verdict, drop_verdict, player_verdict};
+ghost use Rattle.chess_entry.specs.Verdict.{resign_verdict, claim_asked, claim_verdict, flag_verdict, drop_verdict};
+ghost use Rattle.chess_entry.specs.Verdict.{player_verdict};
 ghost use Rattle.chess_entry.specs.Verdict.{verdict, is_read, IsVerdict};
 ghost use Rattle.chess_entry.specs.Table.{IsEnteredOn};
 ghost use Rattle.chess_table.specs.Entered.{OnEnter};
@@ -415,8 +416,8 @@ pub(crate) fn claim_verdict(
     claimed: &Claimed,
 ) -> Verdict
     requires { game.now.moment ≤ at }
-    ensures { result ≡ claim_verdict table.now at claimed.now.ply claimed.now.fifty claimed.now.states claimed.now.mv
-        game.now side }
+    ensures { result ≡ claim_verdict table.now at
+        (claim_asked claimed.now.ply claimed.now.fifty claimed.now.states claimed.now.mv) game.now side }
 {
     if let Some(stop) = while_in_turn(game, side, at, claimed.ply) {
         return stop;

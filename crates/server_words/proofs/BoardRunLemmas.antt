@@ -158,29 +158,29 @@ text-from given old new start end first h = text-of given old new end
 pub at-fault : {F : Type 0} (Breaks : Position → List ℕ → F → Position → Type 0)
     (result : Result (Unit {0}) (LoopFault F)) (fault kind : LoopFault F) (before after old new : Option (List ℕ))
     (start end : Position) → result ≡ Err fault → fault ≡ kind → start ≡ initial →
-    loop.Ended IsAnswer Breaks result before after old new start end →
-    loop.Ended IsAnswer Breaks (Err kind) before after old new initial end
+    loop.Ended IsAnswer Breaks result (loop.streams before old) (loop.streams after new) start end →
+    loop.Ended IsAnswer Breaks (Err kind) (loop.streams before old) (loop.streams after new) initial end
 at-fault {F = F} Breaks result fault kind before after old new start end is that first h =
-    subst (λ (x : Position). loop.Ended IsAnswer Breaks (Err kind) before after old new x end) first
-    (subst (λ (r : Result (Unit {0}) (LoopFault F)). loop.Ended IsAnswer Breaks r before after old new start end)
+    subst (λ (x : Position). loop.Ended IsAnswer Breaks (Err kind) (loop.streams before old) (loop.streams after new) x end) first
+    (subst (λ (r : Result (Unit {0}) (LoopFault F)). loop.Ended IsAnswer Breaks r (loop.streams before old) (loop.streams after new) start end)
     (is ∙ ap (λ (f : LoopFault F). Err f) that) h)
 
 module _ (before after old new : Option (List ℕ)) (end : Position) where
   -- all lines were answered
 
-  all-begins : (h : loop.AnswersAll IsAnswer before after old new initial end) (more : List ℕ) →
+  all-begins : (h : loop.AnswersAll IsAnswer (loop.streams before old) (loop.streams after new) initial end) (more : List ℕ) →
       Begins (h.taken ++ more) h.text
   all-begins h more =
       subst (Begins (h.taken ++ more)) (sym h.is.whole)
       (begins-part h.taken more (lines_of h.taken) [] h.is.answers end (has_long_line h.taken)
       (sym (append-nil (lines_of h.taken))) h.is.run (λ long. (refl, long)))
 
-  pub front-all : loop.AnswersAll IsAnswer before after old new initial end → IfSome before (AppendsFront old new)
+  pub front-all : loop.AnswersAll IsAnswer (loop.streams before old) (loop.streams after new) initial end → IfSome before (AppendsFront old new)
   front-all h = front-of before after old new h.taken h.text h.consumed h.appended (λ more. all-begins h more)
 
   -- a line was too long
 
-  pub taken-long : loop.AnswersLong IsAnswer before after old new initial end → AnswersTaken before after old new
+  pub taken-long : loop.AnswersLong IsAnswer (loop.streams before old) (loop.streams after new) initial end → AnswersTaken before after old new
   taken-long h = (
     h.taken,
     h.consumed,
@@ -197,7 +197,7 @@ module _ (before after old new : Option (List ℕ)) (end : Position) where
   -- a write failed
 
   module _ {F : Type 0} (Breaks : Position → List ℕ → F → Position → Type 0)
-      (h : loop.AnswersInPart IsAnswer Breaks before after old new initial end) where
+      (h : loop.AnswersInPart IsAnswer Breaks (loop.streams before old) (loop.streams after new) initial end) where
     part-begins : (more : List ℕ) → Begins (h.taken ++ more) (h.front ++ h.lost)
     part-begins more = subst (Begins (h.taken ++ more)) h.text
         (begins-part h.taken more h.done h.left h.answers h.mid h.is_long h.lines h.run h.long)

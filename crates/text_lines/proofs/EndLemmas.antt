@@ -7,7 +7,7 @@ use Rattle.std.specs.Io.KnownBytes.{Appends, Consumes, Keeps, IsAtEnd}
 use Rattle.text_lines.specs.Lines.{IsUnfinished, lines_of, has_long_line}
 use Rattle.text_lines.proofs.LineLemmas.{lines-feed, long-rest}
 use Rattle.text_lines.proofs.Wholes.{lines-rest_after, unfinished-none}
-use Rattle.text_lines.specs.Texts.{IsRun, IsText, farewell, AnswersAll, AnswersLong, AnswersUntil, FindsNone, AnswersInPart, Ended}
+use Rattle.text_lines.specs.Texts.{IsRun, IsText, farewell, AnswersAll, AnswersLong, AnswersUntil, FindsNone, AnswersInPart, Ended, streams}
 use Rattle.std.specs.Prelude.{OnOk, IsErrOf}
 use Rattle.text_lines.specs.declared.answerer.LoopFault.{LoopFault}
 use Rattle.text_lines.specs.declared.answerer.LoopFault.TheVariants as faults
@@ -83,7 +83,7 @@ stands-read Asked Answers before left later first start now h c = record {
 pub stands-all : {S : Type 0} (Asked : S → Type 0) (Answers : S → List ℕ → List ℕ → S → Type 0)
     (before later first : Option (List ℕ)) (start : S) (now : Moment S) →
     Stands Asked Answers before later first start now →
-    AnswersAll Answers before later first now.written start now.answerer
+    AnswersAll Answers (streams before first) (streams later now.written) start now.answerer
 stands-all Asked Answers before later first start now h =
     let come = h.come in
     let heard = come.heard in
@@ -110,11 +110,11 @@ abbrev pub Outcome : {S F : Type 0} → (S → Type 0) → (S → List ℕ → L
     → Option (List ℕ) → Option (List ℕ) → Option (List ℕ) → S → Moment S → Result (Flow F) WriteFault → Type 0
 Outcome Asked Answers Breaks before later first start now (Ok Open) = Stands Asked Answers before later first start now
 Outcome Asked Answers Breaks before later first start now (Ok TooLong) =
-    AnswersLong Answers before later first now.written start now.answerer
+    AnswersLong Answers (streams before first) (streams later now.written) start now.answerer
 Outcome Asked Answers Breaks before later first start now (Ok (Broken fault)) =
-    AnswersUntil Answers Breaks fault before later first now.written start now.answerer
+    AnswersUntil Answers Breaks fault (streams before first) (streams later now.written) start now.answerer
 Outcome Asked Answers Breaks before later first start now (Err fault) =
-    AnswersInPart Answers Breaks before later first now.written start now.answerer
+    AnswersInPart Answers Breaks (streams before first) (streams later now.written) start now.answerer
 
 module _ {S F : Type 0} (Asked : S → Type 0) (Answers : S → List ℕ → List ℕ → S → Type 0)
     (Breaks : S → List ℕ → F → S → Type 0) (before left later first : Option (List ℕ)) (start : S) (old new : Moment S)
@@ -137,7 +137,7 @@ module _ {S F : Type 0} (Asked : S → Type 0) (Answers : S → List ℕ → Lis
 
   -- a line is too long
   stands-long : new.ready ≡ [] → Takes Asked Answers Breaks old piece (Ok TooLong) new →
-      AnswersLong Answers before later first new.written start new.answerer
+      AnswersLong Answers (streams before first) (streams later new.written) start new.answerer
   stands-long none takes =
       let k = takes.came start first h.taken h.come in
       let taken = h.taken ++ piece in
@@ -181,7 +181,7 @@ module _ {S F : Type 0} (Asked : S → Type 0) (Answers : S → List ℕ → Lis
   -- a line finds no answer
   stands-broken : (fault : F) → new.ready ≡ [] →
       Takes Asked Answers Breaks old piece (Ok (Broken fault)) new →
-      AnswersUntil Answers Breaks fault before later first new.written start new.answerer
+      AnswersUntil Answers Breaks fault (streams before first) (streams later new.written) start new.answerer
   unfolding lines_broken
   stands-broken fault none takes =
       let k = takes.came start first h.taken h.come in
@@ -210,7 +210,7 @@ module _ {S F : Type 0} (Asked : S → Type 0) (Answers : S → List ℕ → Lis
   -- a write failed
   pub stands-lost : (fault : WriteFault) →
       Takes Asked Answers Breaks old piece (Err fault) new →
-      AnswersInPart Answers Breaks before later first new.written start new.answerer
+      AnswersInPart Answers Breaks (streams before first) (streams later new.written) start new.answerer
   stands-lost fault takes =
       let k = takes.came start first h.taken h.come in
       let taken = h.taken ++ piece in
@@ -253,7 +253,7 @@ module _ {S F : Type 0} (Asked : S → Type 0) (Answers : S → List ℕ → Lis
 -- ---- of a reader that tells its bytes, and that has come to its end
 
 pub whole-of : {S : Type 0} (Answers : S → List ℕ → List ℕ → S → Type 0) (before later old new : Option (List ℕ))
-    (start end : S) → AnswersAll Answers before later old new start end → IsAtEnd later →
+    (start end : S) → AnswersAll Answers (streams before old) (streams later new) start end → IsAtEnd later →
     IfSome before (λ input. (text : List ℕ) × IsText Answers start input text end × Appends old new text)
 whole-of Answers None later old new start end h e = tt
 whole-of Answers (Some x) None old new start end h e = absurd h.consumed
@@ -262,7 +262,7 @@ whole-of Answers (Some x) (Some y) old new start end h e =
     (h.text, subst (λ (input : List ℕ). IsText Answers start input h.text end) all h.is, h.appended)
 
 pub whole-long : {S : Type 0} (Answers : S → List ℕ → List ℕ → S → Type 0) (before later old new : Option (List ℕ))
-    (start end : S) → AnswersLong Answers before later old new start end →
+    (start end : S) → AnswersLong Answers (streams before old) (streams later new) start end →
     IfSome before (λ input. (text : List ℕ) × IsText Answers start input text end × Appends old new text)
 whole-long Answers None later old new start end h = tt
 whole-long Answers (Some x) None old new start end h = absurd h.consumed
@@ -271,7 +271,7 @@ whole-long Answers (Some x) (Some y) old new start end h =
 
 pub whole-ended : {S F : Type 0} (Answers : S → List ℕ → List ℕ → S → Type 0) (Breaks : S → List ℕ → F → S → Type 0)
     (result : Result (Unit {0}) (LoopFault F)) (before later old new : Option (List ℕ)) (start end : S) →
-    Ended Answers Breaks result before later old new start end → OnOk result (IsAtEnd later) →
+    Ended Answers Breaks result (streams before old) (streams later new) start end → OnOk result (IsAtEnd later) →
     OnOk result (IfSome before (λ input. (text : List ℕ) × IsText Answers start input text end × Appends old new text))
 whole-ended Answers Breaks (Ok done) before later old new start end h e =
     whole-of Answers before later old new start end h e
@@ -279,8 +279,8 @@ whole-ended Answers Breaks (Err fault) before later old new start end h e = tt
 
 pub long-ended : {S F : Type 0} (Answers : S → List ℕ → List ℕ → S → Type 0) (Breaks : S → List ℕ → F → S → Type 0)
     (result : Result (Unit {0}) (LoopFault F)) (before later old new : Option (List ℕ)) (start end : S) →
-    Ended Answers Breaks result before later old new start end → IsErrOf result faults.LineTooLong →
+    Ended Answers Breaks result (streams before old) (streams later new) start end → IsErrOf result faults.LineTooLong →
     IfSome before (λ input. (text : List ℕ) × IsText Answers start input text end × Appends old new text)
 long-ended {F = F} Answers Breaks result before later old new start end h is =
     whole-long Answers before later old new start end
-    (subst (λ (r : Result (Unit {0}) (LoopFault F)). Ended Answers Breaks r before later old new start end) is h)
+    (subst (λ (r : Result (Unit {0}) (LoopFault F)). Ended Answers Breaks r (streams before old) (streams later new) start end) is h)

@@ -35,34 +35,41 @@ pub record IsText {S : Type 0} (Answers : S → List ℕ → List ℕ → S → 
   pub run : IsRun Answers start (lines_of input) answers end
   pub whole : text ≡ answers ++ farewell (has_long_line input)
 
--- ---- how a loop ends; `before` and `after` are what the reader has left, `old` and `new` what the writer holds
+-- ---- how a loop ends
+
+-- what a reader has left, where that is known, and what a writer has been given
+pub record Streams : Type 0 where
+  pub unread : Option (List ℕ)
+  pub written : Option (List ℕ)
+
+abbrev pub streams : Option (List ℕ) → Option (List ℕ) → Streams
+streams unread written = record { unread = unread; written = written }
 
 -- Some bytes were read, of which no line is too long, and their text was written.
-pub record AnswersAll {S : Type 0} (Answers : S → List ℕ → List ℕ → S → Type 0)
-    (before after old new : Option (List ℕ)) (start end : S) : Type 0 where
+pub record AnswersAll {S : Type 0} (Answers : S → List ℕ → List ℕ → S → Type 0) (old new : Streams) (start end : S)
+    : Type 0 where
   pub taken : List ℕ
-  pub consumed : Consumes before after taken
+  pub consumed : Consumes old.unread new.unread taken
   pub text : List ℕ
   pub is : IsText Answers start taken text end
-  pub appended : Appends old new text
+  pub appended : Appends old.written new.written text
   pub short : has_long_line taken ≡ false
 
 -- Some bytes were read, of which a line is too long, and their text was written, which is that of all that may come.
-pub record AnswersLong {S : Type 0} (Answers : S → List ℕ → List ℕ → S → Type 0)
-    (before after old new : Option (List ℕ)) (start end : S) : Type 0 where
+pub record AnswersLong {S : Type 0} (Answers : S → List ℕ → List ℕ → S → Type 0) (old new : Streams) (start end : S)
+    : Type 0 where
   pub taken : List ℕ
-  pub consumed : Consumes before after taken
+  pub consumed : Consumes old.unread new.unread taken
   pub text : List ℕ
   pub is : (more : List ℕ) → IsText Answers start (taken ++ more) text end
-  pub appended : Appends old new text
+  pub appended : Appends old.written new.written text
   pub long : has_long_line taken ≡ true
 
 -- Some bytes were read, the first lines of them were answered and the answers written, and the next found no answer.
 pub record AnswersUntil {S F : Type 0} (Answers : S → List ℕ → List ℕ → S → Type 0)
-    (Breaks : S → List ℕ → F → S → Type 0) (fault : F) (before after old new : Option (List ℕ)) (start end : S)
-    : Type 0 where
+    (Breaks : S → List ℕ → F → S → Type 0) (fault : F) (old new : Streams) (start end : S) : Type 0 where
   pub taken : List ℕ
-  pub consumed : Consumes before after taken
+  pub consumed : Consumes old.unread new.unread taken
   pub done : List (List ℕ)
   pub line : List ℕ
   pub left : List (List ℕ)
@@ -71,7 +78,7 @@ pub record AnswersUntil {S F : Type 0} (Answers : S → List ℕ → List ℕ �
   pub mid : S
   pub run : IsRun Answers start done answers mid
   pub breaks : Breaks mid line fault end
-  pub appended : Appends old new answers
+  pub appended : Appends old.written new.written answers
 
 -- the first of these lines finds no answer
 pub record FindsNone {S F : Type 0} (Breaks : S → List ℕ → F → S → Type 0) (lines : List (List ℕ)) (s t : S)
@@ -85,9 +92,9 @@ pub record FindsNone {S F : Type 0} (Breaks : S → List ℕ → F → S → Typ
 -- Some bytes were read, the first lines of them were answered, and of the text of these a front was written, but not
 -- all of it. The farewell belongs to the text only where all lines were answered and the next is too long.
 pub record AnswersInPart {S F : Type 0} (Answers : S → List ℕ → List ℕ → S → Type 0)
-    (Breaks : S → List ℕ → F → S → Type 0) (before after old new : Option (List ℕ)) (start end : S) : Type 0 where
+    (Breaks : S → List ℕ → F → S → Type 0) (old new : Streams) (start end : S) : Type 0 where
   pub taken : List ℕ
-  pub consumed : Consumes before after taken
+  pub consumed : Consumes old.unread new.unread taken
   pub done : List (List ℕ)
   pub left : List (List ℕ)
   pub lines : lines_of taken ≡ done ++ left
@@ -102,7 +109,7 @@ pub record AnswersInPart {S F : Type 0} (Answers : S → List ℕ → List ℕ �
   pub lost : List ℕ
   pub text : answers ++ farewell is_long ≡ front ++ lost
   pub some : 0 < length lost
-  pub appended : Appends old new front
+  pub appended : Appends old.written new.written front
 
 -- `Read` comes exactly where the reader failed; `before` and `after` say whether it has.
 abbrev pub IsOfSource : {F : Type 0} → Result (Unit {0}) (LoopFault F) → Bool → Bool → Type 0
@@ -114,14 +121,10 @@ IsOfSource (Err (faults.Unanswered fault)) before after = after ≡ before
 
 -- At `Ok` the reader has come to its end, and no line was too long.
 abbrev pub Ended : {S F : Type 0} → (S → List ℕ → List ℕ → S → Type 0) → (S → List ℕ → F → S → Type 0)
-    → Result (Unit {0}) (LoopFault F) → Option (List ℕ) → Option (List ℕ) → Option (List ℕ) → Option (List ℕ) → S → S
-    → Type 0
-Ended Answers Breaks (Ok _) before after old new start end = AnswersAll Answers before after old new start end
-Ended Answers Breaks (Err faults.Read) before after old new start end =
-    AnswersAll Answers before after old new start end
-Ended Answers Breaks (Err faults.Write) before after old new start end =
-    AnswersInPart Answers Breaks before after old new start end
-Ended Answers Breaks (Err faults.LineTooLong) before after old new start end =
-    AnswersLong Answers before after old new start end
-Ended Answers Breaks (Err (faults.Unanswered fault)) before after old new start end =
-    AnswersUntil Answers Breaks fault before after old new start end
+    → Result (Unit {0}) (LoopFault F) → Streams → Streams → S → S → Type 0
+Ended Answers Breaks (Ok _) old new start end = AnswersAll Answers old new start end
+Ended Answers Breaks (Err faults.Read) old new start end = AnswersAll Answers old new start end
+Ended Answers Breaks (Err faults.Write) old new start end = AnswersInPart Answers Breaks old new start end
+Ended Answers Breaks (Err faults.LineTooLong) old new start end = AnswersLong Answers old new start end
+Ended Answers Breaks (Err (faults.Unanswered fault)) old new start end =
+    AnswersUntil Answers Breaks fault old new start end

@@ -2,7 +2,7 @@
 ghost use Rattle.std.specs.Prelude.{ℕ, ◌≡◌, List, [], ◌∷◌, ◌++◌, IfSome, OnOk, IsErrOf};
 ghost use Rattle.std.specs.Io.KnownBytes.{Appends, IsAtEnd};
 ghost use Rattle.text_lines.specs.Lines.{HasNoFeed, IsUnfinished};
-ghost use Rattle.text_lines.specs.Texts.{IsText, IsOfSource, Ended};
+ghost use Rattle.text_lines.specs.Texts.{IsText, IsOfSource, Ended, streams};
 ghost use Rattle.text_lines.specs.Turns.{Takes, moment_of};
 
 use crate::answerer::{Answer, Answerer, LoopFault};
@@ -156,8 +156,8 @@ impl<A: Answerer> LoopState<A> {
         requires asked { A.is_ready self.old.answerer }
         requires empty { self.old.line.items ≡ [] }
         requires nothing { self.old.ready.bytes ≡ [] }
-        ensures ended { Ended A.answers A.breaks result (R.remaining reader.old) (R.remaining reader.new)
-            (W.contents writer.old) (W.contents writer.new) self.old.answerer self.new.answerer }
+        ensures ended { Ended A.answers A.breaks result (streams (R.remaining reader.old) (W.contents writer.old))
+            (streams (R.remaining reader.new) (W.contents writer.new)) self.old.answerer self.new.answerer }
         ensures end { OnOk result (IsAtEnd (R.remaining reader.new)) }
         ensures cause { IsOfSource result reads.old.has_failed reads.new.has_failed }
     {
@@ -198,8 +198,8 @@ pub fn answer_lines<A: Answerer + Drop, R: Read, W: Write>(
         × Appends (W.contents writer.old) (W.contents writer.new) text) }
 
     // Also of a reader that does not.
-    ensures ended { Ended A.answers A.breaks result.1 (R.remaining reader.old) (R.remaining reader.new)
-        (W.contents writer.old) (W.contents writer.new) answerer result.0 }
+    ensures ended { Ended A.answers A.breaks result.1 (streams (R.remaining reader.old) (W.contents writer.old))
+        (streams (R.remaining reader.new) (W.contents writer.new)) answerer result.0 }
     ensures end { OnOk result.1 (IsAtEnd (R.remaining reader.new)) }
     ensures cause { IsOfSource result.1 reads.old.has_failed reads.new.has_failed }
 {

@@ -2,7 +2,8 @@ use Rattle.std.proofs.Common.{◌≡◌, sym, subst, Ok, IfErr}
 use Rattle.std.proofs.lemmas.Result.{err_from_is_err_and}
 use Rattle.std.specs.Io.BufRead.{strip_last}
 use Rattle.chess_hub.specs.Storing.{StoreMayBeAsked, StoreRefuses}
-use Rattle.chess_hub.specs.Turning.{IsTurnFault, kept, measures}
+use Rattle.chess_hub.specs.Turning.{IsTurnFault, kept}
+use Rattle.sector_dev.specs.Device.{measures}
 use Rattle.chess_hub.specs.Running.{asks, Serves, IsAlone, IsTold, LineAsksFor}
 use Rattle.text_lines.specs.Lines.{IsUnfinished}
 use Rattle.chess_hub.specs.Session.{said}

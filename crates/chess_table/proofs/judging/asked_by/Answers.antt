@@ -1,6 +1,6 @@
 use Rattle.std.proofs.Common.{Bool, refl, sym, ap, subst}
 use Rattle.chess_entry.specs.declared.commands.Act.{Act}
-use Rattle.chess_entry.specs.Verdict.{in_seat, claim_verdict}
+use Rattle.chess_entry.specs.Verdict.{in_seat, claim_asked, claim_verdict}
 use Rattle.chess_table.specs.declared.judging.Asked.TheVariants as asked
 use Rattle.chess_table.specs.declared.judging.Claimed.{Claimed}
 use Rattle.chess_table.specs.Asked.{IsAskedBy}
@@ -41,4 +41,4 @@ returns-in-Claim-clause-some c =
     record { ply = c.in-Claim.ply; fifty = c.in-Claim.fifty; states = c.is_some.result; mv = c.args.mv.now } in
     subst (λ (a : Act). IsAskedBy a c.args.mv.now (asked.Claim claimed)) (sym c.in-Claim.is)
     (λ table at name start. ap (λ (states : Bool). in_seat table name c.in-Claim.game
-    (claim_verdict table at c.in-Claim.ply c.in-Claim.fifty states c.args.mv.now)) (sym c.is_some.ensures))
+    (claim_verdict table at (claim_asked c.in-Claim.ply c.in-Claim.fifty states c.args.mv.now))) (sym c.is_some.ensures))

@@ -6,7 +6,7 @@ use Rattle.chess_entry.specs.declared.refusals.Refusal.TheVariants.{AlreadyClaim
 use Rattle.chess_entry.specs.declared.verdicts.Verdict.{Verdict}
 use Rattle.chess_entry.specs.declared.verdicts.Verdict.TheVariants.{Enter}
 use Rattle.chess_entry.specs.State.{GameState, TableState, ply_of}
-use Rattle.chess_entry.specs.Verdict.{Check, refuse, first_of, while_running, in_turn, for_stated, claim_verdict}
+use Rattle.chess_entry.specs.Verdict.{Check, refuse, first_of, while_running, in_turn, for_stated, claim_asked, claim_verdict}
 use Rattle.chess_table.specs.declared.judging.Claimed.{Claimed}
 use Rattle.chess_table.specs.Checks.{stopped_by}
 use Rattle.chess_table.proofs.CheckLemmas.{stops, passes, stops_last, passes_last, applies, skipped}
@@ -28,7 +28,7 @@ made at claimed ply game side = Enter (entry game.number at
 
 abbrev verdict_on : TableState → ℕ → Claimed → GameState → Colour → Verdict
 verdict_on table at claimed game side =
-    claim_verdict table at claimed.ply claimed.fifty claimed.states claimed.mv game side
+    claim_verdict table at (claim_asked claimed.ply claimed.fifty claimed.states claimed.mv) game side
 
 -- none of the turn's checks applies
 in_its_turn : (table : TableState) (at : ℕ) (claimed : Claimed) (game : GameState) (side : Colour)

@@ -6,7 +6,8 @@ use Rattle.chess_hub.specs.declared.fault.HubFault.{HubFault}
 use Rattle.chess_hub.specs.Running.{standing, RefusesLine}
 use Rattle.chess_hub.proofs.TalkLemmas.{answers-line, refuses-line}
 use Rattle.chess_hub.proofs.talk.TalkAnswerer.answer.Goals as goal
-use Rattle.chess_hub.specs.Turning.{kept, measures}
+use Rattle.chess_hub.specs.Turning.{kept}
+use Rattle.sector_dev.specs.Device.{measures}
 
 pub take_turn-requires : goal.take_turn-requires
 take_turn-requires g c = record {
