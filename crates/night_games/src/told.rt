@@ -5,7 +5,7 @@ use lobby_words::Player;
 use night_report::Particulars;
 use std::alloc::{AllocError, Global};
 use text_parts::{before, parts};
-use text_pgn::{is_tag, value_of, with_players};
+use text_pgn::{is_behind, value_of, with_players};
 
 /// A game's place in a tournament: of which round and board it is, from 1 on; and what an arbiter decided, where one
 /// did.
@@ -64,18 +64,6 @@ fn push_player(
     push_tag(text, colour, "FideId", told.fide_number)?;
     push_tag(text, colour, "Team", told.team)?;
     push_tag(text, colour, "Title", told.title)
-}
-
-// The tags that come first, in an order of their own (PGN Standard, section 8.1.1).
-const FIRST: [&str; 7] = [
-    "[Event", "[Site", "[Date", "[Round", "[White", "[Black", "[Result",
-];
-
-// Whether a line stands behind a tag with this front: it is no tag, or one of a later name, but none of those that come
-// first.
-fn is_behind(line: &str, front: &str) -> bool {
-    let head = before(line, ' ');
-    !is_tag(line) || (!FIRST.contains(&head) && head > front)
 }
 
 // Puts those tags behind a text that have their place before a line, but for those that were put already; and tells how

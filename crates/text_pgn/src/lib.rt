@@ -42,6 +42,6 @@ pub use pgn_lines::{is_move, is_tag, tokens_of};
 pub use players::with_players;
 pub use replay::{Part, Replay};
 pub use spectated::{GameTold, Notices, PlayedGame, Spectated, Stand, running_side};
-pub use tag_values::{value_in, value_of, with_tag, without_escapes};
+pub use tag_values::{is_behind, value_in, value_of, with_tag, without_escapes};
 pub use telling::{moves_line, push_move};
 pub use whole::{TextFault, archived};

@@ -38,9 +38,9 @@ const FIRST: [&str; 7] = [
     "[Event", "[Site", "[Date", "[Round", "[White", "[Black", "[Result",
 ];
 
-// Whether a line of a PGN stands behind a tag with this front: it is no tag, or one of a later name, but none of those
-// that come first.
-fn is_behind(line: &str, front: &str) -> bool {
+/// Whether a line of a PGN stands behind a tag with this front: it is no tag, or one of a later name, but none of those
+/// that come first.
+pub fn is_behind(line: &str, front: &str) -> bool {
     let head = before(line, ' ');
     !is_tag(line) || (!FIRST.contains(&head) && head > front)
 }
