@@ -16,7 +16,8 @@ use Rattle.lobby_web.specs.declared.site.Site.{Site}
 use Rattle.lobby_web.specs.declared.socket.Heard.{Heard}
 use Rattle.lobby_web.specs.declared.socket.Heard.TheVariants as heards
 use Rattle.lobby_web.specs.declared.socket.Unsaid.{Unsaid}
-use Rattle.lobby_web.specs.Browsing.{IsNew, pending, WantsBytes, Takes, HearsNext, SaysTo, Writes}
+use Rattle.lobby_web.specs.Browsing.{IsNew, pending, unread, WantsBytes, Takes, HearsNext, SaysTo, Writes}
+use Rattle.lobby_guests.specs.Front.{has_act, has_brief}
 use Rattle.lobby_guests.specs.declared.guest.Guest.{Guest}
 use Rattle.lobby_guests.specs.declared.origin.Origin.{Origin}
 use Rattle.lobby_talk.specs.declared.talk.Talk.{Talk}
@@ -181,15 +182,80 @@ InTurn {A = A} {B = B} does (one ∷ ones) after old new =
 abbrev pub has_time : ℕ → ℕ → Bool
 has_time at until = nat_le (until - at) 10000
 
--- Who acts for a player and has time is served, and nothing is done to anybody else.
-abbrev pub IsServedIf : {S : Type 0} → Bool → (S → Option (List ℕ)) → Site → ℕ → Guest S → Guest S → Talk → Talk
-    → Type 0
-IsServedIf true remaining site at old new talk after = IsServed remaining site at old new talk after
-IsServedIf false remaining site at old new talk after = (new ≡ old) × (after ≡ talk)
+-- what players may still ask in a turn that is no act: so many more messages are taken, over all connections; and whose
+-- was taken last that may ask for much, by its number at the desk
+pub record Asking : Type 0 where
+  pub talk : Talk
+  pub left : ℕ
+  pub asker : Option ℕ
 
-abbrev pub IsPlayersTurn : {S : Type 0} → (S → Option (List ℕ)) → Site → ℕ → Guest S → Guest S → Talk → Talk → Type 0
-IsPlayersTurn remaining site at old new talk after =
-    IsServedIf (acts_at talk.desk old.number && has_time at old.paid_until) remaining site at old new talk after
+-- So many are taken in a turn at most.
+abbrev pub asked_most : ℕ
+asked_most = 8
+
+-- Nothing is owed to the connection that asked last, or it acts for nobody any more, as where it is gone.
+abbrev pub IsAnswered : Desk → Option ℕ → Type 0
+IsAnswered desk None = Unit {0}
+IsAnswered desk (Some c) = (acts_at desk (Some c) ≡ false) ⊎ IsReady desk c
+
+-- Its socket is asked what came next, where it may be.
+pub record IsHeardNow {S : Type 0} (at : ℕ) (old new : Guest S) (talk after : Talk) : Type 0 where
+  pub heard : IsHeard at old new talk after
+  pub asks : old.is_lost ≡ false → old.waits.items ≡ [] → MaySpeak talk.desk old.number → IsAsked at old new talk after
+  pub waits : length old.waits.items ≢ 0 → (new ≡ old) × (after ≡ talk)
+  pub owes : new.paid_until ≡ owed_after old.number new.number old.paid_until
+
+-- An act that stands in front of what came of one is heard at once.
+pub record IsActing {S : Type 0} (at : ℕ) (old new : Guest S) (room after : Asking) : Type 0 where
+  pub act : has_act (unread old.browser.stage) ≡ true
+  pub heard : IsHeardNow at old new room.talk after.talk
+  pub left : after.left ≡ room.left
+  pub asker : after.asker ≡ room.asker
+
+-- All else takes a turn that is left: what asks for little, and
+pub record IsBrief {S : Type 0} (at : ℕ) (old new : Guest S) (room after : Asking) : Type 0 where
+  pub brief : has_brief (unread old.browser.stage) ≡ true
+  pub heard : IsHeardNow at old new room.talk after.talk
+  pub takes : after.left < room.left
+  pub asker : after.asker ≡ room.asker
+
+-- what may ask for much, where the last such is answered; nobody behind it asks in the turn.
+pub record IsLong {S : Type 0} (at : ℕ) (old new : Guest S) (room after : Asking) : Type 0 where
+  pub answered : IsAnswered room.talk.desk room.asker
+  pub heard : IsHeardNow at old new room.talk after.talk
+  pub some : 0 < room.left
+  pub last : after.left ≡ 0
+  pub asker : after.asker ≡ old.number
+
+-- Or it stays where it is.
+pub record IsPutOff {S : Type 0} (old new : Guest S) (room after : Asking) : Type 0 where
+  pub other : has_act (unread old.browser.stage) ≡ false
+  pub guest : new ≡ old
+  pub rest : after ≡ room
+
+abbrev pub IsPlayerHeard : {S : Type 0} → ℕ → Guest S → Guest S → Asking → Asking → Type 0
+IsPlayerHeard at old new room after =
+    IsActing at old new room after ⊎ IsBrief at old new room after ⊎ IsLong at old new room after
+    ⊎ IsPutOff old new room after
+
+-- It is read for, and heard.
+pub record IsPlayerServed {S : Type 0} (remaining : S → Option (List ℕ)) (site : Site) (at : ℕ)
+    (old new : Guest S) (room after : Asking) : Type 0 where
+  pub read : Guest S
+  pub reads : IsRead remaining site old read
+  pub pays : IsPaid remaining true at old read
+  pub hears : IsPlayerHeard at read new room after
+
+-- Who acts for a player and has time is served, and nothing is done to anybody else.
+abbrev pub IsServedIf : {S : Type 0} → Bool → (S → Option (List ℕ)) → Site → ℕ → Guest S → Guest S → Asking → Asking
+    → Type 0
+IsServedIf true remaining site at old new room after = IsPlayerServed remaining site at old new room after
+IsServedIf false remaining site at old new room after = (new ≡ old) × (after ≡ room)
+
+abbrev pub IsPlayersTurn : {S : Type 0} → (S → Option (List ℕ)) → Site → ℕ → Guest S → Guest S → Asking → Asking
+    → Type 0
+IsPlayersTurn remaining site at old new room after =
+    IsServedIf (acts_at room.talk.desk old.number && has_time at old.paid_until) remaining site at old new room after
 
 -- The same of one that acts for nobody, one second.
 abbrev pub is_in_time : ℕ → ℕ → Bool
@@ -270,20 +336,29 @@ is_crowded guests = nat_lt others_most (count_by is_unheard guests)
 abbrev pub full_room : Talk → Room
 full_room talk = record { talk = talk; left = others_most }
 
--- In a turn players are served first, each of them; and then some of those who act for nobody.
+-- In a turn players are served first, each of them, and of what they ask that is no act so much is taken; and then some
+-- of those who act for nobody are.
 pub record AreAttended {S : Type 0} (remaining : S → Option (List ℕ)) (site : Site) (at : ℕ) (old new : List (Guest S))
     (talk after : Talk) : Type 0 where
+  pub asker : Option ℕ
   pub first : List (Guest S)
-  pub said : Talk
-  pub players : InTurn (IsPlayersTurn remaining site at) old first talk said
+  pub said : Asking
+  pub players : InTurn (IsPlayersTurn remaining site at) old first
+      (record { talk = talk; left = asked_most; asker = asker }) said
   pub last : Room
-  pub others : InTurn (IsOthersTurn remaining site at) first new (full_room said) last
+  pub others : InTurn (IsOthersTurn remaining site at) first new (full_room said.talk) last
   pub after_is : after ≡ last.talk
 
 -- Of those who act for nobody nobody is attended.
 abbrev pub LeavesOthers : {S : Type 0} → {remaining : S → Option (List ℕ)} → {site : Site} → {at : ℕ}
     → {old new : List (Guest S)} → {talk after : Talk} → AreAttended remaining site at old new talk after → Type 0
-LeavesOthers {new = new} {after = after} attended = (new ≡ attended.first) × (after ≡ attended.said)
+LeavesOthers {new = new} {after = after} attended = (new ≡ attended.first) × (after ≡ attended.said.talk)
+
+-- It is known who asked for much last.
+abbrev pub KnowsAsker : {S : Type 0} → {remaining : S → Option (List ℕ)} → {site : Site} → {at : ℕ}
+    → {old new : List (Guest S)} → {talk after : Talk} → Option ℕ → Option ℕ
+    → AreAttended remaining site at old new talk after → Type 0
+KnowsAsker before behind attended = (attended.asker ≡ before) × (behind ≡ attended.said.asker)
 
 -- ---- what goes
 

@@ -1,3 +1,4 @@
+pub mod Front
 pub mod Guests
 pub mod Origins
 pub mod Place

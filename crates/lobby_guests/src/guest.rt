@@ -15,10 +15,12 @@ ghost use Rattle.lobby_talk.specs.Counting.{is_for};
 ghost use Rattle.lobby_guests.specs.Waiting as waiting;
 ghost use Rattle.lobby_guests.specs.Guests.{IsLookedAfter, is_in_time, taken_until, MayHave, may_have, IsDue};
 ghost use Rattle.lobby_guests.specs.Guests.{due_at, ahead_at, is_unheard, IsPaid, owed_after, paid_for, since_after};
-ghost use Rattle.lobby_web.specs.Browsing.{WantsBytes};
+ghost use Rattle.lobby_web.specs.Browsing.{WantsBytes, unread};
+ghost use Rattle.lobby_guests.specs.Front.{has_act, has_brief};
 ghost use Rattle.lobby_talk.specs.Counting.{refuses_login, counted_up, one_if, refuses, refusals_of};
 ghost use Rattle.lobby_guests.specs.Place.{role_by, role_of, player_of, place_of, Yields};
 
+use crate::front::{has_act, has_brief};
 use crate::origin::Origin;
 use crate::place::{Place, Role, is_gone};
 use crate::waiting::{Waiting, is_line};
@@ -323,6 +325,26 @@ impl<S> Guest<S> {
             None => true,
             Some(number) => talk.is_ready(number),
         }
+    }
+
+    /// Whether what comes next of it begins as an act or a login does.
+    pub fn has_act(&self) -> bool
+        ensures { result ≡ has_act (unread self.now.browser.stage) }
+    {
+        has_act(self.browser.unread())
+    }
+
+    /// Whether it begins as what asks for little.
+    pub fn has_brief(&self) -> bool
+        ensures { result ≡ has_brief (unread self.now.browser.stage) }
+    {
+        has_brief(self.browser.unread())
+    }
+
+    /// Whether its socket is to be asked what came next: something may have come, nothing waits for it, and the desk
+    /// takes it.
+    pub fn may_be_asked(&self, talk: &Talk) -> bool {
+        self.has_more && !self.is_lost && self.waits.is_empty() && self.may_speak(talk)
     }
 
     // What its socket gave is said to the desk.

@@ -9,10 +9,11 @@ ghost use Rattle.lobby_guests.specs.Counting.{refusals_in, CountsLogins};
 ghost use Rattle.lobby_talk.specs.Counting.{counted_up};
 ghost use Rattle.lobby_guests.specs.Guests as guests;
 ghost use Rattle.lobby_guests.specs.Guests.{IsAsBefore, IsServed, IsPlayersTurn, IsOthersTurn, InTurn, Room, full_room};
+ghost use Rattle.lobby_guests.specs.Guests.{IsPlayerServed, IsAnswered, KnowsAsker, asked_most};
+ghost use Rattle.lobby_guests.specs.Rounds.{room_of, others_room, TakesTurn, IsToAsk};
 ghost use Rattle.lobby_guests.specs.Guests.{AreAttended, AreTold, AreDelivered, IsWritten, IsLookedAfter, IsClosedIf};
 ghost use Rattle.lobby_guests.specs.Guests.{AreClosed, AreParted, IsCaughtUp, first_wanted, has_waiting};
 ghost use Rattle.lobby_guests.specs.Guests.{LeavesOthers, LeavesStranger};
-ghost use Rattle.lobby_guests.specs.Rounds.{others_room};
 ghost use Rattle.lobby_guests.specs.Waking.{IsAwake, StaysUnlessNamed, IsAwakeIfNamed, NamesGrow, IsPlaceNamed};
 ghost use Rattle.lobby_guests.specs.Waking.{number_named};
 ghost use Rattle.lobby_guests.specs.Waiting as waiting;
@@ -21,7 +22,7 @@ ghost use Rattle.lobby_talk.specs.Talking.{IsTalkAsBefore, acts_at};
 ghost use Rattle.lobby_talk.specs.Keeping.{AreKept};
 
 use crate::guest::Guest;
-use crate::rounds::{ATTENDED_MOST, Round, Rounds, Strangers};
+use crate::rounds::{ATTENDED_MOST, Asks, Round, Rounds, Strangers};
 use lobby_desk::Message;
 use lobby_talk::{Coming, Counts, KeepsLinks, KeptAnswer, PIECE_ROOM, Talk};
 use lobby_web::Site;
@@ -49,9 +50,47 @@ fn attend<S: Read + Write, K: KeepsLinks>(
     Ok(has_read | has_heard)
 }
 
-// Attends a browser if it acts for a player, and has time.
-fn attend_player<S: Read + Write, K: KeepsLinks>(
+// Whether the server has answered what this connection asked last.
+fn is_answered(asker: Option<u64>, talk: &Talk) -> bool
+    ensures { result ≡ true → IsAnswered talk.now.desk asker }
+{
+    match asker {
+        None => true,
+        Some(number) => !talk.acts(asker) || talk.is_ready(number),
+    }
+}
+
+// Whether a player's browser in whose front no act stands has its turn; then it has it: one that may ask for much only
+// where the last such is answered.
+fn takes_turn<S>(guest: &Guest<S>, asks: &mut Asks, talk: &Talk) -> bool
+    ensures { TakesTurn result talk.now.desk guest.now asks.old asks.new }
+{
+    if !asks.round.is_at(guest.key()) || !guest.may_be_asked(talk) {
+        return false;
+    }
+    if guest.has_brief() {
+        asks.take_brief(guest.key());
+        return true;
+    }
+    let is_free = is_answered(asks.asker, talk);
+    if is_free {
+        asks.take_long(guest.key(), guest.number());
+    }
+    is_free
+}
+
+// Whether a player's browser is asked what came next: where an act stands in front at once, and else where it is its
+// turn.
+fn is_to_ask<S>(guest: &Guest<S>, asks: &mut Asks, talk: &Talk) -> bool
+    ensures { IsToAsk result talk.now.desk guest.now asks.old asks.new }
+{
+    guest.has_act() || takes_turn(guest, asks, talk)
+}
+
+// Reads for a player's browser, and says to the desk what came next of it, where it is asked for that.
+fn serve_player<S: Read + Write, K: KeepsLinks>(
     guest: &mut Guest<S>,
+    asks: &mut Asks,
     site: &Site,
     talk: &mut Talk,
     at: u64,
@@ -59,18 +98,42 @@ fn attend_player<S: Read + Write, K: KeepsLinks>(
     piece: &mut [u8; PIECE_ROOM],
     coming: &mut Coming,
 ) -> Result<bool, AllocError>
-    ensures { OnOk result (IsPlayersTurn S.remaining site.now at guest.old guest.new talk.old talk.new) }
+    ensures { OnOk result (IsPlayerServed S.remaining site.now at guest.old guest.new (room_of talk.old asks.old)
+        (room_of talk.new asks.new)) }
+{
+    let has_read = guest.read_in(true, site, at, piece, coming);
+    if !is_to_ask(guest, asks, talk) {
+        return Ok(has_read);
+    }
+    let has_heard = guest.hear(talk, at, links, coming)?;
+    Ok(has_read | has_heard)
+}
+
+// Attends a browser if it acts for a player, and has time.
+fn attend_player<S: Read + Write, K: KeepsLinks>(
+    guest: &mut Guest<S>,
+    asks: &mut Asks,
+    site: &Site,
+    talk: &mut Talk,
+    at: u64,
+    links: &mut K,
+    piece: &mut [u8; PIECE_ROOM],
+    coming: &mut Coming,
+) -> Result<bool, AllocError>
+    ensures { OnOk result (IsPlayersTurn S.remaining site.now at guest.old guest.new (room_of talk.old asks.old)
+        (room_of talk.new asks.new)) }
 {
     let is_turn = talk.acts(guest.number()) && guest.has_time(at);
     if !is_turn {
         return Ok(false);
     }
-    attend(guest, site, talk, at, links, piece, coming)
+    serve_player(guest, asks, site, talk, at, links, piece, coming)
 }
 
-// Attends each that acts for a player.
+// Attends each that acts for a player. It tells whether there was anything, or more can be taken at once.
 fn attend_players<S: Read + Write, K: KeepsLinks>(
     guests: &mut Vec<Guest<S>>,
+    asks: &mut Asks,
     site: &Site,
     talk: &mut Talk,
     at: u64,
@@ -78,14 +141,16 @@ fn attend_players<S: Read + Write, K: KeepsLinks>(
     piece: &mut [u8; PIECE_ROOM],
     coming: &mut Coming,
 ) -> Result<bool, AllocError>
-    ensures { OnOk result (InTurn (IsPlayersTurn S.remaining site.now at) guests.old.items guests.new.items talk.old
-        talk.new) }
+    ensures { OnOk result (InTurn (IsPlayersTurn S.remaining site.now at) guests.old.items guests.new.items
+        (record { talk = talk.old; left = asked_most; asker = asks.old.asker }) (room_of talk.new asks.new)) }
 {
     let mut any = false;
+    asks.begin();
     for guest in guests.iter_mut() {
-        any |= attend_player(guest, site, talk, at, links, piece, coming)?;
+        any |= attend_player(guest, asks, site, talk, at, links, piece, coming)?;
     }
-    Ok(any)
+    let can_more = asks.round.end();
+    Ok(any | can_more)
 }
 
 // Attends a browser if it acts for nobody, and it is its turn.
@@ -170,11 +235,21 @@ pub fn attend_all<S: Read + Write, K: KeepsLinks>(
     counts: &mut Counts,
 ) -> Result<bool, AllocError>
     ensures attended { OnOk result ((attended : AreAttended S.remaining site.now at guests.old.items guests.new.items
-        talk.old talk.new) × (is_short ≡ true → LeavesOthers attended)) }
+        talk.old talk.new) × (is_short ≡ true → LeavesOthers attended)
+        × KnowsAsker rounds.old.asks.asker rounds.new.asks.asker attended) }
     ensures logins { OnOk result (counts.new.logins_refused ≡ counts.old.logins_refused) }
 {
     let mut coming = Coming::new();
-    let players = attend_players(guests, site, talk, at, links, piece, &mut coming)?;
+    let players = attend_players(
+        guests,
+        &mut rounds.asks,
+        site,
+        talk,
+        at,
+        links,
+        piece,
+        &mut coming,
+    )?;
     let others = attend_unless(
         guests,
         is_short,

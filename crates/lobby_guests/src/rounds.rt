@@ -1,19 +1,22 @@
 //! Whose turn it is where a turn of the lobby does not do what is to be done for all: a few in each, in a round.
 ghost use Rattle.std.specs.Prelude.{◌≡◌, ◌<◌, ◌+◌, ◌&&◌, nat_lt, nat_le, true, false};
-ghost use Rattle.lobby_guests.specs.Guests.{others_most};
+ghost use Rattle.lobby_guests.specs.Guests.{others_most, asked_most};
 
-/// So many who act for nobody are attended in a turn at most.
+/// So many of them are attended in a turn at most.
 pub const ATTENDED_MOST: usize = 8;
 
 /// Of these so many at most of whom nothing was heard yet, out of the round: who is about to show a token is heard soon
 /// then, whatever the others do.
 const FRESH_MOST: usize = 6;
 
-/// To so many who act for nobody something is written in a turn at most.
-const WRITTEN_MOST: usize = 16;
+/// So many messages of players that are no acts are taken in a turn at most.
+pub const ASKED_MOST: usize = 8;
 
 /// To so many players more than a little is written in a turn at most.
 const TOLD_MOST: usize = 8;
+
+/// To so many of them something is written in a turn at most.
+const WRITTEN_MOST: usize = 16;
 
 /// A round, by the names of their sockets.
 #[derive(Clone, Copy)]
@@ -81,6 +84,44 @@ impl Round {
     }
 }
 
+/// Whose turn it is among players to ask what is no act.
+#[derive(Clone, Copy)]
+pub struct Asks {
+    pub round: Round,
+    /// The number at the desk of the connection that asked last.
+    pub asker: Option<u64>,
+}
+
+impl Asks {
+    /// Some have a turn from now on.
+    pub fn begin(&mut self)
+        ensures left { self.new.round.left ≡ asked_most }
+        ensures asker { self.new.asker ≡ self.old.asker }
+    {
+        self.round.begin(ASKED_MOST);
+    }
+
+    /// A connection whose socket has this name asks for little.
+    pub fn take_brief(&mut self, key: usize)
+        requires { 0 < self.old.round.left }
+        ensures left { self.new.round.left < self.old.round.left }
+        ensures asker { self.new.asker ≡ self.old.asker }
+    {
+        self.round.take(key);
+    }
+
+    /// A connection of this number, whose socket has this name, may ask for much: nobody behind it asks in this turn.
+    pub fn take_long(&mut self, key: usize, number: Option<u64>)
+        requires { 0 < self.old.round.left }
+        ensures left { self.new.round.left ≡ 0 }
+        ensures asker { self.new.asker ≡ number }
+    {
+        self.round.take(key);
+        self.round.left = 0;
+        self.asker = number;
+    }
+}
+
 /// Whose turn it is among those who act for nobody.
 #[derive(Clone, Copy)]
 pub struct Strangers {
@@ -116,10 +157,11 @@ impl Strangers {
     }
 }
 
-/// The rounds of players to whom much is written, and of those who act for nobody: of who is attended, and of all to
-/// whom something is written.
+/// All rounds: of players who ask, and to whom much is written; and of those who act for nobody, and to whom of them
+/// something is written.
 #[derive(Clone, Copy)]
 pub struct Rounds {
+    pub asks: Asks,
     pub told: Round,
     pub strangers: Strangers,
     pub written: Round,
@@ -131,6 +173,10 @@ impl Rounds {
     /// Each begins with the first.
     pub fn new() -> Rounds {
         Rounds {
+            asks: Asks {
+                round: Round::new(),
+                asker: None,
+            },
             told: Round::new(),
             strangers: Strangers {
                 round: Round::new(),

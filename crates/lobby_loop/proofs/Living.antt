@@ -27,6 +27,7 @@ use Rattle.lobby_loop.specs.declared.hall.Hall.{Hall}
 use Rattle.lobby_talk.specs.declared.link.Link.{Link}
 use Rattle.lobby_talk.specs.declared.talk.Talk.{Talk}
 use Rattle.lobby_talk.specs.Talking.{Saying, InTime, TooFast, WithLink, saying, Moves}
+use Rattle.lobby_guests.specs.Guests.{asked_most}
 use Rattle.lobby_guests.proofs.Attending.{players_pass, others_pass}
 use Rattle.lobby_guests.specs.Guests.{IsNewGuest, IsHeardAs, IsAsBefore, IsAttended, InTurn, full_room, IsLookedAfter, AreTold, AreNextTold, IsCaughtUp, AreDelivered, IsWritten, IsClosedIf, AreClosed}
 use Rattle.lobby_talk.specs.Lines.{bytes_of as bytes_before, AreHeard}
@@ -1153,13 +1154,14 @@ module _ {S : Type 0} (remaining contents : S → Option (List ℕ)) (players : 
         known = λ c come. elim (kept.known c come) [ inl gone ↦ inl gone | inr one ↦ inr (inr one) ];
       }) so_far in
       let passes = t.takes.attends in
-      let one = attended_pass at former base out site old.guests.items passes.first t.takes.parted passes.said own two
-      (players_pass remaining site at old.guests.items passes.first t.takes.parted passes.said passes.players) in
+      let one = attended_pass at former base out site old.guests.items passes.first t.takes.parted passes.said.talk own two
+      (players_pass remaining site at old.guests.items passes.first (record { talk = t.takes.parted; left = asked_most; asker = passes.asker })
+      passes.said passes.players) in
       let said = subst (λ (u : Talk). IsTalkAt players is_paused base out
       (Two remaining contents site came players is_paused former base out [] t.takes.attended) u
       × AreOwn u.next (numbers (former ++ t.takes.attended))) (sym passes.after_is)
-      (attended_pass at former base out site passes.first t.takes.attended passes.said passes.last.talk one.1 one.0
-      (others_pass remaining site at passes.first t.takes.attended (full_room passes.said) passes.last passes.others)) in
+      (attended_pass at former base out site passes.first t.takes.attended passes.said.talk passes.last.talk one.1 one.0
+      (others_pass remaining site at passes.first t.takes.attended (full_room passes.said.talk) passes.last passes.others)) in
       let attended : IsAt players is_paused base out (AreKept remaining contents site came former out t.takes.attended) t.between.talk.desk
       t.between.talk.wire.items (message_values t.between.talk.told.items) =
       at_with players is_paused base out (Two remaining contents site came players is_paused former base out [] t.takes.attended)
