@@ -20,9 +20,12 @@ module _ {S : Type 0} (remaining : S → Option (List ℕ)) (site : Site) (at : 
     reads = record {
       number = refl;
       waits = refl;
+      key = refl;
       since = refl;
-      origin = λ not_proxy. refl;
+      logins = refl;
+      lost = inl refl;
       taken = [];
+      origin = inl (refl, refl);
       consumed = none_consumed (remaining old.stream);
       takes = inl (refl, refl);
     };

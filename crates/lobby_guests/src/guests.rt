@@ -5,11 +5,11 @@ ghost use Rattle.std.specs.Prelude.{ℕ, Bool, true, false, nat_lt, length, ◌<
 ghost use Rattle.std.specs.Prelude.{count_by, slice_index_or, slice_set, ◌≢◌};
 ghost use Rattle.std.specs.Option.{option_map};
 ghost use Rattle.std.specs.List.{AllZip, HoldsAt};
-ghost use Rattle.lobby_guests.specs.Counting.{refusals_in, CountsLogins};
+ghost use Rattle.lobby_guests.specs.Counting.{refusals_in, CountsLogins, CountsNoLogin};
 ghost use Rattle.lobby_talk.specs.Counting.{counted_up};
 ghost use Rattle.lobby_guests.specs.Guests as guests;
-ghost use Rattle.lobby_guests.specs.Guests.{IsAsBefore, IsServed, IsPlayersTurn, IsOthersTurn, InTurn, Room, full_room};
-ghost use Rattle.lobby_guests.specs.Guests.{IsPlayerServed, IsAnswered, KnowsAsker, asked_most};
+ghost use Rattle.lobby_guests.specs.Guests.{IsLeftAlone, IsSettled, IsServed, IsPlayersTurn, IsOthersTurn, InTurn};
+ghost use Rattle.lobby_guests.specs.Guests.{IsPlayerServed, IsAnswered, KnowsAsker, asked_most, Room, full_room};
 ghost use Rattle.lobby_guests.specs.Rounds.{room_of, others_room, TakesTurn, IsToAsk};
 ghost use Rattle.lobby_guests.specs.Guests.{AreAttended, AreTold, AreDelivered, IsWritten, IsLookedAfter, IsClosedIf};
 ghost use Rattle.lobby_guests.specs.Guests.{AreClosed, AreParted, IsCaughtUp, first_wanted, has_waiting};
@@ -273,9 +273,10 @@ fn tell_all<S>(
     made: &[Message],
     counts: &mut Counts,
 ) -> Result<(), AllocError>
-    ensures told { OnOk result (AllZip (AreTold made.now) guests.old.items guests.new.items) }
+    ensures told { OnOk result (AllZip (AreTold counts.old.at made.now) guests.old.items guests.new.items) }
     ensures logins { OnOk result (counts.new.logins_refused
         ≡ counted_up counts.old.logins_refused (refusals_in made.now guests.old.items)) }
+    ensures at { OnOk result (counts.new.at ≡ counts.old.at) }
 {
     for guest in guests.iter_mut() {
         guest.be_told_all(alloc, made, counts)?;
@@ -307,8 +308,8 @@ fn first_wanted<S>(guests: &[Guest<S>]) -> Option<&str>
 
 // Those are told this answer who wait for it first, some in a turn.
 fn answer_all<S>(guests: &mut Vec<Guest<S>>, answer: &KeptAnswer, counts: &mut Counts)
-    ensures up { AllZip IsCaughtUp guests.old.items guests.new.items }
-    ensures logins { counts.new.logins_refused ≡ counts.old.logins_refused }
+    ensures up { AllZip (IsCaughtUp counts.old.at) guests.old.items guests.new.items }
+    ensures counts { CountsNoLogin counts.old counts.new }
 {
     let mut left = ANSWERED_MOST;
     for guest in guests.iter_mut() {
@@ -322,10 +323,10 @@ fn answer_waiting<S>(
     talk: &mut Talk,
     counts: &mut Counts,
 ) -> Result<(), AllocError>
-    ensures up { OnOk result (AllZip IsCaughtUp guests.old.items guests.new.items) }
+    ensures up { OnOk result (AllZip (IsCaughtUp counts.old.at) guests.old.items guests.new.items) }
     ensures replays { OnOk result (∥ IsReplayed (first_wanted guests.old.items) talk.old.replay talk.new.replay ∥₁) }
     ensures rest { OnOk result (IsTalkAsBefore talk.old talk.new) }
-    ensures logins { OnOk result (counts.new.logins_refused ≡ counts.old.logins_refused) }
+    ensures counts { OnOk result (CountsNoLogin counts.old counts.new) }
 {
     match talk.replay_on(first_wanted(guests.as_slice()))? {
         None => Ok(()),
@@ -353,7 +354,7 @@ pub fn deliver<S>(
     talk: &mut Talk,
     counts: &mut Counts,
 ) -> Result<(), AllocError>
-    ensures guests { OnOk result (AreDelivered talk.old.kept.answers.items talk.old.told.items
+    ensures guests { OnOk result (AreDelivered counts.old.at talk.old.kept.answers.items talk.old.told.items
         guests.old.items guests.new.items) }
     ensures none { OnOk result (talk.new.told.items ≡ []) }
     ensures desk { OnOk result (talk.new.desk ≡ talk.old.desk) }
@@ -523,7 +524,7 @@ pub fn is_crowded<S>(connections: &[Guest<S>]) -> bool
 
 /// Of each it is seen whether it acts for a player; and where it is time each is looked after.
 pub fn look_after_all<S>(guests: &mut Vec<Guest<S>>, talk: &Talk, is_time: bool, at: u64)
-    ensures { AllZip (IsLookedAfter talk.now.desk at) guests.old.items guests.new.items }
+    ensures { AllZip (IsLookedAfter talk.now.desk is_time at) guests.old.items guests.new.items }
 {
     for guest in guests.iter_mut() {
         guest.look_after(talk, is_time, at);
@@ -568,7 +569,7 @@ fn wake_at<S>(guests: &mut Vec<Guest<S>>, place: usize) -> Option<u64>
 /// The socket of this name may be ready: it is looked for by names, which grow. It tells of whom it is, as the desk
 /// knows it, if of anybody there.
 pub fn wake_one<S>(guests: &mut Vec<Guest<S>>, key: usize) -> Option<u64>
-    ensures before { AllZip IsAsBefore guests.old.items guests.new.items }
+    ensures alone { AllZip IsLeftAlone guests.old.items guests.new.items }
     ensures others { AllZip (StaysUnlessNamed key) guests.old.items guests.new.items }
     ensures named { NamesGrow guests.old.items → AllZip (IsAwakeIfNamed key) guests.old.items guests.new.items
         × (result ≡ number_named key guests.old.items) }
@@ -581,7 +582,7 @@ pub fn wake_one<S>(guests: &mut Vec<Guest<S>>, key: usize) -> Option<u64>
 
 // Marks those who are over.
 fn settle_all<S>(guests: &mut Vec<Guest<S>>)
-    ensures { AllZip IsAsBefore guests.old.items guests.new.items }
+    ensures { AllZip IsSettled guests.old.items guests.new.items }
 {
     for guest in guests.iter_mut() {
         guest.settle();
