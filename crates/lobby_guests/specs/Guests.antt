@@ -17,7 +17,7 @@ use Rattle.lobby_web.specs.declared.socket.Heard.TheVariants as heards
 use Rattle.lobby_web.specs.declared.socket.Unsaid.{Unsaid}
 use Rattle.lobby_web.specs.declared.socket.Unsaid.TheVariants as unsaids
 use Rattle.lobby_web.specs.Browsing.{IsNew, IsOver, pending, unread, WantsBytes, Takes, HearsNext, SaysTo, Writes}
-use Rattle.lobby_guests.specs.Front.{has_act, has_brief}
+use Rattle.lobby_talk.specs.Front.{has_act, has_brief}
 use Rattle.lobby_guests.specs.declared.guest.Guest.{Guest}
 use Rattle.lobby_guests.specs.declared.origin.Origin.{Origin}
 use Rattle.lobby_guests.specs.Origins.{IsToldOrigin}

@@ -1,4 +1,3 @@
-pub mod Front
 pub mod Guests
 pub mod Origins
 pub mod Place

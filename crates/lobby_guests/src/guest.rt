@@ -17,11 +17,9 @@ ghost use Rattle.lobby_guests.specs.Waiting as waiting;
 ghost use Rattle.lobby_guests.specs.Guests.{IsLookedAfter, is_in_time, taken_until, MayHave, may_have, IsDue};
 ghost use Rattle.lobby_guests.specs.Guests.{due_at, ahead_at, is_unheard, IsPaid, owed_after, paid_for, since_after};
 ghost use Rattle.lobby_web.specs.Browsing.{WantsBytes, unread};
-ghost use Rattle.lobby_guests.specs.Front.{has_act, has_brief};
 ghost use Rattle.lobby_talk.specs.Counting.{refuses_login, counted_up, one_if, refuses, refusals_of};
 ghost use Rattle.lobby_guests.specs.Place.{role_by, role_of, player_of, place_of, Yields};
 
-use crate::front::{has_act, has_brief};
 use crate::origin::Origin;
 use crate::place::{Place, Role, is_gone};
 use crate::waiting::{Waiting, is_line};
@@ -328,18 +326,11 @@ impl<S> Guest<S> {
         }
     }
 
-    /// Whether what comes next of it begins as an act or a login does.
-    pub fn has_act(&self) -> bool
-        ensures { result ≡ has_act (unread self.now.browser.stage) }
+    /// What came of it that its socket was not asked for.
+    pub fn unread(&self) -> &[u8]
+        ensures { result.now ≡ unread self.now.browser.stage }
     {
-        has_act(self.browser.unread())
-    }
-
-    /// Whether it begins as what asks for little.
-    pub fn has_brief(&self) -> bool
-        ensures { result ≡ has_brief (unread self.now.browser.stage) }
-    {
-        has_brief(self.browser.unread())
+        self.browser.unread()
     }
 
     /// Whether its socket is to be asked what came next: something may have come, nothing waits for it, and the desk

@@ -22,9 +22,11 @@ ghost use Rattle.lobby_talk.specs.Talking.{IsTalkAsBefore, acts_at};
 ghost use Rattle.lobby_talk.specs.Keeping.{AreKept};
 
 use crate::guest::Guest;
-use crate::rounds::{ATTENDED_MOST, Asks, Round, Rounds, Strangers};
+use crate::rounds::{
+    ASKED_MOST, ATTENDED_MOST, Asks, Round, Rounds, Strangers, TOLD_MOST, WRITTEN_MOST,
+};
 use lobby_desk::Message;
-use lobby_talk::{Coming, Counts, KeepsLinks, KeptAnswer, PIECE_ROOM, Talk};
+use lobby_talk::{Coming, Counts, KeepsLinks, KeptAnswer, PIECE_ROOM, Talk, has_act, has_brief};
 use lobby_web::Site;
 use std::alloc::{AllocError, Global};
 use std::io::{Read, Write};
@@ -68,7 +70,7 @@ fn takes_turn<S>(guest: &Guest<S>, asks: &mut Asks, talk: &Talk) -> bool
     if !asks.round.is_at(guest.key()) || !guest.may_be_asked(talk) {
         return false;
     }
-    if guest.has_brief() {
+    if has_brief(guest.unread()) {
         asks.take_brief(guest.key());
         return true;
     }
@@ -84,7 +86,7 @@ fn takes_turn<S>(guest: &Guest<S>, asks: &mut Asks, talk: &Talk) -> bool
 fn is_to_ask<S>(guest: &Guest<S>, asks: &mut Asks, talk: &Talk) -> bool
     ensures { IsToAsk result talk.now.desk guest.now asks.old asks.new }
 {
-    guest.has_act() || takes_turn(guest, asks, talk)
+    has_act(guest.unread()) || takes_turn(guest, asks, talk)
 }
 
 // Reads for a player's browser, and says to the desk what came next of it, where it is asked for that.
@@ -145,7 +147,7 @@ fn attend_players<S: Read + Write, K: KeepsLinks>(
         (record { talk = talk.old; left = asked_most; asker = asks.old.asker }) (room_of talk.new asks.new)) }
 {
     let mut any = false;
-    asks.begin();
+    asks.round.begin(ASKED_MOST);
     for guest in guests.iter_mut() {
         any |= attend_player(guest, asks, site, talk, at, links, piece, coming)?;
     }
@@ -409,7 +411,7 @@ fn write_players<S: Read + Write>(
     ensures strangers { AllZip (LeavesStranger talk.now.desk) guests.old.items guests.new.items }
 {
     let mut any = false;
-    round.begin_telling();
+    round.begin(TOLD_MOST);
     for guest in guests.iter_mut() {
         let is_turn = has_players_turn(guest, talk, round);
         any |= guest.write_out(site, is_turn);
@@ -437,7 +439,7 @@ fn write_others<S: Read + Write>(
     ensures { AllZip (IsWritten S.contents site.now) guests.old.items guests.new.items }
 {
     let mut any = false;
-    round.begin_writing();
+    round.begin(WRITTEN_MOST);
     for guest in guests.iter_mut() {
         let is_turn = has_turn_to_write(guest, talk, round);
         any |= guest.write_out(site, is_turn);

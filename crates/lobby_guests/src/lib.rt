@@ -5,7 +5,6 @@
 //! has browsers that are attended one after another.
 #![tactic(auto)]
 
-mod front;
 mod guest;
 mod guests;
 mod origin;

@@ -1,6 +1,6 @@
 //! Whose turn it is where a turn of the lobby does not do what is to be done for all: a few in each, in a round.
 ghost use Rattle.std.specs.Prelude.{◌≡◌, ◌<◌, ◌+◌, ◌&&◌, nat_lt, nat_le, true, false};
-ghost use Rattle.lobby_guests.specs.Guests.{others_most, asked_most};
+ghost use Rattle.lobby_guests.specs.Guests.{others_most};
 
 /// So many of them are attended in a turn at most.
 pub const ATTENDED_MOST: usize = 8;
@@ -13,10 +13,10 @@ const FRESH_MOST: usize = 6;
 pub const ASKED_MOST: usize = 8;
 
 /// To so many players more than a little is written in a turn at most.
-const TOLD_MOST: usize = 8;
+pub const TOLD_MOST: usize = 8;
 
 /// To so many of them something is written in a turn at most.
-const WRITTEN_MOST: usize = 16;
+pub const WRITTEN_MOST: usize = 16;
 
 /// A round, by the names of their sockets.
 #[derive(Clone, Copy)]
@@ -30,31 +30,12 @@ pub struct Round {
 }
 
 impl Round {
-    /// It begins with the first.
-    pub fn new() -> Round {
-        Round {
-            from: 0,
-            has_passed: false,
-            left: 0,
-        }
-    }
-
-    // So many have a turn from now on.
-    fn begin(&mut self, most: usize)
+    /// So many have a turn from now on.
+    pub fn begin(&mut self, most: usize)
         ensures { self.new.left ≡ most }
     {
         self.has_passed = self.from > 0;
         self.left = most;
-    }
-
-    /// Some of those to whom something is written have a turn from now on.
-    pub fn begin_writing(&mut self) {
-        self.begin(WRITTEN_MOST);
-    }
-
-    /// Some of the players to whom much is written have a turn from now on.
-    pub fn begin_telling(&mut self) {
-        self.begin(TOLD_MOST);
     }
 
     /// Whether it may be the turn of this one.
@@ -75,7 +56,9 @@ impl Round {
     }
 
     /// All had a turn who could have one. It tells whether others can at once.
-    pub fn end(&mut self) -> bool {
+    pub fn end(&mut self) -> bool
+        ensures { self.new.left ≡ self.old.left }
+    {
         if self.left == 0 {
             return true;
         }
@@ -93,14 +76,6 @@ pub struct Asks {
 }
 
 impl Asks {
-    /// Some have a turn from now on.
-    pub fn begin(&mut self)
-        ensures left { self.new.round.left ≡ asked_most }
-        ensures asker { self.new.asker ≡ self.old.asker }
-    {
-        self.round.begin(ASKED_MOST);
-    }
-
     /// A connection whose socket has this name asks for little.
     pub fn take_brief(&mut self, key: usize)
         requires { 0 < self.old.round.left }
@@ -172,17 +147,16 @@ pub struct Rounds {
 impl Rounds {
     /// Each begins with the first.
     pub fn new() -> Rounds {
+        let round = Round {
+            from: 0,
+            has_passed: false,
+            left: 0,
+        };
         Rounds {
-            asks: Asks {
-                round: Round::new(),
-                asker: None,
-            },
-            told: Round::new(),
-            strangers: Strangers {
-                round: Round::new(),
-                fresh: 0,
-            },
-            written: Round::new(),
+            asks: Asks { round, asker: None },
+            told: round,
+            strangers: Strangers { round, fresh: 0 },
+            written: round,
             has_others: false,
         }
     }

@@ -1,5 +1,6 @@
 -- One browser more.
-use Rattle.std.proofs.Common.{ℕ, ◌<◌, ◌∙◌, List, Option, length, subst, sym, arith}
+use Rattle.std.proofs.Common.{ℕ, ◌<◌, ◌∙◌, List, length, subst, sym, arith}
+use Rattle.std.specs.Vec.{with_items}
 use Rattle.std.proofs.lemmas.List.{with_items_is}
 use Rattle.lobby_guests.specs.declared.guest.Guest.{Guest}
 use Rattle.lobby_guests.specs.Guests.{InTurn, IsPlayersTurn, Asking, asked_most}
@@ -12,11 +13,9 @@ loop-guest-init g c =
     let does = IsPlayersTurn g.S.Read.remaining c.args.site.now c.args.at in
     let begun : Asking = record { talk = c.args.talk.now; left = asked_most; asker = c.args.asks.now.asker } in
     subst (λ (n : ℕ). IsTurnedTo does 0 c.args.guests.now.items c.deref_mut-guest-items.result.now begun
-    (record { talk = c.args.talk.now; left = n; asker = c.begin.new.self.asker })) (sym c.begin.ensures.left)
-    (subst (λ (o : Option ℕ). IsTurnedTo does 0 c.args.guests.now.items c.deref_mut-guest-items.result.now begun
-    (record { talk = c.args.talk.now; left = asked_most; asker = o })) (sym c.begin.ensures.asker)
+    (record { talk = c.args.talk.now; left = n; asker = c.args.asks.now.asker })) (sym c.begin.ensures)
     (turned_none does c.args.guests.now.items c.deref_mut-guest-items.result.now begun
-    c.deref_mut-guest-items.ensures.value))
+    c.deref_mut-guest-items.ensures.value)
 
 pub loop-guest-preserved : goal.loop-guest-preserved
 loop-guest-preserved g c =
@@ -37,6 +36,8 @@ returns g c =
     let does = IsPlayersTurn g.S.Read.remaining c.args.site.now c.args.at in
     let begun : Asking = record { talk = c.args.talk.now; left = asked_most; asker = c.args.asks.now.asker } in
     let last = room_of c.loop-guest.talk c.loop-guest.asks in
-    subst (λ (l : List (Guest g.row.S.Denot)). InTurn does guests.items l begun last) (sym same)
+    subst (λ (n : ℕ). InTurn does guests.items (with_items guests items).items begun
+    (record { talk = c.loop-guest.talk; left = n; asker = c.loop-guest.asks.asker })) (sym c.end-can_more.ensures)
+    (subst (λ (l : List (Guest g.row.S.Denot)). InTurn does guests.items l begun last) (sym same)
     (turned_all does c.loop-guest.guest-index guests.items items begun last
-    (omega (arith, c.loop-guest-test.false, c.loop-guest.auto.guest-items)) so_far)
+    (omega (arith, c.loop-guest-test.false, c.loop-guest.auto.guest-items)) so_far))

@@ -1,5 +1,6 @@
 -- What stands in front of what came of a browser's socket.
 use Rattle.std.specs.Prelude.{ℕ, Bool, List, [], ◌∷◌, ◌==◌, ◌&&◌, ◌||◌, if◌then◌else◌, nat_le, eqb, codes, bit_xor}
+use Rattle.std.specs.Prelude.{length, slice_index}
 use Rattle.std.specs.List.{starts_with}
 
 abbrev pub begins : List ℕ → List ℕ → Bool
@@ -25,17 +26,21 @@ is_brief text =
 abbrev pub is_short_text : ℕ → ℕ → Bool
 is_short_text first second = first == 129 && (nat_le 128 second && nat_le second 253)
 
-abbrev pub no_letters : List ℕ
-no_letters = 0 ∷ 0 ∷ 0 ∷ 0 ∷ 0 ∷ []
+-- a letter of the text at this place, under the byte of the mask at that one
+abbrev pub letter_at : List ℕ → ℕ → ℕ → ℕ
+letter_at bytes place mask = bit_xor (slice_index bytes place) (slice_index bytes mask)
 
--- The first five letters of the text in the first frame of these bytes, under the mask before them; zeros where that is
--- no such frame.
+-- Whether bytes begin with such a frame, of which the head has two bytes and the mask four, and with five of its text.
+abbrev pub has_letters : List ℕ → Bool
+has_letters bytes = nat_le 11 (length bytes) && is_short_text (slice_index bytes 0) (slice_index bytes 1)
+
+-- The first five letters of the text in the first frame of these bytes; zeros where that is no such frame.
 unfoldable pub letters : List ℕ → List ℕ
-letters (first ∷ second ∷ j ∷ k ∷ l ∷ m ∷ a ∷ b ∷ c ∷ d ∷ e ∷ rest) =
-    if is_short_text first second
-    then bit_xor a j ∷ bit_xor b k ∷ bit_xor c l ∷ bit_xor d m ∷ bit_xor e j ∷ []
-    else no_letters
-letters _ = no_letters
+letters bytes =
+    if has_letters bytes
+    then letter_at bytes 6 2 ∷ letter_at bytes 7 3 ∷ letter_at bytes 8 4 ∷ letter_at bytes 9 5
+    ∷ letter_at bytes 10 2 ∷ []
+    else 0 ∷ 0 ∷ 0 ∷ 0 ∷ 0 ∷ []
 
 -- whether the first frame is a message that begins as an act does, or as what asks for little
 abbrev pub has_act : List ℕ → Bool

@@ -1,6 +1,7 @@
 //! What stands in front of what came of a browser's socket.
-ghost use Rattle.std.specs.Prelude.{◌≡◌};
-ghost use Rattle.lobby_guests.specs.Front.{is_act, is_brief, is_short_text, letters, has_act, has_brief};
+ghost use Rattle.std.specs.Prelude.{◌≡◌, ◌<◌, length};
+ghost use Rattle.lobby_talk.specs.Front.{is_act, is_brief, is_short_text, letter_at, has_letters, letters};
+ghost use Rattle.lobby_talk.specs.Front.{has_act, has_brief};
 
 /// The first byte of a frame that is a whole text message, and the least and the most that the second one has where a
 /// mask stands behind it, and then at most 125 bytes (RFC 6455, 5.2).
@@ -9,6 +10,9 @@ const TEXT: u8 = 129;
 const SHORT_LEAST: u8 = 128;
 
 const SHORT_MOST: u8 = 253;
+
+/// Behind so many bytes its first five letters are there: the head has two, and the mask four.
+const LETTERS_END: usize = 11;
 
 // Whether a message is an act or a login, by how it begins.
 #[tactic(auto, unfolding(crate::specs::Front::is_act))]
@@ -51,17 +55,37 @@ fn is_short_text(first: u8, second: u8) -> bool
     first == TEXT && SHORT_LEAST <= second && second <= SHORT_MOST
 }
 
+// A letter of the text, under a byte of the mask.
+fn letter_at(unread: &[u8], place: usize, mask: usize) -> u8
+    requires place { place < length unread.now }
+    requires mask { mask < length unread.now }
+    ensures { result ≡ letter_at unread.now place mask }
+{
+    unread[place] ^ unread[mask]
+}
+
+// Whether what came begins with such a frame, and the first letters of its text are there.
+fn has_letters(unread: &[u8]) -> bool
+    ensures { result ≡ has_letters unread.now }
+{
+    unread.len() >= LETTERS_END && is_short_text(unread[0], unread[1])
+}
+
 // The first letters of the text in the first frame of what came; zeros where that is no such frame.
 #[tactic(auto, unfolding(crate::specs::Front::letters))]
 fn letters(unread: &[u8]) -> [u8; 5]
     ensures { result ≡ letters unread.now }
 {
-    match unread {
-        [first, second, j, k, l, m, a, b, c, d, e, ..] if is_short_text(*first, *second) => {
-            [a ^ j, b ^ k, c ^ l, d ^ m, e ^ j]
-        }
-        _ => [0; 5],
+    if !has_letters(unread) {
+        return [0; 5];
     }
+    [
+        letter_at(unread, 6, 2),
+        letter_at(unread, 7, 3),
+        letter_at(unread, 8, 4),
+        letter_at(unread, 9, 5),
+        letter_at(unread, 10, 2),
+    ]
 }
 
 /// Whether the first frame of what came is a message that begins as an act or a login does.
