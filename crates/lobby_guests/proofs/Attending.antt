@@ -1,10 +1,10 @@
 -- Who has its turn is attended, and to who has none nothing happens.
-use Rattle.std.proofs.Common.{◌≡◌, ℕ, ◌&&◌, Bool, true, false, List, [], ◌∷◌, Option, Some, None, inl, inr, refl, arith}
+use Rattle.std.proofs.Common.{◌≡◌, ℕ, ◌&&◌, Bool, true, false, List, [], ◌∷◌, Option, Some, None, inl, inr, refl, ap, arith}
 use Rattle.std.specs.Io.KnownBytes.{Consumes}
 use Rattle.lobby_web.specs.declared.site.Site.{Site}
 use Rattle.lobby_guests.specs.declared.guest.Guest.{Guest}
 use Rattle.lobby_talk.specs.declared.talk.Talk.{Talk}
-use Rattle.lobby_guests.specs.Guests.{InTurn, IsAttended, IsServedIf, IsPlayersTurn, IsOthersTurn, Room, has_time}
+use Rattle.lobby_guests.specs.Guests.{InTurn, IsAttended, IsHeard, IsPlayerHeard, IsServedIf, IsPlayersTurn, IsOthersTurn, Room, Asking, has_time}
 use Rattle.lobby_talk.specs.Talking.{acts_at}
 use Rattle.lobby_guests.proofs.EachGuest.{in_turn_as}
 
@@ -20,29 +20,45 @@ module _ {S : Type 0} (remaining : S → Option (List ℕ)) (site : Site) (at : 
     reads = record {
       number = refl;
       waits = refl;
+      key = refl;
       since = refl;
-      origin = λ not_proxy. refl;
+      logins = refl;
+      lost = inl refl;
       taken = [];
+      origin = inl (refl, refl);
       consumed = none_consumed (remaining old.stream);
       takes = inl (refl, refl);
     };
     hears = inr (same, still);
   }
 
-  served_if : (b : Bool) (old new : Guest S) (talk after : Talk) → IsServedIf b remaining site at old new talk after →
-      IsAttended remaining site at old new talk after
-  served_if true old new talk after served = served.attended
-  served_if false old new talk after (same, still) = left_alone old new talk after same still
+  -- who acts for a player is read for, and heard or put off
+  heard_or_not : (old new : Guest S) (room after : Asking) → IsPlayerHeard at old new room after → IsHeard at old new room.talk after.talk
+  heard_or_not old new room after (inl acts) = acts.heard.heard
+  heard_or_not old new room after (inr (inl brief)) = brief.heard.heard
+  heard_or_not old new room after (inr (inr (inl long))) = long.heard.heard
+  heard_or_not old new room after (inr (inr (inr off))) = inr (off.guest, ap (λ (r : Asking). r.talk) off.rest)
 
-  players_attended : (old new : Guest S) (talk after : Talk) → IsPlayersTurn remaining site at old new talk after →
-      IsAttended remaining site at old new talk after
-  players_attended old new talk after turn = served_if (acts_at talk.desk old.number && has_time at old.paid_until) old new talk after turn
+  served_if : (b : Bool) (old new : Guest S) (room after : Asking) → IsServedIf b remaining site at old new room after →
+      IsAttended remaining site at old new room.talk after.talk
+  served_if true old new room after served = record {
+    read = served.read;
+    reads = served.reads;
+    hears = heard_or_not served.read new room after served.hears;
+  }
+  served_if false old new room after (same, still) =
+      left_alone old new room.talk after.talk same (ap (λ (r : Asking). r.talk) still)
 
-  pub players_pass : (old new : List (Guest S)) (talk after : Talk) → InTurn (IsPlayersTurn remaining site at) old new talk after →
-      InTurn (IsAttended remaining site at) old new talk after
-  players_pass old new talk after turns =
-      in_turn_as (λ (t : Talk). t) (IsPlayersTurn remaining site at) (IsAttended remaining site at)
-      (λ x y a b one. players_attended x y a b one) old new talk after turns
+  players_attended : (old new : Guest S) (room after : Asking) → IsPlayersTurn remaining site at old new room after →
+      IsAttended remaining site at old new room.talk after.talk
+  players_attended old new room after turn =
+      served_if (acts_at room.talk.desk old.number && has_time at old.paid_until) old new room after turn
+
+  pub players_pass : (old new : List (Guest S)) (room after : Asking) → InTurn (IsPlayersTurn remaining site at) old new room after →
+      InTurn (IsAttended remaining site at) old new room.talk after.talk
+  players_pass old new room after turns =
+      in_turn_as (λ (r : Asking). r.talk) (IsPlayersTurn remaining site at) (IsAttended remaining site at)
+      (λ x y a b one. players_attended x y a b one) old new room after turns
 
   others_attended : (old new : Guest S) (room after : Room) → IsOthersTurn remaining site at old new room after →
       IsAttended remaining site at old new room.talk after.talk

@@ -1,5 +1,5 @@
 -- What waits in front is told.
-use Rattle.std.proofs.Common.{◌≡◌, ◌<◌, ◌≤◌, ◌∙◌, ℕ, Bool, true, false, List, [], ◌∷◌, ◌++◌, not, length, get_or, refl, ap, sym, subst, arith}
+use Rattle.std.proofs.Common.{◌≡◌, ◌<◌, ◌≤◌, ◌∙◌, ◌||◌, ℕ, Bool, true, false, List, [], ◌∷◌, not, length, get_or, refl, ap, sym, subst, arith}
 use Rattle.std.specs.List.{AllZip, remove}
 use Rattle.std.specs.String.{string_bytes}
 use Rattle.std.proofs.lemmas.Bool.{false≢true}
@@ -7,10 +7,13 @@ use Rattle.lobby_desk.specs.declared.telling.Message.{Message}
 use Rattle.lobby_talk.specs.Making.{IsOfLine}
 use Rattle.lobby_talk.specs.Counting.{is_for}
 use Rattle.lobby_talk.specs.declared.kept_answer.KeptAnswer.{KeptAnswer}
+use Rattle.websocket.specs.Content.{text as Text}
+use Rattle.lobby_web.specs.declared.browser.Browser.{Browser}
+use Rattle.lobby_web.specs.Browsing.{SaysTo}
 use Rattle.lobby_guests.specs.declared.guest.Guest.{Guest}
 use Rattle.lobby_guests.specs.declared.waiting.Waiting.{Waiting}
 use Rattle.lobby_guests.specs.Waiting.{is_line, must_wait, IsToldBy, AtLine, has_whole}
-use Rattle.lobby_guests.specs.Guests.{IsAsBefore, IsPutBehind, IsPassedOn, IsTold, IsNextTold, AreNextTold, IsFirst, IsCaughtUp, IsSaid}
+use Rattle.lobby_guests.specs.Guests.{IsSameVisit, IsStill, IsLeftAlone, NotesLogin, IsPassedOn, IsGivenIf, IsTold, IsFirst, IsCaughtUp, IsSaid, is_cut}
 
 -- the first, and the others
 pub first_there : {X : Type 0} (xs : List X) (d : X) → 0 < length xs → d ≡ get_or xs 0 d → xs ≡ d ∷ remove xs 0
@@ -60,44 +63,72 @@ told_answer waits one ones told answer is first same =
     (subst (λ (l : List ℕ). ∥ IsOfLine (string_bytes answer.pgn) l ∥₁) (sym same) answer.made)
 
 module _ {S : Type 0} where
+  same_visit : (guest : Guest S) → IsSameVisit guest guest
+  same_visit guest = record { key = refl; origin = refl; since = refl; heard = refl }
+
   -- nothing of a browser changes
-  pub same_guest : (guest : Guest S) → IsAsBefore guest guest
+  pub same_guest : (guest : Guest S) → IsLeftAlone guest guest
   same_guest guest = record {
-    number = refl;
-    stream = refl;
-    browser = refl;
-    waits = refl;
-    since = refl;
-    origin = refl;
-    paid = refl;
+    before = record {
+      still = record { number = refl; stream = refl; browser = refl; waits = refl; visit = same_visit guest };
+      paid = refl;
+      logins = refl;
+    };
+    lost = refl;
   }
 
-  pub caught_none : (guest : Guest S) → IsCaughtUp guest guest
-  caught_none guest = record { front = []; are = same_guest guest; at_line = λ at. at }
+  pub caught_none : (at : ℕ) (guest : Guest S) → IsCaughtUp at guest guest
+  caught_none at guest = record { front = []; are = refl; at_line = λ so. so }
 
-  pub all_caught_none : (guests : List (Guest S)) → AllZip IsCaughtUp guests guests
-  all_caught_none [] = tt
-  all_caught_none (guest ∷ guests) = (caught_none guest, all_caught_none guests)
+  pub all_caught_none : (at : ℕ) (guests : List (Guest S)) → AllZip (IsCaughtUp at) guests guests
+  all_caught_none at [] = tt
+  all_caught_none at (guest ∷ guests) = (caught_none at guest, all_caught_none at guests)
 
-  -- a message waits, of a browser of which nothing else changed before
-  pub told_put : (made : Message) (old mid new : Guest S) → IsAsBefore old mid → is_for old.number made.to.items ≡ true →
-      must_wait mid.waits.items made.kind ≡ true → IsPutBehind made mid new → IsTold made old new
-  told_put made old mid new same for_it must put =
-      let here : must_wait old.waits.items made.kind ≡ true = ap (λ v. must_wait v.items made.kind) (sym same.waits) ∙ must in
-      record {
-        number = put.number ∙ same.number;
-        stream = put.stream ∙ same.stream;
-        since = put.since ∙ same.since;
-        origin = put.origin ∙ same.origin;
-        passed = subst (λ (b : Bool). IsPassedOn b (must_wait old.waits.items made.kind) made old new) (sym for_it)
-            (subst (λ (b : Bool). IsPassedOn true b made old new) (sym here) (record {
-              number = put.number ∙ same.number;
-              stream = put.stream ∙ same.stream;
-              browser = put.browser ∙ same.browser;
-              since = put.since ∙ same.since;
-              origin = put.origin ∙ same.origin;
-              one = put.one;
-              copy = put.copy;
-              waits = put.waits ∙ ap (λ v. v.items ++ put.one ∷ []) same.waits;
-            }));
-      }
+  pub visit_twice : (old mid new : Guest S) → IsSameVisit old mid → IsSameVisit mid new → IsSameVisit old new
+  visit_twice old mid new one next = record {
+    key = next.key ∙ one.key;
+    origin = next.origin ∙ one.origin;
+    since = next.since ∙ one.since;
+    heard = next.heard ∙ one.heard;
+  }
+
+  -- a text is said to a browser of which nothing else changed before but what waits
+  pub said_from : (text : List ℕ) (old mid new : Guest S) → mid.number ≡ old.number → mid.stream ≡ old.stream →
+      mid.browser ≡ old.browser → IsSameVisit old mid → mid.logins_until ≡ old.logins_until → mid.is_lost ≡ old.is_lost →
+      IsSaid text mid new → IsSaid text old new
+  said_from text old mid new number stream browser visit logins lost said = record {
+    number = said.number ∙ number;
+    stream = said.stream ∙ stream;
+    visit = visit_twice old mid new visit said.visit;
+    logins = said.logins ∙ logins;
+    answer = said.answer;
+    says = subst (λ (b : Browser). SaysTo (Text text) b.stage new.browser.stage said.answer) browser said.says;
+    lost = said.lost ∙ ap (λ (b : Bool). is_cut said.answer || b) lost;
+  }
+
+  -- and then nothing changes but what of its time is taken
+  pub said_on : (text : List ℕ) (old mid new : Guest S) → IsSaid text old mid → IsStill mid new → new.logins_until ≡ mid.logins_until →
+      new.is_lost ≡ mid.is_lost → IsSaid text old new
+  said_on text old mid new said still logins lost = record {
+    number = still.number ∙ said.number;
+    stream = still.stream ∙ said.stream;
+    visit = visit_twice old mid new said.visit still.visit;
+    logins = logins ∙ said.logins;
+    answer = said.answer;
+    says = subst (λ (b : Browser). SaysTo (Text text) old.browser.stage b.stage said.answer) (sym still.browser) said.says;
+    lost = lost ∙ said.lost;
+  }
+
+  -- a message that is for it is passed on, where it was noted whether that refuses a login
+  pub told_on : (at : ℕ) (made : Message) (old mid new : Guest S) → NotesLogin at (string_bytes made.text) old mid →
+      is_for old.number made.to.items ≡ true → (waits : Bool) → must_wait mid.waits.items made.kind ≡ waits →
+      IsPassedOn waits at made mid new → new.number ≡ mid.number → IsTold at made old new
+  told_on at made old mid new notes for_it waits is passed number = record {
+    number = number ∙ notes.still.number;
+    given = subst (λ (b : Bool). IsGivenIf b at made old new) (sym for_it) (record {
+      noted = mid;
+      notes = notes;
+      passed = subst (λ (b : Bool). IsPassedOn b at made mid new)
+          (sym (ap (λ v. must_wait v.items made.kind) (sym notes.still.waits) ∙ is)) passed;
+    });
+  }

@@ -4,6 +4,6 @@ pub mod Telling
 pub mod Due
 pub mod Owing
 mod Wanted
-mod Catching
+pub mod Catching
 mod Waking
 mod Writing

@@ -9,20 +9,20 @@ use Rattle.lobby_guests.specs.Guests.{IsTold, AreTold}
 use Rattle.lobby_talk.specs.Counting.{one_if, counted_up, refuses, refusals_of}
 
 -- What the rest of them make of a browser now, all of them make of it as it was.
-abbrev pub IsToldTo : {S : Type 0} → ℕ → List Message → Guest S → Guest S → Type 0
-IsToldTo {S} i made old now = (new : Guest S) → AreTold (drop i made) now new → AreTold made old new
+abbrev pub IsToldTo : {S : Type 0} → ℕ → ℕ → List Message → Guest S → Guest S → Type 0
+IsToldTo {S} at i made old now = (new : Guest S) → AreTold at (drop i made) now new → AreTold at made old new
 
-module _ {S : Type 0} where
+module _ {S : Type 0} (at : ℕ) where
   pub told_further : (i : ℕ) (made : List Message) (d : Message) (old now next : Guest S) → i < length made →
-      IsToldTo i made old now → IsTold (get_or made i d) now next → IsToldTo (i + 1) made old next
+      IsToldTo at i made old now → IsTold at (get_or made i d) now next → IsToldTo at (i + 1) made old next
   told_further i made d old now next lt so_far one = λ new are.
-      so_far new (subst (λ (l : List Message). AreTold l now new) (sym (drop-cons made i d lt))
-      (next, one, subst (λ (n : ℕ). AreTold (drop n made) next new) (add-one i) are))
+      so_far new (subst (λ (l : List Message). AreTold at l now new) (sym (drop-cons made i d lt))
+      (next, one, subst (λ (n : ℕ). AreTold at (drop n made) next new) (add-one i) are))
 
-  pub told_all : (i : ℕ) (made : List Message) (old now : Guest S) → length made ≤ i → IsToldTo i made old now →
-      AreTold made old now
+  pub told_all : (i : ℕ) (made : List Message) (old now : Guest S) → length made ≤ i → IsToldTo at i made old now →
+      AreTold at made old now
   told_all i made old now le so_far =
-      so_far now (subst (λ (l : List Message). AreTold l now now) (sym (drop_all i made le)) refl)
+      so_far now (subst (λ (l : List Message). AreTold at l now now) (sym (drop_all i made le)) refl)
 
 no_more : (n : ℕ) → n ≡ n + 0
 no_more n = omega arith

@@ -17,9 +17,10 @@ module _ {S : Type 0} (contents : S → Option (List ℕ)) (site : Site) where
   unwritten guest = record {
     number = refl;
     waits = refl;
-    since = refl;
-    origin = refl;
+    visit = record { key = refl; origin = refl; since = refl; heard = refl };
     paid = refl;
+    logins = refl;
+    lost = inl refl;
     count = 0;
     within = omega arith;
     few = omega arith;

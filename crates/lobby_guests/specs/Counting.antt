@@ -4,6 +4,7 @@ use Rattle.std.specs.List.{AllZip, sum_by}
 use Rattle.lobby_desk.specs.declared.telling.Message.{Message}
 use Rattle.lobby_guests.specs.declared.guest.Guest.{Guest}
 use Rattle.lobby_talk.specs.Counting.{counted_up, refusals_of}
+use Rattle.lobby_talk.specs.declared.counts.Counts.{Counts}
 use Rattle.lobby_talk.specs.declared.kept_answer.KeptAnswer.{KeptAnswer}
 use Rattle.lobby_talk.specs.Keeping.{IsMadeOf}
 
@@ -17,3 +18,8 @@ pub record CountsLogins {S : Type 0} (kept : List KeptAnswer) (told : List Messa
   pub made : List Message
   pub are_made : AllZip (IsMadeOf kept) told made
   pub counted : new ≡ counted_up old (refusals_in made guests)
+
+-- Nothing is counted of logins, and it is the same moment.
+pub record CountsNoLogin (old new : Counts) : Type 0 where
+  pub at : new.at ≡ old.at
+  pub logins : new.logins_refused ≡ old.logins_refused

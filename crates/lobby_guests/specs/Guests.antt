@@ -1,8 +1,8 @@
 -- What happens at a browser's connection.
-use Rattle.std.specs.Prelude.{ℕ, ◌≡◌, ◌≢◌, ◌≤◌, ◌<◌, ◌+◌, ◌-◌, ◌/◌, ◌^◌, ◌⊎◌, ◌&&◌, ◌||◌, ◌==◌, nat_le, nat_lt}
-use Rattle.std.specs.Prelude.{min, max, Bool, true, false, not}
-use Rattle.std.specs.Prelude.{count_by, if◌then◌else◌, is_some, List, [], ◌∷◌, ◌++◌, Option, None, Some, Result}
-use Rattle.std.specs.Prelude.{length, take, filter}
+use Rattle.std.specs.Prelude.{ℕ, ◌≡◌, ◌≢◌, ◌≤◌, ◌<◌, ◌+◌, ◌-◌, ◌/◌, ◌^◌, ◌⊎◌, ◌↔◌, ◌&&◌, ◌||◌, ◌==◌}
+use Rattle.std.specs.Prelude.{nat_le, nat_lt, min, max, Bool, true, false, not}
+use Rattle.std.specs.Prelude.{count_by, if◌then◌else◌, is_some, List, [], ◌∷◌, ◌++◌, Option, None, Some}
+use Rattle.std.specs.Prelude.{length, take, filter, Result, Ok, Err, is_err}
 use Rattle.std.specs.List.{AllZip}
 use Rattle.std.specs.Io.KnownBytes.{Consumes, Appends}
 use Rattle.std.specs.String.{string_bytes}
@@ -11,14 +11,16 @@ use Rattle.lobby_desk.specs.declared.telling.Message.{Message}
 use Rattle.lobby_desk.specs.Events.{Closed}
 use Rattle.lobby_desk.specs.declared.desk.Desk.{Desk}
 use Rattle.lobby_desk.specs.Who.{IsReady}
-use Rattle.lobby_web.specs.declared.browser.Browser.{Browser}
 use Rattle.lobby_web.specs.declared.site.Site.{Site}
 use Rattle.lobby_web.specs.declared.socket.Heard.{Heard}
 use Rattle.lobby_web.specs.declared.socket.Heard.TheVariants as heards
 use Rattle.lobby_web.specs.declared.socket.Unsaid.{Unsaid}
-use Rattle.lobby_web.specs.Browsing.{IsNew, pending, WantsBytes, Takes, HearsNext, SaysTo, Writes}
+use Rattle.lobby_web.specs.declared.socket.Unsaid.TheVariants as unsaids
+use Rattle.lobby_web.specs.Browsing.{IsNew, IsOver, pending, unread, WantsBytes, Takes, HearsNext, SaysTo, Writes}
+use Rattle.lobby_talk.specs.Front.{has_act, has_brief}
 use Rattle.lobby_guests.specs.declared.guest.Guest.{Guest}
 use Rattle.lobby_guests.specs.declared.origin.Origin.{Origin}
+use Rattle.lobby_guests.specs.Origins.{IsToldOrigin}
 use Rattle.lobby_talk.specs.declared.talk.Talk.{Talk}
 use Rattle.lobby_talk.specs.Talking.{Moves, Opens, IsTextSaid, acts_at}
 use Rattle.lobby_talk.specs.Counting.{is_for, is_answer, refuses_login}
@@ -44,20 +46,13 @@ pub record ComesFrom {S : Type 0} (key : ℕ) (origin : Origin) (at : ℕ) (gues
   pub stays : guest.is_lost ≡ false
   pub unpaid : (guest.paid_until ≡ 0) × (guest.logins_until ≡ 0)
 
--- The time of a nameless one counts from when it did, and it counts for the address for which it did.
+-- It has the name and comes from where it did, its time as a nameless one counts from when that did, and something came
+-- of it last when it did.
 pub record IsSameVisit {S : Type 0} (old new : Guest S) : Type 0 where
-  pub since : new.since ≡ old.since
+  pub key : new.key ≡ old.key
   pub origin : new.origin ≡ old.origin
-
--- Nothing came, nothing went, and nothing of its time was taken.
-pub record IsAsBefore {S : Type 0} (old new : Guest S) : Type 0 where
-  pub number : new.number ≡ old.number
-  pub stream : new.stream ≡ old.stream
-  pub browser : new.browser ≡ old.browser
-  pub waits : new.waits ≡ old.waits
   pub since : new.since ≡ old.since
-  pub origin : new.origin ≡ old.origin
-  pub paid : new.paid_until ≡ old.paid_until
+  pub heard : new.heard_at ≡ old.heard_at
 
 -- Nothing came, and nothing went.
 pub record IsStill {S : Type 0} (old new : Guest S) : Type 0 where
@@ -65,19 +60,41 @@ pub record IsStill {S : Type 0} (old new : Guest S) : Type 0 where
   pub stream : new.stream ≡ old.stream
   pub browser : new.browser ≡ old.browser
   pub waits : new.waits ≡ old.waits
-  pub since : new.since ≡ old.since
-  pub origin : new.origin ≡ old.origin
+  pub visit : IsSameVisit old new
+
+-- Nor was anything of its time taken.
+pub record IsAsBefore {S : Type 0} (old new : Guest S) : Type 0 where
+  pub still : IsStill old new
+  pub paid : new.paid_until ≡ old.paid_until
+  pub logins : new.logins_until ≡ old.logins_until
+
+-- And it is to be closed just where it was.
+pub record IsLeftAlone {S : Type 0} (old new : Guest S) : Type 0 where
+  pub before : IsAsBefore old new
+  pub lost : new.is_lost ≡ old.is_lost
+
+-- It is to be closed just where it was; or its socket has failed, of which its connection is not told.
+abbrev pub MayFail : {S : Type 0} → Guest S → Guest S → Type 0
+MayFail old new = (new.is_lost ≡ old.is_lost) ⊎ (new.is_lost ≡ true) × (new.browser ≡ old.browser)
+
+-- It is to be closed where it was.
+abbrev pub StaysLost : {S : Type 0} → Guest S → Guest S → Type 0
+StaysLost old new = old.is_lost ≡ true → new.is_lost ≡ true
 
 -- ---- what comes
 
 -- Bytes came of a browser's socket where they are wanted, and its connection takes them; none where it is told that no
--- more come. Or nothing came. For another address it counts only where it is the trusted proxy's, which tells one.
+-- more come. Or nothing came, and it may have failed. For another address it counts just where it is the trusted
+-- proxy's, which tells one.
 pub record IsRead {S : Type 0} (remaining : S → Option (List ℕ)) (site : Site) (old new : Guest S) : Type 0 where
   pub number : new.number ≡ old.number
   pub waits : new.waits ≡ old.waits
+  pub key : new.key ≡ old.key
   pub since : new.since ≡ old.since
-  pub origin : old.origin.is_proxy ≡ false → new.origin ≡ old.origin
+  pub logins : new.logins_until ≡ old.logins_until
+  pub lost : MayFail old new
   pub taken : List ℕ
+  pub origin : (taken ≡ []) × (new.origin ≡ old.origin) ⊎ IsToldOrigin new.browser.forwarded old.origin new.origin
   pub consumed : Consumes (remaining old.stream) (remaining new.stream) taken
   pub takes : (new.browser ≡ old.browser) × (taken ≡ [])
       ⊎ WantsBytes old.browser.stage × Takes site taken old.browser.stage new.browser.stage
@@ -92,6 +109,14 @@ IsHeardAs (Some heards.Opened) at (Some c) after old new = (after ≡ Some c) ×
 IsHeardAs (Some (heards.Text text)) at None after old new = (after ≡ None) × (new ≡ old)
 IsHeardAs (Some (heards.Text text)) at (Some c) after old new = (after ≡ Some c) × IsTextSaid text.items c at old new
 
+-- whether a socket gave a text before that it is open, or that twice: it is to be closed then
+abbrev pub is_untimely : Option Heard → Option ℕ → Bool
+is_untimely None number = false
+is_untimely (Some heards.Opened) None = false
+is_untimely (Some heards.Opened) (Some c) = true
+is_untimely (Some (heards.Text text)) None = true
+is_untimely (Some (heards.Text text)) (Some c) = false
+
 -- A browser's socket is asked what came next, and the desk is told that. Where something came, more may have come.
 pub record IsAsked {S : Type 0} (at : ℕ) (old new : Guest S) (talk after : Talk) : Type 0 where
   pub heard : Option Heard
@@ -99,8 +124,9 @@ pub record IsAsked {S : Type 0} (at : ℕ) (old new : Guest S) (talk after : Tal
   pub told : IsHeardAs heard at old.number new.number talk after
   pub stream : new.stream ≡ old.stream
   pub waits : new.waits ≡ old.waits
-  pub since : new.since ≡ old.since
-  pub origin : new.origin ≡ old.origin
+  pub visit : IsSameVisit old new
+  pub logins : new.logins_until ≡ old.logins_until
+  pub lost : new.is_lost ≡ (is_untimely heard old.number || old.is_lost)
   pub more : is_some heard ≡ true → new.has_more ≡ old.has_more
 
 -- It is asked, or not: then nothing changes.
@@ -131,8 +157,8 @@ paid_for at text until = if is_answer text then taken_until at until (length tex
 abbrev pub paid_after : ℕ → ℕ → ℕ → ℕ
 paid_after at until count = if count == 0 then until else taken_until at until (1 + count / 40)
 
--- At most 1,024 bytes of one are read, for which its time is taken, and which are then to be heard; of one that acts
--- for nobody none while something of it may wait to be heard.
+-- At most 1,024 bytes of one are read, for which its time is taken, and which are then to be heard; that moment is the
+-- last at which something came of it. Of one that acts for nobody none are while something of it may wait to be heard.
 pub record IsPaid {S : Type 0} (remaining : S → Option (List ℕ)) (acts : Bool) (at : ℕ)
     (old new : Guest S) : Type 0 where
   pub taken : List ℕ
@@ -140,6 +166,7 @@ pub record IsPaid {S : Type 0} (remaining : S → Option (List ℕ)) (acts : Boo
   pub few : length taken ≤ 1024
   pub waits : acts ≡ false → old.has_more ≡ true → length taken ≡ 0
   pub paid : new.paid_until ≡ paid_after at old.paid_until (length taken)
+  pub heard : new.heard_at ≡ (if length taken == 0 then old.heard_at else at)
   pub more : (length taken ≡ 0) ⊎ (new.has_more ≡ true)
   pub keeps : old.has_more ≡ true → new.has_more ≡ true
 
@@ -181,15 +208,80 @@ InTurn {A = A} {B = B} does (one ∷ ones) after old new =
 abbrev pub has_time : ℕ → ℕ → Bool
 has_time at until = nat_le (until - at) 10000
 
--- Who acts for a player and has time is served, and nothing is done to anybody else.
-abbrev pub IsServedIf : {S : Type 0} → Bool → (S → Option (List ℕ)) → Site → ℕ → Guest S → Guest S → Talk → Talk
-    → Type 0
-IsServedIf true remaining site at old new talk after = IsServed remaining site at old new talk after
-IsServedIf false remaining site at old new talk after = (new ≡ old) × (after ≡ talk)
+-- what players may still ask in a turn that is no act: so many more messages are taken, over all connections; and whose
+-- was taken last that may ask for much, by its number at the desk
+pub record Asking : Type 0 where
+  pub talk : Talk
+  pub left : ℕ
+  pub asker : Option ℕ
 
-abbrev pub IsPlayersTurn : {S : Type 0} → (S → Option (List ℕ)) → Site → ℕ → Guest S → Guest S → Talk → Talk → Type 0
-IsPlayersTurn remaining site at old new talk after =
-    IsServedIf (acts_at talk.desk old.number && has_time at old.paid_until) remaining site at old new talk after
+-- So many are taken in a turn at most.
+abbrev pub asked_most : ℕ
+asked_most = 8
+
+-- Nothing is owed to the connection that asked last, or it acts for nobody any more, as where it is gone.
+abbrev pub IsAnswered : Desk → Option ℕ → Type 0
+IsAnswered desk None = Unit {0}
+IsAnswered desk (Some c) = (acts_at desk (Some c) ≡ false) ⊎ IsReady desk c
+
+-- Its socket is asked what came next, where it may be.
+pub record IsHeardNow {S : Type 0} (at : ℕ) (old new : Guest S) (talk after : Talk) : Type 0 where
+  pub heard : IsHeard at old new talk after
+  pub asks : old.is_lost ≡ false → old.waits.items ≡ [] → MaySpeak talk.desk old.number → IsAsked at old new talk after
+  pub waits : length old.waits.items ≢ 0 → (new ≡ old) × (after ≡ talk)
+  pub owes : new.paid_until ≡ owed_after old.number new.number old.paid_until
+
+-- An act that stands in front of what came of one is heard at once.
+pub record IsActing {S : Type 0} (at : ℕ) (old new : Guest S) (room after : Asking) : Type 0 where
+  pub act : has_act (unread old.browser.stage) ≡ true
+  pub heard : IsHeardNow at old new room.talk after.talk
+  pub left : after.left ≡ room.left
+  pub asker : after.asker ≡ room.asker
+
+-- All else takes a turn that is left: what asks for little, and
+pub record IsBrief {S : Type 0} (at : ℕ) (old new : Guest S) (room after : Asking) : Type 0 where
+  pub brief : has_brief (unread old.browser.stage) ≡ true
+  pub heard : IsHeardNow at old new room.talk after.talk
+  pub takes : after.left < room.left
+  pub asker : after.asker ≡ room.asker
+
+-- what may ask for much, where the last such is answered; nobody behind it asks in the turn.
+pub record IsLong {S : Type 0} (at : ℕ) (old new : Guest S) (room after : Asking) : Type 0 where
+  pub answered : IsAnswered room.talk.desk room.asker
+  pub heard : IsHeardNow at old new room.talk after.talk
+  pub some : 0 < room.left
+  pub last : after.left ≡ 0
+  pub asker : after.asker ≡ old.number
+
+-- Or it stays where it is.
+pub record IsPutOff {S : Type 0} (old new : Guest S) (room after : Asking) : Type 0 where
+  pub other : has_act (unread old.browser.stage) ≡ false
+  pub guest : new ≡ old
+  pub rest : after ≡ room
+
+abbrev pub IsPlayerHeard : {S : Type 0} → ℕ → Guest S → Guest S → Asking → Asking → Type 0
+IsPlayerHeard at old new room after =
+    IsActing at old new room after ⊎ IsBrief at old new room after ⊎ IsLong at old new room after
+    ⊎ IsPutOff old new room after
+
+-- It is read for, and heard.
+pub record IsPlayerServed {S : Type 0} (remaining : S → Option (List ℕ)) (site : Site) (at : ℕ)
+    (old new : Guest S) (room after : Asking) : Type 0 where
+  pub read : Guest S
+  pub reads : IsRead remaining site old read
+  pub pays : IsPaid remaining true at old read
+  pub hears : IsPlayerHeard at read new room after
+
+-- Who acts for a player and has time is served, and nothing is done to anybody else.
+abbrev pub IsServedIf : {S : Type 0} → Bool → (S → Option (List ℕ)) → Site → ℕ → Guest S → Guest S → Asking → Asking
+    → Type 0
+IsServedIf true remaining site at old new room after = IsPlayerServed remaining site at old new room after
+IsServedIf false remaining site at old new room after = (new ≡ old) × (after ≡ room)
+
+abbrev pub IsPlayersTurn : {S : Type 0} → (S → Option (List ℕ)) → Site → ℕ → Guest S → Guest S → Asking → Asking
+    → Type 0
+IsPlayersTurn remaining site at old new room after =
+    IsServedIf (acts_at room.talk.desk old.number && has_time at old.paid_until) remaining site at old new room after
 
 -- The same of one that acts for nobody, one second.
 abbrev pub is_in_time : ℕ → ℕ → Bool
@@ -270,75 +362,112 @@ is_crowded guests = nat_lt others_most (count_by is_unheard guests)
 abbrev pub full_room : Talk → Room
 full_room talk = record { talk = talk; left = others_most }
 
--- In a turn players are served first, each of them; and then some of those who act for nobody.
+-- In a turn players are served first, each of them, and of what they ask that is no act so much is taken; and then some
+-- of those who act for nobody are.
 pub record AreAttended {S : Type 0} (remaining : S → Option (List ℕ)) (site : Site) (at : ℕ) (old new : List (Guest S))
     (talk after : Talk) : Type 0 where
+  pub asker : Option ℕ
   pub first : List (Guest S)
-  pub said : Talk
-  pub players : InTurn (IsPlayersTurn remaining site at) old first talk said
+  pub said : Asking
+  pub players : InTurn (IsPlayersTurn remaining site at) old first
+      (record { talk = talk; left = asked_most; asker = asker }) said
   pub last : Room
-  pub others : InTurn (IsOthersTurn remaining site at) first new (full_room said) last
+  pub others : InTurn (IsOthersTurn remaining site at) first new (full_room said.talk) last
   pub after_is : after ≡ last.talk
 
 -- Of those who act for nobody nobody is attended.
 abbrev pub LeavesOthers : {S : Type 0} → {remaining : S → Option (List ℕ)} → {site : Site} → {at : ℕ}
     → {old new : List (Guest S)} → {talk after : Talk} → AreAttended remaining site at old new talk after → Type 0
-LeavesOthers {new = new} {after = after} attended = (new ≡ attended.first) × (after ≡ attended.said)
+LeavesOthers {new = new} {after = after} attended = (new ≡ attended.first) × (after ≡ attended.said.talk)
+
+-- It is known who asked for much last.
+abbrev pub KnowsAsker : {S : Type 0} → {remaining : S → Option (List ℕ)} → {site : Site} → {at : ℕ}
+    → {old new : List (Guest S)} → {talk after : Talk} → Option ℕ → Option ℕ
+    → AreAttended remaining site at old new talk after → Type 0
+KnowsAsker before behind attended = (attended.asker ≡ before) × (behind ≡ attended.said.asker)
 
 -- ---- what goes
 
--- The text is said to a browser, as one frame; or it is not, for a reason.
-abbrev pub IsSaid : List ℕ → Browser → Browser → Type 0
-IsSaid text old new = (answer : Result (Unit {0}) Unsaid) × SaysTo (Text text) old.stage new.stage answer
+-- whether a browser is to be closed to which something was said: too much waits for it, or memory was refused
+abbrev pub is_cut : Result (Unit {0}) Unsaid → Bool
+is_cut (Ok said) = false
+is_cut (Err unsaids.NotOpen) = false
+is_cut (Err unsaids.NotText) = false
+is_cut (Err unsaids.Slow) = true
+is_cut (Err unsaids.Memory) = true
 
--- The message waits behind what does.
+-- The text is said to a browser, as one frame; or it is not, for a reason.
+pub record IsSaid {S : Type 0} (text : List ℕ) (old new : Guest S) : Type 0 where
+  pub number : new.number ≡ old.number
+  pub stream : new.stream ≡ old.stream
+  pub visit : IsSameVisit old new
+  pub logins : new.logins_until ≡ old.logins_until
+  pub answer : Result (Unit {0}) Unsaid
+  pub says : SaysTo (Text text) old.browser.stage new.browser.stage answer
+  pub lost : new.is_lost ≡ (is_cut answer || old.is_lost)
+
+-- The message waits behind what does. One for which more than 1,024 wait is to be closed.
 pub record IsPutBehind {S : Type 0} (made : Message) (old new : Guest S) : Type 0 where
   pub number : new.number ≡ old.number
   pub stream : new.stream ≡ old.stream
   pub browser : new.browser ≡ old.browser
-  pub since : new.since ≡ old.since
-  pub origin : new.origin ≡ old.origin
+  pub visit : IsSameVisit old new
+  pub paid : new.paid_until ≡ old.paid_until
+  pub logins : new.logins_until ≡ old.logins_until
+  pub lost : new.is_lost ≡ (nat_lt 1024 (length new.waits.items) || old.is_lost)
   pub one : Waiting
   pub copy : IsCopyOf made one
   pub waits : new.waits.items ≡ old.waits.items ++ one ∷ []
 
--- A message is passed on where it is for the browser: it is said to it, or has to wait.
-abbrev pub IsPassedOn : {S : Type 0} → Bool → Bool → Message → Guest S → Guest S → Type 0
-IsPassedOn false waits made old new = (new.browser ≡ old.browser) × (new.waits ≡ old.waits)
-IsPassedOn true false made old new =
-    IsSaid (string_bytes made.text) old.browser new.browser × (new.waits ≡ old.waits)
-IsPassedOn true true made old new = IsPutBehind made old new
+-- Where this text refuses a login of it, its time is taken for that; it is to be closed where that is one too many.
+pub record NotesLogin {S : Type 0} (at : ℕ) (text : List ℕ) (old new : Guest S) : Type 0 where
+  pub still : IsStill old new
+  pub paid : new.paid_until ≡ old.paid_until
+  pub logins : new.logins_until ≡ logins_after at text old.logins_until
+  pub lost : new.is_lost ≡ (old.is_lost || (refuses_login text && is_beyond at old.logins_until))
 
--- A browser is told a message if it is for its connection, and else nothing. Where something waits for it, or the
--- message's answer is not there yet, the message waits behind that.
-pub record IsTold {S : Type 0} (made : Message) (old new : Guest S) : Type 0 where
+-- A message that is for it is said to it, and its time is taken where that is an answer; or the message has to wait.
+abbrev pub IsPassedOn : {S : Type 0} → Bool → ℕ → Message → Guest S → Guest S → Type 0
+IsPassedOn false at made old new =
+    IsSaid (string_bytes made.text) old new × (new.waits ≡ old.waits)
+    × (new.paid_until ≡ paid_for at (string_bytes made.text) old.paid_until)
+IsPassedOn true at made old new = IsPutBehind made old new
+
+-- It is noted where a message that is for it refuses a login, and then that is passed on. Where something waits for it,
+-- or the message's answer is not there yet, the message waits behind that.
+pub record IsGiven {S : Type 0} (at : ℕ) (made : Message) (old new : Guest S) : Type 0 where
+  pub noted : Guest S
+  pub notes : NotesLogin at (string_bytes made.text) old noted
+  pub passed : IsPassedOn (must_wait old.waits.items made.kind) at made noted new
+
+abbrev pub IsGivenIf : {S : Type 0} → Bool → ℕ → Message → Guest S → Guest S → Type 0
+IsGivenIf false at made old new = new ≡ old
+IsGivenIf true at made old new = IsGiven at made old new
+
+-- A browser is told a message at a moment if it is for its connection, and else nothing.
+pub record IsTold {S : Type 0} (at : ℕ) (made : Message) (old new : Guest S) : Type 0 where
   pub number : new.number ≡ old.number
-  pub stream : new.stream ≡ old.stream
-  pub since : new.since ≡ old.since
-  pub origin : new.origin ≡ old.origin
-  pub passed : IsPassedOn (is_for old.number made.to.items) (must_wait old.waits.items made.kind) made old new
+  pub given : IsGivenIf (is_for old.number made.to.items) at made old new
 
 -- all of these, in their order
-abbrev pub AreTold : {S : Type 0} → List Message → Guest S → Guest S → Type 0
-AreTold [] old new = new ≡ old
-AreTold {S = S} (one ∷ made) old new = (between : Guest S) × IsTold one old between × AreTold made between new
+abbrev pub AreTold : {S : Type 0} → ℕ → List Message → Guest S → Guest S → Type 0
+AreTold at [] old new = new ≡ old
+AreTold {S = S} at (one ∷ made) old new =
+    (between : Guest S) × IsTold at one old between × AreTold at made between new
 
--- The first message that waits is told, by the answer that is there now or as it is.
-pub record IsNextTold {S : Type 0} (one : Waiting) (old new : Guest S) : Type 0 where
-  pub number : new.number ≡ old.number
-  pub stream : new.stream ≡ old.stream
-  pub since : new.since ≡ old.since
-  pub origin : new.origin ≡ old.origin
+-- The first message that waits is told, by the answer that is there now or as it is, and its time is taken for that.
+pub record IsNextTold {S : Type 0} (at : ℕ) (one : Waiting) (old new : Guest S) : Type 0 where
   pub first : old.waits.items ≡ one ∷ new.waits.items
   pub text : List ℕ
   pub told : IsToldBy (is_line one.kind) (string_bytes one.text) text
-  pub said : IsSaid text old.browser new.browser
+  pub said : IsSaid text old new
+  pub paid : new.paid_until ≡ paid_for at text old.paid_until
 
 -- These in front are told, the last first; the others wait.
-abbrev pub AreNextTold : {S : Type 0} → List Waiting → Guest S → Guest S → Type 0
-AreNextTold [] old new = IsAsBefore old new
-AreNextTold {S = S} (one ∷ before) old new =
-    (between : Guest S) × AreNextTold before old between × IsNextTold one between new
+abbrev pub AreNextTold : {S : Type 0} → ℕ → List Waiting → Guest S → Guest S → Type 0
+AreNextTold at [] old new = new ≡ old
+AreNextTold {S = S} at (one ∷ before) old new =
+    (between : Guest S) × AreNextTold at before old between × IsNextTold at one between new
 
 -- The first that waits is what this answer was made of.
 abbrev pub IsFirst : KeptAnswer → List Waiting → Type 0
@@ -346,9 +475,9 @@ IsFirst answer [] = ⊥
 IsFirst answer (one ∷ ones) = (is_line one.kind ≡ true) × (string_bytes one.text ≡ string_bytes answer.pgn)
 
 -- A browser is told some of what waits for it, in front.
-pub record IsCaughtUp {S : Type 0} (old new : Guest S) : Type 0 where
+pub record IsCaughtUp {S : Type 0} (at : ℕ) (old new : Guest S) : Type 0 where
   pub front : List Waiting
-  pub are : AreNextTold front old new
+  pub are : AreNextTold at front old new
   pub at_line : AtLine old.waits.items → AtLine new.waits.items
 
 -- the text of the first that waits for the first of these browsers for which something does
@@ -360,26 +489,27 @@ first_wanted (guest ∷ guests) = first_of (wanted guest.waits.items) (first_wan
 abbrev pub has_waiting : {S : Type 0} → List (Guest S) → Talk → Bool
 has_waiting guests talk = is_some talk.replay || is_some (first_wanted guests)
 
--- Each browser is told those of these messages that are for its connection, whole and in their order, as they go out;
--- but behind an answer that is not there yet they wait. Then some are told what waited for an answer, and what stands
--- behind it, up to the next such. One whose socket may say nothing is told nothing, and one for which there is no room
--- or memory has its socket ended.
-pub record AreDelivered {S : Type 0} (kept : List KeptAnswer) (told : List Message)
+-- At a moment each browser is told those of these messages that are for its connection, whole and in their order, as
+-- they go out; but behind an answer that is not there yet they wait. Then some are told what waited for an answer, and
+-- what stands behind it, up to the next such. One whose socket may say nothing is told nothing, and one for which there
+-- is no room or memory has its socket ended.
+pub record AreDelivered {S : Type 0} (at : ℕ) (kept : List KeptAnswer) (told : List Message)
     (old new : List (Guest S)) : Type 0 where
   pub made : List Message
   pub are_made : AllZip (IsMadeOf kept) told made
   pub first : List (Guest S)
-  pub are_told : AllZip (AreTold made) old first
-  pub caught_up : AllZip IsCaughtUp first new
+  pub are_told : AllZip (AreTold at made) old first
+  pub caught_up : AllZip (IsCaughtUp at) first new
 
 -- What was written stood in front of what waits to be written, at most 16,384 bytes of it, and its connection goes on
--- behind it. Or nothing was.
+-- behind it. Or nothing was, and it may have failed.
 pub record IsWritten {S : Type 0} (contents : S → Option (List ℕ)) (site : Site) (old new : Guest S) : Type 0 where
   pub number : new.number ≡ old.number
   pub waits : new.waits ≡ old.waits
-  pub since : new.since ≡ old.since
-  pub origin : new.origin ≡ old.origin
+  pub visit : IsSameVisit old new
   pub paid : new.paid_until ≡ old.paid_until
+  pub logins : new.logins_until ≡ old.logins_until
+  pub lost : MayFail old new
   pub count : ℕ
   pub within : count ≤ length (pending old.browser.stage)
   pub few : count ≤ 16384
@@ -394,27 +524,35 @@ LeavesStranger desk old new = acts_at desk old.number ≡ false → new ≡ old
 abbrev pub since_after : Bool → ℕ → ℕ → ℕ
 since_after acts at since = if acts then at else since
 
--- A browser is asked whether it is there, or nothing is said.
-pub record IsPinged {S : Type 0} (old new : Guest S) : Type 0 where
-  pub number : new.number ≡ old.number
-  pub stream : new.stream ≡ old.stream
-  pub waits : new.waits ≡ old.waits
-  pub since : new.since ≡ old.since
-  pub origin : new.origin ≡ old.origin
-  pub paid : new.paid_until ≡ old.paid_until
-  pub said : (new.browser ≡ old.browser) ⊎ ((answer : Result (Unit {0}) Unsaid)
-      × SaysTo (Ping []) old.browser.stage new.browser.stage answer)
+-- so long nothing came of it: 75 seconds
+abbrev pub is_silent : ℕ → ℕ → Bool
+is_silent at heard_at = nat_le 75000 (at - heard_at)
 
--- The same, and it is seen whether it acts for a player.
-pub record IsLookedAfter {S : Type 0} (desk : Desk) (at : ℕ) (old new : Guest S) : Type 0 where
+-- It is asked whether it is there, and is to be closed where that cannot be said; or nothing is said, and it is to be
+-- closed where it has been silent too long.
+abbrev pub IsAskedUnless : {S : Type 0} → Bool → Guest S → Guest S → Type 0
+IsAskedUnless silent old new =
+    (new.browser ≡ old.browser) × (new.is_lost ≡ (silent || old.is_lost))
+    ⊎ (silent ≡ false) × ((answer : Result (Unit {0}) Unsaid)
+    × SaysTo (Ping []) old.browser.stage new.browser.stage answer × (new.is_lost ≡ (is_err answer || old.is_lost)))
+
+-- Where it is time, one that has been silent is asked whether it is there, or is to be closed.
+pub record IsPinged {S : Type 0} (is_time : Bool) (at : ℕ) (old new : Guest S) : Type 0 where
   pub number : new.number ≡ old.number
   pub stream : new.stream ≡ old.stream
   pub waits : new.waits ≡ old.waits
-  pub since : new.since ≡ since_after (acts_at desk old.number) at old.since
-  pub origin : new.origin ≡ old.origin
+  pub visit : IsSameVisit old new
   pub paid : new.paid_until ≡ old.paid_until
-  pub said : (new.browser ≡ old.browser) ⊎ ((answer : Result (Unit {0}) Unsaid)
-      × SaysTo (Ping []) old.browser.stage new.browser.stage answer)
+  pub logins : new.logins_until ≡ old.logins_until
+  pub said : IsAskedUnless (is_time && is_silent at old.heard_at) old new
+
+-- It is seen whether it acts for a player: its time as a nameless one counts from this moment on then.
+abbrev pub seen : {S : Type 0} → Desk → ℕ → Guest S → Guest S
+seen desk at guest = record guest { since = since_after (acts_at desk guest.number) at guest.since }
+
+-- It is seen, and where it is time looked after if it has been silent.
+abbrev pub IsLookedAfter : {S : Type 0} → Desk → Bool → ℕ → Guest S → Guest S → Type 0
+IsLookedAfter desk is_time at old new = IsPinged is_time at (seen desk at old) new
 
 -- ---- who is let go
 
@@ -429,9 +567,20 @@ AreClosed [] old new = new ≡ old
 AreClosed (guest ∷ guests) old new =
     (between : Talk) × IsClosedIf guest.is_lost guest.number old between × AreClosed guests between new
 
--- Those who are lost are let go, and the others stay; the desk is told who is let go, and nothing else.
+-- It is over, and nothing is left to hear of it or to write to it.
+pub record IsDone {S : Type 0} (guest : Guest S) : Type 0 where
+  pub over : IsOver guest.browser.stage
+  pub heard : guest.has_more ≡ false
+  pub written : pending guest.browser.stage ≡ []
+
+-- It is to be closed just where it was, or where it is done.
+pub record IsSettled {S : Type 0} (old new : Guest S) : Type 0 where
+  pub before : IsAsBefore old new
+  pub lost : (new.is_lost ≡ true) ↔ (old.is_lost ≡ true) ⊎ IsDone old
+
+-- Those who are lost or done are let go, and the others stay; the desk is told who is let go, and nothing else.
 pub record AreParted {S : Type 0} (guests stay : List (Guest S)) (old new : Talk) : Type 0 where
   pub settled : List (Guest S)
-  pub settles : AllZip IsAsBefore guests settled
+  pub settles : AllZip IsSettled guests settled
   pub closes : AreClosed settled old new
   pub stay_is : stay ≡ filter (λ guest. not guest.is_lost) settled

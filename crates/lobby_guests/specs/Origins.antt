@@ -1,5 +1,5 @@
 -- Where a connection comes from.
-use Rattle.std.specs.Prelude.{ℕ, ◌≡◌, ◌↔◌, ◌⊎◌, ◌+◌, ◌*◌, true, List, Option, None, Some, slice_index}
+use Rattle.std.specs.Prelude.{ℕ, ◌≡◌, ◌↔◌, ◌⊎◌, ◌+◌, ◌*◌, true, false, List, Option, None, Some, IfSome, slice_index}
 use Rattle.std.specs.declared.net.ip_addr.IpAddr.{IpAddr}
 use Rattle.std.specs.declared.net.ip_addr.IpAddr.TheVariants.{V4, V6}
 use Rattle.std.specs.Net.Addr.{ipv4_bits, ipv6_segments, IsCanonicalOf, MatchIp, IsLoopbackV4, IsLoopbackV6}
@@ -35,3 +35,10 @@ pub record IsFrom (proxy : Option IpAddr) (peer : IpAddr) (origin : Origin) : Ty
 abbrev pub CountsFor : Origin → IpAddr → Type 0
 CountsFor origin address =
     (plain : IpAddr) × IsPlain address plain × (origin ≡ record { address = Some (number_of plain); is_proxy = true })
+
+-- Where a connection comes from once a request of it says that a proxy asks for an address, or none did: that counts of
+-- the trusted proxy alone, and there it does.
+pub record IsToldOrigin (forwarded : Option IpAddr) (old new : Origin) : Type 0 where
+  pub untrusted : old.is_proxy ≡ false → new ≡ old
+  pub nothing : forwarded ≡ None → new ≡ old
+  pub told : old.is_proxy ≡ true → IfSome forwarded (CountsFor new)

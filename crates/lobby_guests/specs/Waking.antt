@@ -2,11 +2,11 @@
 use Rattle.std.specs.Prelude.{ℕ, ◌≡◌, ◌≢◌, ◌<◌, ◌==◌, true, if◌then◌else◌, List, [], ◌∷◌, Option, None, Some, length}
 use Rattle.std.specs.List.{All, AllPairs, HoldsAt}
 use Rattle.lobby_guests.specs.declared.guest.Guest.{Guest}
-use Rattle.lobby_guests.specs.Guests.{IsAsBefore}
+use Rattle.lobby_guests.specs.Guests.{IsLeftAlone}
 
 -- It may be read and written to again.
 pub record IsAwake {S : Type 0} (old new : Guest S) : Type 0 where
-  pub before : IsAsBefore old new
+  pub alone : IsLeftAlone old new
   pub ready : (new.can_read ≡ true) × (new.can_write ≡ true)
 
 -- Nobody is awake but who has this name.

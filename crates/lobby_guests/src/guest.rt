@@ -1,11 +1,12 @@
 //! A browser's connection: its socket, what it says, and what it is told.
-ghost use Rattle.std.specs.Prelude.{ℕ, ◌≡◌, ◌<◌, ◌≤◌, ◌+◌, ◌/◌, ◌↔◌, ◌||◌, ◌&&◌, None, Some, [], length, true, false, IsTrue, OnOk};
-ghost use Rattle.std.specs.Prelude.{◌≢◌};
+ghost use Rattle.std.specs.Prelude.{ℕ, ◌≡◌, ◌≢◌, ◌<◌, ◌≤◌, ◌+◌, ◌/◌, ◌↔◌, ◌||◌, None, Some, [], length, true, false};
+ghost use Rattle.std.specs.Prelude.{IsTrue, OnOk};
 ghost use Rattle.lobby_desk.specs.Who.{IsReady, at_table};
-ghost use Rattle.lobby_guests.specs.Guests.{has_time, is_beyond, logins_after, IsNewGuest, ComesFrom, IsAsBefore, IsRead};
-ghost use Rattle.lobby_guests.specs.Guests.{IsHeardAs, IsHeard, IsAsked, MaySpeak, IsSaid, IsTold, AreTold, IsWritten};
-ghost use Rattle.lobby_guests.specs.Guests.{IsPutBehind, IsNextTold, IsCaughtUp, IsFirst, IsSameVisit, IsStill};
-ghost use Rattle.lobby_guests.specs.Guests.{IsPinged};
+ghost use Rattle.lobby_guests.specs.Guests.{has_time, IsNewGuest, ComesFrom, IsRead, IsStill};
+ghost use Rattle.lobby_guests.specs.Guests.{IsHeardAs, IsHeard, IsAsked, is_untimely, MaySpeak, IsSaid, IsTold, AreTold};
+ghost use Rattle.lobby_guests.specs.Guests.{NotesLogin, IsPutBehind, IsNextTold, IsCaughtUp, IsFirst, IsSameVisit};
+ghost use Rattle.lobby_guests.specs.Guests.{IsPinged, IsAskedUnless, IsSettled, IsWritten};
+ghost use Rattle.lobby_guests.specs.Counting.{CountsNoLogin};
 ghost use Rattle.lobby_guests.specs.Waiting.{must_wait, AtLine};
 ghost use Rattle.lobby_guests.specs.Waking.{IsAwake};
 ghost use Rattle.lobby_guests.specs.declared.waiting.Waiting.{Waiting as WaitingValue};
@@ -15,7 +16,7 @@ ghost use Rattle.lobby_talk.specs.Counting.{is_for};
 ghost use Rattle.lobby_guests.specs.Waiting as waiting;
 ghost use Rattle.lobby_guests.specs.Guests.{IsLookedAfter, is_in_time, taken_until, MayHave, may_have, IsDue};
 ghost use Rattle.lobby_guests.specs.Guests.{due_at, ahead_at, is_unheard, IsPaid, owed_after, paid_for, since_after};
-ghost use Rattle.lobby_web.specs.Browsing.{WantsBytes};
+ghost use Rattle.lobby_web.specs.Browsing.{WantsBytes, unread};
 ghost use Rattle.lobby_talk.specs.Counting.{refuses_login, counted_up, one_if, refuses, refusals_of};
 ghost use Rattle.lobby_guests.specs.Place.{role_by, role_of, player_of, place_of, Yields};
 
@@ -259,7 +260,7 @@ impl<S> Guest<S> {
 
     /// It is to be closed where it is over, with nothing left to write or to hear.
     pub fn settle(&mut self)
-        ensures { IsAsBefore self.old self.new }
+        ensures { IsSettled self.old self.new }
     {
         if self.browser.is_over() && !self.has_more && self.browser.out().is_empty() {
             self.is_lost = true;
@@ -325,6 +326,19 @@ impl<S> Guest<S> {
         }
     }
 
+    /// What came of it that its socket was not asked for.
+    pub fn unread(&self) -> &[u8]
+        ensures { result.now ≡ unread self.now.browser.stage }
+    {
+        self.browser.unread()
+    }
+
+    /// Whether its socket is to be asked what came next: something may have come, nothing waits for it, and the desk
+    /// takes it.
+    pub fn may_be_asked(&self, talk: &Talk) -> bool {
+        self.has_more && !self.is_lost && self.waits.is_empty() && self.may_speak(talk)
+    }
+
     // What its socket gave is said to the desk.
     #[tactic(auto, using(crate::proofs::Owing::owed_same))]
     fn speak<K: KeepsLinks>(
@@ -341,6 +355,9 @@ impl<S> Guest<S> {
         ensures stream { OnOk result (self.new.stream ≡ self.old.stream) }
         ensures waits { OnOk result (self.new.waits ≡ self.old.waits) }
         ensures visit { OnOk result (IsSameVisit self.old self.new) }
+        ensures logins { OnOk result (self.new.logins_until ≡ self.old.logins_until) }
+        ensures lost { OnOk result
+            (self.new.is_lost ≡ (is_untimely (Some heard.now) self.old.number || self.old.is_lost)) }
         ensures more { OnOk result (self.new.has_more ≡ self.old.has_more) }
         ensures owes { OnOk result
             (self.new.paid_until ≡ owed_after self.old.number self.new.number self.old.paid_until) }
@@ -408,11 +425,8 @@ impl<S> Guest<S> {
 
     // It is told a text. Who is slow, or for whom memory is refused, is let go.
     fn be_told_text(&mut self, text: &str)
-        ensures said { IsSaid text.now self.old.browser self.new.browser }
-        ensures number { self.new.number ≡ self.old.number }
-        ensures stream { self.new.stream ≡ self.old.stream }
+        ensures said { IsSaid text.now self.old self.new }
         ensures waits { self.new.waits ≡ self.old.waits }
-        ensures visit { IsSameVisit self.old self.new }
         ensures paid { self.new.paid_until ≡ self.old.paid_until }
     {
         match self.browser.say(text.as_bytes()) {
@@ -424,7 +438,9 @@ impl<S> Guest<S> {
 
     // So many milliseconds more of its time are taken.
     fn take_time(&mut self, at: u64, millis: u64)
-        ensures before { IsStill self.old self.new }
+        ensures still { IsStill self.old self.new }
+        ensures logins { self.new.logins_until ≡ self.old.logins_until }
+        ensures lost { self.new.is_lost ≡ self.old.is_lost }
         ensures time { self.new.paid_until ≡ taken_until at self.old.paid_until millis }
     {
         self.paid_until = self.paid_until.max(at).saturating_add(millis);
@@ -432,7 +448,9 @@ impl<S> Guest<S> {
 
     // Its time is taken by an answer of so many bytes.
     fn pay(&mut self, at: u64, bytes: usize)
-        ensures before { IsStill self.old self.new }
+        ensures still { IsStill self.old self.new }
+        ensures logins { self.new.logins_until ≡ self.old.logins_until }
+        ensures lost { self.new.is_lost ≡ self.old.is_lost }
         ensures paid { self.new.paid_until ≡ taken_until at self.old.paid_until (bytes / 200) }
     {
         self.take_time(at, bytes as u64 / BYTES_A_MILLISECOND);
@@ -441,10 +459,7 @@ impl<S> Guest<S> {
     // A login of it was refused, if this answer says so: that takes 12 seconds of its time for it. It is to be closed
     // where there were too many.
     fn note_login(&mut self, at: u64, text: &str)
-        ensures before { IsAsBefore self.old self.new }
-        ensures taken { self.new.logins_until ≡ logins_after at text.now self.old.logins_until }
-        ensures closes { self.new.is_lost
-            ≡ (self.old.is_lost || (refuses_login text.now && is_beyond at self.old.logins_until)) }
+        ensures { NotesLogin at text.now self.old self.new }
     {
         if is_refused_login(text) {
             self.is_lost |= self.logins_until.saturating_sub(at) > LOGINS_AHEAD;
@@ -454,13 +469,10 @@ impl<S> Guest<S> {
 
     // It is told a text, and its time is taken where that is an answer.
     fn tell(&mut self, text: &str, counts: &mut Counts)
-        ensures said { IsSaid text.now self.old.browser self.new.browser }
-        ensures number { self.new.number ≡ self.old.number }
-        ensures stream { self.new.stream ≡ self.old.stream }
+        ensures said { IsSaid text.now self.old self.new }
         ensures waits { self.new.waits ≡ self.old.waits }
-        ensures visit { IsSameVisit self.old self.new }
         ensures paid { self.new.paid_until ≡ paid_for counts.old.at text.now self.old.paid_until }
-        ensures logins { counts.new.logins_refused ≡ counts.old.logins_refused }
+        ensures counts { CountsNoLogin counts.old counts.new }
     {
         self.be_told_text(text);
         counts.told(text, &mut self.asked);
@@ -496,9 +508,10 @@ impl<S> Guest<S> {
         counts: &mut Counts,
     ) -> Result<(), AllocError>
         requires { is_for self.old.number made.now.to.items ≡ true }
-        ensures told { OnOk result (IsTold made.now self.old self.new) }
+        ensures told { OnOk result (IsTold counts.old.at made.now self.old self.new) }
         ensures logins { OnOk result (counts.new.logins_refused
             ≡ counted_up counts.old.logins_refused (one_if (refuses_login (string_bytes made.now.text)))) }
+        ensures at { OnOk result (counts.new.at ≡ counts.old.at) }
     {
         counts.note_login(made.text.as_str());
         self.note_login(counts.at, made.text.as_str());
@@ -517,9 +530,10 @@ impl<S> Guest<S> {
         made: &Message,
         counts: &mut Counts,
     ) -> Result<(), AllocError>
-        ensures told { OnOk result (IsTold made.now self.old self.new) }
+        ensures told { OnOk result (IsTold counts.old.at made.now self.old self.new) }
         ensures logins { OnOk result (counts.new.logins_refused
             ≡ counted_up counts.old.logins_refused (one_if (refuses self.old.number made.now))) }
+        ensures at { OnOk result (counts.new.at ≡ counts.old.at) }
     {
         match self.number {
             None => Ok(()),
@@ -541,9 +555,10 @@ impl<S> Guest<S> {
         made: &[Message],
         counts: &mut Counts,
     ) -> Result<(), AllocError>
-        ensures told { OnOk result (AreTold made.now self.old self.new) }
+        ensures told { OnOk result (AreTold counts.old.at made.now self.old self.new) }
         ensures logins { OnOk result (counts.new.logins_refused
             ≡ counted_up counts.old.logins_refused (refusals_of made.now self.old.number)) }
+        ensures at { OnOk result (counts.new.at ≡ counts.old.at) }
     {
         for one in made {
             self.be_told(alloc, one, counts)?;
@@ -570,10 +585,10 @@ impl<S> Guest<S> {
 
     // What waits first is told, where that is not to be made. It tells whether it was.
     fn tell_whole(&mut self, counts: &mut Counts) -> bool
-        ensures told { result ≡ true → (one : WaitingValue) × IsNextTold one self.old self.new }
+        ensures told { result ≡ true → (one : WaitingValue) × IsNextTold counts.old.at one self.old self.new }
         ensures none { result ≡ false → self.new ≡ self.old }
         ensures line { result ≡ false → AtLine self.old.waits.items }
-        ensures logins { counts.new.logins_refused ≡ counts.old.logins_refused }
+        ensures counts { CountsNoLogin counts.old counts.new }
     {
         if !self.has_whole() {
             return false;
@@ -586,8 +601,8 @@ impl<S> Guest<S> {
     // What waits first is told by this answer.
     fn tell_answer(&mut self, answer: &KeptAnswer, counts: &mut Counts)
         requires { IsFirst answer.now self.old.waits.items }
-        ensures told { (one : WaitingValue) × IsNextTold one self.old self.new }
-        ensures logins { counts.new.logins_refused ≡ counts.old.logins_refused }
+        ensures told { (one : WaitingValue) × IsNextTold counts.old.at one self.old self.new }
+        ensures counts { CountsNoLogin counts.old counts.new }
     {
         drop(self.waits.remove(0));
         self.tell(answer.answer(), counts);
@@ -596,8 +611,8 @@ impl<S> Guest<S> {
     // What waits first is told by this answer, and then what stands behind it.
     fn catch_up(&mut self, answer: &KeptAnswer, counts: &mut Counts)
         requires { IsFirst answer.now self.old.waits.items }
-        ensures up { IsCaughtUp self.old self.new }
-        ensures logins { counts.new.logins_refused ≡ counts.old.logins_refused }
+        ensures up { IsCaughtUp counts.old.at self.old self.new }
+        ensures counts { CountsNoLogin counts.old counts.new }
     {
         self.tell_answer(answer, counts);
         while self.tell_whole(counts) {}
@@ -616,8 +631,8 @@ impl<S> Guest<S> {
     /// Where the first message that waits is to be made by this answer, and somebody more may be told one, it is told
     /// that, and what waits behind it, up to the next that is to be made.
     pub fn be_answered(&mut self, answer: &KeptAnswer, left: &mut usize, counts: &mut Counts)
-        ensures up { IsCaughtUp self.old self.new }
-        ensures logins { counts.new.logins_refused ≡ counts.old.logins_refused }
+        ensures up { IsCaughtUp counts.old.at self.old self.new }
+        ensures counts { CountsNoLogin counts.old counts.new }
     {
         if *left > 0 && self.is_first(answer) {
             *left -= 1;
@@ -627,7 +642,13 @@ impl<S> Guest<S> {
 
     // Asks a browser of which nothing came whether it is there.
     fn ask(&mut self)
-        ensures { IsPinged self.old self.new }
+        ensures said { IsAskedUnless false self.old self.new }
+        ensures number { self.new.number ≡ self.old.number }
+        ensures stream { self.new.stream ≡ self.old.stream }
+        ensures waits { self.new.waits ≡ self.old.waits }
+        ensures visit { IsSameVisit self.old self.new }
+        ensures paid { self.new.paid_until ≡ self.old.paid_until }
+        ensures logins { self.new.logins_until ≡ self.old.logins_until }
     {
         if self.browser.ping().is_err() {
             self.is_lost = true;
@@ -638,7 +659,7 @@ impl<S> Guest<S> {
     // Where it is time, asks a browser that has been silent whether it is there, and lets one go that has been for too
     // long.
     fn ask_silent(&mut self, is_time: bool, at: u64)
-        ensures { IsPinged self.old self.new }
+        ensures { IsPinged is_time at self.old self.new }
     {
         if !is_time {
             return;
@@ -661,7 +682,7 @@ impl<S> Guest<S> {
     /// Where it acts for a player its time as a nameless one counts from now on. Where it is time, asks a browser that
     /// has been silent whether it is there, and lets one go that has been for too long.
     pub fn look_after(&mut self, talk: &Talk, is_time: bool, at: u64)
-        ensures { IsLookedAfter talk.now.desk at self.old self.new }
+        ensures { IsLookedAfter talk.now.desk is_time at self.old self.new }
     {
         let acts = talk.acts(self.number);
         self.since = self.since_after(acts, at);
@@ -682,12 +703,13 @@ impl<S: Read + Write> Guest<S> {
 
     // Bytes of it came, for which its time is taken.
     fn note_bytes(&mut self, at: u64, count: usize)
-        ensures before { IsStill self.old self.new }
+        ensures still { IsStill self.old self.new }
+        ensures logins { self.new.logins_until ≡ self.old.logins_until }
+        ensures lost { self.new.is_lost ≡ self.old.is_lost }
         ensures paid { self.new.paid_until ≡ taken_until at self.old.paid_until (1 + count / 40) }
         ensures more { self.new.has_more ≡ true }
     {
         self.take_time(at, 1 + count as u64 / COME_A_MILLISECOND);
-        self.heard_at = at;
         self.is_asked = false;
         self.has_more = true;
     }
@@ -720,6 +742,7 @@ impl<S: Read + Write> Guest<S> {
                 self.browser.take(site, &piece[..count]);
                 self.origin = self.origin.told(self.browser.forwarded());
                 self.note_bytes(at, count);
+                self.heard_at = at;
                 true
             }
             Came::End => {

@@ -5,14 +5,15 @@ ghost use Rattle.std.specs.Prelude.{ℕ, Bool, true, false, nat_lt, length, ◌<
 ghost use Rattle.std.specs.Prelude.{count_by, slice_index_or, slice_set, ◌≢◌};
 ghost use Rattle.std.specs.Option.{option_map};
 ghost use Rattle.std.specs.List.{AllZip, HoldsAt};
-ghost use Rattle.lobby_guests.specs.Counting.{refusals_in, CountsLogins};
+ghost use Rattle.lobby_guests.specs.Counting.{refusals_in, CountsLogins, CountsNoLogin};
 ghost use Rattle.lobby_talk.specs.Counting.{counted_up};
 ghost use Rattle.lobby_guests.specs.Guests as guests;
-ghost use Rattle.lobby_guests.specs.Guests.{IsAsBefore, IsServed, IsPlayersTurn, IsOthersTurn, InTurn, Room, full_room};
+ghost use Rattle.lobby_guests.specs.Guests.{IsLeftAlone, IsSettled, IsServed, IsPlayersTurn, IsOthersTurn, InTurn};
+ghost use Rattle.lobby_guests.specs.Guests.{IsPlayerServed, IsAnswered, KnowsAsker, asked_most, Room, full_room};
+ghost use Rattle.lobby_guests.specs.Rounds.{room_of, others_room, TakesTurn, IsToAsk};
 ghost use Rattle.lobby_guests.specs.Guests.{AreAttended, AreTold, AreDelivered, IsWritten, IsLookedAfter, IsClosedIf};
 ghost use Rattle.lobby_guests.specs.Guests.{AreClosed, AreParted, IsCaughtUp, first_wanted, has_waiting};
 ghost use Rattle.lobby_guests.specs.Guests.{LeavesOthers, LeavesStranger};
-ghost use Rattle.lobby_guests.specs.Rounds.{others_room};
 ghost use Rattle.lobby_guests.specs.Waking.{IsAwake, StaysUnlessNamed, IsAwakeIfNamed, NamesGrow, IsPlaceNamed};
 ghost use Rattle.lobby_guests.specs.Waking.{number_named};
 ghost use Rattle.lobby_guests.specs.Waiting as waiting;
@@ -21,9 +22,11 @@ ghost use Rattle.lobby_talk.specs.Talking.{IsTalkAsBefore, acts_at};
 ghost use Rattle.lobby_talk.specs.Keeping.{AreKept};
 
 use crate::guest::Guest;
-use crate::rounds::{ATTENDED_MOST, Round, Rounds, Strangers};
+use crate::rounds::{
+    ASKED_MOST, ATTENDED_MOST, Asks, Round, Rounds, Strangers, TOLD_MOST, WRITTEN_MOST,
+};
 use lobby_desk::Message;
-use lobby_talk::{Coming, Counts, KeepsLinks, KeptAnswer, PIECE_ROOM, Talk};
+use lobby_talk::{Coming, Counts, KeepsLinks, KeptAnswer, PIECE_ROOM, Talk, has_act, has_brief};
 use lobby_web::Site;
 use std::alloc::{AllocError, Global};
 use std::io::{Read, Write};
@@ -49,9 +52,47 @@ fn attend<S: Read + Write, K: KeepsLinks>(
     Ok(has_read | has_heard)
 }
 
-// Attends a browser if it acts for a player, and has time.
-fn attend_player<S: Read + Write, K: KeepsLinks>(
+// Whether the server has answered what this connection asked last.
+fn is_answered(asker: Option<u64>, talk: &Talk) -> bool
+    ensures { result ≡ true → IsAnswered talk.now.desk asker }
+{
+    match asker {
+        None => true,
+        Some(number) => !talk.acts(asker) || talk.is_ready(number),
+    }
+}
+
+// Whether a player's browser in whose front no act stands has its turn; then it has it: one that may ask for much only
+// where the last such is answered.
+fn takes_turn<S>(guest: &Guest<S>, asks: &mut Asks, talk: &Talk) -> bool
+    ensures { TakesTurn result talk.now.desk guest.now asks.old asks.new }
+{
+    if !asks.round.is_at(guest.key()) || !guest.may_be_asked(talk) {
+        return false;
+    }
+    if has_brief(guest.unread()) {
+        asks.take_brief(guest.key());
+        return true;
+    }
+    let is_free = is_answered(asks.asker, talk);
+    if is_free {
+        asks.take_long(guest.key(), guest.number());
+    }
+    is_free
+}
+
+// Whether a player's browser is asked what came next: where an act stands in front at once, and else where it is its
+// turn.
+fn is_to_ask<S>(guest: &Guest<S>, asks: &mut Asks, talk: &Talk) -> bool
+    ensures { IsToAsk result talk.now.desk guest.now asks.old asks.new }
+{
+    has_act(guest.unread()) || takes_turn(guest, asks, talk)
+}
+
+// Reads for a player's browser, and says to the desk what came next of it, where it is asked for that.
+fn serve_player<S: Read + Write, K: KeepsLinks>(
     guest: &mut Guest<S>,
+    asks: &mut Asks,
     site: &Site,
     talk: &mut Talk,
     at: u64,
@@ -59,18 +100,42 @@ fn attend_player<S: Read + Write, K: KeepsLinks>(
     piece: &mut [u8; PIECE_ROOM],
     coming: &mut Coming,
 ) -> Result<bool, AllocError>
-    ensures { OnOk result (IsPlayersTurn S.remaining site.now at guest.old guest.new talk.old talk.new) }
+    ensures { OnOk result (IsPlayerServed S.remaining site.now at guest.old guest.new (room_of talk.old asks.old)
+        (room_of talk.new asks.new)) }
+{
+    let has_read = guest.read_in(true, site, at, piece, coming);
+    if !is_to_ask(guest, asks, talk) {
+        return Ok(has_read);
+    }
+    let has_heard = guest.hear(talk, at, links, coming)?;
+    Ok(has_read | has_heard)
+}
+
+// Attends a browser if it acts for a player, and has time.
+fn attend_player<S: Read + Write, K: KeepsLinks>(
+    guest: &mut Guest<S>,
+    asks: &mut Asks,
+    site: &Site,
+    talk: &mut Talk,
+    at: u64,
+    links: &mut K,
+    piece: &mut [u8; PIECE_ROOM],
+    coming: &mut Coming,
+) -> Result<bool, AllocError>
+    ensures { OnOk result (IsPlayersTurn S.remaining site.now at guest.old guest.new (room_of talk.old asks.old)
+        (room_of talk.new asks.new)) }
 {
     let is_turn = talk.acts(guest.number()) && guest.has_time(at);
     if !is_turn {
         return Ok(false);
     }
-    attend(guest, site, talk, at, links, piece, coming)
+    serve_player(guest, asks, site, talk, at, links, piece, coming)
 }
 
-// Attends each that acts for a player.
+// Attends each that acts for a player. It tells whether there was anything, or more can be taken at once.
 fn attend_players<S: Read + Write, K: KeepsLinks>(
     guests: &mut Vec<Guest<S>>,
+    asks: &mut Asks,
     site: &Site,
     talk: &mut Talk,
     at: u64,
@@ -78,14 +143,16 @@ fn attend_players<S: Read + Write, K: KeepsLinks>(
     piece: &mut [u8; PIECE_ROOM],
     coming: &mut Coming,
 ) -> Result<bool, AllocError>
-    ensures { OnOk result (InTurn (IsPlayersTurn S.remaining site.now at) guests.old.items guests.new.items talk.old
-        talk.new) }
+    ensures { OnOk result (InTurn (IsPlayersTurn S.remaining site.now at) guests.old.items guests.new.items
+        (record { talk = talk.old; left = asked_most; asker = asks.old.asker }) (room_of talk.new asks.new)) }
 {
     let mut any = false;
+    asks.round.begin(ASKED_MOST);
     for guest in guests.iter_mut() {
-        any |= attend_player(guest, site, talk, at, links, piece, coming)?;
+        any |= attend_player(guest, asks, site, talk, at, links, piece, coming)?;
     }
-    Ok(any)
+    let can_more = asks.round.end();
+    Ok(any | can_more)
 }
 
 // Attends a browser if it acts for nobody, and it is its turn.
@@ -170,11 +237,21 @@ pub fn attend_all<S: Read + Write, K: KeepsLinks>(
     counts: &mut Counts,
 ) -> Result<bool, AllocError>
     ensures attended { OnOk result ((attended : AreAttended S.remaining site.now at guests.old.items guests.new.items
-        talk.old talk.new) × (is_short ≡ true → LeavesOthers attended)) }
+        talk.old talk.new) × (is_short ≡ true → LeavesOthers attended)
+        × KnowsAsker rounds.old.asks.asker rounds.new.asks.asker attended) }
     ensures logins { OnOk result (counts.new.logins_refused ≡ counts.old.logins_refused) }
 {
     let mut coming = Coming::new();
-    let players = attend_players(guests, site, talk, at, links, piece, &mut coming)?;
+    let players = attend_players(
+        guests,
+        &mut rounds.asks,
+        site,
+        talk,
+        at,
+        links,
+        piece,
+        &mut coming,
+    )?;
     let others = attend_unless(
         guests,
         is_short,
@@ -198,9 +275,10 @@ fn tell_all<S>(
     made: &[Message],
     counts: &mut Counts,
 ) -> Result<(), AllocError>
-    ensures told { OnOk result (AllZip (AreTold made.now) guests.old.items guests.new.items) }
+    ensures told { OnOk result (AllZip (AreTold counts.old.at made.now) guests.old.items guests.new.items) }
     ensures logins { OnOk result (counts.new.logins_refused
         ≡ counted_up counts.old.logins_refused (refusals_in made.now guests.old.items)) }
+    ensures at { OnOk result (counts.new.at ≡ counts.old.at) }
 {
     for guest in guests.iter_mut() {
         guest.be_told_all(alloc, made, counts)?;
@@ -232,8 +310,8 @@ fn first_wanted<S>(guests: &[Guest<S>]) -> Option<&str>
 
 // Those are told this answer who wait for it first, some in a turn.
 fn answer_all<S>(guests: &mut Vec<Guest<S>>, answer: &KeptAnswer, counts: &mut Counts)
-    ensures up { AllZip IsCaughtUp guests.old.items guests.new.items }
-    ensures logins { counts.new.logins_refused ≡ counts.old.logins_refused }
+    ensures up { AllZip (IsCaughtUp counts.old.at) guests.old.items guests.new.items }
+    ensures counts { CountsNoLogin counts.old counts.new }
 {
     let mut left = ANSWERED_MOST;
     for guest in guests.iter_mut() {
@@ -247,10 +325,10 @@ fn answer_waiting<S>(
     talk: &mut Talk,
     counts: &mut Counts,
 ) -> Result<(), AllocError>
-    ensures up { OnOk result (AllZip IsCaughtUp guests.old.items guests.new.items) }
+    ensures up { OnOk result (AllZip (IsCaughtUp counts.old.at) guests.old.items guests.new.items) }
     ensures replays { OnOk result (∥ IsReplayed (first_wanted guests.old.items) talk.old.replay talk.new.replay ∥₁) }
     ensures rest { OnOk result (IsTalkAsBefore talk.old talk.new) }
-    ensures logins { OnOk result (counts.new.logins_refused ≡ counts.old.logins_refused) }
+    ensures counts { OnOk result (CountsNoLogin counts.old counts.new) }
 {
     match talk.replay_on(first_wanted(guests.as_slice()))? {
         None => Ok(()),
@@ -278,7 +356,7 @@ pub fn deliver<S>(
     talk: &mut Talk,
     counts: &mut Counts,
 ) -> Result<(), AllocError>
-    ensures guests { OnOk result (AreDelivered talk.old.kept.answers.items talk.old.told.items
+    ensures guests { OnOk result (AreDelivered counts.old.at talk.old.kept.answers.items talk.old.told.items
         guests.old.items guests.new.items) }
     ensures none { OnOk result (talk.new.told.items ≡ []) }
     ensures desk { OnOk result (talk.new.desk ≡ talk.old.desk) }
@@ -333,7 +411,7 @@ fn write_players<S: Read + Write>(
     ensures strangers { AllZip (LeavesStranger talk.now.desk) guests.old.items guests.new.items }
 {
     let mut any = false;
-    round.begin_telling();
+    round.begin(TOLD_MOST);
     for guest in guests.iter_mut() {
         let is_turn = has_players_turn(guest, talk, round);
         any |= guest.write_out(site, is_turn);
@@ -361,7 +439,7 @@ fn write_others<S: Read + Write>(
     ensures { AllZip (IsWritten S.contents site.now) guests.old.items guests.new.items }
 {
     let mut any = false;
-    round.begin_writing();
+    round.begin(WRITTEN_MOST);
     for guest in guests.iter_mut() {
         let is_turn = has_turn_to_write(guest, talk, round);
         any |= guest.write_out(site, is_turn);
@@ -448,7 +526,7 @@ pub fn is_crowded<S>(connections: &[Guest<S>]) -> bool
 
 /// Of each it is seen whether it acts for a player; and where it is time each is looked after.
 pub fn look_after_all<S>(guests: &mut Vec<Guest<S>>, talk: &Talk, is_time: bool, at: u64)
-    ensures { AllZip (IsLookedAfter talk.now.desk at) guests.old.items guests.new.items }
+    ensures { AllZip (IsLookedAfter talk.now.desk is_time at) guests.old.items guests.new.items }
 {
     for guest in guests.iter_mut() {
         guest.look_after(talk, is_time, at);
@@ -493,7 +571,7 @@ fn wake_at<S>(guests: &mut Vec<Guest<S>>, place: usize) -> Option<u64>
 /// The socket of this name may be ready: it is looked for by names, which grow. It tells of whom it is, as the desk
 /// knows it, if of anybody there.
 pub fn wake_one<S>(guests: &mut Vec<Guest<S>>, key: usize) -> Option<u64>
-    ensures before { AllZip IsAsBefore guests.old.items guests.new.items }
+    ensures alone { AllZip IsLeftAlone guests.old.items guests.new.items }
     ensures others { AllZip (StaysUnlessNamed key) guests.old.items guests.new.items }
     ensures named { NamesGrow guests.old.items → AllZip (IsAwakeIfNamed key) guests.old.items guests.new.items
         × (result ≡ number_named key guests.old.items) }
@@ -506,7 +584,7 @@ pub fn wake_one<S>(guests: &mut Vec<Guest<S>>, key: usize) -> Option<u64>
 
 // Marks those who are over.
 fn settle_all<S>(guests: &mut Vec<Guest<S>>)
-    ensures { AllZip IsAsBefore guests.old.items guests.new.items }
+    ensures { AllZip IsSettled guests.old.items guests.new.items }
 {
     for guest in guests.iter_mut() {
         guest.settle();

@@ -1,6 +1,6 @@
 //! Where a connection comes from.
-ghost use Rattle.std.specs.Prelude.{◌≡◌, ◌↔◌, None, Some, true, false, IsTrue, IfSome};
-ghost use Rattle.lobby_guests.specs.Origins.{number_of, IsPlain, IsFrom, CountsFor};
+ghost use Rattle.std.specs.Prelude.{◌≡◌, ◌↔◌, Some, IsTrue};
+ghost use Rattle.lobby_guests.specs.Origins.{number_of, IsPlain, IsFrom, IsToldOrigin};
 
 use std::net::IpAddr;
 
@@ -65,9 +65,7 @@ impl Origin {
 
     /// The same, once a request says that a proxy asks for this address: that counts of the trusted proxy alone.
     pub fn told(self, forwarded: Option<IpAddr>) -> Origin
-        ensures untrusted { self.is_proxy ≡ false → result ≡ self }
-        ensures nothing { forwarded ≡ None → result ≡ self }
-        ensures told { self.is_proxy ≡ true → IfSome forwarded (CountsFor result) }
+        ensures { IsToldOrigin forwarded self result }
     {
         match forwarded {
             Some(address) if self.is_proxy => Origin {

@@ -2,18 +2,21 @@
 ghost use Rattle.std.specs.Prelude.{◌≡◌, ◌<◌, ◌+◌, ◌&&◌, nat_lt, nat_le, true, false};
 ghost use Rattle.lobby_guests.specs.Guests.{others_most};
 
-/// So many who act for nobody are attended in a turn at most.
+/// So many of them are attended in a turn at most.
 pub const ATTENDED_MOST: usize = 8;
 
 /// Of these so many at most of whom nothing was heard yet, out of the round: who is about to show a token is heard soon
 /// then, whatever the others do.
 const FRESH_MOST: usize = 6;
 
-/// To so many who act for nobody something is written in a turn at most.
-const WRITTEN_MOST: usize = 16;
+/// So many messages of players that are no acts are taken in a turn at most.
+pub const ASKED_MOST: usize = 8;
 
 /// To so many players more than a little is written in a turn at most.
-const TOLD_MOST: usize = 8;
+pub const TOLD_MOST: usize = 8;
+
+/// To so many of them something is written in a turn at most.
+pub const WRITTEN_MOST: usize = 16;
 
 /// A round, by the names of their sockets.
 #[derive(Clone, Copy)]
@@ -27,31 +30,12 @@ pub struct Round {
 }
 
 impl Round {
-    /// It begins with the first.
-    pub fn new() -> Round {
-        Round {
-            from: 0,
-            has_passed: false,
-            left: 0,
-        }
-    }
-
-    // So many have a turn from now on.
-    fn begin(&mut self, most: usize)
+    /// So many have a turn from now on.
+    pub fn begin(&mut self, most: usize)
         ensures { self.new.left ≡ most }
     {
         self.has_passed = self.from > 0;
         self.left = most;
-    }
-
-    /// Some of those to whom something is written have a turn from now on.
-    pub fn begin_writing(&mut self) {
-        self.begin(WRITTEN_MOST);
-    }
-
-    /// Some of the players to whom much is written have a turn from now on.
-    pub fn begin_telling(&mut self) {
-        self.begin(TOLD_MOST);
     }
 
     /// Whether it may be the turn of this one.
@@ -72,12 +56,44 @@ impl Round {
     }
 
     /// All had a turn who could have one. It tells whether others can at once.
-    pub fn end(&mut self) -> bool {
+    pub fn end(&mut self) -> bool
+        ensures { self.new.left ≡ self.old.left }
+    {
         if self.left == 0 {
             return true;
         }
         self.from = 0;
         self.has_passed
+    }
+}
+
+/// Whose turn it is among players to ask what is no act.
+#[derive(Clone, Copy)]
+pub struct Asks {
+    pub round: Round,
+    /// The number at the desk of the connection that asked last.
+    pub asker: Option<u64>,
+}
+
+impl Asks {
+    /// A connection whose socket has this name asks for little.
+    pub fn take_brief(&mut self, key: usize)
+        requires { 0 < self.old.round.left }
+        ensures left { self.new.round.left < self.old.round.left }
+        ensures asker { self.new.asker ≡ self.old.asker }
+    {
+        self.round.take(key);
+    }
+
+    /// A connection of this number, whose socket has this name, may ask for much: nobody behind it asks in this turn.
+    pub fn take_long(&mut self, key: usize, number: Option<u64>)
+        requires { 0 < self.old.round.left }
+        ensures left { self.new.round.left ≡ 0 }
+        ensures asker { self.new.asker ≡ number }
+    {
+        self.round.take(key);
+        self.round.left = 0;
+        self.asker = number;
     }
 }
 
@@ -116,10 +132,11 @@ impl Strangers {
     }
 }
 
-/// The rounds of players to whom much is written, and of those who act for nobody: of who is attended, and of all to
-/// whom something is written.
+/// All rounds: of players who ask, and to whom much is written; and of those who act for nobody, and to whom of them
+/// something is written.
 #[derive(Clone, Copy)]
 pub struct Rounds {
+    pub asks: Asks,
     pub told: Round,
     pub strangers: Strangers,
     pub written: Round,
@@ -130,13 +147,16 @@ pub struct Rounds {
 impl Rounds {
     /// Each begins with the first.
     pub fn new() -> Rounds {
+        let round = Round {
+            from: 0,
+            has_passed: false,
+            left: 0,
+        };
         Rounds {
-            told: Round::new(),
-            strangers: Strangers {
-                round: Round::new(),
-                fresh: 0,
-            },
-            written: Round::new(),
+            asks: Asks { round, asker: None },
+            told: round,
+            strangers: Strangers { round, fresh: 0 },
+            written: round,
             has_others: false,
         }
     }

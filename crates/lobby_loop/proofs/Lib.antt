@@ -5,4 +5,4 @@ pub mod Speaking
 pub mod Room
 pub mod Tally
 pub mod Seats
-pub mod Placing
+pub mod Leaving

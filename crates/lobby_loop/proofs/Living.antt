@@ -27,11 +27,12 @@ use Rattle.lobby_loop.specs.declared.hall.Hall.{Hall}
 use Rattle.lobby_talk.specs.declared.link.Link.{Link}
 use Rattle.lobby_talk.specs.declared.talk.Talk.{Talk}
 use Rattle.lobby_talk.specs.Talking.{Saying, InTime, TooFast, WithLink, saying, Moves}
+use Rattle.lobby_guests.specs.Guests.{asked_most}
 use Rattle.lobby_guests.proofs.Attending.{players_pass, others_pass}
-use Rattle.lobby_guests.specs.Guests.{IsNewGuest, IsHeardAs, IsAsBefore, IsAttended, InTurn, full_room, IsLookedAfter, AreTold, AreNextTold, IsCaughtUp, AreDelivered, IsWritten, IsClosedIf, AreClosed}
+use Rattle.lobby_guests.specs.Guests.{IsNewGuest, IsHeardAs, IsAsBefore, IsLeftAlone, IsSettled, IsAttended, InTurn, full_room, IsLookedAfter, AreTold, AreNextTold, IsCaughtUp, AreDelivered, IsWritten, IsClosedIf, AreClosed}
 use Rattle.lobby_talk.specs.Lines.{bytes_of as bytes_before, AreHeard}
 use Rattle.lobby_talk.specs.Held.{HoldsNoLine, IsKept}
-use Rattle.lobby_loop.specs.Turning.{BeginsHall, Admits, ServerComes, IsServerAsBefore, HearsServer, bytes_heard, PartsFromServer, TellsServer, HasTurned, texts_put, AreAdmitted, IsReached, IsLobbyTurn}
+use Rattle.lobby_loop.specs.Turning.{BeginsHall, Admits, ServerComes, IsServerAsBefore, HearsServer, bytes_heard, PartsFromServer, TellsServer, HasTurned, texts_put, Comer, AreAdmitted, IsReached, IsLobbyTurn, is_look_time}
 use Rattle.lobby_loop.specs.Doing.{Gave, Spot, spot, DoesAt, all_tells, IsServed, AreServed, WereServed, Before}
 use Rattle.lobby_loop.specs.Living.{Happening, Came, Woke, ServerCame, Turned, IsWoken, IsLife, written_in, taken_in, put_in, lost_if, presences_in, kept, sent_in, line_more, lines_heard, presence_more, presences_told, IsHeld, IsOther, HasNone, IsOneOf, AreKnown, IsOwn, AreOwn, numbers, NoLineWaits, IsRightLife, Passing, TurnAt, Rested, IsLobbyLife, Filed, Files, before_in, Changed, Relisted, Renews, Enrolled}
 use Rattle.lobby_loop.proofs.Serving.{IsApart, ApartFrom, AreApart, served_before, served_read, served_looked, served_written, served_told, served_caught_up, gave_nothing, gave_again, gave_early, gave_opened, gave_text, all_served_on, all_served_zip, all_served_filter, all_served_more, all_came, served_new, ClosedIf, AllClosed, closed_if_on, all_were_on, all_were_out, all_were_came, all_let_go, came_more, site_more, all_filed, all_were_filed}
@@ -729,16 +730,16 @@ module _ {S : Type 0} where
       ap (λ (n : Option ℕ). n ∷ numbers ys) (same x y one)
       ∙ ap (λ (ns : List (Option ℕ)). x.number ∷ ns) (same_numbers R same xs ys all)
 
-  told_number : (made : List Message) (old new : Guest S) → AreTold made old new → new.number ≡ old.number
-  told_number [] old new same = ap (λ (g : Guest S). g.number) same
-  told_number (one ∷ made) old new (between, told, are) = told_number made between new are ∙ told.number
+  told_number : (at : ℕ) (made : List Message) (old new : Guest S) → AreTold at made old new → new.number ≡ old.number
+  told_number at [] old new same = ap (λ (g : Guest S). g.number) same
+  told_number at (one ∷ made) old new (between, told, are) = told_number at made between new are ∙ told.number
 
-  next_number : (front : List Waiting) (old new : Guest S) → AreNextTold front old new → new.number ≡ old.number
-  next_number [] old new same = same.number
-  next_number (one ∷ before) old new (between, are, is) = is.number ∙ next_number before old between are
+  next_number : (at : ℕ) (front : List Waiting) (old new : Guest S) → AreNextTold at front old new → new.number ≡ old.number
+  next_number at [] old new same = ap (λ (g : Guest S). g.number) same
+  next_number at (one ∷ before) old new (between, are, is) = is.said.number ∙ next_number at before old between are
 
-  caught_number : (old new : Guest S) → IsCaughtUp old new → new.number ≡ old.number
-  caught_number old new up = next_number up.front old new up.are
+  caught_number : (at : ℕ) (old new : Guest S) → IsCaughtUp at old new → new.number ≡ old.number
+  caught_number at old new up = next_number at up.front old new up.are
 
   none_more : (c : ℕ) (guests : List (Guest S)) (guest : Guest S) → guest.number ≡ None → HasNone c (numbers guests) →
       HasNone c (numbers (guests ++ guest ∷ []))
@@ -1086,14 +1087,14 @@ module _ {S : Type 0} (remaining contents : S → Option (List ℕ)) (site : Sit
 
 module _ {S : Type 0} (remaining contents : S → Option (List ℕ)) (players : List Player) (is_paused : Bool) (came : Before S) where
   -- what went out is delivered, and a front of what is to go to the server is written
-  gone_out : (site : Site) (former : List (Guest S)) (out : List MessageValue) (base : Traffic) (front : List ℕ) (said : Talk) (desk : Desk)
-      (wire : List ℕ) (guests told : List (Guest S)) → AreDelivered said.kept.answers.items said.told.items guests told → said.wire.items ≡ front ++ wire →
+  gone_out : (at : ℕ) (site : Site) (former : List (Guest S)) (out : List MessageValue) (base : Traffic) (front : List ℕ) (said : Talk) (desk : Desk)
+      (wire : List ℕ) (guests told : List (Guest S)) → AreDelivered at said.kept.answers.items said.told.items guests told → said.wire.items ≡ front ++ wire →
       desk ≡ said.desk →
       IsAt players is_paused base out (AreKept remaining contents site came former out guests) said.desk said.wire.items
       (message_values said.told.items) →
       IsAt players is_paused (behind_front front base) (out ++ message_values said.told.items)
       (AreKept remaining contents site came former (out ++ message_values said.told.items) told) desk wire []
-  gone_out site former out base front said desk wire guests told delivers split same so_far = record {
+  gone_out at site former out base front said desk wire guests told delivers split same so_far = record {
     steps = so_far.steps;
     run = subst (λ (d : Desk). IsRun players is_paused so_far.steps (view d)) (sym same) so_far.run;
     players_are = ap (λ (d : Desk). d.players.items) same ∙ so_far.players_are;
@@ -1101,12 +1102,12 @@ module _ {S : Type 0} (remaining contents : S → Option (List ℕ)) (players : 
     heard = so_far.heard;
     presences = so_far.presences;
     tells = so_far.tells ∙ sym (append-nil (out ++ message_values said.told.items));
-    holds = kept_same remaining contents site came former (out ++ message_values said.told.items) IsCaughtUp
-        (λ steps x y one was. served_caught_up remaining contents site came steps (out ++ message_values said.told.items) x y one was)
-        (λ x y one. caught_number x y one) delivers.first told delivers.caught_up so_far.steps
-        (kept_zip remaining contents site came former out (message_values said.told.items) (AreTold delivers.made)
-        (λ steps x y one was. served_told remaining contents site came steps out said.kept.answers.items said.told.items delivers.made x y
-        delivers.are_made one was) (λ x y one. told_number delivers.made x y one) guests delivers.first delivers.are_told so_far.steps
+    holds = kept_same remaining contents site came former (out ++ message_values said.told.items) (IsCaughtUp at)
+        (λ steps x y one was. served_caught_up remaining contents site came steps (out ++ message_values said.told.items) at x y one was)
+        (λ x y one. caught_number at x y one) delivers.first told delivers.caught_up so_far.steps
+        (kept_zip remaining contents site came former out (message_values said.told.items) (AreTold at delivers.made)
+        (λ steps x y one was. served_told remaining contents site came steps out said.kept.answers.items at said.told.items delivers.made x y
+        delivers.are_made one was) (λ x y one. told_number at delivers.made x y one) guests delivers.first delivers.are_told so_far.steps
         so_far.holds);
   }
 
@@ -1153,13 +1154,14 @@ module _ {S : Type 0} (remaining contents : S → Option (List ℕ)) (players : 
         known = λ c come. elim (kept.known c come) [ inl gone ↦ inl gone | inr one ↦ inr (inr one) ];
       }) so_far in
       let passes = t.takes.attends in
-      let one = attended_pass at former base out site old.guests.items passes.first t.takes.parted passes.said own two
-      (players_pass remaining site at old.guests.items passes.first t.takes.parted passes.said passes.players) in
+      let one = attended_pass at former base out site old.guests.items passes.first t.takes.parted passes.said.talk own two
+      (players_pass remaining site at old.guests.items passes.first (record { talk = t.takes.parted; left = asked_most; asker = passes.asker })
+      passes.said passes.players) in
       let said = subst (λ (u : Talk). IsTalkAt players is_paused base out
       (Two remaining contents site came players is_paused former base out [] t.takes.attended) u
       × AreOwn u.next (numbers (former ++ t.takes.attended))) (sym passes.after_is)
-      (attended_pass at former base out site passes.first t.takes.attended passes.said passes.last.talk one.1 one.0
-      (others_pass remaining site at passes.first t.takes.attended (full_room passes.said) passes.last passes.others)) in
+      (attended_pass at former base out site passes.first t.takes.attended passes.said.talk passes.last.talk one.1 one.0
+      (others_pass remaining site at passes.first t.takes.attended (full_room passes.said.talk) passes.last passes.others)) in
       let attended : IsAt players is_paused base out (AreKept remaining contents site came former out t.takes.attended) t.between.talk.desk
       t.between.talk.wire.items (message_values t.between.talk.told.items) =
       at_with players is_paused base out (Two remaining contents site came players is_paused former base out [] t.takes.attended)
@@ -1176,10 +1178,13 @@ module _ {S : Type 0} (remaining contents : S → Option (List ℕ)) (players : 
       t.between.talk.wire.items (message_values t.between.talk.told.items) =
       at_with players is_paused base out (AreKept remaining contents site came former out t.takes.attended)
       (AreKept remaining contents site came former out t.between.guests.items) t.between.talk.desk t.between.talk.wire.items (message_values t.between.talk.told.items)
-      (kept_same remaining contents site came former out (IsLookedAfter t.between.talk.desk at)
-      (λ steps x y one was. served_looked remaining contents site came t.between.talk.desk at steps out x y one was) (λ x y one. one.number) t.takes.attended
-      t.between.guests.items t.takes.looks) attended in
-      let told = gone_out site former out base t.hands.front t.between.talk t.hands.rest.desk t.hands.rest.wire.items t.between.guests.items t.hands.told t.hands.delivers
+      (λ steps kept. kept_same remaining contents site came former out IsAsBefore
+      (λ steps x y one was. served_before remaining contents site came steps out x y one was) (λ x y one. one.still.number) t.takes.looked
+      t.between.guests.items t.takes.seats.before steps
+      (kept_same remaining contents site came former out (IsLookedAfter t.between.talk.desk (is_look_time at old) at)
+      (λ steps x y one was. served_looked remaining contents site came t.between.talk.desk (is_look_time at old) at steps out x y one was)
+      (λ x y one. one.number) t.takes.attended t.takes.looked t.takes.looks steps kept)) attended in
+      let told = gone_out at site former out base t.hands.front t.between.talk t.hands.rest.desk t.hands.rest.wire.items t.between.guests.items t.hands.told t.hands.delivers
       (written_on contents t.hands.front t.between.server new.server t.between.talk.wire.items t.hands.rest.wire.items t.hands.tells) t.hands.desk looked in
       let none : message_values t.hands.rest.told.items ≡ [] = ap (λ (l : List Message). message_values l) t.hands.none in
       let at_settled : IsAt players is_paused wrote later (Closing remaining contents site came players is_paused former later settled (λ steps. Unit {0}))
@@ -1189,8 +1194,8 @@ module _ {S : Type 0} (remaining contents : S → Option (List ℕ)) (players : 
       (at_with players is_paused wrote later (AreKept remaining contents site came former later t.hands.told)
       (Closing remaining contents site came players is_paused former later settled (λ steps. Unit {0})) t.hands.rest.desk t.hands.rest.wire.items []
       (λ steps kept. record {
-        kept = kept_same remaining contents site came former later IsAsBefore
-            (λ steps x y one was. served_before remaining contents site came steps later x y one was) (λ x y one. one.number) t.hands.written
+        kept = kept_same remaining contents site came former later IsSettled
+            (λ steps x y one was. served_before remaining contents site came steps later x y one.before was) (λ x y one. one.before.still.number) t.hands.written
             settled t.hands.parted_from.settles steps
             (kept_same remaining contents site came former later (IsWritten contents site)
             (λ steps x y one was. served_written remaining contents site came steps later x y one was) (λ x y one. one.number) t.hands.first
@@ -1203,13 +1208,15 @@ module _ {S : Type 0} (remaining contents : S → Option (List ℕ)) (players : 
       let closed = closed_all remaining contents site came players is_paused former wrote later settled settled (λ steps. Unit {0})
       (λ s steps was. tt) t.hands.rest new.talk at_settled none t.hands.parted_from.closes in
       let same : numbers settled ≡ numbers t.takes.attended =
-      same_numbers IsAsBefore (λ x y one. one.number) t.hands.written settled t.hands.parted_from.settles
+      same_numbers IsSettled (λ x y one. one.before.still.number) t.hands.written settled t.hands.parted_from.settles
       ∙ (same_numbers (IsWritten contents site) (λ x y one. one.number) t.hands.first t.hands.written writes
       ∙ (same_numbers (IsWritten contents site) (λ x y one. one.number) t.hands.told t.hands.first writes_first
-      ∙ (same_numbers IsCaughtUp (λ x y one. caught_number x y one) t.hands.delivers.first t.hands.told t.hands.delivers.caught_up
-      ∙ (same_numbers (AreTold t.hands.delivers.made) (λ x y one. told_number t.hands.delivers.made x y one) t.between.guests.items
+      ∙ (same_numbers (IsCaughtUp at) (λ x y one. caught_number at x y one) t.hands.delivers.first t.hands.told t.hands.delivers.caught_up
+      ∙ (same_numbers (AreTold at t.hands.delivers.made) (λ x y one. told_number at t.hands.delivers.made x y one) t.between.guests.items
       t.hands.delivers.first t.hands.delivers.are_told
-      ∙ same_numbers (IsLookedAfter t.between.talk.desk at) (λ x y one. one.number) t.takes.attended t.between.guests.items t.takes.looks)))) in
+      ∙ (same_numbers IsAsBefore (λ x y one. one.still.number) t.takes.looked t.between.guests.items t.takes.seats.before
+      ∙ same_numbers (IsLookedAfter t.between.talk.desk (is_look_time at old) at) (λ x y one. one.number) t.takes.attended t.takes.looked
+      t.takes.looks))))) in
       let own_said : AreOwn t.between.talk.next (numbers (former ++ t.takes.attended)) = said.1 in
       let own_settled : AreOwn t.between.talk.next (numbers ((gone_of settled ++ former) ++ stay_of settled)) =
       own_parted t.between.talk.next former settled (own_as t.between.talk.next former t.takes.attended settled same own_said) in
@@ -1350,12 +1357,12 @@ module _ {S : Type 0} (remaining contents : S → Option (List ℕ)) (players : 
         former = former;
         logged = so_far.logged;
         talk = with_guests (traffic_of o so_far.heard) came came former old new wakes.talk wakes.site out
-            (λ steps kept. kept_same remaining contents old.site came former out IsAsBefore
-            (λ steps x y one was. served_before remaining contents old.site came steps out x y one was) (λ x y one. one.number)
+            (λ steps kept. kept_same remaining contents old.site came former out IsLeftAlone
+            (λ steps x y one was. served_before remaining contents old.site came steps out x y one.before was) (λ x y one. one.before.still.number)
             old.guests.items new.guests.items wakes.guests steps kept) so_far.talk;
         own = subst (λ (t : Talk). AreOwn t.next (numbers (former ++ new.guests.items))) (sym wakes.talk)
             (own_as old.talk.next former old.guests.items new.guests.items
-            (same_numbers IsAsBefore (λ x y one. one.number) old.guests.items new.guests.items wakes.guests) so_far.own);
+            (same_numbers IsLeftAlone (λ x y one. one.before.still.number) old.guests.items new.guests.items wakes.guests) so_far.own);
         whole = woken_whole old.server new.server wakes.server so_far.whole;
       }
 
@@ -1550,16 +1557,16 @@ module _ {S : Type 0} (remaining contents : S → Option (List ℕ)) (players : 
       (past, subst (λ (h : Hall S). IsLife remaining contents players is_paused past h) (sym same) life)
   reached_life old new (inr (none, (stream, comes))) (past, life) = (ServerCame stream ∷ past, (old, life, comes))
 
-  welcomed_life : (streams : List S) (old new : Hall S) → AreAdmitted streams old new → IsSomeLife old → IsSomeLife new
-  welcomed_life [] old new same (past, life) =
+  welcomed_life : (at : ℕ) (comers : List (Comer S)) (old new : Hall S) → AreAdmitted at comers old new → IsSomeLife old → IsSomeLife new
+  welcomed_life at [] old new same (past, life) =
       (past, subst (λ (h : Hall S). IsLife remaining contents players is_paused past h) (sym same) life)
-  welcomed_life (stream ∷ streams) old new (between, are, admits) so_far =
-      let so = welcomed_life streams old between are so_far in
-      (Came stream ∷ so.0, (between, so.1, admits))
+  welcomed_life at (comer ∷ comers) old new (between, are, is) so_far =
+      let so = welcomed_life at comers old between are so_far in
+      (Came comer.stream ∷ so.0, (between, so.1, is.admits))
 
   turned_life : (at : ℕ) (old new : Hall S) → IsLobbyTurn remaining contents at old new → IsSomeLife old → IsSomeLife new
   turned_life at old new turn so_far =
-      let so = welcomed_life turn.streams turn.reached turn.welcomed turn.welcomes
+      let so = welcomed_life at turn.comers turn.reached turn.welcomed turn.welcomes
       (reached_life old turn.reached turn.reaches so_far) in (
         Turned at (bytes_heard remaining turn.welcomed.server turn.turns.takes.server_heard turn.welcomed.talk turn.turns.takes.heard
             turn.turns.takes.hears) turn.turns.takes.is_gone (texts_put turn.turns) turn.turns.hands.front ∷ so.0,

@@ -14,6 +14,7 @@ use Rattle.lobby_loop.specs.Places.{is_player, gone, each_own, judged, IsKeptOrC
 use Rattle.lobby_guests.specs.Place.{role_by}
 use Rattle.lobby_guests.specs.Place.{role_of, player_of, place_of, Yields}
 use Rattle.lobby_loop.specs.Seating.{AreYielding, YieldAt, AreSeated, AreSeatedIf}
+use Rattle.lobby_guests.proofs.Catching.{same_guest}
 use Rattle.lobby_talk.proofs.Each.{SameFrom, further_same, further_front}
 
 -- ---- one after the other
@@ -104,10 +105,10 @@ module _ {S : Type 0} (desk : Desk) where
   yielded_place : (p : Place) (g h : Guest S) → Yields p g h →
       place_of desk h ≡ place_with g.origin.address (role_of desk (g.is_lost || is_gone p.role) g.number) (player_of desk g.number) g.since
   yielded_place p g h yields =
-      ap (λ o. place_with o.address (role_of desk h.is_lost h.number) (player_of desk h.number) h.since) yields.before.origin
+      ap (λ o. place_with o.address (role_of desk h.is_lost h.number) (player_of desk h.number) h.since) yields.before.still.visit.origin
       ∙ ap (λ b. place_with g.origin.address (role_of desk b h.number) (player_of desk h.number) h.since) yields.lost
-      ∙ ap (λ n. place_with g.origin.address (role_of desk (g.is_lost || is_gone p.role) n) (player_of desk n) h.since) yields.before.number
-      ∙ ap (λ n. place_with g.origin.address (role_of desk (g.is_lost || is_gone p.role) g.number) (player_of desk g.number) n) yields.before.since
+      ∙ ap (λ n. place_with g.origin.address (role_of desk (g.is_lost || is_gone p.role) n) (player_of desk n) h.since) yields.before.still.number
+      ∙ ap (λ n. place_with g.origin.address (role_of desk (g.is_lost || is_gone p.role) g.number) (player_of desk g.number) n) yields.before.still.visit.since
 
   one_place : (p : Place) (g h : Guest S) → Yields p g h → IsKeptOrGone (place_of desk g) p → place_of desk h ≡ p
   one_place p g h yields kept =
@@ -171,10 +172,7 @@ fair_length at from old new fair = sym (length_all_zip IsKeptOrClosed old new fa
 module _ {S : Type 0} (desk : Desk) where
   all_as_before : (guests : List (Guest S)) → AllZip IsAsBefore guests guests
   all_as_before [] = tt
-  all_as_before (guest ∷ guests) = (
-    record { number = refl; stream = refl; browser = refl; waits = refl; since = refl; origin = refl; paid = refl },
-    all_as_before guests,
-  )
+  all_as_before (guest ∷ guests) = ((same_guest guest).before, all_as_before guests)
 
   pub seated_not : (at from : ℕ) (guests : List (Guest S)) → AreSeatedIf false at from desk guests guests
   seated_not at from guests = record { before = all_as_before guests; seats = λ is. absurd (cc); same = λ is. refl }

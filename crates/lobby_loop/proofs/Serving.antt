@@ -25,7 +25,7 @@ use Rattle.lobby_guests.specs.declared.waiting.Waiting.{Waiting}
 use Rattle.lobby_guests.specs.Waiting.{is_line, must_wait, IsToldBy as IsTextToldBy}
 use Rattle.lobby_talk.specs.Talking.{Saying, InTime, TooFast, WithLink, saying}
 use Rattle.lobby_talk.specs.Counting.{is_for}
-use Rattle.lobby_guests.specs.Guests.{IsNewGuest, IsAsBefore, IsRead, IsSaid, IsPassedOn, AreTold, IsNextTold, AreNextTold, IsCaughtUp, IsWritten, IsLookedAfter}
+use Rattle.lobby_guests.specs.Guests.{IsNewGuest, IsAsBefore, IsRead, IsSaid, IsPassedOn, IsGiven, IsGivenIf, AreTold, IsNextTold, AreNextTold, IsCaughtUp, IsWritten, IsLookedAfter}
 use Rattle.lobby_loop.specs.Living.{numbers}
 use Rattle.lobby_loop.specs.Doing.{Doing, Took, Tried, Gave, WasTold, Wrote, Spot, spot, DoesAt, HasDone, IsAt, AreAt, IsAmong, Before, has_opened, texts_more, texts_given, texts_told, AreLate, message_of, messages_of, IsSaidAs, IsSaidBy, all_tells, told_for, is_opening, before_opening, IsToldAs, IsWaitingAs, IsToldOf, IsToldBy, IsServed, WasClosed, WereServed, AreServed}
 
@@ -383,8 +383,8 @@ module _ {S : Type 0} (remaining contents : S → Option (List ℕ)) (site : Sit
   pub served_before : (steps : List Step) (out : List MessageValue) (old new : Guest S) → IsAsBefore old new →
       Served steps out old.number (spot old) → Served steps out new.number (spot new)
   served_before steps out old new same was =
-      subst (λ (n : Option ℕ). Served steps out n (spot new)) (sym same.number)
-      (stays_at steps out old.number old new same.browser same.stream same.waits was)
+      subst (λ (n : Option ℕ). Served steps out n (spot new)) (sym same.still.number)
+      (stays_at steps out old.number old new same.still.browser same.still.stream same.still.waits was)
 
   pub served_read : (steps : List Step) (out : List MessageValue) (old new : Guest S) → IsRead remaining site old new →
       Served steps out old.number (spot old) → Served steps out new.number (spot new)
@@ -396,12 +396,13 @@ module _ {S : Type 0} (remaining contents : S → Option (List ℕ)) (site : Sit
             (λ past. record { opened = refl; given = refl; told = refl; late = λ so_far. so_far }) refl (reads.consumed, takes.0, takes.1) was
       ])
 
-  pub served_looked : (desk : Desk) (at : ℕ) (steps : List Step) (out : List MessageValue) (old new : Guest S) → IsLookedAfter desk at old new →
+  pub served_looked : (desk : Desk) (is_time : Bool) (at : ℕ) (steps : List Step) (out : List MessageValue) (old new : Guest S) →
+      IsLookedAfter desk is_time at old new →
       Served steps out old.number (spot old) → Served steps out new.number (spot new)
-  served_looked desk at steps out old new looks was =
+  served_looked desk is_time at steps out old new looks was =
       subst (λ (n : Option ℕ). Served steps out n (spot new)) (sym looks.number) (elim looks.said [
-        | inl same ↦ stays_at steps out old.number old new same looks.stream looks.waits was
-        | inr pings ↦ done_more steps out old.number (WasTold (Ping []) pings.0) (spot old) (spot new) (ap (λ v. v.items) looks.waits)
+        | inl same ↦ stays_at steps out old.number old new same.0 looks.stream looks.waits was
+        | inr (silent, pings) ↦ done_more steps out old.number (WasTold (Ping []) pings.0) (spot old) (spot new) (ap (λ v. v.items) looks.waits)
             (λ past. record { opened = refl; given = refl; told = append-nil (texts_told past); late = λ so_far. (inl refl, so_far) }) tt (looks.stream, refl, pings.1) was
       ])
 
@@ -557,19 +558,19 @@ module _ {S : Type 0} (remaining contents : S → Option (List ℕ)) (site : Sit
 
   -- a text is said to it, which it was to be told, and so what waits may be other
   said_more : (steps : List Step) (out more : List MessageValue) (c : ℕ) (text : List ℕ) (old new : Guest S) →
-      new.stream ≡ old.stream → IsSaid text old.browser new.browser → (was : Served steps out (Some c) (spot old)) →
+      IsSaid text old new → (was : Served steps out (Some c) (spot old)) →
       ((q : List Doing) → texts_told q ≡ texts_told was.past ++ text ∷ [] → IsToldOf steps more c q new.waits.items) →
       Served steps more (Some c) (spot new)
-  said_more steps out more c text old new stream (answer, says) was told = record {
+  said_more steps out more c text old new is was told = record {
     first = was.first;
     new = was.new;
     among = was.among;
-    past = WasTold (Text text) answer ∷ was.past;
-    done = (spot old, was.done, (stream, refl, says));
-    sites = at_more site came.sites (WasTold (Text text) answer) was.past tt was.sites;
+    past = WasTold (Text text) is.answer ∷ was.past;
+    done = (spot old, was.done, (is.stream, refl, is.says));
+    sites = at_more site came.sites (WasTold (Text text) is.answer) was.past tt was.sites;
     late = (inr was.said.0, was.late);
     said = was.said;
-    told = told (WasTold (Text text) answer ∷ was.past) refl;
+    told = told (WasTold (Text text) is.answer ∷ was.past) refl;
   }
 
   -- where nothing was done, and something more waits
@@ -605,77 +606,85 @@ module _ {S : Type 0} (remaining contents : S → Option (List ℕ)) (site : Sit
       (subst (λ (s : S). Served steps out n (record { stage = old.browser.stage; stream = s; waits = new.waits.items })) (sym stream) was)
 
   -- one message goes out of the desk's hands, which is for it
-  passed_on : (steps : List Step) (out : List MessageValue) (kept : List KeptAnswer) (c : ℕ) (told made : Message) (old new : Guest S) (waits : Bool) →
+  passed_on : (steps : List Step) (out : List MessageValue) (kept : List KeptAnswer) (c at : ℕ) (told made : Message) (old new : Guest S) (waits : Bool) →
       must_wait old.waits.items made.kind ≡ waits → at_table (message_value told).to c ≡ true → IsMadeOf kept told made →
-      new.stream ≡ old.stream → IsPassedOn true waits made old new → Served steps out (Some c) (spot old) →
+      IsPassedOn waits at made old new → Served steps out (Some c) (spot old) →
       Served steps (out ++ message_value told ∷ []) (Some c) (spot new)
-  passed_on steps out kept c told made old new false must to is stream (said, same) was =
-      said_more steps out (out ++ message_value told ∷ []) c (string_bytes made.text) old new stream said was
+  passed_on steps out kept c at told made old new false must to is (said, (same, paid)) was =
+      said_more steps out (out ++ message_value told ∷ []) c (string_bytes made.text) old new said was
       (λ q texts. subst (λ v. IsToldOf steps (out ++ message_value told ∷ []) c q v.items) (sym same)
       (told_further steps out c (message_value told) (string_bytes made.text) was.past q old.waits.items texts
       (nothing_waits old.waits.items made.kind must) to
       (is_whole old.waits.items made.kind told.kind (string_bytes told.text) (string_bytes made.text) must is.text) was.told))
-  passed_on steps out kept c told made old new true must to is stream put was =
-      moved_to steps (out ++ message_value told ∷ []) (Some c) old new put.browser stream
+  passed_on steps out kept c at told made old new true must to is put was =
+      moved_to steps (out ++ message_value told ∷ []) (Some c) old new put.browser put.stream
       (waits_more steps out (out ++ message_value told ∷ []) c (spot old) new.waits.items was
       (told_behind steps out c (message_value told) was.past old.waits.items new.waits.items put.one put.waits to
       (subst (λ (k : Kind). IsMade told.kind (string_bytes told.text) k (string_bytes put.one.text)) (sym put.copy.kind)
       (subst (λ (l : List ℕ). IsMade told.kind (string_bytes told.text) made.kind l) (sym put.copy.text) is.text)) was.told))
 
+  -- it was noted whether that refuses a login
+  given_on : (steps : List Step) (out : List MessageValue) (kept : List KeptAnswer) (c at : ℕ) (told made : Message) (old new : Guest S) →
+      at_table (message_value told).to c ≡ true → IsMadeOf kept told made → IsGiven at made old new → Served steps out (Some c) (spot old) →
+      Served steps (out ++ message_value told ∷ []) (Some c) (spot new)
+  given_on steps out kept c at told made old new to is given was =
+      let still = given.notes.still in
+      passed_on steps out kept c at told made given.noted new (must_wait old.waits.items made.kind)
+      (ap (λ v. must_wait v.items made.kind) still.waits) to is given.passed
+      (stays_at steps out (Some c) old given.noted still.browser still.stream still.waits was)
+
   -- one message goes out of the desk's hands
-  served_one : (n : Option ℕ) (steps : List Step) (out : List MessageValue) (kept : List KeptAnswer) (told : Message) (made : Message) (old new : Guest S) →
-      IsMadeOf kept told made → new.stream ≡ old.stream →
-      IsPassedOn (is_for n made.to.items) (must_wait old.waits.items made.kind) made old new → Served steps out n (spot old) →
+  served_one : (n : Option ℕ) (steps : List Step) (out : List MessageValue) (kept : List KeptAnswer) (at : ℕ) (told made : Message) (old new : Guest S) →
+      IsMadeOf kept told made → IsGivenIf (is_for n made.to.items) at made old new → Served steps out n (spot old) →
       Served steps (out ++ message_value told ∷ []) n (spot new)
-  served_one None steps out kept told made old new is stream (same, still) was =
-      let so = stays_at steps out None old new same stream still was in
+  served_one None steps out kept at told made old new is same was =
+      let so = subst (λ (g : Guest S). Served steps out None (spot g)) (sym same) was in
       told_anew steps steps out (out ++ message_value told ∷ []) None (spot new) so so.said so.told
-  served_one (Some c) steps out kept told made old new is stream passed was =
+  served_one (Some c) steps out kept at told made old new is given was =
       let to : at_table made.to.items c ≡ at_table (message_value told).to c = ap (λ l. at_table l.items c) is.to in
-      let waits = must_wait old.waits.items made.kind in
       elim (cases_Bool (at_table made.to.items c)) [
-        | inl for_c ↦ passed_on steps out kept c told made old new waits refl (sym to ∙ for_c) is stream
-            (subst (λ (u : Bool). IsPassedOn u waits made old new) for_c passed) was
+        | inl for_c ↦ given_on steps out kept c at told made old new (sym to ∙ for_c) is
+            (subst (λ (u : Bool). IsGivenIf u at made old new) for_c given) was
         | inr not_for_c ↦
-            let same = subst (λ (u : Bool). IsPassedOn u waits made old new) not_for_c passed in
-            let so = stays_at steps out (Some c) old new same.0 stream same.1 was in
+            let same = subst (λ (u : Bool). IsGivenIf u at made old new) not_for_c given in
+            let so = subst (λ (g : Guest S). Served steps out (Some c) (spot g)) (sym same) was in
             told_anew steps steps out (out ++ message_value told ∷ []) (Some c) (spot new) so so.said
             (told_past steps out c (message_value told) so.past new.waits.items (sym to ∙ not_for_c) so.told)
       ]
 
   -- what waits first is told
-  served_next : (n : Option ℕ) (steps : List Step) (out : List MessageValue) (one : Waiting) (old new : Guest S) →
-      IsNextTold one old new → Served steps out n (spot old) → Served steps out n (spot new)
-  served_next None steps out one old new is was = absurd (false≢true (sym (ap any_waits (sym is.first ∙ was.told.1))))
-  served_next (Some c) steps out one old new is was =
-      said_more steps out out c is.text old new is.stream is.said was
+  served_next : (n : Option ℕ) (steps : List Step) (out : List MessageValue) (at : ℕ) (one : Waiting) (old new : Guest S) →
+      IsNextTold at one old new → Served steps out n (spot old) → Served steps out n (spot new)
+  served_next None steps out at one old new is was = absurd (false≢true (sym (ap any_waits (sym is.first ∙ was.told.1))))
+  served_next (Some c) steps out at one old new is was =
+      said_more steps out out c is.text old new is.said was
       (λ q texts. told_next steps out c was.past q one old.waits.items new.waits.items is.text texts is.first is.told was.told)
 
-  served_caught : (steps : List Step) (out : List MessageValue) (front : List Waiting) (old new : Guest S) →
-      AreNextTold front old new → Served steps out old.number (spot old) → Served steps out new.number (spot new)
-  served_caught steps out [] old new same was = served_before steps out old new same was
-  served_caught steps out (one ∷ before) old new (between, are, is) was =
-      subst (λ (n : Option ℕ). Served steps out n (spot new)) (sym is.number)
-      (served_next between.number steps out one between new is (served_caught steps out before old between are was))
+  served_caught : (steps : List Step) (out : List MessageValue) (at : ℕ) (front : List Waiting) (old new : Guest S) →
+      AreNextTold at front old new → Served steps out old.number (spot old) → Served steps out new.number (spot new)
+  served_caught steps out at [] old new same was = subst (λ (g : Guest S). Served steps out g.number (spot g)) (sym same) was
+  served_caught steps out at (one ∷ before) old new (between, are, is) was =
+      subst (λ (n : Option ℕ). Served steps out n (spot new)) (sym is.said.number)
+      (served_next between.number steps out at one between new is (served_caught steps out at before old between are was))
 
-  pub served_caught_up : (steps : List Step) (out : List MessageValue) (old new : Guest S) → IsCaughtUp old new →
+  pub served_caught_up : (steps : List Step) (out : List MessageValue) (at : ℕ) (old new : Guest S) → IsCaughtUp at old new →
       Served steps out old.number (spot old) → Served steps out new.number (spot new)
-  served_caught_up steps out old new up was = served_caught steps out up.front old new up.are was
+  served_caught_up steps out at old new up was = served_caught steps out at up.front old new up.are was
 
-  pub served_told : (steps : List Step) (out : List MessageValue) (kept : List KeptAnswer) (told : List Message) (made : List Message) (old new : Guest S) →
-      AllZip (IsMadeOf kept) told made → AreTold made old new → Served steps out old.number (spot old) →
+  pub served_told : (steps : List Step) (out : List MessageValue) (kept : List KeptAnswer) (at : ℕ) (told : List Message) (made : List Message) (old new : Guest S) →
+      AllZip (IsMadeOf kept) told made → AreTold at made old new → Served steps out old.number (spot old) →
       Served steps (out ++ message_values told) new.number (spot new)
-  served_told steps out kept [] [] old new none same was =
+  served_told steps out kept at [] [] old new none same was =
       subst (λ (l : List MessageValue). Served steps l new.number (spot new)) (sym (append-nil out))
       (subst (λ (g : Guest S). Served steps out g.number (spot g)) (sym same) was)
-  served_told steps out kept [] (m ∷ made) old new none_such are was = absurd none_such
-  served_told steps out kept (t ∷ told) [] old new none_such are was = absurd none_such
-  served_told steps out kept (t ∷ told) (m ∷ made) old new (one, all) (between, is, are) was =
+  served_told steps out kept at [] (m ∷ made) old new none_such are was = absurd none_such
+  served_told steps out kept at (t ∷ told) [] old new none_such are was = absurd none_such
+  served_told steps out kept at (t ∷ told) (m ∷ made) old new (one, all) (between, is, are) was =
       let mid : Served steps (out ++ message_value t ∷ []) between.number (spot between) =
       subst (λ (n : Option ℕ). Served steps (out ++ message_value t ∷ []) n (spot between)) (sym is.number)
-      (served_one old.number steps out kept t m old between one is.stream is.passed was) in
+      (served_one old.number steps out kept at t m old between one is.given was) in
       subst (λ (l : List MessageValue). Served steps l new.number (spot new)) (append_assoc out (message_value t ∷ []) (message_values told))
-      (served_told steps (out ++ message_value t ∷ []) kept told made between new all are mid)
+      (served_told steps (out ++ message_value t ∷ []) kept at told made between new all are mid)
 
   -- ---- all of them
 

@@ -13,13 +13,13 @@ use Rattle.lobby_web.specs.declared.site.File.{File}
 use Rattle.lobby_web.specs.Pages.{Changes, IsSameSite}
 use Rattle.lobby_guests.specs.declared.guest.Guest.{Guest}
 use Rattle.lobby_loop.specs.declared.hall.Hall.{Hall}
-use Rattle.lobby_guests.specs.Guests.{IsAsBefore}
+use Rattle.lobby_guests.specs.Guests.{IsLeftAlone}
 use Rattle.lobby_talk.specs.Talking.{Moves}
 use Rattle.lobby_talk.specs.declared.link.Link.{Link}
 use Rattle.lobby_talk.specs.Lines.{bytes_of as bytes_before}
 use Rattle.lobby_talk.specs.Held.{HoldsNoLine}
-use Rattle.lobby_loop.specs.Turning.{BeginsHall, Admits, IsServerAsBefore, ServerComes, HasTurned, bytes_heard}
-use Rattle.lobby_loop.specs.Turning.{texts_put, IsLobbyTurn}
+use Rattle.lobby_loop.specs.Turning.{BeginsHall, KeepsDoor, Admits, IsServerAsBefore, ServerComes, HasTurned}
+use Rattle.lobby_loop.specs.Turning.{bytes_heard, texts_put, IsLobbyTurn}
 use Rattle.lobby_loop.specs.Doing.{all_tells, AreServed, WereServed, Before}
 
 -- What happens to a hall: a browser comes, sockets may be ready, the server is there, at a path another file is served
@@ -36,12 +36,11 @@ pub data Happening (S : Type 0) : Type 0 where
 
 -- Sockets may be ready, and nothing else happens.
 pub record IsWoken {S : Type 0} (old new : Hall S) : Type 0 where
-  pub guests : AllZip IsAsBefore old.guests.items new.guests.items
+  pub guests : AllZip IsLeftAlone old.guests.items new.guests.items
   pub talk : new.talk ≡ old.talk
   pub server : IsServerAsBefore old.server new.server
   pub site : new.site ≡ old.site
-  pub come : new.has_come ≡ old.has_come
-  pub away : new.away_at ≡ old.away_at
+  pub door : KeepsDoor old new
 
 -- At this path this file is served from now on, or none, and nothing else happens.
 pub record Files {S : Type 0} (path : List ℕ) (file : Option File) (old new : Hall S) : Type 0 where
@@ -49,8 +48,7 @@ pub record Files {S : Type 0} (path : List ℕ) (file : Option File) (old new : 
   pub talk : new.talk ≡ old.talk
   pub server : new.server ≡ old.server
   pub site : Changes path file old.site new.site
-  pub come : new.has_come ≡ old.has_come
-  pub away : new.away_at ≡ old.away_at
+  pub door : KeepsDoor old new
 
 -- The players are these from now on, and nothing else happens.
 pub record Renews {S : Type 0} (players : List Player) (old new : Hall S) : Type 0 where
@@ -58,8 +56,7 @@ pub record Renews {S : Type 0} (players : List Player) (old new : Hall S) : Type
   pub talk : Moves old.talk (Renewed players) new.talk
   pub server : new.server ≡ old.server
   pub site : new.site ≡ old.site
-  pub come : new.has_come ≡ old.has_come
-  pub away : new.away_at ≡ old.away_at
+  pub door : KeepsDoor old new
 
 -- The same files are served, and nothing happens.
 pub record KeepsFiles {S : Type 0} (old new : Hall S) : Type 0 where
@@ -67,8 +64,7 @@ pub record KeepsFiles {S : Type 0} (old new : Hall S) : Type 0 where
   pub talk : new.talk ≡ old.talk
   pub server : new.server ≡ old.server
   pub site : IsSameSite old.site new.site
-  pub come : new.has_come ≡ old.has_come
-  pub away : new.away_at ≡ old.away_at
+  pub door : KeepsDoor old new
 
 -- a turn in which these bytes come of the server, the connection to it is lost or not, the log has these texts, and
 -- these bytes are written to the server

@@ -1,5 +1,5 @@
 -- One turn of all that are connected.
-use Rattle.std.specs.Prelude.{ℕ, ◌≡◌, ◌⊎◌, ◌||◌, ◌&&◌, ◌+◌, ◌-◌, ◌^◌, ◌==◌, nat_le, nat_lt, min, Bool, true, false}
+use Rattle.std.specs.Prelude.{ℕ, ◌≡◌, ◌≤◌, ◌⊎◌, ◌||◌, ◌&&◌, ◌+◌, ◌-◌, ◌^◌, ◌==◌, nat_le, nat_lt, min, Bool, true, false}
 use Rattle.std.specs.Prelude.{List, [], ◌∷◌, ◌++◌, Option, None, Some, is_some, length, if◌then◌else◌}
 use Rattle.std.specs.declared.net.ip_addr.IpAddr.{IpAddr}
 use Rattle.std.specs.List.{AllZip}
@@ -16,7 +16,7 @@ use Rattle.lobby_guests.specs.Guests.{IsNewGuest, ComesFrom, AreAttended, AreDel
 use Rattle.lobby_guests.specs.Guests.{AreParted, has_waiting, earlier, first_due, LeavesOthers, LeavesStranger}
 use Rattle.lobby_talk.specs.Held.{TakesIn, HandsOn, IsKept}
 use Rattle.lobby_talk.specs.Replaying.{IsReplayed}
-use Rattle.lobby_loop.specs.Seating.{AreSeated}
+use Rattle.lobby_loop.specs.Seating.{AreSeatedIf}
 use Rattle.lobby_loop.specs.declared.hall.Hall.{Hall}
 
 -- What the server says is taken, where it is there.
@@ -52,13 +52,28 @@ TellsServer {S} contents front (Some link) server old new =
     (after : Link S) × (server ≡ Some after) × HandsOn front (contents link.stream) (contents after.stream) old new
     × IsKept link after
 
--- Nobody is connected, and nothing was said. Entries are paused, or not.
+-- Nobody is connected, nothing was said, and nobody's time counts from any moment but when he came. Entries are paused,
+-- or not.
 pub record BeginsHall {S : Type 0} (site : Site) (players : List Player) (is_paused : Bool)
     (now : Hall S) : Type 0 where
   pub site_is : now.site ≡ site
   pub talk : Begins players is_paused now.talk
   pub guests : now.guests.items ≡ []
   pub server : now.server ≡ None
+  pub away : now.away_at ≡ 0
+
+-- By what it judges who has a place is as before: whether somebody came since, when the server was away last, when it
+-- looks next, and the proxy that it trusts.
+pub record JudgesAsBefore {S : Type 0} (old new : Hall S) : Type 0 where
+  pub come : new.has_come ≡ old.has_come
+  pub away : new.away_at ≡ old.away_at
+  pub look : new.look_at ≡ old.look_at
+  pub proxy : new.proxy ≡ old.proxy
+
+-- And the next socket has the name that it would have had.
+pub record KeepsDoor {S : Type 0} (old new : Hall S) : Type 0 where
+  pub judges : JudgesAsBefore old new
+  pub names : new.next_key ≡ old.next_key
 
 -- Nobody came or went, and nothing was read, said, told or written.
 pub record IsHallAsBefore {S : Type 0} (old new : Hall S) : Type 0 where
@@ -66,8 +81,7 @@ pub record IsHallAsBefore {S : Type 0} (old new : Hall S) : Type 0 where
   pub talk : new.talk ≡ old.talk
   pub server : new.server ≡ old.server
   pub site : new.site ≡ old.site
-  pub come : new.has_come ≡ old.has_come
-  pub away : new.away_at ≡ old.away_at
+  pub judges : JudgesAsBefore old new
 
 -- Nothing came of the server, and nothing went to it.
 abbrev pub IsServerAsBefore : {S : Type 0} → Option (Link S) → Option (Link S) → Type 0
@@ -79,19 +93,40 @@ IsServerAsBefore {S} (Some link) server =
 pub record Admits {S : Type 0} (stream : S) (old new : Hall S) : Type 0 where
   pub guests : (new.guests.items ≡ old.guests.items)
       ⊎ ((guest : Guest S) × IsNewGuest stream guest × (new.guests.items ≡ old.guests.items ++ guest ∷ []))
-  pub come : (new.guests.items ≡ old.guests.items) ⊎ (new.has_come ≡ true)
-  pub has_come : old.has_come ≡ true → new.has_come ≡ true
   pub talk : new.talk ≡ old.talk
   pub server : new.server ≡ old.server
   pub site : new.site ≡ old.site
-  pub away : new.away_at ≡ old.away_at
 
--- Whoever comes has this socket's name, comes from a peer of this address, and came at this moment.
+-- when it is looked next after who is silent and who has no place any more: 5 seconds from a moment, or as before
+abbrev pub next_look : Bool → ℕ → ℕ → ℕ
+next_look is_anew look_at at = if is_anew then min (at + 5000) (2 ^ 64 - 1) else look_at
+
+-- whether that moment has come
+abbrev pub is_look_time : {S : Type 0} → ℕ → Hall S → Bool
+is_look_time at hall = nat_le hall.look_at at
+
+-- Who comes has this socket's name, comes from a peer of this address, and came at this moment; he stands behind those
+-- who are there. It is to be judged who makes room, and where nobody was there it is looked from now on.
+pub record ComesIn {S : Type 0} (key : ℕ) (peer : IpAddr) (at : ℕ) (old new : Hall S) : Type 0 where
+  pub guest : Guest S
+  pub behind : new.guests.items ≡ old.guests.items ++ guest ∷ []
+  pub plain : IpAddr
+  pub plain_is : IsPlain peer plain
+  pub from : IsFrom old.proxy plain guest.origin
+  pub comes : ComesFrom key guest.origin at guest
+  pub come : new.has_come ≡ true
+  pub away : new.away_at ≡ old.away_at
+  pub look : new.look_at ≡ next_look (length old.guests.items == 0) old.look_at at
+  pub proxy : new.proxy ≡ old.proxy
+
+-- Nobody comes, and he is counted who would have.
+pub record IsTurnedAway {S : Type 0} (old new : Hall S) : Type 0 where
+  pub guests : new.guests.items ≡ old.guests.items
+  pub judges : JudgesAsBefore old new
+  pub counted : new.turned_away ≡ min (old.turned_away + 1) (2 ^ 64 - 1)
+
 abbrev pub ComesBy : {S : Type 0} → ℕ → IpAddr → ℕ → Hall S → Hall S → Type 0
-ComesBy {S} key peer at old new =
-    (new.guests.items ≡ old.guests.items)
-    ⊎ ((guest : Guest S) × (plain : IpAddr) × IsPlain peer plain × IsFrom old.proxy plain guest.origin
-    × ComesFrom key guest.origin at guest × (new.guests.items ≡ old.guests.items ++ guest ∷ []))
+ComesBy key peer at old new = ComesIn key peer at old new ⊎ IsTurnedAway old new
 
 -- nobody more is taken: 1,104 are there, or no name for a socket is left
 abbrev pub is_full : {S : Type 0} → Hall S → Bool
@@ -102,6 +137,24 @@ abbrev pub NamesNext : {S : Type 0} → Option ℕ → Hall S → Hall S → Typ
 NamesNext None old new = (is_full old ≡ true) × (new.next_key ≡ old.next_key)
 NamesNext (Some key) old new = (is_full old ≡ false) × (key ≡ old.next_key) × (new.next_key ≡ key + 1)
 
+-- Who comes: its socket, and the address of its peer.
+pub record Comer (S : Type 0) : Type 0 where
+  pub stream : S
+  pub peer : IpAddr
+
+-- Each comes from a peer of its address.
+abbrev pub AreFrom : {S : Type 0} → (S → IpAddr → Type 0) → List (Comer S) → Type 0
+AreFrom is_from [] = Unit {0}
+AreFrom is_from (comer ∷ comers) = is_from comer.stream comer.peer × AreFrom is_from comers
+
+-- Who comes has the next name, comes from its own peer and at this moment, while there is room; or is turned away, and
+-- no name is given again.
+pub record IsReceived {S : Type 0} (at : ℕ) (comer : Comer S) (old new : Hall S) : Type 0 where
+  pub admits : Admits comer.stream old new
+  pub comes : (is_full old ≡ false) × (new.next_key ≡ old.next_key + 1)
+      × ComesIn old.next_key comer.peer at old new
+      ⊎ (old.next_key ≤ new.next_key) × IsTurnedAway old new
+
 -- The server is there, by a connection on which nothing was said and of which nothing came.
 pub record ServerComes {S : Type 0} (stream : S) (old new : Hall S) : Type 0 where
   pub link : Link S
@@ -111,22 +164,15 @@ pub record ServerComes {S : Type 0} (stream : S) (old new : Hall S) : Type 0 whe
   pub talk : MovesAnew old.talk Here new.talk
   pub guests : new.guests ≡ old.guests
   pub site : new.site ≡ old.site
-  pub come : new.has_come ≡ old.has_come
-  pub away : new.away_at ≡ old.away_at
+  pub door : KeepsDoor old new
 
 -- the last moment of a turn at which the server was not there
 abbrev pub away_after : Bool → ℕ → ℕ → ℕ
 away_after is_here before at = if is_here then before else at
 
--- Where somebody has come, each of those who were attended has a place by what the desk says, or is to be closed.
-abbrev pub HasPlaces : {S : Type 0} → Bool → ℕ → List (Guest S) → Hall S → Type 0
-HasPlaces {S} has_come at attended new =
-    has_come ≡ true →
-    (looked : List (Guest S)) × AllZip (IsLookedAfter new.talk.desk at) attended looked
-    × AreSeated at new.away_at new.talk.desk looked new.guests.items
-
 -- What comes is taken in: the server is heard, and the desk is told where its connection is lost; then each browser is,
--- but in a short turn none of those who act for nobody.
+-- but in a short turn none of those who act for nobody. Where it is time each is looked after that was silent; and if
+-- it is, or somebody has come, each has a place by what the desk says or is to be closed.
 pub record TakesAllIn {S : Type 0} (remaining : S → Option (List ℕ)) (at : ℕ) (is_short : Bool)
     (old new : Hall S) : Type 0 where
   pub server_heard : Option (Link S)
@@ -139,17 +185,23 @@ pub record TakesAllIn {S : Type 0} (remaining : S → Option (List ℕ)) (at : �
   pub attended : List (Guest S)
   pub attends : AreAttended remaining old.site at old.guests.items attended parted new.talk
   pub others : is_short ≡ true → LeavesOthers attends
-  pub looks : AllZip (IsLookedAfter new.talk.desk at) attended new.guests.items
-  pub places : HasPlaces old.has_come at attended new
+  pub looked : List (Guest S)
+  pub looks : AllZip (IsLookedAfter new.talk.desk (is_look_time at old) at) attended looked
+  pub seats : AreSeatedIf (old.has_come || is_look_time at old) at new.away_at new.talk.desk looked new.guests.items
+  pub come : new.has_come ≡ false
   pub away : new.away_at ≡ away_after (is_some new.server) old.away_at at
+  pub look : new.look_at ≡ next_look (is_look_time at old) old.look_at at
+  pub proxy : new.proxy ≡ old.proxy
+  pub names : new.next_key ≡ old.next_key
   pub site : new.site ≡ old.site
 
--- What is to go is handed out: what the desk told is delivered, for which of all replays the one that is under way goes
--- on by at most 16 plies, and what is to go is written, to the server and to each browser, but in a short turn to none
--- that acts for nobody; and the desk is told who is let go.
-pub record HandsAllOut {S : Type 0} (contents : S → Option (List ℕ)) (is_short : Bool) (old new : Hall S) : Type 0 where
+-- What is to go is handed out at a moment: what the desk told is delivered, for which of all replays the one under way
+-- goes on by at most 16 plies, and what is to go is written, to the server and to each browser, but in a short turn to
+-- none that acts for nobody; and the desk is told who is let go.
+pub record HandsAllOut {S : Type 0} (contents : S → Option (List ℕ)) (at : ℕ) (is_short : Bool)
+    (old new : Hall S) : Type 0 where
   pub told : List (Guest S)
-  pub delivers : AreDelivered old.talk.kept.answers.items old.talk.told.items old.guests.items told
+  pub delivers : AreDelivered at old.talk.kept.answers.items old.talk.told.items old.guests.items told
   pub rest : Talk
   pub desk : rest.desk ≡ old.talk.desk
   pub next : rest.next ≡ old.talk.next
@@ -164,6 +216,7 @@ pub record HandsAllOut {S : Type 0} (contents : S → Option (List ℕ)) (is_sho
   pub strangers : is_short ≡ true → AllZip (LeavesStranger rest.desk) told written
   pub parted_from : AreParted written new.guests.items rest new.talk
   pub site : new.site ≡ old.site
+  pub door : KeepsDoor old new
 
 -- the next moment behind one at which there is something to do though no socket is ready, where anybody is there:
 -- somebody's next message is taken, or it is looked after who is silent
@@ -182,18 +235,18 @@ pub record HasTurned {S : Type 0} (remaining contents : S → Option (List ℕ))
   pub is_short : Bool
   pub between : Hall S
   pub takes : TakesAllIn remaining at is_short old between
-  pub hands : HandsAllOut contents is_short between new
+  pub hands : HandsAllOut contents at is_short between new
 
 -- the texts that the log has in a turn: those for it among all that is to go then
 abbrev pub texts_put : {S : Type 0} → {remaining contents : S → Option (List ℕ)} → {at : ℕ} → {old new : Hall S} →
     HasTurned remaining contents at old new → List (List ℕ)
 texts_put turned = log_texts (message_values turned.between.talk.told.items)
 
--- Browsers come or are turned away, one after the other, the last first.
-abbrev pub AreAdmitted : {S : Type 0} → List S → Hall S → Hall S → Type 0
-AreAdmitted [] old new = new ≡ old
-AreAdmitted {S} (stream ∷ before) old new =
-    (between : Hall S) × AreAdmitted before old between × Admits stream between new
+-- Browsers come at a moment or are turned away, one after the other, the last first.
+abbrev pub AreAdmitted : {S : Type 0} → ℕ → List (Comer S) → Hall S → Hall S → Type 0
+AreAdmitted at [] old new = new ≡ old
+AreAdmitted {S} at (comer ∷ before) old new =
+    (between : Hall S) × AreAdmitted at before old between × IsReceived at comer between new
 
 -- The server is reached, where it was not there; or it is not.
 abbrev pub IsReached : {S : Type 0} → Hall S → Hall S → Type 0
@@ -219,11 +272,11 @@ pub record IsLobbyTurn {S : Type 0} (remaining contents : S → Option (List ℕ
     (old new : Hall S) : Type 0 where
   pub reached : Hall S
   pub reaches : IsReached old reached
-  pub streams : List S
+  pub comers : List (Comer S)
   pub welcomed : Hall S
-  pub welcomes : AreAdmitted streams reached welcomed
+  pub welcomes : AreAdmitted at comers reached welcomed
   pub turns : HasTurned remaining contents at welcomed new
-  pub shut : turns.is_short ≡ true → streams ≡ []
+  pub shut : turns.is_short ≡ true → comers ≡ []
 
 -- of a socket's bytes nothing is known, be it of a port or a Unix socket
 abbrev pub unknown : {S : Type 0} → S → Option (List ℕ)

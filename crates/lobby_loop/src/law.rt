@@ -6,6 +6,9 @@ ghost use Rattle.lobby_desk.specs.History.{Step};
 ghost use Rattle.lobby_web.specs.declared.site.Site.{Site};
 ghost use Rattle.lobby_loop.specs.declared.hall.Hall.{Hall};
 ghost use Rattle.lobby_loop.specs.Doing.{Spot, Before, IsServed};
+ghost use Rattle.std.specs.List.{AllZip};
+ghost use Rattle.lobby_guests.specs.Guests.{StaysLost};
+ghost use Rattle.lobby_loop.specs.Turning.{HasTurned};
 ghost use Rattle.lobby_loop.specs.Living.{Happening, IsLife, IsRightLife, Passing, IsLobbyLife};
 ghost use Rattle.lobby_loop.specs.Speaking.{Speaks};
 
@@ -43,4 +46,12 @@ pub fn law_of_browsers<S>()
         (out : List MessageValue)
         (number : Option ℕ) (now : Spot S) → (served : IsServed remaining contents site came steps out number now) →
         Speaks served.past now.stage }
+{}
+
+/// Whoever is to be closed once all that came in a turn was taken in, as one that has no place any more, is let go at the
+/// end of it: in all that is handed out he stays so.
+pub fn law_of_leaving<S>()
+    ensures { (remaining contents : S → Option (List ℕ)) (at : ℕ) (old new : Hall S)
+        → (turn : HasTurned remaining contents at old new)
+        → AllZip StaysLost turn.between.guests.items turn.hands.parted_from.settled }
 {}

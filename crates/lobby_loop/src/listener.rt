@@ -1,6 +1,6 @@
 //! The listener at which browsers come in.
-ghost use Rattle.std.specs.Prelude.{List};
-ghost use Rattle.lobby_loop.specs.Turning.{Admits, AreAdmitted};
+ghost use Rattle.std.specs.Prelude.{List, IfOk, ⊤};
+ghost use Rattle.lobby_loop.specs.Turning.{Comer, IsReceived, AreAdmitted, AreFrom};
 
 use crate::hall::Hall;
 use either::Left;
@@ -17,11 +17,16 @@ const ACCEPTED_MOST: usize = 16;
 pub trait Acceptor {
     type Stream: Drop;
 
+    /// That a connection is from a peer of this address.
+    ghost is_from: { Self.Stream → IpAddr → Type 0 } = { λ _ _. ⊤ };
+
     /// Accepts a connection, if one is there, without waiting, with its peer's address.
-    fn accept_one(&mut self) -> Result<(Self::Stream, IpAddr), AcceptFault>;
+    fn accept_one(&mut self) -> Result<(Self::Stream, IpAddr), AcceptFault>
+        ensures { IfOk result (λ came. is_from came.0 came.1) };
 
     /// Watches a connection under this name; false where the system refuses that.
-    fn watch(&mut self, stream: &mut Self::Stream, key: usize) -> bool;
+    fn watch(&mut self, stream: &mut Self::Stream, key: usize) -> bool
+        ensures { (peer : IpAddr) → is_from stream.old peer → is_from stream.new peer };
 }
 
 /// A lobby's listener on an address.
@@ -89,20 +94,24 @@ fn take_in<A: Acceptor>(
     peer: IpAddr,
     at: u64,
 )
-    ensures { (came : A.Stream) × Admits came hall.old hall.new }
+    requires { A.is_from stream peer }
+    ensures { (comer : Comer A.Stream) × A.is_from comer.stream comer.peer × IsReceived at comer hall.old hall.new }
 {
-    if let Some(key) = hall.next_key() {
-        if acceptor.watch(&mut stream, key) {
-            hall.admit(stream, key, peer, at);
-            return;
+    match hall.next_key() {
+        Some(key) => {
+            if acceptor.watch(&mut stream, key) {
+                hall.admit(stream, key, peer, at);
+            } else {
+                hall.turn_away();
+            }
         }
+        None => hall.turn_away(),
     }
-    hall.turn_away();
 }
 
 /// Accepts those who wait, up to 16.
 pub fn welcome<A: Acceptor>(acceptor: &mut A, hall: &mut Hall<A::Stream>, at: u64) -> Welcomed
-    ensures { (streams : List A.Stream) × AreAdmitted streams hall.old hall.new }
+    ensures { (comers : List (Comer A.Stream)) × AreFrom A.is_from comers × AreAdmitted at comers hall.old hall.new }
 {
     for _ in 0..ACCEPTED_MOST {
         match acceptor.accept_one() {

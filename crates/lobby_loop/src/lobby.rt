@@ -7,7 +7,7 @@ ghost use Rattle.either.specs.declared.Either.{Either};
 ghost use Rattle.lobby_desk.specs.Who.{watched_games};
 ghost use Rattle.lobby_guests.specs.Guests.{is_crowded};
 ghost use Rattle.either.specs.Either.{either};
-ghost use Rattle.lobby_loop.specs.Turning.{BeginsHall, AreAdmitted, IsReached, IsLobbyTurn, has_more, texts_put};
+ghost use Rattle.lobby_loop.specs.Turning.{BeginsHall, Comer, AreAdmitted, IsReached, IsLobbyTurn, has_more, texts_put};
 ghost use Rattle.lobby_loop.specs.Turning.{unknown, short_after, left_at, held_after};
 ghost use Rattle.lobby_loop.specs.Living.{IsWoken, Files, KeepsFiles, Renews};
 ghost use Rattle.lobby_loop.specs.Logging.{Logs};
@@ -168,6 +168,7 @@ impl Lobby {
         ensures begins { IfOk result (λ lobby. BeginsHall site players.items halts.is_paused lobby.hall) }
         ensures halts { IfOk result (λ lobby. lobby.hall.talk.desk.halts ≡ halts) }
         ensures limits { IfOk result (λ lobby. lobby.hall.talk.desk.limits ≡ limits) }
+        ensures proxy { IfOk result (λ lobby. lobby.hall.proxy ≡ proxy) }
     {
         let Watched { poll, events } = watch_listener(net, alloc, &mut listener)?;
         Ok(Lobby {
@@ -263,8 +264,9 @@ impl Lobby {
 
     // Accepts who waits at the listener, and nobody while turns are short.
     fn welcome(&mut self, at: u64)
-        ensures came { (streams : List (Either TcpStream UnixStream)) × AreAdmitted streams self.old.hall self.new.hall
-            × (nat_lt at self.old.short_until ≡ true → streams ≡ []) }
+        ensures came { (comers : List (Comer (Either TcpStream UnixStream)))
+            × AreAdmitted at comers self.old.hall self.new.hall
+            × (nat_lt at self.old.short_until ≡ true → comers ≡ []) }
         ensures held { self.new.held_until ≡ self.old.held_until }
         ensures short { self.new.short_until ≡ self.old.short_until }
     {

@@ -7,3 +7,4 @@ pub mod Counting
 pub mod Keeping
 pub mod Replays
 pub mod Replaying
+pub mod Front

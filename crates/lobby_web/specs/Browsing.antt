@@ -34,6 +34,12 @@ pending (At.Http connection) = (history connection).pending
 pending (At.Socket socket) = socket.output.items
 pending At.Over = []
 
+-- what came of a socket and was not read
+abbrev pub unread : Stage → List ℕ
+unread (At.Http connection) = []
+unread (At.Socket socket) = socket.input.items
+unread At.Over = []
+
 -- Each request has the site's answer.
 abbrev pub AreAnswered : Site → List Call → Type 0
 AreAnswered site [] = ⊤

@@ -5,7 +5,7 @@ ghost use Rattle.http_server.specs.Connection.{config_of, history};
 ghost use Rattle.http_server.specs.History.{after_read};
 ghost use Rattle.websocket.specs.CloseCode.{is_allowed};
 ghost use Rattle.websocket.specs.Content.{text as Text, ping as Ping, close as Close};
-ghost use Rattle.lobby_web.specs.Browsing.{pending, Answers, WantsBytes, IsOver, is_open, Takes};
+ghost use Rattle.lobby_web.specs.Browsing.{pending, unread, Answers, WantsBytes, IsOver, is_open, Takes};
 ghost use Rattle.lobby_web.specs.Browsing.{TakesBytes, Writes, HearsNext, SaysTo, IsNew, IsHeaded};
 ghost use Rattle.lobby_web.specs.declared.browser.Stage.TheVariants as At;
 ghost use Rattle.lobby_web.specs.Heading.{heading_of};
@@ -237,6 +237,16 @@ impl Browser {
             drop(mem::replace(&mut self.stage, stage));
         } else {
             drop(stage);
+        }
+    }
+
+    /// What came of its socket and was not read: the next frames stand in front of it.
+    pub fn unread(&self) -> &[u8]
+        ensures { result.now ≡ unread self.now.stage }
+    {
+        match &self.stage {
+            Stage::Socket(socket) => socket.unread(),
+            _ => &[],
         }
     }
 

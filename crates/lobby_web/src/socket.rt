@@ -166,6 +166,13 @@ impl Socket {
         !self.is_over && self.input.len() < MOST_UNREAD && self.output.len() <= MOST_UNTAKEN
     }
 
+    /// What came and was not read.
+    pub fn unread(&self) -> &[u8]
+        ensures { result.now ≡ self.now.input.items }
+    {
+        self.input.as_slice()
+    }
+
     /// The next bytes to write.
     pub fn out(&self) -> &[u8]
         ensures { IsChunkOf result.now self.now.output.items }

@@ -6,6 +6,7 @@ use Rattle.lobby_guests.proofs.guests.answer_all.Given as goal
 
 abbrev pub invariant-loop-guest : goal.invariant-loop-guest
 invariant-loop-guest g l = record {
-  up : IsZippedTo IsCaughtUp l.guest-index l.fn.guests.items l.guest-items;
+  up : IsZippedTo (IsCaughtUp l.fn.counts.at) l.guest-index l.fn.guests.items l.guest-items;
+  at : l.counts.at ≡ l.fn.counts.at;
   logins : l.counts.logins_refused ≡ l.fn.counts.logins_refused;
 }

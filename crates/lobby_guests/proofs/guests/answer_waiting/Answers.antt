@@ -10,7 +10,7 @@ use Rattle.lobby_guests.proofs.Catching.{all_caught_none}
 use Rattle.lobby_guests.proofs.guests.answer_waiting.Goals as goal
 
 pub returns-in-None-clause-up : goal.returns-in-None-clause-up
-returns-in-None-clause-up g c = all_caught_none c.args.guests.now.items
+returns-in-None-clause-up g c = all_caught_none c.args.counts.now.at c.args.guests.now.items
 
 pub returns-in-None-clause-replays : goal.returns-in-None-clause-replays
 returns-in-None-clause-replays g c =

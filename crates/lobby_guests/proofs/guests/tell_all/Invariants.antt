@@ -8,6 +8,7 @@ use Rattle.lobby_guests.proofs.guests.tell_all.Given as goal
 
 abbrev pub invariant-loop-guest : goal.invariant-loop-guest
 invariant-loop-guest g l = record {
-  told : IsZippedTo (AreTold l.made) l.guest-index l.fn.guests.items l.guest-items;
+  told : IsZippedTo (AreTold l.fn.counts.at l.made) l.guest-index l.fn.guests.items l.guest-items;
+  at : l.counts.at ≡ l.fn.counts.at;
   logins : l.counts.logins_refused ≡ counted_up l.fn.counts.logins_refused (refusals_in l.made (take l.guest-index l.fn.guests.items));
 }

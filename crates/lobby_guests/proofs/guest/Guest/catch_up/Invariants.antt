@@ -7,7 +7,8 @@ use Rattle.lobby_guests.proofs.guest.Guest.catch_up.Given as goal
 abbrev pub invariant-loop : goal.invariant-loop
 invariant-loop g l = record {
   front : List Waiting;
-  are : AreNextTold front l.fn.self l.self;
+  are : AreNextTold l.fn.counts.at front l.fn.self l.self;
+  at : l.counts.at ≡ l.fn.counts.at;
   logins : l.counts.logins_refused ≡ l.fn.counts.logins_refused;
 }
 

@@ -1,6 +1,6 @@
 -- The first that waits is told by the answer.
-use Rattle.std.proofs.Common.{◌≡◌, ◌∷◌, ◌∙◌, ap, sym}
-use Rattle.lobby_guests.proofs.Catching.{first_there, answer_there, told_answer}
+use Rattle.std.proofs.Common.{◌≡◌, ◌∷◌, ◌∙◌, refl, ap, sym}
+use Rattle.lobby_guests.proofs.Catching.{first_there, answer_there, told_answer, said_from}
 use Rattle.lobby_guests.proofs.guest.Guest.tell_answer.Goals as goal
 
 pub returns-clause-told : goal.returns-clause-told
@@ -11,13 +11,11 @@ returns-clause-told g c =
     ∙ ap (λ l. one ∷ l) (sym c.remove.ensures.items) in (
       one,
       record {
-        number = c.tell.ensures.number;
-        stream = c.tell.ensures.stream;
-        since = c.tell.ensures.visit.since;
-        origin = c.tell.ensures.visit.origin;
         first = first ∙ ap (λ v. one ∷ v.items) (sym c.tell.ensures.waits);
         text = c.answer.result.now;
         told = told_answer waits one c.remove.new.self.items c.answer.result.now c.args.answer.now first c.requires c.answer.ensures;
-        said = c.tell.ensures.said;
+        said = said_from c.answer.result.now c.args.self.now _ c.tell.new.self refl refl refl
+            (record { key = refl; origin = refl; since = refl; heard = refl }) refl refl c.tell.ensures.said;
+        paid = c.tell.ensures.paid;
       },
     )

@@ -1,7 +1,7 @@
 -- The first that waits is told as it is.
-use Rattle.std.proofs.Common.{◌≡◌, ◌∷◌, ◌∙◌, true, ap, sym, arith}
+use Rattle.std.proofs.Common.{◌≡◌, ◌∷◌, ◌∙◌, true, refl, ap, sym, arith}
 use Rattle.lobby_guests.specs.Waiting.{has_whole}
-use Rattle.lobby_guests.proofs.Catching.{first_there, whole_there, at_line, told_whole}
+use Rattle.lobby_guests.proofs.Catching.{first_there, whole_there, at_line, told_whole, said_from}
 use Rattle.lobby_guests.proofs.guest.Guest.tell_whole.Goals as goal
 
 pub remove-one-requires : goal.remove-one-requires
@@ -23,13 +23,11 @@ returns-clause-told g c =
     λ _. (
       one,
       record {
-        number = c.tell.ensures.number;
-        stream = c.tell.ensures.stream;
-        since = c.tell.ensures.visit.since;
-        origin = c.tell.ensures.visit.origin;
         first = first ∙ ap (λ v. one ∷ v.items) (sym c.tell.ensures.waits);
         text = c.as_str.result.now;
         told = told_whole waits one c.remove-one.new.self.items c.as_str.result.now first whole c.as_str.ensures.value;
-        said = c.tell.ensures.said;
+        said = said_from c.as_str.result.now c.args.self.now _ c.tell.new.self refl refl refl
+            (record { key = refl; origin = refl; since = refl; heard = refl }) refl refl c.tell.ensures.said;
+        paid = c.tell.ensures.paid;
       },
     )

@@ -11,7 +11,7 @@ returns-clause-turned g c =
       record {
         reached = c.reach_server.new.self.hall;
         reaches = subst (λ h. IsReached h c.reach_server.new.self.hall) c.hold.ensures.hall c.in_ok-has_reached.ensures.reached;
-        streams = came.0;
+        comers = came.0;
         welcomed = c.welcome.new.self.hall;
         welcomes = came.1;
         turns = turned.0;

@@ -1,0 +1,50 @@
+-- What stands in front of what came of a browser's socket.
+use Rattle.std.specs.Prelude.{ℕ, Bool, List, [], ◌∷◌, ◌==◌, ◌&&◌, ◌||◌, if◌then◌else◌, nat_le, eqb, codes, bit_xor}
+use Rattle.std.specs.Prelude.{length, slice_index}
+use Rattle.std.specs.List.{starts_with}
+
+abbrev pub begins : List ℕ → List ℕ → Bool
+begins text word = starts_with eqb text word
+
+-- Whether a text is an act, a pairing or a login, by how it begins; or `offers`, whose answer is short.
+unfoldable pub is_act : List ℕ → Bool
+is_act text =
+    begins text (codes "move ") || begins text (codes "offer") || begins text (codes "accep")
+    || begins text (codes "decli") || begins text (codes "resig") || begins text (codes "claim")
+    || begins text (codes "flag ") || begins text (codes "open ") || begins text (codes "join ")
+    || begins text (codes "drop ") || begins text (codes "login") || begins text (codes "pair ")
+    || begins text (codes "as ")
+
+-- Whether it asks for little: how one game stands, or that no more is told.
+unfoldable pub is_brief : List ℕ → Bool
+is_brief text =
+    begins text (codes "watch") || begins text (codes "leave") || begins text (codes "show ")
+    || begins text (codes "fen ") || begins text (codes "room ") || begins text (codes "moves")
+    || begins text (codes "unpai")
+
+-- Whether a frame that begins so is a whole text message of at most 125 bytes, and masked (RFC 6455, 5.2).
+abbrev pub is_short_text : ℕ → ℕ → Bool
+is_short_text first second = first == 129 && (nat_le 128 second && nat_le second 253)
+
+-- a letter of the text at this place, under the byte of the mask at that one
+abbrev pub letter_at : List ℕ → ℕ → ℕ → ℕ
+letter_at bytes place mask = bit_xor (slice_index bytes place) (slice_index bytes mask)
+
+-- Whether bytes begin with such a frame, of which the head has two bytes and the mask four, and with five of its text.
+abbrev pub has_letters : List ℕ → Bool
+has_letters bytes = nat_le 11 (length bytes) && is_short_text (slice_index bytes 0) (slice_index bytes 1)
+
+-- The first five letters of the text in the first frame of these bytes; zeros where that is no such frame.
+unfoldable pub letters : List ℕ → List ℕ
+letters bytes =
+    if has_letters bytes
+    then letter_at bytes 6 2 ∷ letter_at bytes 7 3 ∷ letter_at bytes 8 4 ∷ letter_at bytes 9 5
+    ∷ letter_at bytes 10 2 ∷ []
+    else 0 ∷ 0 ∷ 0 ∷ 0 ∷ 0 ∷ []
+
+-- whether the first frame is a message that begins as an act does, or as what asks for little
+abbrev pub has_act : List ℕ → Bool
+has_act unread = is_act (letters unread)
+
+abbrev pub has_brief : List ℕ → Bool
+has_brief unread = is_brief (letters unread)

@@ -1,0 +1,103 @@
+//! What stands in front of what came of a browser's socket.
+ghost use Rattle.std.specs.Prelude.{◌≡◌, ◌<◌, length};
+ghost use Rattle.lobby_talk.specs.Front.{is_act, is_brief, is_short_text, letter_at, has_letters, letters};
+ghost use Rattle.lobby_talk.specs.Front.{has_act, has_brief};
+
+/// The first byte of a frame that is a whole text message, and the least and the most that the second one has where a
+/// mask stands behind it, and then at most 125 bytes (RFC 6455, 5.2).
+const TEXT: u8 = 129;
+
+const SHORT_LEAST: u8 = 128;
+
+const SHORT_MOST: u8 = 253;
+
+/// Behind so many bytes its first five letters are there: the head has two, and the mask four.
+const LETTERS_END: usize = 11;
+
+// Whether a message is an act or a login, by how it begins.
+#[tactic(auto, unfolding(crate::specs::Front::is_act))]
+fn is_act(text: &[u8]) -> bool
+    ensures { result ≡ is_act text.now }
+{
+    text.starts_with(b"move ")
+        || text.starts_with(b"offer")
+        || text.starts_with(b"accep")
+        || text.starts_with(b"decli")
+        || text.starts_with(b"resig")
+        || text.starts_with(b"claim")
+        || text.starts_with(b"flag ")
+        || text.starts_with(b"open ")
+        || text.starts_with(b"join ")
+        || text.starts_with(b"drop ")
+        || text.starts_with(b"login")
+        || text.starts_with(b"pair ")
+        || text.starts_with(b"as ")
+}
+
+// Whether a message asks for little, by how it begins.
+#[tactic(auto, unfolding(crate::specs::Front::is_brief))]
+fn is_brief(text: &[u8]) -> bool
+    ensures { result ≡ is_brief text.now }
+{
+    text.starts_with(b"watch")
+        || text.starts_with(b"leave")
+        || text.starts_with(b"show ")
+        || text.starts_with(b"fen ")
+        || text.starts_with(b"room ")
+        || text.starts_with(b"moves")
+        || text.starts_with(b"unpai")
+}
+
+// Whether a frame that begins so is a whole text message of at most 125 bytes, and masked.
+fn is_short_text(first: u8, second: u8) -> bool
+    ensures { result ≡ is_short_text first second }
+{
+    first == TEXT && SHORT_LEAST <= second && second <= SHORT_MOST
+}
+
+// A letter of the text, under a byte of the mask.
+fn letter_at(unread: &[u8], place: usize, mask: usize) -> u8
+    requires place { place < length unread.now }
+    requires mask { mask < length unread.now }
+    ensures { result ≡ letter_at unread.now place mask }
+{
+    unread[place] ^ unread[mask]
+}
+
+// Whether what came begins with such a frame, and the first letters of its text are there.
+fn has_letters(unread: &[u8]) -> bool
+    ensures { result ≡ has_letters unread.now }
+{
+    unread.len() >= LETTERS_END && is_short_text(unread[0], unread[1])
+}
+
+// The first letters of the text in the first frame of what came; zeros where that is no such frame.
+#[tactic(auto, unfolding(crate::specs::Front::letters))]
+fn letters(unread: &[u8]) -> [u8; 5]
+    ensures { result ≡ letters unread.now }
+{
+    if !has_letters(unread) {
+        return [0; 5];
+    }
+    [
+        letter_at(unread, 6, 2),
+        letter_at(unread, 7, 3),
+        letter_at(unread, 8, 4),
+        letter_at(unread, 9, 5),
+        letter_at(unread, 10, 2),
+    ]
+}
+
+/// Whether the first frame of what came is a message that begins as an act or a login does.
+pub fn has_act(unread: &[u8]) -> bool
+    ensures { result ≡ has_act unread.now }
+{
+    is_act(&letters(unread))
+}
+
+/// Whether it is one that begins as what asks for little.
+pub fn has_brief(unread: &[u8]) -> bool
+    ensures { result ≡ has_brief unread.now }
+{
+    is_brief(&letters(unread))
+}
