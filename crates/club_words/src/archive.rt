@@ -1,6 +1,6 @@
 //! The words of the archive, with the texts of their help: games are kept, exported and written live.
 use crate::addresses::server_named;
-use crate::options::{ARCHIVE, PARTICULARS, PLAYERS, SERVER};
+use crate::options::{ARCHIVE, INITIALS, PARTICULARS, PLAYERS, SERVER};
 use crate::rounds::rounds_of;
 use clap::ArgMatches;
 use command_lines::{OptionText, OptionValue, WordText};
@@ -171,13 +171,6 @@ const LIVE_ARCHIVE: OptionText = OptionText {
     help: "An archive whose games are written too, those from --since on",
     is_required: false,
     ..ARCHIVE
-};
-
-const INITIALS: OptionText = OptionText {
-    name: "initials",
-    value: OptionValue::Nothing,
-    help: "Tells the initials of players in place of their full names",
-    is_required: false,
 };
 
 const SINCE: OptionText = OptionText {

@@ -145,16 +145,14 @@ const WAITING_MOST: OptionText = OptionText {
 
 const PLAYING_MOST: OptionText = OptionText {
     name: "playing-most",
-    value: OptionValue::Number("N", 1, 4_294_967_295),
     help: "How many games of a player may go on, 8 without it",
-    is_required: false,
+    ..WAITING_MOST
 };
 
 const OVER_MOST: OptionText = OptionText {
     name: "over-most",
-    value: OptionValue::Number("N", 1, 4_294_967_295),
     help: "How many games of a player may be over and still on the table, 32 without it",
-    is_required: false,
+    ..WAITING_MOST
 };
 
 const GAMES: OptionText = OptionText {
@@ -185,23 +183,20 @@ const ROUND: OptionText = OptionText {
 
 const GAMES_FILES: OptionText = OptionText {
     name: "games-files",
-    value: OptionValue::Text("FOLDER"),
     help: "The folder of chess-club live --games, served as /games.json and /games/G.json",
-    is_required: false,
+    ..PAGE
 };
 
 const LOG: OptionText = OptionText {
     name: "log",
-    value: OptionValue::Text("FILE"),
     help: "The file of a log of all acts, none without it",
-    is_required: false,
+    ..LIVE
 };
 
 const STOPPED: OptionText = OptionText {
     name: "stopped",
-    value: OptionValue::Text("FILE"),
     help: "The file beside the journal by which a server with --clock serving stops all clocks",
-    is_required: false,
+    ..LIVE
 };
 
 const NAME: OptionText = OptionText {
@@ -248,9 +243,8 @@ const ITS_LOG: OptionText = OptionText {
 
 const DECISIONS: OptionText = OptionText {
     name: "decisions",
-    value: OptionValue::Text("FOLDER"),
     help: "The folder of the rounds' files, to whose decisions an arbiter's are put",
-    is_required: false,
+    ..PAGE
 };
 
 pub const LOBBY: WordText = WordText {

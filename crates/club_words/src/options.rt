@@ -32,3 +32,11 @@ pub const PARTICULARS: OptionText = OptionText {
     help: "The players' particulars, a CSV file: full name, title, rating, team and more",
     is_required: false,
 };
+
+/// `--initials`, of a word that tells of players.
+pub const INITIALS: OptionText = OptionText {
+    name: "initials",
+    value: OptionValue::Nothing,
+    help: "Tells the initials of players in place of their full names",
+    is_required: false,
+};

@@ -2,7 +2,7 @@
 //! report written.
 use crate::addresses::server_named;
 use crate::days::is_day;
-use crate::options::{ARCHIVE, PARTICULARS, PLAYERS, SERVER};
+use crate::options::{ARCHIVE, INITIALS, PARTICULARS, PLAYERS, SERVER};
 use clap::ArgMatches;
 use command_lines::{OptionText, OptionValue, WordText};
 use lobby_words::{NameForm, name_form};
@@ -126,9 +126,8 @@ const PAIRINGS: OptionText = OptionText {
 
 const ROUND_FILE: OptionText = OptionText {
     name: "round-file",
-    value: OptionValue::Text("FILE"),
     help: "Which game is which board's",
-    is_required: true,
+    ..PAIRINGS
 };
 
 const DECISIONS: OptionText = OptionText {
@@ -173,9 +172,8 @@ const ARBITER_NAMED: OptionText = OptionText {
 
 const REASON: OptionText = OptionText {
     name: "reason",
-    value: OptionValue::Text("TEXT"),
     help: "Why, in words",
-    is_required: true,
+    ..ARBITER_NAMED
 };
 
 const LOBBY: OptionText = OptionText {
@@ -187,9 +185,8 @@ const LOBBY: OptionText = OptionText {
 
 const TOKEN_FILE: OptionText = OptionText {
     name: "token-file",
-    value: OptionValue::Text("FILE"),
     help: "An arbiter's token or link, in a file that its owner alone may read",
-    is_required: true,
+    ..PAIRINGS
 };
 
 const PLAYERS_OPENED: OptionText = OptionText {
@@ -320,13 +317,6 @@ const FORM: OptionText = OptionText {
     name: "form",
     value: OptionValue::Text("FORM"),
     help: "rows, crosstable or json: rows without it",
-    is_required: false,
-};
-
-const INITIALS: OptionText = OptionText {
-    name: "initials",
-    value: OptionValue::Nothing,
-    help: "Tells the initials of players in place of their full names",
     is_required: false,
 };
 

@@ -116,19 +116,22 @@ const OTHERS: [&str; 17] = [
     "{\"pgn\":\"*\",\"game\":7}",
 ];
 
-// A file of a game's line and this one is refused for the second.
-fn check_refused(rt: &impl Abort, alloc: Global, line: &str) {
+// A file of a game's line, and what stands behind it.
+fn file_with(rt: &impl Abort, alloc: Global, behind: &str) -> MemoryFile {
     let mut file = MemoryFile::new(alloc, None);
-    for text in ["{\"game\":1,\"pgn\":\"\"}\n", line, "\n"] {
+    for text in ["{\"game\":1,\"pgn\":\"\"}\n", behind] {
         file.append(text.as_bytes()).expect(rt, "memory");
     }
-    assert!(rt; matches!(open(alloc, file), Err(Fault::NotAGame(2))));
+    file
 }
 
+// (Each is whole: a line feed stands behind it.)
 #[test]
 fn refuses_other_lines(rt: HostRuntime) {
     for line in &OTHERS {
-        check_refused(&rt, rt.alloc(), line);
+        let mut file = file_with(&rt, rt.alloc(), line);
+        file.append(b"\n").expect(&rt, "memory");
+        assert!(rt; matches!(open(rt.alloc(), file), Err(Fault::NotAGame(2))));
     }
 }
 
@@ -155,23 +158,17 @@ fn reads_lines(rt: HostRuntime) {
     }
 }
 
-// A file of a game's line, and the beginning of another.
-fn torn_file(rt: &impl Abort, alloc: Global) -> MemoryFile {
-    let mut file = MemoryFile::new(alloc, None);
-    for text in ["{\"game\":1,\"pgn\":\"\"}\n", "{\"game\":2"] {
-        file.append(text.as_bytes()).expect(rt, "memory");
-    }
-    file
-}
+// The beginning of a line.
+const CUT_OFF: &str = "{\"game\":2";
 
 #[test]
 fn what_is_cut_off_has_a_place(rt: HostRuntime) {
     let mut torn = MemoryTorn::new(rt.alloc(), false);
-    let file = torn_file(&rt, rt.alloc());
+    let file = file_with(&rt, rt.alloc(), CUT_OFF);
     assert!(rt; Archive::open(rt.alloc(), file, &mut torn).is_ok());
-    assert!(rt; torn.bytes() == b"{\"game\":2".as_slice());
+    assert!(rt; torn.bytes() == CUT_OFF.as_bytes());
     let mut full = MemoryTorn::new(rt.alloc(), true);
-    let file = torn_file(&rt, rt.alloc());
+    let file = file_with(&rt, rt.alloc(), CUT_OFF);
     assert!(rt;
         matches!(
             Archive::open(rt.alloc(), file, &mut full),

@@ -129,21 +129,17 @@ fn row(game: u32, white: &str, black: &str) -> Row {
     }
 }
 
-// Games of the table. In one of them ann has Black.
-fn rows() -> [Row; 5] {
-    [
+#[test]
+fn games_are_looked_at(rt: HostRuntime) {
+    let ann = Name::try_new("ann").expect(&rt, "a name");
+    // (in one of them she has Black)
+    let rows = [
         row(9, "ann", ""),
         row(10, "cid", "ann"),
         row(16, "ann", "bob"),
         row(17, "ann", "cid"),
         row(20, "ann", ""),
-    ]
-}
-
-#[test]
-fn games_are_looked_at(rt: HostRuntime) {
-    let ann = Name::try_new("ann").expect(&rt, "a name");
-    let rows = rows();
+    ];
     assert!(rt; newest(&rows) == Some(20));
     let own = candidates(rt.alloc(), Some(9), &ann, &rows).expect(&rt, "memory");
     assert!(rt; own.as_slice() == [16, 17, 20].as_slice());

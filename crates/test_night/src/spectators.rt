@@ -3,16 +3,31 @@ use server_answers::{Clocks, Offers, Side};
 use text_pgn::{GameTold, Notices, Spectated, Stand, game_json, games_json, replayed};
 
 const MOVES: &str =
-    "[White \"Ann \\\"A\\\" Lee\"]\n[Black \"Bob\"]\n[BlackElo \"1987\"]\n[WhiteTitle \"WIM\"]\n\n1. Nf3 {[%clk 0:04:59]} Nf6 *\n\n";
+    "[White \"Ann \\\"A\\\" Lee\"]\n[Black \"Bob\"]\n[BlackElo \"1987\"]\n[WhiteTitle \"WIM\"]\n\n\
+    1. Nf3 {[%clk 0:04:59]} Nf6 *\n\n";
 
-const GAME: &str =
-    r#"{"at":1764160000123,"stopped":"","announced":"Lunch at \"13:00\"","game":7,"white":"ann","black":"bob","names":["Ann \"A\" Lee","Bob"],"titles":["WIM",""],"ratings":["","1987"],"tags":[["White","Ann \"A\" Lee"],["Black","Bob"],["BlackElo","1987"],["WhiteTitle","WIM"]],"times":"300+2","start":"rnbqkbnr/pppppppp/8/8/8/8/PPPPPPPP/RNBQKBNR w KQkq - 0 1","moves":[["Nf3","g1f3","rnbqkbnr/pppppppp/8/8/8/5N2/PPPPPPPP/RNBQKB1R b KQkq - 1 1",299000],["Nf6","g8f6","rnbqkb1r/pppppppp/5n2/8/8/5N2/PPPPPPPP/RNBQKB1R w KQkq - 2 2",null]],"check":false,"toMove":"white","running":"white","clocks":[299000,300000],"offer":"black","result":"*","article":"-"}
-"#;
+const GAME: &str = concat!(
+    r#"{"at":1764160000123,"stopped":"","announced":"Lunch at \"13:00\"","game":7,"white":"ann","black":"bob","#,
+    r#""names":["Ann \"A\" Lee","Bob"],"titles":["WIM",""],"ratings":["","1987"],"tags":[["White","Ann \"A\" Lee"],"#,
+    r#"["Black","Bob"],["BlackElo","1987"],["WhiteTitle","WIM"]],"times":"300+2","#,
+    r#""start":"rnbqkbnr/pppppppp/8/8/8/8/PPPPPPPP/RNBQKBNR w KQkq - 0 1","moves":[["Nf3","g1f3","#,
+    r#""rnbqkbnr/pppppppp/8/8/8/5N2/PPPPPPPP/RNBQKB1R b KQkq - 1 1",299000],["Nf6","g8f6","#,
+    r#""rnbqkb1r/pppppppp/5n2/8/8/5N2/PPPPPPPP/RNBQKB1R w KQkq - 2 2",null]],"check":false,"toMove":"white","#,
+    r#""running":"white","clocks":[299000,300000],"offer":"black","result":"*","article":"-"}"#,
+    "\n",
+);
 
 // (two seconds later)
-const ALL: &str =
-    r#"{"at":1764160002123,"stopped":"a fire alarm","announced":"","games":[{"game":7,"white":"ann","black":"bob","names":["Ann \"A\" Lee","Bob"],"titles":["WIM",""],"ratings":["","1987"],"plies":2,"last":"Nf6","lastMove":"g8f6","fen":"rnbqkb1r/pppppppp/5n2/8/8/5N2/PPPPPPPP/RNBQKB1R w KQkq - 2 2","check":false,"toMove":"white","running":"white","clocks":[297000,300000],"offer":"black","result":"*","article":"-"},{"game":8,"white":"-","black":"-","names":["-","-"],"titles":["",""],"ratings":["",""],"plies":0,"last":"-","lastMove":"-","fen":"7k/8/8/8/8/8/8/K6R b - - 0 1","check":true,"toMove":"black","running":"-","clocks":[null,null],"offer":"-","result":"1-0","article":"5.1.2"}]}
-"#;
+const ALL: &str = concat!(
+    r#"{"at":1764160002123,"stopped":"a fire alarm","announced":"","games":[{"game":7,"white":"ann","black":"bob","#,
+    r#""names":["Ann \"A\" Lee","Bob"],"titles":["WIM",""],"ratings":["","1987"],"plies":2,"last":"Nf6","#,
+    r#""lastMove":"g8f6","fen":"rnbqkb1r/pppppppp/5n2/8/8/5N2/PPPPPPPP/RNBQKB1R w KQkq - 2 2","check":false,"#,
+    r#""toMove":"white","running":"white","clocks":[297000,300000],"offer":"black","result":"*","article":"-"},"#,
+    r#"{"game":8,"white":"-","black":"-","names":["-","-"],"titles":["",""],"ratings":["",""],"plies":0,"last":"-","#,
+    r#""lastMove":"-","fen":"7k/8/8/8/8/8/8/K6R b - - 0 1","check":true,"toMove":"black","running":"-","#,
+    r#""clocks":[null,null],"offer":"-","result":"1-0","article":"5.1.2"}]}"#,
+    "\n",
+);
 
 const ANNOUNCED: Notices<'static> = Notices {
     stopped: "",

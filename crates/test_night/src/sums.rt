@@ -8,8 +8,10 @@ use std::process::Abort;
 const MIXED: &[u8] =
     b"{\"at\":1,\"by\":\"ann\",\"line\":\"open white 300 2\",\"answer\":\"ok open 1\"}
 {\"at\":2,\"by\":\"bob\",\"line\":\"join 1\",\"answer\":\"ok join 1 black\"}
-{\"prev\":\"796659f51b6bc26132025b8b1837ce56f73f3a744eb9acc09fb62931fd81398f\",\"at\":1764160000123,\"by\":\"ann\",\"line\":\"move 1 0 e4\",\"answer\":\"ok move 1 1 e4\"}
-{\"prev\":\"79592ea297175ed3e84e577c16011e3e7397bbd67fb8797f21e2a2f5c73a64ed\",\"at\":1764160000125,\"shows\":\"ok show 1 ann bob 1 b 299000 300000 - * -\"}
+{\"prev\":\"796659f51b6bc26132025b8b1837ce56f73f3a744eb9acc09fb62931fd81398f\",\
+    \"at\":1764160000123,\"by\":\"ann\",\"line\":\"move 1 0 e4\",\"answer\":\"ok move 1 1 e4\"}
+{\"prev\":\"79592ea297175ed3e84e577c16011e3e7397bbd67fb8797f21e2a2f5c73a64ed\",\
+    \"at\":1764160000125,\"shows\":\"ok show 1 ann bob 1 b 299000 300000 - * -\"}
 ";
 
 // What is found of a log: how many lines it has, the first that does not fit, the first that tells a sum, and how the
