@@ -379,8 +379,8 @@ fn kept_of<'a>(values: &ArgMatches<'a>) -> Option<Option<&'a str>> {
     }
 }
 
-/// What `live` asks for; none where the address or a round's files are none, a value cannot stand in a tag, the games of
-/// no archive are to be written, or a delay is asked for beside the folder of spectators.
+/// What `live` asks for; none where the address or a round's files are none, a value cannot stand in a tag, the games
+/// of no archive are to be written, or a delay is asked for beside the folder of spectators.
 pub fn living_of<'a>(
     alloc: Global,
     values: &ArgMatches<'a>,
