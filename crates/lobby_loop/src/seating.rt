@@ -22,11 +22,7 @@ fn places_of<S>(alloc: Global, guests: &[Guest<S>], talk: &Talk) -> Result<Vec<P
 }
 
 /// The players for whom connections act, in the order of the connections.
-pub fn names_in<S>(
-    alloc: Global,
-    guests: &[Guest<S>],
-    talk: &Talk,
-) -> Result<Vec<Name>, AllocError>
+pub fn names_in<S>(alloc: Global, guests: &[Guest<S>], talk: &Talk) -> Result<Vec<Name>, AllocError>
     ensures { IfOk result (λ names. names.items ≡ names_in talk.now.desk guests.now) }
 {
     guests
