@@ -20,4 +20,4 @@ pub use hall::Hall;
 pub use law::{law_of_browsers, law_of_halls, law_of_leaving, law_of_lobbies};
 pub use listener::{Acceptor, LobbyListener, Welcomed, welcome};
 pub use lobby::{Lobby, Turned};
-pub use lobby_talk::{ACTS, BOUNDS, Counts, KeepsLinks, NoLinks};
+pub use lobby_talk::{ACTS, BOUNDS, Counts, KeepsLinks, NoLinks, Roll};

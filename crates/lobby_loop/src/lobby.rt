@@ -11,6 +11,8 @@ ghost use Rattle.lobby_loop.specs.Turning.{BeginsHall, Comer, AreAdmitted, IsRea
 ghost use Rattle.lobby_loop.specs.Turning.{unknown, short_after, left_at, held_after};
 ghost use Rattle.lobby_loop.specs.Living.{IsWoken, Files, KeepsFiles, Renews};
 ghost use Rattle.lobby_loop.specs.Logging.{Logs};
+ghost use Rattle.lobby_loop.specs.Roll.{here_in};
+ghost use Rattle.lobby_talk.specs.Roll.{here_by, news};
 ghost use Rattle.lobby_loop.specs.declared.lobby.Turned.TheVariants.{Worked};
 
 use crate::act_log::{ActLog, Fault};
@@ -18,7 +20,7 @@ use crate::hall::Hall;
 use crate::listener::{LobbyAcceptor, LobbyListener, Welcomed, welcome};
 use lobby_desk::{Halts, Limits};
 use lobby_guests::earlier;
-use lobby_talk::{Counts, KeepsLinks};
+use lobby_talk::{Counts, KeepsLinks, Roll};
 use lobby_web::{File, Site};
 use lobby_words::Player;
 use mio::{Events, Interest, Poll, Token};
@@ -80,6 +82,8 @@ pub struct Lobby {
     // Whether something else may have happened since the last turn: at the server, of a player, or that time passed.
     is_awake: bool,
     hall: Hall<Call>,
+    // Who was here when the log was told last.
+    roll: Roll,
     poll: Poll,
     events: Events,
 }
@@ -183,6 +187,7 @@ impl Lobby {
             short_until: 0,
             is_awake: true,
             hall: Hall::new(alloc, keys, site, players, halts, limits, proxy),
+            roll: Roll::new(alloc),
             poll,
             events,
         })
@@ -393,6 +398,19 @@ impl Lobby {
         let has_turned = self.hall.turn(at, is_short, log, links)?;
         self.short_until = short_after(self.short_until, at);
         Ok(self.turned(has_reached | has_turned, at))
+    }
+
+    /// Gives the log who came and went since it was told last, and whether the server did: so it has that behind each
+    /// turn behind which it is told. Where the log fails the lobby ends.
+    pub fn tell_roll<L: ActLog>(&mut self, log: &mut L) -> Result<(), Fault>
+        ensures told { OnOk result (Logs (L.logged log.old) (L.logged log.new)
+            (news (here_by self.old.roll) (here_in self.old.hall))) }
+        ensures roll { OnOk result (here_by self.new.roll ≡ here_in self.old.hall) }
+        ensures hall { self.new.hall ≡ self.old.hall }
+        ensures held { self.new.held_until ≡ self.old.held_until }
+        ensures short { self.new.short_until ≡ self.old.short_until }
+    {
+        self.hall.tell_roll(&mut self.roll, log)
     }
 
     // The sockets that were ready are looked at in the next turn.

@@ -1,11 +1,13 @@
 //! The places of all connections.
 ghost use Rattle.std.specs.Prelude.{◌≡◌, IfOk, OnOk, length, map};
 ghost use Rattle.lobby_guests.specs.Place.{place_of};
+ghost use Rattle.lobby_loop.specs.Roll.{names_in};
 ghost use Rattle.lobby_loop.specs.Seating.{AreYielding, YieldAt, AreSeated, AreSeatedIf};
 
 use crate::places::{judge, own};
 use lobby_guests::{Guest, Place};
 use lobby_talk::Talk;
+use player_name::Name;
 use std::alloc::{AllocError, Global};
 
 // The places of connections, in their order.
@@ -17,6 +19,16 @@ fn places_of<S>(alloc: Global, guests: &[Guest<S>], talk: &Talk) -> Result<Vec<P
         places.push(guest.place(talk))?;
     }
     Ok(places)
+}
+
+/// The players for whom connections act, in the order of the connections.
+pub fn names_in<S>(alloc: Global, guests: &[Guest<S>], talk: &Talk) -> Result<Vec<Name>, AllocError>
+    ensures { IfOk result (λ names. names.items ≡ names_in talk.now.desk guests.now) }
+{
+    guests
+        .iter()
+        .filter_map(|guest| guest.place(talk).player)
+        .collect(alloc)
 }
 
 // Those go whose places have nobody any more.

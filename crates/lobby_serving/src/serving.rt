@@ -163,6 +163,7 @@ where
         self.health.look(lobby, &self.table, at)?;
         let games_rest = self.games.look(self.rt, lobby, at)?;
         let turned = lobby.turn(self.rt, at, log, &mut self.links)?;
+        lobby.tell_roll(log)?;
         self.telling.tell_server(lobby.has_server());
         self.telling.tell_counts(lobby, at);
         lobby.rest(within(within(turned, self.table.rest(at)), games_rest))?;

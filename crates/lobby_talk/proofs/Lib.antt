@@ -1,4 +1,5 @@
 pub mod Each
+pub mod Others
 pub mod Making
 pub mod Taking
 pub mod Saying

@@ -2,6 +2,7 @@ pub mod Pieces
 pub mod Held
 pub mod Making
 pub mod Talking
+pub mod Roll
 pub mod Lines
 pub mod Counting
 pub mod Keeping

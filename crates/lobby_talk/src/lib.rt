@@ -5,8 +5,9 @@
 //! Modules: `talk` has the desk with what goes from it, `front` what a message asks that stands in front of what came of
 //! a browser, `said` a browser's message as the desk takes it, `lines` the lines of the server, `made` the messages as
 //! they go out, `kept` and `kept_answer` answers that were made, `under_way` the replay by which one more is, `link` the
-//! connection to the server, `pieces` one write, `links` who changes players' links, `counts` what is counted beside
-//! that. `proofs/Each` has what is done to each of a list, `proofs/Taking` lines one after another.
+//! connection to the server, `pieces` one write, `links` who changes players' links, `roll` who is here and what the log
+//! is told of that, `counts` what is counted beside that. `proofs/Each` has what is done to each of a list,
+//! `proofs/Taking` lines one after another, `proofs/Others` who came.
 #![tactic(auto)]
 
 mod counts;
@@ -18,6 +19,7 @@ mod link;
 mod links;
 mod made;
 mod pieces;
+mod roll;
 mod said;
 mod talk;
 mod under_way;
@@ -28,5 +30,6 @@ pub use kept_answer::KeptAnswer;
 pub use link::Link;
 pub use links::{KeepsLinks, NoLinks};
 pub use pieces::{Gone, PIECE_ROOM, write_piece};
+pub use roll::Roll;
 pub use said::say_to_desk;
 pub use talk::Talk;
