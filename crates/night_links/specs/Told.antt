@@ -1,5 +1,5 @@
 -- A game as spectators are told it, and the text of its file.
-use Rattle.std.specs.Prelude.{ℕ, ◌≡◌, Bool, false, List, Option, None, Some, IfSome}
+use Rattle.std.specs.Prelude.{ℕ, ◌≡◌, Bool, false, List, length, Option, None, Some, IfSome}
 use Rattle.std.specs.Option.{option_map}
 use Rattle.std.specs.String.{string_bytes}
 use Rattle.chess_board.specs.declared.moves.Move.{Move}
@@ -12,7 +12,7 @@ use Rattle.text_pgn.specs.declared.spectated.Notices.{Notices}
 use Rattle.text_pgn.specs.declared.spectated.Stand.{Stand}
 use Rattle.text_pgn.specs.declared.spectated.Spectated.{Spectated}
 use Rattle.text_pgn.specs.Game.{TellsGame}
-use Rattle.text_pgn.specs.Rows.{rows_in}
+use Rattle.text_pgn.specs.Rows.{rows_in, move_rows}
 use Rattle.text_pgn.specs.Spectators.{IsPlayed, game_json, is_stopped, running_side}
 use Rattle.night_links.specs.declared.spectated_game.GameNow.{GameNow}
 use Rattle.night_links.specs.declared.spectated_game.Said.{Said}
@@ -48,6 +48,18 @@ abbrev pub StandsAsTold : GameNow → Standing → Type 0
 StandsAsTold now s =
     IfSome now.told (λ pair. StandsBy (string_bytes pair.0.now.shown) pair.0.now.at pair.1.now s)
 
+-- what the server's answer to `show` tells of it, where it is one
+abbrev pub shown_of : SpectatedGame → Option Shown
+shown_of g = shown_in (string_bytes g.standing.shown)
+
+-- how many moves an answer to `line G` has: a row for each behind that of the start
+abbrev pub plies_in : List ℕ → ℕ
+plies_in answer = length (move_rows (rows_in answer))
+
+-- It stands behind the last of the moves that are told of it.
+abbrev pub StandsBehind : SpectatedGame → Type 0
+StandsBehind g = IfSome (shown_of g) (λ (shown : Shown). shown.ply ≡ plies_in (string_bytes g.played.answer))
+
 -- It is this game by these tags, as it was told; and of the game that the PGN tells, its answer to `line G` is kept,
 -- each move by the Laws.
 pub record IsToldNow (now : GameNow) (g : SpectatedGame) : Type 0 where
@@ -57,6 +69,7 @@ pub record IsToldNow (now : GameNow) (g : SpectatedGame) : Type 0 where
   pub stands : StandsAsTold now g.standing
   pub played : (start : Position) → (moves : List Move) → TellsGame now.moves.now start moves →
       IsPlayed now.game start moves g.played
+  pub behind : StandsBehind g
 
 -- ---- its file
 
@@ -69,10 +82,6 @@ running_of (Some shown) is_stopped = running_side shown.ending is_stopped shown.
 abbrev pub offer_of : (Shown → Bool) → Option Shown → Bool
 offer_of side None = false
 offer_of side (Some shown) = side shown
-
--- what the server's answer to `show` tells of it, where it is one
-abbrev pub shown_of : SpectatedGame → Option Shown
-shown_of g = shown_in (string_bytes g.standing.shown)
 
 -- How it stands is what that answer tells; no clock runs while all are stopped.
 pub record IsStand (g : SpectatedGame) (s : Stand) : Type 0 where

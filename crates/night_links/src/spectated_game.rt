@@ -1,5 +1,5 @@
 //! A game as spectators are told it, and the text of its file.
-ghost use Rattle.std.specs.Prelude.{◌≡◌, [], IfOk, IfSome};
+ghost use Rattle.std.specs.Prelude.{◌≡◌, ◌↔◌, [], IfOk, IfSome, IsTrue};
 ghost use Rattle.std.specs.String.{string_bytes};
 ghost use Rattle.server_answers.specs.Values.{ending_article};
 ghost use Rattle.text_pgn.specs.Spectators.{is_stopped};
@@ -9,6 +9,7 @@ use crate::table::ToldGame;
 use anyhow::{Result, bail};
 use server_answers::{Ending, Offers, Shown, result_text, seat_text, shown_of};
 use std::alloc::{AllocError, Global};
+use text_parts::parts;
 use text_pgn::{
     Notices, PlayedGame, Spectated, Stand, game_json, replayed, running_side, value_of,
 };
@@ -75,14 +76,12 @@ const NO_OFFERS: Offers = Offers {
     black: false,
 };
 
-// How many moves were played.
-fn plies_of(played: &PlayedGame) -> usize {
-    let rows = played
-        .answer
-        .as_bytes()
-        .iter()
-        .filter(|byte| **byte == b'\n');
-    rows.count().saturating_sub(2)
+// How many moves were played: of the lines of the answer, that of the word and the row of the start stand in front.
+fn plies_of(alloc: Global, played: &PlayedGame) -> Result<usize, AllocError>
+    ensures { IfOk result (λ plies. plies ≡ spec.plies_in (string_bytes played.now.answer)) }
+{
+    let lines = parts(alloc, played.answer.as_str(), '\n')?;
+    Ok(lines.len().saturating_sub(2))
 }
 
 // The value of a tag of a PGN; `-` where it has none.
@@ -269,16 +268,23 @@ pub fn spectated_now(
         said,
         played,
     };
-    Ok(if game.is_whole() { Some(game) } else { None })
+    Ok(if game.is_whole(alloc)? {
+        Some(game)
+    } else {
+        None
+    })
 }
 
 impl SpectatedGame {
     // Whether it stands where its moves lead.
-    fn is_whole(&self) -> bool {
-        match shown_of(self.standing.shown.as_str()) {
-            Some(shown) => shown.ply as usize == plies_of(&self.played),
+    fn is_whole(&self, alloc: Global) -> Result<bool, AllocError>
+        ensures { IfOk result (λ is_whole. IsTrue is_whole ↔ spec.StandsBehind self.now) }
+    {
+        let plies = plies_of(alloc, &self.played)?;
+        Ok(match shown_of(self.standing.shown.as_str()) {
+            Some(shown) => shown.ply as usize == plies,
             None => true,
-        }
+        })
     }
 
     // How it stands.
