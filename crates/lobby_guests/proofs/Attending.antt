@@ -4,7 +4,7 @@ use Rattle.std.specs.Io.KnownBytes.{Consumes}
 use Rattle.lobby_web.specs.declared.site.Site.{Site}
 use Rattle.lobby_guests.specs.declared.guest.Guest.{Guest}
 use Rattle.lobby_talk.specs.declared.talk.Talk.{Talk}
-use Rattle.lobby_guests.specs.Guests.{InTurn, IsAttended, IsHeard, IsPlayerHeard, IsServedIf, IsPlayersTurn, IsOthersTurn, Room, Asking, has_time}
+use Rattle.lobby_guests.specs.Guests.{InTurn, IsAttended, IsHeard, IsPlayerHeard, IsPlayerServed, IsServedIf, IsPlayersTurn, IsOthersTurn, Room, Asking, has_time}
 use Rattle.lobby_talk.specs.Talking.{acts_at}
 use Rattle.lobby_guests.proofs.EachGuest.{in_turn_as}
 
@@ -39,7 +39,8 @@ module _ {S : Type 0} (remaining : S → Option (List ℕ)) (site : Site) (at : 
   heard_or_not old new room after (inr (inr (inl long))) = long.heard.heard
   heard_or_not old new room after (inr (inr (inr off))) = inr (off.guest, ap (λ (r : Asking). r.talk) off.rest)
 
-  served_if : (b : Bool) (old new : Guest S) (room after : Asking) → IsServedIf b remaining site at old new room after →
+  served_if : (b : Bool) (old new : Guest S) (room after : Asking) →
+      IsServedIf b (IsPlayerServed remaining site at old new room after) old new room after →
       IsAttended remaining site at old new room.talk after.talk
   served_if true old new room after served = record {
     read = served.read;

@@ -273,15 +273,15 @@ pub record IsPlayerServed {S : Type 0} (remaining : S → Option (List ℕ)) (si
   pub hears : IsPlayerHeard at read new room after
 
 -- Who acts for a player and has time is served, and nothing is done to anybody else.
-abbrev pub IsServedIf : {S : Type 0} → Bool → (S → Option (List ℕ)) → Site → ℕ → Guest S → Guest S → Asking → Asking
-    → Type 0
-IsServedIf true remaining site at old new room after = IsPlayerServed remaining site at old new room after
-IsServedIf false remaining site at old new room after = (new ≡ old) × (after ≡ room)
+abbrev pub IsServedIf : {S : Type 0} → Bool → Type 0 → Guest S → Guest S → Asking → Asking → Type 0
+IsServedIf true served old new room after = served
+IsServedIf false served old new room after = (new ≡ old) × (after ≡ room)
 
 abbrev pub IsPlayersTurn : {S : Type 0} → (S → Option (List ℕ)) → Site → ℕ → Guest S → Guest S → Asking → Asking
     → Type 0
 IsPlayersTurn remaining site at old new room after =
-    IsServedIf (acts_at room.talk.desk old.number && has_time at old.paid_until) remaining site at old new room after
+    IsServedIf (acts_at room.talk.desk old.number && has_time at old.paid_until)
+    (IsPlayerServed remaining site at old new room after) old new room after
 
 -- The same of one that acts for nobody, one second.
 abbrev pub is_in_time : ℕ → ℕ → Bool

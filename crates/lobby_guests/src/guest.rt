@@ -3,9 +3,9 @@ ghost use Rattle.std.specs.Prelude.{ℕ, ◌≡◌, ◌≢◌, ◌<◌, ◌≤�
 ghost use Rattle.std.specs.Prelude.{IsTrue, OnOk};
 ghost use Rattle.lobby_desk.specs.Who.{IsReady, at_table};
 ghost use Rattle.lobby_guests.specs.Guests.{has_time, IsNewGuest, ComesFrom, IsRead, IsStill};
-ghost use Rattle.lobby_guests.specs.Guests.{IsHeardAs, IsHeard, IsAsked, is_untimely, MaySpeak, IsSaid, IsTold, AreTold};
+ghost use Rattle.lobby_guests.specs.Guests.{IsHeardAs, IsHeard, IsAsked, is_untimely, MaySpeak, IsSaid, IsTold};
 ghost use Rattle.lobby_guests.specs.Guests.{NotesLogin, IsPutBehind, IsNextTold, IsCaughtUp, IsFirst, IsSameVisit};
-ghost use Rattle.lobby_guests.specs.Guests.{IsPinged, IsAskedUnless, IsSettled, IsWritten};
+ghost use Rattle.lobby_guests.specs.Guests.{AreTold, IsPinged, IsAskedUnless, IsSettled, IsWritten};
 ghost use Rattle.lobby_guests.specs.Counting.{CountsNoLogin};
 ghost use Rattle.lobby_guests.specs.Waiting.{must_wait, AtLine};
 ghost use Rattle.lobby_guests.specs.Waking.{IsAwake};
