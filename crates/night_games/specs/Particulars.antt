@@ -1,6 +1,7 @@
 -- What a row of a file of particulars tells of a player.
 use Rattle.std.specs.Prelude.{ℕ, suc, ◌==◌, Bool, true, not, ◌&&◌, ◌||◌, nat_le, nat_lt, List, [], ◌∷◌}
 use Rattle.std.specs.Prelude.{length, codes, Option, None, Some, if◌then◌else◌}
+use Rattle.std.specs.List.{list_all}
 use Rattle.std.specs.Str.{bytes_eq}
 use Rattle.night_report.specs.declared.particulars.Particulars.{Particulars}
 use Rattle.night_report.specs.Particulars.{cell, is_empty}
@@ -63,14 +64,23 @@ abbrev pub is_number : ℕ → List ℕ → Bool
 is_number most [] = true
 is_number most (b ∷ bs) = not (b == 48) && (nat_le (length (b ∷ bs)) most && are_digits (b ∷ bs))
 
+-- whether no byte is a control character of ASCII, as a tab or a line break, which a string of a PGN cannot have
+abbrev pub is_shown_byte : ℕ → Bool
+is_shown_byte b = nat_le 32 b && not (b == 127)
+
+abbrev pub is_shown : List ℕ → Bool
+is_shown text = list_all is_shown_byte text
+
 -- the first thing that is wrong with what a row tells
 unfoldable pub fault_in : List (List ℕ) → List (List ℕ) → Option RowFault
 fault_in columns fields =
     if is_empty (told columns fields (codes "name")) then Some faults.NoName
+    else (if not (is_shown (told columns fields (codes "full_name"))) then Some faults.BadFullName
     else (if not (is_sex (told columns fields (codes "sex"))) then Some faults.BadSex
     else (if not (is_title (told columns fields (codes "title"))) then Some faults.BadTitle
     else (if not (is_number 4 (told columns fields (codes "rating"))) then Some faults.BadRating
     else (if not (may_be (told columns fields (codes "federation")) (codes "AAA")) then Some faults.BadFederation
     else (if not (is_number 11 (told columns fields (codes "fide_number"))) then Some faults.BadNumber
     else (if not (may_be (told columns fields (codes "born")) (codes "0000/00/00")) then Some faults.BadBirth
-    else (if not (is_number 4 (told columns fields (codes "board"))) then Some faults.BadBoard else None)))))))
+    else (if not (is_shown (told columns fields (codes "team"))) then Some faults.BadTeam
+    else (if not (is_number 4 (told columns fields (codes "board"))) then Some faults.BadBoard else None)))))))))

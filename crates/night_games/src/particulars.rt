@@ -112,6 +112,20 @@ fn may_be(text: &str, form: &str) -> bool
     text.is_empty() || has_form(text.as_bytes(), form.as_bytes())
 }
 
+// Whether a byte is no control character of ASCII.
+fn is_shown_byte(byte: u8) -> bool
+    ensures { result ≡ spec.is_shown_byte byte }
+{
+    32 <= byte && byte != 127
+}
+
+// Whether no byte of a text is one.
+fn is_shown(text: &str) -> bool
+    ensures { result ≡ spec.is_shown text.now }
+{
+    text.as_bytes().iter().all(|byte| is_shown_byte(*byte))
+}
+
 /// The first thing that is wrong with what a row tells below these names of columns.
 #[tactic(auto, unfolding(crate::specs::Particulars::fault_in))]
 pub fn fault_in(columns: &[&str], row: &StringRecord) -> Option<RowFault>
@@ -119,6 +133,8 @@ pub fn fault_in(columns: &[&str], row: &StringRecord) -> Option<RowFault>
 {
     if told(columns, row, "name").is_empty() {
         Some(RowFault::NoName)
+    } else if !is_shown(told(columns, row, "full_name")) {
+        Some(RowFault::BadFullName)
     } else if !is_sex(told(columns, row, "sex")) {
         Some(RowFault::BadSex)
     } else if !is_title(told(columns, row, "title")) {
@@ -131,6 +147,8 @@ pub fn fault_in(columns: &[&str], row: &StringRecord) -> Option<RowFault>
         Some(RowFault::BadNumber)
     } else if !may_be(told(columns, row, "born"), "0000/00/00") {
         Some(RowFault::BadBirth)
+    } else if !is_shown(told(columns, row, "team")) {
+        Some(RowFault::BadTeam)
     } else if !is_number(told(columns, row, "board").as_bytes(), 4) {
         Some(RowFault::BadBoard)
     } else {

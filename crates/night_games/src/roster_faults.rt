@@ -11,12 +11,14 @@ use thiserror::Error;
 pub enum RowFault {
     BadShape,
     NoName,
+    BadFullName,
     BadSex,
     BadTitle,
     BadRating,
     BadFederation,
     BadNumber,
     BadBirth,
+    BadTeam,
     BadBoard,
     NameTwice,
 }
@@ -25,12 +27,14 @@ fn text_of(fault: RowFault) -> &'static str {
     match fault {
         RowFault::BadShape => "it has not as many fields as the first row",
         RowFault::NoName => "it has no name",
+        RowFault::BadFullName => "the full name has a control character, as a tab or a line break",
         RowFault::BadSex => "the sex is neither m nor w",
         RowFault::BadTitle => "the title is none of GM, IM, WGM, FM, WIM, CM, WFM, WCM",
         RowFault::BadRating => "the rating is no number of at most four digits",
         RowFault::BadFederation => "the federation is no three capital letters",
         RowFault::BadNumber => "FIDE's number is none of at most eleven digits",
         RowFault::BadBirth => "the date of birth is not as 2001/02/03",
+        RowFault::BadTeam => "the team has a control character, as a tab or a line break",
         RowFault::BadBoard => "the board is no number of at most four digits",
         RowFault::NameTwice => "the name stands in a row below too",
     }

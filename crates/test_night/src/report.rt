@@ -199,13 +199,21 @@ fn a_whole_report(rt: HostRuntime) {
 }
 
 // What is wrong with files of particulars.
-const WRONG: [(&[u8], RosterFault); 14] = [
+const WRONG: [(&[u8], RosterFault); 17] = [
     (b"", RosterFault::NoNames),
     (b"title\nGM\n", RosterFault::NoNames),
     (b"name,elo\n", RosterFault::Column(2)),
     (b"name,sex,name\n", RosterFault::Column(1)),
     (b"name,sex\nann\n", RosterFault::Row(2, RowFault::BadShape)),
     (b"name,sex\n,w\n", RosterFault::Row(2, RowFault::NoName)),
+    (
+        b"name,full_name\nann,Anna\tLee\n",
+        RosterFault::Row(2, RowFault::BadFullName),
+    ),
+    (
+        b"name,full_name\nann,\"Anna\nLee\"\n",
+        RosterFault::Row(2, RowFault::BadFullName),
+    ),
     (b"name,sex\nann,f\n", RosterFault::Row(2, RowFault::BadSex)),
     (
         b"name,title\nann,GM\nbob,gm\n",
@@ -226,6 +234,10 @@ const WRONG: [(&[u8], RosterFault); 14] = [
     (
         b"name,born\nann,2001-02-03\n",
         RosterFault::Row(2, RowFault::BadBirth),
+    ),
+    (
+        b"name,team\nann,Leeds \x7f\n",
+        RosterFault::Row(2, RowFault::BadTeam),
     ),
     (
         b"name,board\nann,first\n",
