@@ -11,23 +11,29 @@ use std::rt::Files;
 /// What the files have.
 #[derive(Drop)]
 pub struct Read {
+    form: NameForm,
     roster: Roster,
     games: Vec<BoardGame>,
 }
 
 impl Read {
-    /// Reads the files as they are now.
-    pub fn now<R: Files + AllocGlobal + Eprint>(rt: &R, besides: &Besides<'_>) -> Result<Read> {
+    /// Reads the files as they are now, where full names are told in a form.
+    pub fn now<R: Files + AllocGlobal + Eprint>(
+        rt: &R,
+        form: NameForm,
+        besides: &Besides<'_>,
+    ) -> Result<Read> {
         Ok(Read {
+            form,
             roster: roster_in(rt, besides.particulars)?,
-            games: games_of_rounds(rt, besides.rounds.as_slice())?,
+            games: games_of_rounds(rt, form, besides.rounds.as_slice())?,
         })
     }
 
     /// What is known of players, where their full names are told; nothing where they are not, since by a title, a
     /// rating or a number everybody would know who it is.
-    pub fn known(&self, alloc: Global, form: NameForm) -> Result<Vec<Particulars<'_>>, AllocError> {
-        if form == NameForm::Full {
+    pub fn known(&self, alloc: Global) -> Result<Vec<Particulars<'_>>, AllocError> {
+        if self.form == NameForm::Full {
             self.roster.particulars(alloc)
         } else {
             Ok(Vec::new(alloc))

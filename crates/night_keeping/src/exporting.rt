@@ -28,8 +28,8 @@ where
     let text = lines_told(rt, exporting.archive)?;
     let games = games_kept(rt.alloc(), text.as_str())?;
     let players = players_in(rt, exporting.players)?;
-    let read = Read::now(rt, &exporting.besides)?;
-    let known = read.known(rt.alloc(), NameForm::Full)?;
+    let read = Read::now(rt, NameForm::Full, &exporting.besides)?;
+    let known = read.known(rt.alloc())?;
     let telling = read.telling(players.as_slice(), known.as_slice());
     let told = telling.games(rt.alloc(), games)?;
     write(rt, exporting.form, told.as_slice())

@@ -6,7 +6,8 @@
 //! of their file, `log_reader` the log, read on as it grows; `initials` tells of players by
 //! their initials; `besides` reads what is told of players and boards besides, `board_games` which game is which board;
 //! `kept` writes the file of all games of an archive.
-//! `specs/Games` says which games of a list are over, `specs/Names` how a tag tells of a player.
+//! `specs/Games` says which games of a list are over, `specs/Names` how a tag tells of a player, `specs/Told` what is
+//! told of a decision.
 #![tactic(auto)]
 
 mod asked;

@@ -335,8 +335,8 @@ impl<'a, R: Files<File = File> + AllocGlobal + Eprint> Writer<'a, R> {
     // is another.
     fn pgns(&mut self) -> Result<Vec<Vec<u8>>> {
         let (alloc, form) = (self.rt.alloc(), self.living.names);
-        let read = Read::now(self.rt, &self.living.besides)?;
-        let known = read.known(alloc, form)?;
+        let read = Read::now(self.rt, form, &self.living.besides)?;
+        let known = read.known(alloc)?;
         let telling = read.telling(self.sources.known().players, known.as_slice());
         let pgns = pgns_of(
             alloc,
