@@ -19,7 +19,7 @@ returns-else-watch g c =
     let comer : Comer _ = record { stream = c.watch.new.stream; peer = c.args.peer } in
     let old = c.args.hall.now in
     let named = c.next_key.new.self in
-    let away = c.turn_away-else-watch in (
+    let away = c.turn_away in (
       comer,
       c.watch.ensures c.args.peer c.requires,
       turned_away c.args.at comer old named away.new.self c.next_key.ensures.before
