@@ -28,7 +28,7 @@ module _ {S : Type 0} where
   said_lost text x y said = λ is. said.lost ∙ or_behind (is_cut said.answer) x.is_lost is
 
   passed_lost : (waits : Bool) (at : ℕ) (made : Message) (x y : Guest S) → IsPassedOn waits at made x y → StaysLost x y
-  passed_lost false at made x y (said, rest) = said_lost _ x y said
+  passed_lost false at made x y (said, waits, paid) = said_lost _ x y said
   passed_lost true at made x y put = λ is. put.lost ∙ or_behind _ x.is_lost is
 
   given_lost : (for_it : Bool) (at : ℕ) (made : Message) (x y : Guest S) → IsGivenIf for_it at made x y → StaysLost x y

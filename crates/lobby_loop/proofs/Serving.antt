@@ -610,7 +610,7 @@ module _ {S : Type 0} (remaining contents : S → Option (List ℕ)) (site : Sit
       must_wait old.waits.items made.kind ≡ waits → at_table (message_value told).to c ≡ true → IsMadeOf kept told made →
       IsPassedOn waits at made old new → Served steps out (Some c) (spot old) →
       Served steps (out ++ message_value told ∷ []) (Some c) (spot new)
-  passed_on steps out kept c at told made old new false must to is (said, (same, paid)) was =
+  passed_on steps out kept c at told made old new false must to is (said, same, paid) was =
       said_more steps out (out ++ message_value told ∷ []) c (string_bytes made.text) old new said was
       (λ q texts. subst (λ v. IsToldOf steps (out ++ message_value told ∷ []) c q v.items) (sym same)
       (told_further steps out c (message_value told) (string_bytes made.text) was.past q old.waits.items texts

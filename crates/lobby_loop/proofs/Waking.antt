@@ -12,6 +12,15 @@ use Rattle.lobby_guests.proofs.Catching.{same_guest, visit_twice}
 use Rattle.lobby_loop.specs.Turning.{IsServerAsBefore, IsHallAsBefore, JudgesAsBefore, Admits, next_look, ComesIn, ComesBy, IsTurnedAway, NamesNext, Comer, IsReceived}
 use Rattle.lobby_loop.specs.Living.{IsWoken}
 
+less : (a b c k : ℕ) → c ≡ b → b ≡ k + 1 → k ≡ a → a ≤ c
+less a b c k one two named = omega (arith, one, two, named)
+
+pub name_grows : (a b k : ℕ) → k ≡ a → b ≡ k + 1 → a ≤ b
+name_grows a b k is next = omega (arith, is, next)
+
+pub name_stays : (a b : ℕ) → b ≡ a → a ≤ b
+name_stays a b is = omega (arith, is)
+
 module _ {S : Type 0} where
   pub all_alone : (guests : List (Guest S)) → AllZip IsLeftAlone guests guests
   all_alone [] = tt
@@ -129,14 +138,11 @@ module _ {S : Type 0} where
     proxy = comes.proxy ∙ same.judges.proxy;
   }
 
-  less : (a b c k : ℕ) → c ≡ b → b ≡ k + 1 → k ≡ a → a ≤ c
-  less a b c k one two named = omega (arith, one, two, named)
-
   -- a browser comes, or is turned away where that is refused, behind the one name that was given
   pub received : (at key : ℕ) (comer : Comer S) (a b c : Hall S) → IsHallAsBefore a b → NamesNext (Some key) a b →
       b.turned_away ≡ a.turned_away → Admits comer.stream b c → ComesBy key comer.peer at b c → c.next_key ≡ b.next_key →
       IsReceived at comer a c
-  received at key comer a b c same (room, (is, next)) counted admits by names = record {
+  received at key comer a b c same (room, is, next) counted admits by names = record {
     admits = admits_behind comer.stream a b c same admits;
     comes = elim by [
       | inl comes ↦ inl (
@@ -165,6 +171,3 @@ module _ {S : Type 0} where
           (record { guests = ap (λ gs. gs.items) away.guests; judges = away.judges; counted = count }),
     );
   }
-
-  pub name_grows : (a b k : ℕ) → k ≡ a → b ≡ k + 1 → a ≤ b
-  name_grows a b k is next = omega (arith, is, next)

@@ -1,5 +1,6 @@
 //! The listener at which browsers come in.
 ghost use Rattle.std.specs.Prelude.{List, IfOk, ⊤};
+ghost use Rattle.std.specs.declared.net.ip_addr.IpAddr.{IpAddr};
 ghost use Rattle.lobby_loop.specs.Turning.{Comer, IsReceived, AreAdmitted, AreFrom};
 
 use crate::hall::Hall;
