@@ -48,8 +48,8 @@ pub fn law_of_browsers<S>()
         Speaks served.past now.stage }
 {}
 
-/// Whoever is to be closed once all that came in a turn was taken in, as one that has no place any more, is let go at the
-/// end of it: in all that is handed out he stays so.
+/// Whoever is to be closed once all that came in a turn was taken in, as one that has no place any more, is let go at
+/// the end of it: in all that is handed out he stays so.
 pub fn law_of_leaving<S>()
     ensures { (remaining contents : S → Option (List ℕ)) (at : ℕ) (old new : Hall S)
         → (turn : HasTurned remaining contents at old new)
