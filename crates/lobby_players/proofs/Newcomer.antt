@@ -1,5 +1,5 @@
 -- Who has walked in.
-use Rattle.std.proofs.Common.{ℕ, suc, ◌≡◌, ◌≢◌, ◌≤◌, Bool, true, false, not, cond, ◌&&◌, ◌||◌, List, [], ◌∷◌, ◌++◌, length, map, refl, sym, ap, ◌∙◌, subst, Result, Ok, Err, None, Some, Option, arith}
+use Rattle.std.proofs.Common.{ℕ, ◌≡◌, Bool, true, false, not, cond, ◌&&◌, ◌||◌, List, [], ◌∷◌, ◌++◌, length, map, refl, sym, ap, ◌∙◌, subst, Result, Ok, Err, None, Some, Option, arith}
 use Rattle.std.specs.Prelude.{find, option_map, nat_le, if◌then◌else◌, ◌==◌}
 use Rattle.std.specs.Str.{bytes_eq, str_to_ascii_lowercase}
 use Rattle.std.specs.String.{string_bytes}
@@ -7,7 +7,6 @@ use Rattle.std.specs.List.{All, AllZip, AllPairs, list_any, list_all}
 use Rattle.std.proofs.lemmas.Bool.{false≢true, false_from_ne_true, and_from, and_parts, leb-true, le-leb, not-true}
 use Rattle.std.proofs.lemmas.List.Elements.{All-head, All-tail}
 use Rattle.std.proofs.lemmas.Slice.Eq.{bytes_eq-Decides}
-use Rattle.hex.specs.Hex.{decode_sized, FromHexError}
 use Rattle.sha2.specs.Sha256.{sha256}
 use Rattle.player_name.specs.Name.{IsName, is_name_byte}
 use Rattle.lobby_words.specs.declared.players.Player.{Player}
@@ -96,7 +95,7 @@ one_role false false same = refl
 one_role true false same = absurd (false≢true (sym (ap (λ (t : List ℕ). length t == 7) same)))
 one_role false true same = absurd (false≢true (ap (λ (t : List ℕ). length t == 7) same))
 
-abbrev sum_or : List ℕ → Result (List ℕ) FromHexError → List ℕ
+abbrev sum_or : {E : Type 0} → List ℕ → Result (List ℕ) E → List ℕ
 sum_or other (Ok sum) = sum
 sum_or other (Err fault) = other
 
