@@ -14,7 +14,8 @@ use Rattle.chess_game.proofs.Refused.{no_ok}
 use Rattle.chess_game.proofs.scoresheet.Scoresheet.replay.Goals as goal
 
 pub loop-mv-init : goal.loop-mv-init
-loop-mv-init c = IsReplayed-none c.args.start.now c.in_ok-line.line c.in_ok-line.ensures
+loop-mv-init c =
+    rw c.reserve.ensures (IsReplayed-none c.args.start.now c.in_ok-line.line c.in_ok-line.ensures)
 
 pub returns-in_err-line-clause-made : goal.returns-in_err-line-clause-made
 returns-in_err-line-clause-made c =
