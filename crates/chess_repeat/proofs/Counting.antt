@@ -1,5 +1,5 @@
 -- Counting members of a list by their keys.
-use Rattle.std.proofs.Common.{ℕ, ◌≡◌, ◌+◌, ◌<◌, ◌≤◌, inl, inr, Bool, cond, List, [], ◌∷◌, ◌++◌, length, map, Option, Some, zero-add, add-zero, refl, ap, sym, subst, ◌∙◌, arith}
+use Rattle.std.proofs.Common.{ℕ, ◌≡◌, ◌+◌, ◌<◌, ◌≤◌, inl, inr, Bool, true, false, cond, List, [], ◌∷◌, ◌++◌, length, map, Option, Some, zero-add, add-zero, refl, ap, sym, subst, ◌∙◌, arith}
 use Rattle.std.specs.Prelude.{count_by}
 use Rattle.std.specs.Option.{unwrap_or}
 use Rattle.std.specs.Map.{lookup}
@@ -10,7 +10,7 @@ use Rattle.chess_board.specs.Position.{Position, IsValid}
 use Rattle.chess_board.specs.Legal.{EachOf}
 use Rattle.chess_repeat.specs.SamePosition.{IsSamePosition, IsCount, IsTimes}
 use Rattle.chess_repeat.specs.Key.{key_of}
-use Rattle.chess_repeat.specs.History.{HistoryState, is_key, count_in, IsHistoryOf, IsBounded}
+use Rattle.chess_repeat.specs.History.{HistoryState, is_key, count_in, IsGivenCount, IsHistoryOf, IsBounded}
 use Rattle.chess_repeat.proofs.SameKeys.{keys_same}
 
 pub count_by-first : (test : Position → Bool) (q : Position) (qs : List Position) →
@@ -130,3 +130,20 @@ history-push old new list p valid is clocks more = record {
       ∙ ap (λ (n : ℕ). n + cond (is_key (key_of p) key) 1 0) (is.counts key)
       ∙ sym (count_by-push (λ q. is_key (key_of q) key) list p);
 }
+
+-- a key that is given one count and then another has the second
+pub given_again : (key : List ℕ) (old mid new : List (List ℕ × ℕ)) (a b : ℕ) → IsGivenCount key old mid a →
+    IsGivenCount key mid new b → IsGivenCount key old new b
+given_again key old mid new a b first second other =
+    second other ∙ ap (cond (is_key key other) (Some b)) (first other)
+    ∙ absorb (is_key key other) (Some b) (Some a) (lookup (is_key other) old)
+  where
+    absorb : (t : Bool) (x y z : Option ℕ) → cond t x (cond t y z) ≡ cond t x z
+    absorb true x y z = refl
+    absorb false x y z = refl
+
+-- a key that was given a count has it
+pub given_count : (key : List ℕ) (old new : List (List ℕ × ℕ)) (n : ℕ) → IsGivenCount key old new n →
+    lookup (is_key key) new ≡ Some n
+given_count key old new n given =
+    given key ∙ ap (λ (b : Bool). cond b (Some n) (lookup (is_key key) old)) ((bytes_decides key key).1 refl)
