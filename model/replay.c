@@ -59,7 +59,14 @@ FI int castles_to(const Board*b,const Move*m,int w){return has(b->men.k[KING],m-
 FI int became(const Board*b,const Move*m){return m->promo==0?man_at(&b->men,m->from):b->side*8+(m->promo==5?QUEEN:m->promo==4?ROOK:m->promo==3?BISHOP:KNIGHT);}
 FI void bring_rook(const Board*b,const Move*m,int w,Men*n){if(castles_to(b,m,w)){mset(n,rook_home(b->side,w),-1);mset(n,castled_rook(b->side,w),b->side*8+ROOK);}}
 NI Men men_after(const Board*b,const Move*m){Men n=b->men;
-#ifdef V_MEN
+#ifdef V_XOR
+ {u64 ft=bit(m->from)|bit(m->to); u8 sd=b->side; int k=man_at(&b->men,m->from)&7; u64 t=bit(m->to);
+  u64 *own=sd==0?&n.white:&n.black,*foe=sd==0?&n.black:&n.white;
+  if(*foe&t){*foe&=~t; for(int i=0;i<5;i++)n.k[i]&=~t;}
+  *own^=ft;
+  if(m->promo||(k==PAWN&&file(m->from)!=file(m->to)&&b->has_target&&b->target==m->to)){ Men q=b->men; mset(&q,m->from,-1); if(!m->promo) mset(&q,at(file(m->to),rank(m->from)),-1); mset(&q,m->to,became(b,m)); return q; }
+  n.k[k]^=ft; if(k==KING){bring_rook(b,m,0,&n);bring_rook(b,m,1,&n);} }
+#elif defined V_MEN
  int man=man_at(&b->men,m->from); /* known own man */
  int now=m->promo==0?man:became(b,m);
  if(man>=0)massign(&n,m->from,man>>3,man&7,0);
@@ -114,7 +121,11 @@ FI Watch watch_in(const Board*b,u8 k,int way,u64 sl){Watch r={0,0,0};u64 whole=R
 #endif
 WI Masks watched(const Board*b,Masks m,int way){Watch w=watch_in(b,m.king,way,way%2==0?m.straight:m.diagonal); if(!w.some)return m; if(w.between==0){m.ends&=w.path;return m;} if(single(w.between)){m.pinned|=w.between&of(&b->men,b->side);} return m;}
 NI Masks masks_of(const Board*b){Masks m; m.king=lo(of(&b->men,b->side)&b->men.k[KING]); u64 th=of(&b->men,!b->side); m.straight=(b->men.k[ROOK]|b->men.k[QUEEN])&th; m.diagonal=(b->men.k[BISHOP]|b->men.k[QUEEN])&th; u64 l=leapers(b,m.king); m.ends=l?only(lo(l),single(l)):~0ULL; m.pinned=0;
-#ifdef V_UNROLL
+#ifdef V_SORTS
+ {u8 k=m.king;
+ if((RAYS[k][0]|RAYS[k][2]|RAYS[k][4]|RAYS[k][6])&m.straight) for(int w=0;w<8;w+=2)m=watched(b,m,w);
+ if((RAYS[k][1]|RAYS[k][3]|RAYS[k][5]|RAYS[k][7])&m.diagonal) for(int w=1;w<8;w+=2)m=watched(b,m,w);}
+#elif defined V_UNROLL
  m=watched(b,m,0);m=watched(b,m,1);m=watched(b,m,2);m=watched(b,m,3);m=watched(b,m,4);m=watched(b,m,5);m=watched(b,m,6);m=watched(b,m,7);
 #else
 #pragma clang loop unroll(disable)
@@ -175,7 +186,9 @@ FI Key key(const Board*b){Key k; for(int p=0;p<32;p++)k.b[p]=men_byte(b,p); k.b[
 FI u64 diff(u64 a,u64 b){return (a&~b)|(b&~a);}
 FI u64 changes(const Men*a,const Men*b){return diff(a->white,b->white)|diff(a->black,b->black)|diff(a->k[4],b->k[4])|diff(a->k[3],b->k[3])|diff(a->k[2],b->k[2])|diff(a->k[1],b->k[1])|diff(a->k[0],b->k[0]);}
 NI Key key_from(const Board*bf,const Key*kn,const Board*b){Key k=*kn; for(u64 w=changes(&bf->men,&b->men);w;){u8 s=lo(w);w&=~bit(s);
-#ifdef V_NIBBLE
+#ifdef V_NIB2
+  u8 c=code_at(b,s),sh=(s&1)*4; k.b[s/2]=(k.b[s/2]&(0xf0>>sh))|(c<<sh);
+#elif defined V_NIBBLE
   u8 c=code_at(b,s); u8 x=k.b[s/2]; k.b[s/2]=(s&1)?((x&15)|(c<<4)):((x&0xf0)|c);
 #else
   k.b[s/2]=men_byte(b,s/2);
