@@ -2,7 +2,9 @@
 use crate::browser::{file_of, site_of};
 use crate::peer::{MANY, PINGS, Peer};
 use lobby_desk::{Halts, Limits, Order};
-use lobby_loop::{Acceptor, ActLog, Fault, Hall, KeepsLinks, NoActLog, NoLinks, Welcomed, welcome};
+use lobby_loop::{
+    Acceptor, ActLog, Fault, Hall, KeepsLinks, NoActLog, NoLinks, Roll, Welcomed, welcome,
+};
 use lobby_players::relinked;
 use lobby_web::Kind;
 use lobby_words::{Linked, Player};
@@ -526,16 +528,22 @@ const LEAVES: Script = (
 const ASKS_WHO: &[u8] =
     b"UP~\x81\xa6\0\0\0\0login eeeeeeeeeeeeeeeeeeeeeeeeeeeeeeee~~~~~~~\x81\x83\0\0\0\0who";
 
+// What the log is told of them.
+const CAME_AND_WENT: &str = "server here\ncame ann\ncame eve\nwent ann\n";
+
 fn who_left_is_there_no_more(rt: &impl Abort, lab: &mut Lab) {
     lab.begin(rt, &LEAVES);
+    let mut roll = Roll::new(lab.alloc);
     lab.hall
         .admit(Peer::new(lab.alloc, ASKS_WHO, 1_000), 3, NEAR, 0);
     for at in 0..30 {
         lab.turn_alone(rt, at);
+        assert!(rt; lab.hall.tell_roll(&mut roll, &mut lab.log).is_ok());
         lab.hall.wake(2);
         lab.hall.wake(3);
     }
     assert!(rt; lab.hall.len() == 1 && lab.is_told(b"\x81\x12ok who open 1\neve\n"));
+    assert!(rt; lab.log.text.as_str() == CAME_AND_WENT);
 }
 
 // So many come, all by one address or each by its own.
