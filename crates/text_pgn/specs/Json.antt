@@ -1,4 +1,5 @@
--- Values of JSON (RFC 8259).
+-- Values of JSON (RFC 8259), of texts that have no control character but line feeds: section 7 has each escaped, and
+-- `escaped` of `text_parts/specs/Strings` escapes no other.
 use Rattle.std.specs.Prelude.{ℕ, Bool, true, false, List, [], ◌∷◌, ◌++◌, codes, decimal, Option, Some, None, flat_map}
 use Rattle.text_parts.specs.Strings.{escaped}
 
