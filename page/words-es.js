@@ -847,6 +847,17 @@ export const WORDS = {
   'This lobby can stop no clocks: whoever runs it has not named the server’s file.':
     'Este lobby no puede detener relojes: quien lo dirige no ha indicado el archivo del servidor.',
   'Reason': 'Motivo',
+  'The short name': 'El nombre corto',
+  'Add the player': 'Añadir al jugador',
+  '{0} is the name of another player already: choose one that nobody has.':
+    '{0} ya es el nombre de otro jugador: elige uno que nadie tenga.',
+  'Look whether the player is listed, and else add the player once more.':
+    'Mira si el jugador figura en la lista; si no, añádelo otra vez.',
+  'That is no short name: it has 1 to 16 of the letters A to Z and a to z, the digits, and _.':
+    'Eso no es un nombre corto: tiene de 1 a 16 de las letras A a Z y a a z, las cifras y _.',
+  'Another player has this name.': 'Otro jugador tiene este nombre.',
+  'That is no full name: it has at most 100 letters, and single spaces between words.':
+    'Eso no es un nombre completo: tiene como mucho 100 letras y espacios sencillos entre las palabras.',
   'A player who is new: the full name': 'Quien es nuevo: el nombre completo',
   'Copy the command': 'Copiar la orden',
   'The command is copied.': 'La orden está copiada.',

@@ -861,6 +861,17 @@ export const WORDS = {
   'This lobby can stop no clocks: whoever runs it has not named the server’s file.':
     'Ce lobby ne peut arrêter aucune pendule : qui le gère n’a pas nommé le fichier du serveur.',
   'Reason': 'Motif',
+  'The short name': 'Le nom court',
+  'Add the player': 'Ajouter le joueur',
+  '{0} is the name of another player already: choose one that nobody has.':
+    '{0} est déjà le nom d’un autre joueur : choisis-en un que personne n’a.',
+  'Look whether the player is listed, and else add the player once more.':
+    'Regarde si le joueur figure dans la liste, sinon ajoute-le encore une fois.',
+  'That is no short name: it has 1 to 16 of the letters A to Z and a to z, the digits, and _.':
+    'Ce n’est pas un nom court : il a de 1 à 16 des lettres A à Z et a à z, des chiffres et de _.',
+  'Another player has this name.': 'Un autre joueur a ce nom.',
+  'That is no full name: it has at most 100 letters, and single spaces between words.':
+    'Ce n’est pas un nom complet : il a au plus 100 lettres, et une seule espace entre deux mots.',
   'A player who is new: the full name': 'Qui est nouveau : le nom complet',
   'Copy the command': 'Copier la commande',
   'The command is copied.': 'La commande est copiée.',

@@ -401,8 +401,8 @@ abbrev pub presence : Bool → List ℕ
 presence true = codes "server here\n"
 presence false = codes "server gone\n"
 
--- The answer to a message that asks for a link, `link NAME` or `close NAME`, once that is done: the token is told of a
--- new one.
+-- The answer to a message that asks for a link, `link NAME`, `close NAME` or `player NAME FULL NAME`, once that is done:
+-- the token is told of a new one.
 abbrev pub token_told : Bool → List ℕ → List ℕ
 token_told closes token = if closes then codes "\n" else codes " " ++ token ++ codes "\n"
 
