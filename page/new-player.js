@@ -1,5 +1,5 @@
-// A player who is new: the lobby adds one, and the desk shows the link that was made. A message has plain letters alone,
-// so for a full name with others the desk shows the command that adds the player, and tells once the player is there.
+// A player who is new: the lobby adds one, and the desk shows the link that was made. A message has ASCII alone, so for
+// a full name with other letters the desk shows the command that adds the player, and tells once the player is there.
 
 import { t } from './language.js';
 import { byId, copy, setText } from './make.js';
@@ -58,8 +58,15 @@ export class NewPlayer {
     this.form.elements.name.placeholder = this.full() && this.freeName();
     setText(byId('new-player-add'), this.isPlain() ? t`Add the player` : t`Copy the command`);
     setText(byId('new-player-command'), this.command());
-    this.say(same ? t`A player of this full name is listed already.`
-      : this.command() && t`To be run on the club’s machine, with the evening’s folder for FOLDER.`);
+    this.say(same ? t`A player of this full name is listed already.` : this.command() && this.how());
+  }
+
+  /** What is to be done with the command, and how the player is added without it. */
+  how() {
+    const spelled = plain(this.full());
+    const run = t`Not all of its letters can be sent: run this on the club’s machine, with the evening’s folder for
+      FOLDER.`;
+    return spelled.includes('?') ? run : t`${run} Or write the name as ${spelled}: the player is added at once then.`;
   }
 
   /** The lobby adds the player, and the link is shown. */

@@ -870,8 +870,11 @@ export const WORDS = {
   'Copy the command': 'Befehl kopieren',
   'The command is copied.': 'Der Befehl ist kopiert.',
   'A player of this full name is listed already.': 'Jemand mit diesem vollen Namen ist schon aufgeführt.',
-  'To be run on the club’s machine, with the evening’s folder for FOLDER.':
-    'Auf dem Rechner des Vereins auszuführen, mit dem Ordner des Abends statt FOLDER.',
+  'Not all of its letters can be sent: run this on the club’s machine, with the evening’s folder for FOLDER.':
+    'Dieser Name hat Buchstaben, die sich von hier nicht senden lassen. Führe dies auf dem Rechner des Vereins aus, '
+    + 'mit dem Ordner des Abends statt FOLDER.',
+  '{0} Or write the name as {1}: the player is added at once then.':
+    '{0} Oder schreibe den Namen als {1}: dann wird der Spieler sofort aufgenommen.',
   '{0} Run it on the club’s machine, with the evening’s folder for FOLDER. A second later the player is listed here.':
     '{0} Führe ihn auf dem Rechner des Vereins aus, mit dem Ordner des Abends statt FOLDER. Eine Sekunde später '
     + 'steht der Spieler hier in der Liste.',

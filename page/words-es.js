@@ -862,8 +862,11 @@ export const WORDS = {
   'Copy the command': 'Copiar la orden',
   'The command is copied.': 'La orden está copiada.',
   'A player of this full name is listed already.': 'Ya figura alguien con este nombre completo.',
-  'To be run on the club’s machine, with the evening’s folder for FOLDER.':
-    'Se ejecuta en la máquina del club, con la carpeta de la velada en lugar de FOLDER.',
+  'Not all of its letters can be sent: run this on the club’s machine, with the evening’s folder for FOLDER.':
+    'Este nombre tiene letras que no se pueden enviar desde aquí. Ejecuta esto en la máquina del club, con la carpeta '
+    + 'de la velada en lugar de FOLDER.',
+  '{0} Or write the name as {1}: the player is added at once then.':
+    '{0} O escribe el nombre como {1}: entonces se añade al jugador enseguida.',
   '{0} Run it on the club’s machine, with the evening’s folder for FOLDER. A second later the player is listed here.':
     '{0} Ejecútala en la máquina del club, con la carpeta de la velada en lugar de FOLDER. Un segundo después el '
     + 'jugador figura aquí.',

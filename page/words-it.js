@@ -867,8 +867,11 @@ export const WORDS = {
   'Copy the command': 'Copia il comando',
   'The command is copied.': 'Il comando è copiato.',
   'A player of this full name is listed already.': 'Qualcuno con questo nome completo è già nell’elenco.',
-  'To be run on the club’s machine, with the evening’s folder for FOLDER.':
-    'Da eseguire sulla macchina del circolo, con la cartella della serata al posto di FOLDER.',
+  'Not all of its letters can be sent: run this on the club’s machine, with the evening’s folder for FOLDER.':
+    'Questo nome ha lettere che da qui non si possono inviare. Esegui questo sulla macchina del circolo, con la '
+    + 'cartella della serata al posto di FOLDER.',
+  '{0} Or write the name as {1}: the player is added at once then.':
+    '{0} Oppure scrivi il nome come {1}: allora il giocatore è aggiunto subito.',
   '{0} Run it on the club’s machine, with the evening’s folder for FOLDER. A second later the player is listed here.':
     '{0} Eseguilo sulla macchina del circolo, con la cartella della serata al posto di FOLDER. Un secondo dopo il '
     + 'giocatore è qui nell’elenco.',

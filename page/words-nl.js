@@ -869,8 +869,11 @@ export const WORDS = {
   'Copy the command': 'Opdracht kopiëren',
   'The command is copied.': 'De opdracht is gekopieerd.',
   'A player of this full name is listed already.': 'Iemand met deze volledige naam staat al in de lijst.',
-  'To be run on the club’s machine, with the evening’s folder for FOLDER.':
-    'Uit te voeren op de machine van de club, met de map van de avond in plaats van FOLDER.',
+  'Not all of its letters can be sent: run this on the club’s machine, with the evening’s folder for FOLDER.':
+    'Deze naam heeft letters die van hieruit niet te versturen zijn. Voer dit uit op de machine van de club, met de '
+    + 'map van de avond in plaats van FOLDER.',
+  '{0} Or write the name as {1}: the player is added at once then.':
+    '{0} Of schrijf de naam als {1}: dan wordt de speler meteen toegevoegd.',
   '{0} Run it on the club’s machine, with the evening’s folder for FOLDER. A second later the player is listed here.':
     '{0} Voer ze uit op de machine van de club, met de map van de avond in plaats van FOLDER. Een seconde later '
     + 'staat de speler hier in de lijst.',

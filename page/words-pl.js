@@ -861,8 +861,11 @@ export const WORDS = {
   'Copy the command': 'Kopiuj polecenie',
   'The command is copied.': 'Polecenie skopiowano.',
   'A player of this full name is listed already.': 'Ktoś o tym pełnym nazwisku jest już na liście.',
-  'To be run on the club’s machine, with the evening’s folder for FOLDER.':
-    'Do uruchomienia na komputerze klubu, z folderem wieczoru zamiast FOLDER.',
+  'Not all of its letters can be sent: run this on the club’s machine, with the evening’s folder for FOLDER.':
+    'To nazwisko ma litery, których nie da się stąd wysłać. Uruchom to na komputerze klubu, z folderem wieczoru '
+    + 'zamiast FOLDER.',
+  '{0} Or write the name as {1}: the player is added at once then.':
+    '{0} Albo zapisz nazwisko jako {1}: wtedy gracz zostanie dodany od razu.',
   '{0} Run it on the club’s machine, with the evening’s folder for FOLDER. A second later the player is listed here.':
     '{0} Uruchom je na komputerze klubu, z folderem wieczoru zamiast FOLDER. Sekundę później gracz jest tu na liście.',
   '{0} is listed now: make a new link, which is shown here once.':

@@ -440,9 +440,10 @@ entries_now acts (Heard line) k =
 entries_now acts _ k = []
 
 -- What the log is told for a message that asks for nothing of the server, which is none of an act: what `AreToldSome`
--- says of an arbiter's, where everybody is told of it.
+-- says of an arbiter's, where everybody is told of it, and `change_told` where the players' file was changed.
 abbrev pub said_entries : DeskInput → List MessageValue → List (List ℕ)
 said_entries (Said c text at) tells = log_texts tells
+said_entries (Linked c text players token) tells = log_texts tells
 said_entries _ tells = []
 
 abbrev pub entries_in : List Player → List Step → List (List ℕ)

@@ -1,5 +1,5 @@
-//! Players' links, changed in the players' file, players who are added there, whether entries are paused, kept beside it, why clocks are stopped,
-//! and what arbiters decide.
+//! Players' links, changed in the players' file, players who are added there, whether entries are paused, kept beside
+//! it, why clocks are stopped, and what arbiters decide.
 ghost use Rattle.std.specs.Prelude.{ℕ, List, [], ◌≡◌, IfOk, IfSome};
 ghost use Rattle.std.specs.String.{string_bytes};
 ghost use Rattle.hex.specs.Hex.{encode_lower};
