@@ -9,6 +9,11 @@ import { refusalWords } from './words.js';
 
 const MOST_SHOWN = 40;
 
+/** The personal link of who has a token. */
+function linkTo(token) {
+  return `${location.href.split('#')[0]}#${token}`;
+}
+
 export class Links {
   /** desk: {app, question, isHere(name)}. */
   constructor(desk) {
@@ -63,7 +68,11 @@ export class Links {
     this.hide();
     this.note('');
     const link = await this.makeOne(name);
-    if (!link) return;
+    if (link) this.show(full, link);
+  }
+
+  /** Shows a link that was made. */
+  show(full, link) {
     setText(byId('link-words'), t`The personal link of ${full}, shown this once. Who opens it plays as ${full}.`);
     setText(byId('link-copied'), '');
     byId('link-made').value = link;
@@ -82,7 +91,13 @@ export class Links {
     if (name === this.app.me()) this.app.who.takeNewToken(found[2]);
     this.closed.delete(name);
     this.render();
-    return `${location.href.split('#')[0]}#${found[2]}`;
+    return linkTo(found[2]);
+  }
+
+  /** The link of a player whom the lobby has added just now, by its answer. */
+  added(full, answer) {
+    this.app.askPlayers();
+    this.show(full, linkTo(answer.split(' ').pop()));
   }
 
   askClose(name, full) {

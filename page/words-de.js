@@ -855,12 +855,26 @@ export const WORDS = {
   'This lobby can stop no clocks: whoever runs it has not named the server’s file.':
     'Diese Lobby kann keine Uhren anhalten: Wer sie betreibt, hat die Datei des Servers nicht genannt.',
   'Reason': 'Grund',
+  'The short name': 'Der kurze Name',
+  'Add the player': 'Spieler aufnehmen',
+  '{0} is the name of another player already: choose one that nobody has.':
+    '{0} heißt schon jemand anders: wähle einen Namen, den niemand hat.',
+  'Look whether the player is listed, and else add the player once more.':
+    'Sieh nach, ob der Spieler aufgeführt ist; sonst nimm ihn noch einmal auf.',
+  'That is no short name: it has 1 to 16 of the letters A to Z and a to z, the digits, and _.':
+    'Das ist kein kurzer Name: er hat 1 bis 16 der Buchstaben A bis Z und a bis z, der Ziffern und _.',
+  'Another player has this name.': 'Ein anderer Spieler hat diesen Namen.',
+  'That is no full name: it has at most 100 letters, and single spaces between words.':
+    'Das ist kein voller Name: er hat höchstens 100 Buchstaben und einzelne Leerzeichen zwischen den Wörtern.',
   'A player who is new: the full name': 'Wer neu dazukommt: der volle Name',
   'Copy the command': 'Befehl kopieren',
   'The command is copied.': 'Der Befehl ist kopiert.',
   'A player of this full name is listed already.': 'Jemand mit diesem vollen Namen ist schon aufgeführt.',
-  'To be run on the club’s machine, with the evening’s folder for FOLDER.':
-    'Auf dem Rechner des Vereins auszuführen, mit dem Ordner des Abends statt FOLDER.',
+  'Not all of its letters can be sent: run this on the club’s machine, with the evening’s folder for FOLDER.':
+    'Dieser Name hat Buchstaben, die sich von hier nicht senden lassen. Führe dies auf dem Rechner des Vereins aus, '
+    + 'mit dem Ordner des Abends statt FOLDER.',
+  '{0} Or write the name as {1}: the player is added at once then.':
+    '{0} Oder schreibe den Namen als {1}: dann wird der Spieler sofort aufgenommen.',
   '{0} Run it on the club’s machine, with the evening’s folder for FOLDER. A second later the player is listed here.':
     '{0} Führe ihn auf dem Rechner des Vereins aus, mit dem Ordner des Abends statt FOLDER. Eine Sekunde später '
     + 'steht der Spieler hier in der Liste.',

@@ -847,12 +847,26 @@ export const WORDS = {
   'This lobby can stop no clocks: whoever runs it has not named the server’s file.':
     'Este lobby no puede detener relojes: quien lo dirige no ha indicado el archivo del servidor.',
   'Reason': 'Motivo',
+  'The short name': 'El nombre corto',
+  'Add the player': 'Añadir al jugador',
+  '{0} is the name of another player already: choose one that nobody has.':
+    '{0} ya es el nombre de otro jugador: elige uno que nadie tenga.',
+  'Look whether the player is listed, and else add the player once more.':
+    'Mira si el jugador figura en la lista; si no, añádelo otra vez.',
+  'That is no short name: it has 1 to 16 of the letters A to Z and a to z, the digits, and _.':
+    'Eso no es un nombre corto: tiene de 1 a 16 de las letras A a Z y a a z, las cifras y _.',
+  'Another player has this name.': 'Otro jugador tiene este nombre.',
+  'That is no full name: it has at most 100 letters, and single spaces between words.':
+    'Eso no es un nombre completo: tiene como mucho 100 letras y espacios sencillos entre las palabras.',
   'A player who is new: the full name': 'Quien es nuevo: el nombre completo',
   'Copy the command': 'Copiar la orden',
   'The command is copied.': 'La orden está copiada.',
   'A player of this full name is listed already.': 'Ya figura alguien con este nombre completo.',
-  'To be run on the club’s machine, with the evening’s folder for FOLDER.':
-    'Se ejecuta en la máquina del club, con la carpeta de la velada en lugar de FOLDER.',
+  'Not all of its letters can be sent: run this on the club’s machine, with the evening’s folder for FOLDER.':
+    'Este nombre tiene letras que no se pueden enviar desde aquí. Ejecuta esto en la máquina del club, con la carpeta '
+    + 'de la velada en lugar de FOLDER.',
+  '{0} Or write the name as {1}: the player is added at once then.':
+    '{0} O escribe el nombre como {1}: entonces se añade al jugador enseguida.',
   '{0} Run it on the club’s machine, with the evening’s folder for FOLDER. A second later the player is listed here.':
     '{0} Ejecútala en la máquina del club, con la carpeta de la velada en lugar de FOLDER. Un segundo después el '
     + 'jugador figura aquí.',

@@ -861,12 +861,26 @@ export const WORDS = {
   'This lobby can stop no clocks: whoever runs it has not named the server’s file.':
     'Ce lobby ne peut arrêter aucune pendule : qui le gère n’a pas nommé le fichier du serveur.',
   'Reason': 'Motif',
+  'The short name': 'Le nom court',
+  'Add the player': 'Ajouter le joueur',
+  '{0} is the name of another player already: choose one that nobody has.':
+    '{0} est déjà le nom d’un autre joueur : choisissez-en un que personne n’a.',
+  'Look whether the player is listed, and else add the player once more.':
+    'Regardez si le joueur figure dans la liste, sinon ajoutez-le encore une fois.',
+  'That is no short name: it has 1 to 16 of the letters A to Z and a to z, the digits, and _.':
+    'Ce n’est pas un nom court : il a de 1 à 16 des lettres A à Z et a à z, des chiffres et de _.',
+  'Another player has this name.': 'Un autre joueur a ce nom.',
+  'That is no full name: it has at most 100 letters, and single spaces between words.':
+    'Ce n’est pas un nom complet : il a au plus 100 lettres, et une seule espace entre deux mots.',
   'A player who is new: the full name': 'Qui est nouveau : le nom complet',
   'Copy the command': 'Copier la commande',
   'The command is copied.': 'La commande est copiée.',
   'A player of this full name is listed already.': 'Quelqu’un de ce nom complet figure déjà dans la liste.',
-  'To be run on the club’s machine, with the evening’s folder for FOLDER.':
-    'À lancer sur la machine du club, avec le dossier de la soirée à la place de FOLDER.',
+  'Not all of its letters can be sent: run this on the club’s machine, with the evening’s folder for FOLDER.':
+    'Ce nom a des lettres qui ne peuvent pas être envoyées d’ici. Lancez ceci sur la machine du club, avec le dossier '
+    + 'de la soirée à la place de FOLDER.',
+  '{0} Or write the name as {1}: the player is added at once then.':
+    '{0} Ou écrivez le nom {1} : le joueur est alors ajouté aussitôt.',
   '{0} Run it on the club’s machine, with the evening’s folder for FOLDER. A second later the player is listed here.':
     '{0} Lancez-la sur la machine du club, avec le dossier de la soirée à la place de FOLDER. Une seconde plus tard, '
     + 'le joueur figure ici.',

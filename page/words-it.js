@@ -852,12 +852,26 @@ export const WORDS = {
   'This lobby can stop no clocks: whoever runs it has not named the server’s file.':
     'Questa lobby non può fermare orologi: chi la gestisce non ha indicato il file del server.',
   'Reason': 'Motivo',
+  'The short name': 'Il nome breve',
+  'Add the player': 'Aggiungi il giocatore',
+  '{0} is the name of another player already: choose one that nobody has.':
+    '{0} è già il nome di un altro giocatore: scegline uno che nessuno ha.',
+  'Look whether the player is listed, and else add the player once more.':
+    'Guarda se il giocatore è nell’elenco; se no, aggiungilo un’altra volta.',
+  'That is no short name: it has 1 to 16 of the letters A to Z and a to z, the digits, and _.':
+    'Questo non è un nome breve: ha da 1 a 16 fra le lettere A–Z e a–z, le cifre e _.',
+  'Another player has this name.': 'Un altro giocatore ha questo nome.',
+  'That is no full name: it has at most 100 letters, and single spaces between words.':
+    'Questo non è un nome completo: ha al massimo 100 lettere, e spazi singoli fra le parole.',
   'A player who is new: the full name': 'Chi è nuovo: il nome completo',
   'Copy the command': 'Copia il comando',
   'The command is copied.': 'Il comando è copiato.',
   'A player of this full name is listed already.': 'Qualcuno con questo nome completo è già nell’elenco.',
-  'To be run on the club’s machine, with the evening’s folder for FOLDER.':
-    'Da eseguire sulla macchina del circolo, con la cartella della serata al posto di FOLDER.',
+  'Not all of its letters can be sent: run this on the club’s machine, with the evening’s folder for FOLDER.':
+    'Questo nome ha lettere che da qui non si possono inviare. Esegui questo sulla macchina del circolo, con la '
+    + 'cartella della serata al posto di FOLDER.',
+  '{0} Or write the name as {1}: the player is added at once then.':
+    '{0} Oppure scrivi il nome come {1}: allora il giocatore è aggiunto subito.',
   '{0} Run it on the club’s machine, with the evening’s folder for FOLDER. A second later the player is listed here.':
     '{0} Eseguilo sulla macchina del circolo, con la cartella della serata al posto di FOLDER. Un secondo dopo il '
     + 'giocatore è qui nell’elenco.',

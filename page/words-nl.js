@@ -854,12 +854,26 @@ export const WORDS = {
   'This lobby can stop no clocks: whoever runs it has not named the server’s file.':
     'Deze lobby kan geen klokken stilzetten: wie haar beheert heeft het bestand van de server niet genoemd.',
   'Reason': 'Reden',
+  'The short name': 'De korte naam',
+  'Add the player': 'Speler toevoegen',
+  '{0} is the name of another player already: choose one that nobody has.':
+    '{0} is al de naam van een andere speler: kies er een die niemand heeft.',
+  'Look whether the player is listed, and else add the player once more.':
+    'Kijk of de speler in de lijst staat, en voeg hem anders nog eens toe.',
+  'That is no short name: it has 1 to 16 of the letters A to Z and a to z, the digits, and _.':
+    'Dat is geen korte naam: die heeft 1 tot 16 van de letters A tot Z en a tot z, de cijfers en _.',
+  'Another player has this name.': 'Een andere speler heeft deze naam.',
+  'That is no full name: it has at most 100 letters, and single spaces between words.':
+    'Dat is geen volledige naam: die heeft hoogstens 100 letters en enkele spaties tussen woorden.',
   'A player who is new: the full name': 'Wie nieuw is: de volledige naam',
   'Copy the command': 'Opdracht kopiëren',
   'The command is copied.': 'De opdracht is gekopieerd.',
   'A player of this full name is listed already.': 'Iemand met deze volledige naam staat al in de lijst.',
-  'To be run on the club’s machine, with the evening’s folder for FOLDER.':
-    'Uit te voeren op de machine van de club, met de map van de avond in plaats van FOLDER.',
+  'Not all of its letters can be sent: run this on the club’s machine, with the evening’s folder for FOLDER.':
+    'Deze naam heeft letters die van hieruit niet te versturen zijn. Voer dit uit op de machine van de club, met de '
+    + 'map van de avond in plaats van FOLDER.',
+  '{0} Or write the name as {1}: the player is added at once then.':
+    '{0} Of schrijf de naam als {1}: dan wordt de speler meteen toegevoegd.',
   '{0} Run it on the club’s machine, with the evening’s folder for FOLDER. A second later the player is listed here.':
     '{0} Voer ze uit op de machine van de club, met de map van de avond in plaats van FOLDER. Een seconde later '
     + 'staat de speler hier in de lijst.',

@@ -846,12 +846,26 @@ export const WORDS = {
   'This lobby can stop no clocks: whoever runs it has not named the server’s file.':
     'To lobby nie może zatrzymać zegarów: kto je prowadzi, nie podał pliku serwera.',
   'Reason': 'Powód',
+  'The short name': 'Krótka nazwa',
+  'Add the player': 'Dodaj gracza',
+  '{0} is the name of another player already: choose one that nobody has.':
+    '{0} to już nazwa innego gracza: wybierz taką, której nikt nie ma.',
+  'Look whether the player is listed, and else add the player once more.':
+    'Sprawdź, czy gracz jest na liście; jeśli nie, dodaj go jeszcze raz.',
+  'That is no short name: it has 1 to 16 of the letters A to Z and a to z, the digits, and _.':
+    'To nie jest krótka nazwa: ma ona od 1 do 16 spośród liter A do Z i a do z, cyfr i _.',
+  'Another player has this name.': 'Inny gracz ma tę nazwę.',
+  'That is no full name: it has at most 100 letters, and single spaces between words.':
+    'To nie jest pełne nazwisko: ma ono najwyżej 100 liter i pojedyncze odstępy między słowami.',
   'A player who is new: the full name': 'Nowy uczestnik: pełne nazwisko',
   'Copy the command': 'Kopiuj polecenie',
   'The command is copied.': 'Polecenie skopiowano.',
   'A player of this full name is listed already.': 'Ktoś o tym pełnym nazwisku jest już na liście.',
-  'To be run on the club’s machine, with the evening’s folder for FOLDER.':
-    'Do uruchomienia na komputerze klubu, z folderem wieczoru zamiast FOLDER.',
+  'Not all of its letters can be sent: run this on the club’s machine, with the evening’s folder for FOLDER.':
+    'To nazwisko ma litery, których nie da się stąd wysłać. Uruchom to na komputerze klubu, z folderem wieczoru '
+    + 'zamiast FOLDER.',
+  '{0} Or write the name as {1}: the player is added at once then.':
+    '{0} Albo zapisz nazwisko jako {1}: wtedy gracz zostanie dodany od razu.',
   '{0} Run it on the club’s machine, with the evening’s folder for FOLDER. A second later the player is listed here.':
     '{0} Uruchom je na komputerze klubu, z folderem wieczoru zamiast FOLDER. Sekundę później gracz jest tu na liście.',
   '{0} is listed now: make a new link, which is shown here once.':

@@ -842,12 +842,26 @@ export const WORDS = {
   'This lobby can stop no clocks: whoever runs it has not named the server’s file.':
     'Este lobby não pode parar relógios: quem o gere não indicou o ficheiro do servidor.',
   'Reason': 'Motivo',
+  'The short name': 'O nome curto',
+  'Add the player': 'Acrescentar o jogador',
+  '{0} is the name of another player already: choose one that nobody has.':
+    '{0} já é o nome de outro jogador: escolha um que ninguém tenha.',
+  'Look whether the player is listed, and else add the player once more.':
+    'Veja se o jogador está na lista; se não estiver, acrescente-o outra vez.',
+  'That is no short name: it has 1 to 16 of the letters A to Z and a to z, the digits, and _.':
+    'Isso não é um nome curto: tem de 1 a 16 das letras A a Z e a a z, dos algarismos e de _.',
+  'Another player has this name.': 'Outro jogador tem este nome.',
+  'That is no full name: it has at most 100 letters, and single spaces between words.':
+    'Isso não é um nome completo: tem no máximo 100 letras e espaços simples entre as palavras.',
   'A player who is new: the full name': 'Quem é novo: o nome completo',
   'Copy the command': 'Copiar o comando',
   'The command is copied.': 'O comando foi copiado.',
   'A player of this full name is listed already.': 'Já há alguém com este nome completo na lista.',
-  'To be run on the club’s machine, with the evening’s folder for FOLDER.':
-    'Para executar na máquina do clube, com a pasta da noite no lugar de FOLDER.',
+  'Not all of its letters can be sent: run this on the club’s machine, with the evening’s folder for FOLDER.':
+    'Este nome tem letras que não podem ser enviadas daqui. Execute isto na máquina do clube, com a pasta da noite no '
+    + 'lugar de FOLDER.',
+  '{0} Or write the name as {1}: the player is added at once then.':
+    '{0} Ou escreva o nome como {1}: então o jogador é acrescentado na hora.',
   '{0} Run it on the club’s machine, with the evening’s folder for FOLDER. A second later the player is listed here.':
     '{0} Execute-o na máquina do clube, com a pasta da noite no lugar de FOLDER. Um segundo depois o jogador está '
     + 'aqui na lista.',

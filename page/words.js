@@ -52,6 +52,9 @@ const REFUSALS = {
   46: t`The arbiter has stopped all clocks. Nothing is played until they run again.`,
   47: t`This lobby can stop no clocks: whoever runs it has not named the server’s file.`,
   48: t`The decision could not be put down: look whether round and board are right; else tell who runs the lobby.`,
+  49: t`That is no short name: it has 1 to 16 of the letters A to Z and a to z, the digits, and _.`,
+  50: t`Another player has this name.`,
+  51: t`That is no full name: it has at most 100 letters, and single spaces between words.`,
 };
 
 const OF_ANOTHER = {

@@ -51,12 +51,16 @@ own_none false false false false false false false false true true last h = refl
 own_none false false false false false false false false true false last h = refl
 own_none false false false false false false false false false p last h = h
 
+player_none : (b : Bool) (last : Sort) → is_as_sort last ≡ false → is_as_sort (if b then sorts.Player else last) ≡ false
+player_none true last h = refl
+player_none false last h = h
+
 own_not_as : (w text : List ℕ) → is_as_sort (own_sort w text) ≡ false
 own_not_as w text =
     own_none (bytes_eq w (codes "login")) (bytes_eq w (codes "watch")) (bytes_eq w (codes "line"))
     (bytes_eq w (codes "room")) (bytes_eq w (codes "moves")) (bytes_eq w (codes "leave") && not (bytes_eq text (codes "leave lobby"))) (bytes_eq w (codes "link")) (bytes_eq w (codes "close"))
-    (bytes_eq w (codes "pair")) (may_pair text) (if bytes_eq w (codes "unpair") then sorts.Unpair else whole_sort text)
-    (whole_none (bytes_eq w (codes "unpair")) (bytes_eq text (codes "players")) (bytes_eq text (codes "who")) (bytes_eq text (codes "offers")) (bytes_eq text (codes "pause entries"))
+    (bytes_eq w (codes "pair")) (may_pair text) (if bytes_eq w (codes "player") then sorts.Player else (if bytes_eq w (codes "unpair") then sorts.Unpair else whole_sort text))
+    (player_none (bytes_eq w (codes "player")) (if bytes_eq w (codes "unpair") then sorts.Unpair else whole_sort text) (whole_none (bytes_eq w (codes "unpair")) (bytes_eq text (codes "players")) (bytes_eq text (codes "who")) (bytes_eq text (codes "offers")) (bytes_eq text (codes "pause entries"))
     (bytes_eq text (codes "resume entries")) (bytes_eq text (codes "lobby")) (bytes_eq text (codes "leave lobby")) (is_stop text) (bytes_eq text (codes "start clocks")) (bytes_eq (word_of text) (codes "announce")) (is_decision text && nat_le 1 (length (as_line (pair_times text)))))
 
 plays_if : (a b c d e p : Bool) (last : Sort) → is_as_sort last ≡ false →
@@ -292,6 +296,10 @@ whole_no_pair false false false false false false false false false false true j
 whole_no_pair false false false false false false false false false false false true = refl
 whole_no_pair false false false false false false false false false false false false = refl
 
+player_no_pair : (b : Bool) (last : Sort) → is_pair_sort last ≡ false → is_pair_sort (if b then sorts.Player else last) ≡ false
+player_no_pair true last h = refl
+player_no_pair false last h = h
+
 as_no_pair : (p : Bool) → is_pair_sort (if p then sorts.As else sorts.Nothing) ≡ false
 as_no_pair true = refl
 as_no_pair false = refl
@@ -302,8 +310,8 @@ pairs_so text is =
     let w = word_of text in
     own_pair (bytes_eq w (codes "login")) (bytes_eq w (codes "watch")) (bytes_eq w (codes "line"))
     (bytes_eq w (codes "room")) (bytes_eq w (codes "moves")) (bytes_eq w (codes "leave") && not (bytes_eq text (codes "leave lobby"))) (bytes_eq w (codes "link")) (bytes_eq w (codes "close"))
-    (bytes_eq w (codes "pair")) (may_pair text) (if bytes_eq w (codes "unpair") then sorts.Unpair else whole_sort text)
-    (whole_no_pair (bytes_eq w (codes "unpair")) (bytes_eq text (codes "players")) (bytes_eq text (codes "who")) (bytes_eq text (codes "offers")) (bytes_eq text (codes "pause entries"))
+    (bytes_eq w (codes "pair")) (may_pair text) (if bytes_eq w (codes "player") then sorts.Player else (if bytes_eq w (codes "unpair") then sorts.Unpair else whole_sort text))
+    (player_no_pair (bytes_eq w (codes "player")) (if bytes_eq w (codes "unpair") then sorts.Unpair else whole_sort text) (whole_no_pair (bytes_eq w (codes "unpair")) (bytes_eq text (codes "players")) (bytes_eq text (codes "who")) (bytes_eq text (codes "offers")) (bytes_eq text (codes "pause entries"))
     (bytes_eq text (codes "resume entries")) (bytes_eq text (codes "lobby")) (bytes_eq text (codes "leave lobby")) (is_stop text) (bytes_eq text (codes "start clocks")) (bytes_eq (word_of text) (codes "announce")) (is_decision text && nat_le 1 (length (as_line (pair_times text)))))
     (pair_if (bytes_eq w (codes "name")) (is_read text) (is_act_word w) (bytes_eq w (codes "drop")) (bytes_eq w (codes "as"))
     (as_sort text) (own_sort w text) (as_no_pair (is_act_word (word_of (as_line text)))) (ap is_pair_sort is))

@@ -7,6 +7,12 @@ use Rattle.lobby_words.specs.declared.words.Sort.TheVariants as sorts
 use Rattle.lobby_words.specs.declared.refusals.Refusal.{Refusal}
 use Rattle.lobby_words.specs.declared.refusals.Refusal.TheVariants as refusals
 use Rattle.lobby_words.specs.declared.planning.Order.{Order}
+use Rattle.lobby_words.specs.declared.planning.Change.{Change}
+use Rattle.lobby_words.specs.declared.planning.Change.TheVariants as changes
+use Rattle.lobby_words.specs.declared.planning.Newcomer.{Newcomer}
+use Rattle.lobby_words.specs.declared.planning.Newcomer.TheVariants as newcomers
+use Rattle.lobby_players.specs.Joining.{newcomer_said}
+use Rattle.lobby_players.proofs.Newcomer.{new_name}
 use Rattle.lobby_words.specs.declared.words.Call.{Call}
 use Rattle.lobby_words.specs.declared.planning.Accord.{Accord}
 use Rattle.lobby_words.specs.declared.planning.Accord.TheVariants as accords
@@ -17,8 +23,8 @@ use Rattle.lobby_words.specs.declared.planning.Standing.{Standing}
 use Rattle.lobby_words.specs.declared.planning.Identity.{Identity}
 use Rattle.lobby_words.specs.declared.players.Player.{Player}
 use Rattle.lobby_table.specs.declared.watching.Watch.{Watch}
-use Rattle.lobby_words.specs.Words.{rest_of, as_name, as_line, black_name, pair_line, is_message, sort_of, is_pair_sort, is_unpair_sort, is_link_sort, is_close_sort, is_login_sort, is_leave_sort, is_leave_lobby_sort, or_0}
-use Rattle.lobby_words.specs.Plans.{asked, barred, entered_plan, act_plan, named_plan, as_plan, black_plan, white_plan, agreed_plan, offered_plan, pair_plan, arbiter_plan, order_plan, login_plan, order_of, numbered_plan, sort_plan, stranger_plan, who_plan, plan_of}
+use Rattle.lobby_words.specs.Words.{rest_of, as_name, as_line, black_name, pair_line, is_message, sort_of, is_pair_sort, is_unpair_sort, is_link_sort, is_close_sort, is_player_sort, full_said, is_login_sort, is_leave_sort, is_leave_lobby_sort, or_0}
+use Rattle.lobby_words.specs.Plans.{asked, barred, entered_plan, act_plan, named_plan, as_plan, black_plan, white_plan, agreed_plan, offered_plan, pair_plan, arbiter_plan, order_plan, newcomer_plan, closes, adds, login_plan, order_of, numbered_plan, sort_plan, stranger_plan, who_plan, plan_of}
 use Rattle.lobby_desk.specs.Lines.{lines_of, is_said}
 use Rattle.lobby_table.specs.Sending.{act_lines, name_line, notice_lines}
 use Rattle.lobby_table.specs.Refusals.{game_named}
@@ -29,7 +35,7 @@ use Rattle.lobby_table.specs.Watching.{risen}
 use Rattle.lobby_desk.specs.Tellings.{left_game, IsToldOrSent}
 use Rattle.lobby_offers.specs.Offers.{Offered, is_party, other_party, is_agreed, may_offer, accord_by, but_by, parted, accord_noted, ends_offers, pairs_at_once, offers_said}
 use Rattle.lobby_desk.specs.Who.{View, name_of, who_noted, plan_watches, plan_table, IsAnswered, offers_now}
-use Rattle.lobby_words.specs.Players.{known_name}
+use Rattle.lobby_words.specs.Players.{known_name, IsRelinked, IsJoined, IsChangedIf, IsChanged, IsCarriedIf, IsCarriedOut}
 use Rattle.lobby_desk.specs.History.{IsArbiter}
 use Rattle.lobby_words.proofs.ByName.{named_is}
 
@@ -112,10 +118,17 @@ arbiter_last : (who : Identity) (plan : Plan) (said : Option (List ℕ)) (text :
 arbiter_last who plan said text c h =
     elim who.is_arbiter as (λ b. LastIs (if b then plan else plans.Refuse refusals.NotArbiter) said text c (Asker c ForItself)) [ true ↦ h | false ↦ refl ]
 
-order_last : (closes : Bool) (linked : Option (List ℕ)) (said : Option (List ℕ)) (text : List ℕ) (c : ℕ) →
-    LastIs (order_plan closes linked) said text c (Asker c ForItself)
-order_last closes None said text c = refl
-order_last closes (Some name) said text c = refl
+order_last : (change : Change) (linked : Option (List ℕ)) (said : Option (List ℕ)) (text : List ℕ) (c : ℕ) →
+    LastIs (order_plan change linked) said text c (Asker c ForItself)
+order_last change None said text c = refl
+order_last change (Some name) said text c = refl
+
+newcomer_last : (newcomer : Newcomer) (said : Option (List ℕ)) (text : List ℕ) (c : ℕ) →
+    LastIs (newcomer_plan newcomer) said text c (Asker c ForItself)
+newcomer_last newcomers.BadName said text c = refl
+newcomer_last (newcomers.Taken name) said text c = refl
+newcomer_last newcomers.BadFullName said text c = refl
+newcomer_last (newcomers.New name) said text c = refl
 
 login_last : (holder : Option Identity) (said : Option (List ℕ)) (text : List ℕ) (c : ℕ) (o : Owed) → LastIs (login_plan holder) said text c o
 login_last None said text c o = refl
@@ -168,9 +181,11 @@ sorted_last players (sorts.Call call) s who game said text c same =
     arbiter_last who (barred s.bar (plans.Call call)) said text c
     (barred_last s.bar (plans.Call call) said text c (Asker c ForItself) refl)
 sorted_last players sorts.Link s who game said text c same =
-    arbiter_last who (order_plan false s.linked) said text c (order_last false s.linked said text c)
+    arbiter_last who (order_plan changes.NewLink s.linked) said text c (order_last changes.NewLink s.linked said text c)
 sorted_last players sorts.Close s who game said text c same =
-    arbiter_last who (order_plan true s.linked) said text c (order_last true s.linked said text c)
+    arbiter_last who (order_plan changes.NoLink s.linked) said text c (order_last changes.NoLink s.linked said text c)
+sorted_last players sorts.Player s who game said text c same =
+    arbiter_last who (newcomer_plan s.newcomer) said text c (newcomer_last s.newcomer said text c)
 sorted_last players sorts.Lobby s who game said text c same = asked_last s plans.Lobby said text c (Asker c ForTable) refl
 sorted_last players sorts.LeaveLobby s who game said text c same = refl
 sorted_last players sorts.Watch s who game said text c same = watch_last s who game said text c
@@ -270,14 +285,25 @@ pub arbiter_does : (P : Plan → Type 0) (who : Identity) (plan : Plan) → ((r 
 arbiter_does P who plan none h =
     elim who.is_arbiter as (λ b. P (if b then plan else plans.Refuse refusals.NotArbiter)) [ true ↦ h | false ↦ none refusals.NotArbiter ]
 
-order_does : (P : Plan → Type 0) (closes : Bool) (linked : Option (List ℕ)) → ((r : Refusal) → P (plans.Refuse r)) →
-    ((o : Order) → P (plans.Order o)) → P (order_plan closes linked)
-order_does P closes None none h = none refusals.NoPlayer
-order_does P closes (Some name) none h = h (record { name = name; closes = closes })
+order_does : (P : Plan → Type 0) (change : Change) (linked : Option (List ℕ)) → ((r : Refusal) → P (plans.Refuse r)) →
+    ((o : Order) → P (plans.Order o)) → P (order_plan change linked)
+order_does P change None none h = none refusals.NoPlayer
+order_does P change (Some name) none h = h (record { name = name; change = change })
 
-pub link_does : (P : Plan → Type 0) (who : Identity) (closes : Bool) (linked : Option (List ℕ)) → ((r : Refusal) → P (plans.Refuse r)) →
-    ((o : Order) → P (plans.Order o)) → P (arbiter_plan who (order_plan closes linked))
-link_does P who closes linked none h = arbiter_does P who (order_plan closes linked) none (order_does P closes linked none h)
+pub link_does : (P : Plan → Type 0) (who : Identity) (change : Change) (linked : Option (List ℕ)) → ((r : Refusal) → P (plans.Refuse r)) →
+    ((o : Order) → P (plans.Order o)) → P (arbiter_plan who (order_plan change linked))
+link_does P who change linked none h = arbiter_does P who (order_plan change linked) none (order_does P change linked none h)
+
+newcomer_does : (P : Plan → Type 0) (newcomer : Newcomer) → ((r : Refusal) → P (plans.Refuse r)) → ((name : List ℕ) → P (plans.Taken name)) →
+    ((o : Order) → P (plans.Order o)) → P (newcomer_plan newcomer)
+newcomer_does P newcomers.BadName none taken h = none refusals.BadName
+newcomer_does P (newcomers.Taken name) none taken h = taken name
+newcomer_does P newcomers.BadFullName none taken h = none refusals.BadFullName
+newcomer_does P (newcomers.New name) none taken h = h (record { name = name; change = changes.NewPlayer })
+
+pub join_does : (P : Plan → Type 0) (who : Identity) (newcomer : Newcomer) → ((r : Refusal) → P (plans.Refuse r)) → ((name : List ℕ) → P (plans.Taken name)) →
+    ((o : Order) → P (plans.Order o)) → P (arbiter_plan who (newcomer_plan newcomer))
+join_does P who newcomer none taken h = arbiter_does P who (newcomer_plan newcomer) none (newcomer_does P newcomer none taken h)
 
 pub login_does : (P : Plan → Type 0) (holder : Option Identity) → ((r : Refusal) → P (plans.Refuse r)) → ((one : Identity) → P (plans.Login one)) →
     P (login_plan holder)
@@ -343,9 +369,11 @@ sorted (sorts.Call call) s who game c watches table =
     arbiter_does (Stays c watches table) who (barred s.bar (plans.Call call)) (λ _. (refl, refl))
     (barred_does (Stays c watches table) s.bar (plans.Call call) (λ _. (refl, refl)) (refl, refl))
 sorted sorts.Link s who game c watches table =
-    link_does (Stays c watches table) who false s.linked (λ _. (refl, refl)) (λ _. (refl, refl))
+    link_does (Stays c watches table) who changes.NewLink s.linked (λ _. (refl, refl)) (λ _. (refl, refl))
 sorted sorts.Close s who game c watches table =
-    link_does (Stays c watches table) who true s.linked (λ _. (refl, refl)) (λ _. (refl, refl))
+    link_does (Stays c watches table) who changes.NoLink s.linked (λ _. (refl, refl)) (λ _. (refl, refl))
+sorted sorts.Player s who game c watches table =
+    join_does (Stays c watches table) who s.newcomer (λ _. (refl, refl)) (λ _. (refl, refl)) (λ _. (refl, refl))
 sorted sorts.Lobby s who game c watches table = asked_does (Stays c watches table) s plans.Lobby (refl, refl) (refl, refl)
 sorted sorts.LeaveLobby s who game c watches table = (refl, refl)
 sorted sorts.Watch s who game c watches table = watch_does (Stays c watches table) s who game (λ _. (refl, refl)) (λ _. (refl, refl))
@@ -426,8 +454,9 @@ sorted_tells sorts.Who s who game = arbiter_does (Tells sorts.Who (Some who)) wh
 sorted_tells sorts.Pause s who game = arbiter_does (Tells sorts.Pause (Some who)) who plans.Pause (λ _. tt) tt
 sorted_tells sorts.Resume s who game = arbiter_does (Tells sorts.Resume (Some who)) who plans.Resume (λ _. tt) tt
 sorted_tells (sorts.Call call) s who game = called_at s call who who.is_arbiter refl
-sorted_tells sorts.Link s who game = link_does (Tells sorts.Link (Some who)) who false s.linked (λ _. tt) (λ _. tt)
-sorted_tells sorts.Close s who game = link_does (Tells sorts.Close (Some who)) who true s.linked (λ _. tt) (λ _. tt)
+sorted_tells sorts.Link s who game = link_does (Tells sorts.Link (Some who)) who changes.NewLink s.linked (λ _. tt) (λ _. tt)
+sorted_tells sorts.Close s who game = link_does (Tells sorts.Close (Some who)) who changes.NoLink s.linked (λ _. tt) (λ _. tt)
+sorted_tells sorts.Player s who game = join_does (Tells sorts.Player (Some who)) who s.newcomer (λ _. tt) (λ _. tt) (λ _. tt)
 sorted_tells sorts.Lobby s who game = asked_does (Tells sorts.Lobby (Some who)) s plans.Lobby tt tt
 sorted_tells sorts.LeaveLobby s who game = tt
 sorted_tells sorts.Watch s who game = watch_does (Tells sorts.Watch (Some who)) s who game (λ _. tt) (λ _. tt)
@@ -471,6 +500,7 @@ answered_or_sent players v plans.Who said text c tells asks h = inl (h.0, h.2)
 answered_or_sent players v plans.Pause said text c tells asks h = inl (h.0, h.2)
 answered_or_sent players v plans.Resume said text c tells asks h = inl (h.0, h.2)
 answered_or_sent players v (plans.Order order) said text c tells asks h = inl (h.0, h.2)
+answered_or_sent players v (plans.Taken name) said text c tells asks h = inl (h.0, h.2)
 answered_or_sent players v plans.Lobby said text c tells asks h = h
 answered_or_sent players v plans.LeaveLobby said text c tells asks h = inl (h.0, h.2)
 answered_or_sent players v (plans.Watch game) said text c tells asks h = h
@@ -486,25 +516,73 @@ abbrev pub OfOrder : (Order → Type 0) → Plan → Type 0
 OfOrder Q (plans.Order order) = Q order
 OfOrder Q _ = Unit {0}
 
+-- the name of an order, which adds a player or does not
+abbrev pub IsNameIf : Bool → Standing → List ℕ → Type 0
+IsNameIf true s name = s.newcomer ≡ newcomers.New name
+IsNameIf false s name = s.linked ≡ Some name
+
 -- An order is of an arbiter's message that asks for it, and of a player that is named behind its word.
 pub record Orders (m : Bool) (sort : Sort) (s : Standing) (order : Order) : Type 0 where
   pub message : m ≡ true
   pub arbiter : IsArbiter s.who
   pub sort_is : is_link_sort sort ≡ true
-  pub closes : is_close_sort sort ≡ order.closes
-  pub named : s.linked ≡ Some order.name
+  pub closing : is_close_sort sort ≡ closes order.change
+  pub adding : is_player_sort sort ≡ adds order.change
+  pub named : IsNameIf (adds order.change) s order.name
 
-order_orders : (closes : Bool) (sort : Sort) (s : Standing) (linked : Option (List ℕ)) → IsArbiter s.who → is_link_sort sort ≡ true →
-    is_close_sort sort ≡ closes → s.linked ≡ linked → OfOrder (Orders true sort s) (order_plan closes linked)
-order_orders closes sort s None arbiter is same named = tt
-order_orders closes sort s (Some name) arbiter is same named =
-    record { message = refl; arbiter = arbiter; sort_is = is; closes = same; named = named }
+-- how a change goes by which no player is added
+pub record IsLinkChange (change : Change) (sort : Sort) : Type 0 where
+  pub sort_is : is_link_sort sort ≡ true
+  pub closing : is_close_sort sort ≡ closes change
+  pub adding : is_player_sort sort ≡ adds change
+  pub none : adds change ≡ false
 
-allowed_at : (closes : Bool) (sort : Sort) (s : Standing) (who : Identity) → s.who ≡ Some who → is_link_sort sort ≡ true →
-    is_close_sort sort ≡ closes → (b : Bool) → who.is_arbiter ≡ b →
-    OfOrder (Orders true sort s) (if b then order_plan closes s.linked else plans.Refuse refusals.NotArbiter)
-allowed_at closes sort s who is link same true arbiter = order_orders closes sort s s.linked (subst IsArbiter (sym is) arbiter) link same refl
-allowed_at closes sort s who is link same false arbiter = tt
+order_orders : (change : Change) (sort : Sort) (s : Standing) (linked : Option (List ℕ)) → IsArbiter s.who → IsLinkChange change sort →
+    s.linked ≡ linked → OfOrder (Orders true sort s) (order_plan change linked)
+order_orders change sort s None arbiter is named = tt
+order_orders change sort s (Some name) arbiter is named = record {
+  message = refl;
+  arbiter = arbiter;
+  sort_is = is.sort_is;
+  closing = is.closing;
+  adding = is.adding;
+  named = subst (λ (b : Bool). IsNameIf b s name) (sym is.none) named;
+}
+
+allowed_at : (change : Change) (sort : Sort) (s : Standing) (who : Identity) → s.who ≡ Some who → IsLinkChange change sort →
+    (b : Bool) → who.is_arbiter ≡ b →
+    OfOrder (Orders true sort s) (if b then order_plan change s.linked else plans.Refuse refusals.NotArbiter)
+allowed_at change sort s who is link true arbiter = order_orders change sort s s.linked (subst IsArbiter (sym is) arbiter) link refl
+allowed_at change sort s who is link false arbiter = tt
+
+newcomer_orders : (s : Standing) (newcomer : Newcomer) → IsArbiter s.who → s.newcomer ≡ newcomer →
+    OfOrder (Orders true sorts.Player s) (newcomer_plan newcomer)
+newcomer_orders s newcomers.BadName arbiter is = tt
+newcomer_orders s (newcomers.Taken name) arbiter is = tt
+newcomer_orders s newcomers.BadFullName arbiter is = tt
+newcomer_orders s (newcomers.New name) arbiter is =
+    record { message = refl; arbiter = arbiter; sort_is = refl; closing = refl; adding = refl; named = is }
+
+joins_at : (s : Standing) (who : Identity) → s.who ≡ Some who → (b : Bool) → who.is_arbiter ≡ b →
+    OfOrder (Orders true sorts.Player s) (if b then newcomer_plan s.newcomer else plans.Refuse refusals.NotArbiter)
+joins_at s who is true arbiter = newcomer_orders s s.newcomer (subst IsArbiter (sym is) arbiter) refl
+joins_at s who is false arbiter = tt
+
+-- what was carried out for an order is what its message asks for
+carried_if : (players later : List Player) (text name token : List ℕ) (s : Standing) (b : Bool) → s.linked ≡ known_name players (rest_of text) →
+    s.newcomer ≡ newcomer_said players text → IsNameIf b s name → IsCarriedIf b name (full_said text) token players later →
+    IsChangedIf b text token players later
+carried_if players later text name token s true link newcomer named h =
+    subst (λ (n : List ℕ). IsJoined n (full_said text) token players later) (new_name players text name (sym newcomer ∙ named)) h
+carried_if players later text name token s false link newcomer named h =
+    subst (λ (n : List ℕ). IsRelinked n token players later) (sym (named_is players (rest_of text) name (sym link ∙ named))) h
+
+pub carried : (m : Bool) (players later : List Player) (text token : List ℕ) (s : Standing) (order : Order) → s.linked ≡ known_name players (rest_of text) →
+    s.newcomer ≡ newcomer_said players text → Orders m (sort_of text) s order → IsCarriedOut order (full_said text) token players later →
+    IsChanged text token players later
+carried m players later text token s order link newcomer orders h =
+    subst (λ (b : Bool). IsChangedIf b text token players later) (sym orders.adding)
+    (carried_if players later text order.name token s (adds order.change) link newcomer orders.named h)
 
 leave_orders : (s : Standing) (who : Identity) (game : Option ℕ) → OfOrder (Orders true sorts.Leave s) (numbered_plan sorts.Leave s who game)
 leave_orders s who None = tt
@@ -526,8 +604,11 @@ sorted_orders sorts.Resume s who is game = arbiter_does (OfOrder (Orders true so
 sorted_orders (sorts.Call call) s who is game =
     arbiter_does (OfOrder (Orders true (sorts.Call call) s)) who (barred s.bar (plans.Call call)) (λ _. tt)
     (barred_does (OfOrder (Orders true (sorts.Call call) s)) s.bar (plans.Call call) (λ _. tt) tt)
-sorted_orders sorts.Link s who is game = allowed_at false sorts.Link s who is refl refl who.is_arbiter refl
-sorted_orders sorts.Close s who is game = allowed_at true sorts.Close s who is refl refl who.is_arbiter refl
+sorted_orders sorts.Link s who is game =
+    allowed_at changes.NewLink sorts.Link s who is (record { sort_is = refl; closing = refl; adding = refl; none = refl }) who.is_arbiter refl
+sorted_orders sorts.Close s who is game =
+    allowed_at changes.NoLink sorts.Close s who is (record { sort_is = refl; closing = refl; adding = refl; none = refl }) who.is_arbiter refl
+sorted_orders sorts.Player s who is game = joins_at s who is who.is_arbiter refl
 sorted_orders sorts.Lobby s who is game = asked_does (OfOrder (Orders true sorts.Lobby s)) s plans.Lobby tt tt
 sorted_orders sorts.LeaveLobby s who is game = tt
 sorted_orders sorts.Watch s who is game = watch_does (OfOrder (Orders true sorts.Watch s)) s who game (λ _. tt) (λ _. tt)
@@ -611,6 +692,7 @@ is_order (plans.Watch game) order is = absurd (false≢true (ap is_some is))
 is_order (plans.Leave game) order is = absurd (false≢true (ap is_some is))
 is_order (plans.Line game) order is = absurd (false≢true (ap is_some is))
 is_order (plans.Room game at) order is = absurd (false≢true (ap is_some is))
+is_order (plans.Taken name) order is = absurd (false≢true (ap is_some is))
 is_order plans.Moves order is = absurd (false≢true (ap is_some is))
 
 -- the plan for a message that asks for no link has no order done

@@ -5,6 +5,7 @@ use Rattle.std.specs.List.{list_any}
 use Rattle.std.specs.Str.{bytes_eq}
 use Rattle.std.proofs.lemmas.Bool.{false≢true, and_parts}
 use Rattle.lobby_words.specs.declared.words.Sort.{Sort}
+use Rattle.lobby_words.specs.declared.planning.Change.TheVariants as changes
 use Rattle.lobby_words.specs.declared.words.Sort.TheVariants as sorts
 use Rattle.lobby_words.specs.declared.refusals.Refusal.{Refusal}
 use Rattle.lobby_words.specs.declared.refusals.Refusal.TheVariants as refusals
@@ -33,7 +34,7 @@ use Rattle.lobby_desk.specs.History.{Step, player_in, players_in, says_name, is_
 use Rattle.lobby_table.proofs.Sent.{is_said_same}
 use Rattle.lobby_desk.proofs.Lines.{join_line_acts, list_reads, name_names}
 use Rattle.lobby_desk.proofs.As.{as_acts, as_word, plain_word, pair_acts}
-use Rattle.lobby_desk.proofs.Carry.{asked_does, entered_does, dropped_does, room_does, arbiter_does, barred_does, link_does, login_does, stranger_does, watch_does, line_does}
+use Rattle.lobby_desk.proofs.Carry.{asked_does, entered_does, dropped_does, room_does, arbiter_does, barred_does, link_does, join_does, login_does, stranger_does, watch_does, line_does}
 use Rattle.lobby_desk.proofs.Runs.{AreAsked, IsAsked, Agrees, was_asked, run_good}
 
 -- ---- each line that waits, and for whom its answer is
@@ -295,9 +296,11 @@ sorted_fits players (sorts.Call call) s who game said text c is other =
     arbiter_does (FitsPlan said text (Asker c ForItself)) who (barred s.bar (plans.Call call)) (λ _. tt)
     (barred_does (FitsPlan said text (Asker c ForItself)) s.bar (plans.Call call) (λ _. tt) tt)
 sorted_fits players sorts.Link s who game said text c is other =
-    link_does (FitsPlan said text (Asker c ForItself)) who false s.linked (λ _. tt) (λ _. tt)
+    link_does (FitsPlan said text (Asker c ForItself)) who changes.NewLink s.linked (λ _. tt) (λ _. tt)
 sorted_fits players sorts.Close s who game said text c is other =
-    link_does (FitsPlan said text (Asker c ForItself)) who true s.linked (λ _. tt) (λ _. tt)
+    link_does (FitsPlan said text (Asker c ForItself)) who changes.NoLink s.linked (λ _. tt) (λ _. tt)
+sorted_fits players sorts.Player s who game said text c is other =
+    join_does (FitsPlan said text (Asker c ForItself)) who s.newcomer (λ _. tt) (λ _. tt) (λ _. tt)
 sorted_fits players sorts.Lobby s who game said text c is other =
     asked_does (FitsPlan said text (Asker c ForTable)) s plans.Lobby tt (no_name (codes "list") list_reads, tt)
 sorted_fits players sorts.LeaveLobby s who game said text c is other = tt

@@ -7,6 +7,8 @@ use Rattle.std.proofs.lemmas.Bool.{false≢true}
 use Rattle.std.proofs.lemmas.Bool.Decides.{Decides-eqb}
 use Rattle.player_name.specs.Name.{IsName}
 use Rattle.lobby_words.specs.declared.words.Sort.{Sort}
+use Rattle.lobby_words.specs.declared.planning.Change.{Change}
+use Rattle.lobby_words.specs.declared.planning.Change.TheVariants as changes
 use Rattle.lobby_words.specs.declared.words.Sort.TheVariants as sorts
 use Rattle.lobby_words.specs.declared.refusals.Refusal.{Refusal}
 use Rattle.lobby_words.specs.declared.refusals.Refusal.TheVariants as refusals
@@ -22,7 +24,7 @@ use Rattle.lobby_table.specs.declared.refusals.RefusedActs.{RefusedActs}
 use Rattle.lobby_table.specs.declared.pairings.Pairing.{Pairing}
 use Rattle.lobby_table.specs.declared.watching.Watch.{Watch}
 use Rattle.lobby_words.specs.Words.{word_of, rest_of, as_name, as_line, black_name, pair_line, is_pair, line_said, is_message, sort_of, is_act_sort, is_as_sort, is_pair_sort, is_drop_sort, is_name_sort, is_login_sort, is_leave_sort, u32_in, or_0}
-use Rattle.lobby_words.specs.Plans.{asked, barred, entered_plan, act_plan, named_plan, as_plan, black_plan, white_plan, agreed_plan, offered_plan, pair_plan, arbiter_plan, order_plan, login_plan, numbered_plan, sort_plan, stranger_plan, who_plan, plan_of}
+use Rattle.lobby_words.specs.Plans.{asked, barred, entered_plan, act_plan, named_plan, as_plan, black_plan, white_plan, agreed_plan, offered_plan, pair_plan, arbiter_plan, order_plan, newcomer_plan, login_plan, numbered_plan, sort_plan, stranger_plan, who_plan, plan_of}
 use Rattle.lobby_desk.specs.Lines.{lines_of, said_after, is_said, IsNamed}
 use Rattle.lobby_table.specs.Sending.{act_lines, name_line, game_line, join_line, notice_lines}
 use Rattle.lobby_words.specs.Answers.{is_shown, first_line, act_game, answer}
@@ -34,7 +36,7 @@ use Rattle.lobby_desk.specs.Events.{MessageValue, sort_asker, asker, followers_o
 use Rattle.lobby_desk.specs.Events.{is_asked_behind, game_if, asked_after}
 use Rattle.lobby_table.specs.Owed.{ForItself, ForPositions, ForTable, ForGame, ForAct, Owed, Nobody, Naming, Asker}
 use Rattle.lobby_table.specs.Owed.{Dropper, Pairer, Followers, Behind, owed_last, owed_acted, owed_some, owed_lines}
-use Rattle.lobby_desk.specs.Tellings.{IsToldOrSent, Known, is_counted, open_now, left_game, leaves_table, watch_heard, watch_next, watches_now, table_heard, table_next, table_now, owed_answered, owed_now, known_now, presence, lost, AreToldAll, IsTold}
+use Rattle.lobby_desk.specs.Tellings.{IsToldOrSent, Known, is_counted, open_now, left_game, leaves_table, watch_heard, watch_next, watches_now, table_heard, table_next, table_now, owed_answered, owed_now, known_now, presence, lost, AreToldAll, IsTold, change_told, name_of}
 use Rattle.lobby_desk.specs.Who.{View, BeginsView, IsSaid, IsHeard, IsDropped, IsPaired, IsSentFor, IsSentNext, IsSentHeard, IsDone, IsRenewed, IsLinked, IsKnown, who_noted, name_of, speaker, offers_now}
 use Rattle.lobby_words.specs.Players.{known_name, is_named, renewed, holder_of}
 use Rattle.lobby_offers.specs.Offers.{Offered, is_answered, is_agreed, other_party, may_offer, accord_by, accord_of, offers_said}
@@ -44,7 +46,7 @@ use Rattle.lobby_words.proofs.ByName.{named_is}
 use Rattle.lobby_table.proofs.Sent.{is_said_same}
 use Rattle.server_answers.specs.Entered.{Entered, entered_in}
 use Rattle.server_answers.proofs.DoneActs.{entered_only}
-use Rattle.lobby_desk.proofs.Carry.{act_does, as_does, pair_does, room_does, dropped_does, arbiter_does, barred_does, link_does, stranger_does, OfOrder, Orders, planned_orders}
+use Rattle.lobby_desk.proofs.Carry.{act_does, as_does, pair_does, room_does, dropped_does, arbiter_does, barred_does, link_does, join_does, stranger_does, OfOrder, Orders, planned_orders}
 use Rattle.lobby_desk.proofs.As.{as_whole, as_acts, pair_whole, pair_acts}
 use Rattle.lobby_desk.proofs.Lines.{show_whole, fen_whole, pgn_whole, join_whole, join_line_acts, list_whole, name_whole, show_reads, fen_reads, pgn_reads, list_reads, name_names}
 
@@ -94,8 +96,9 @@ sorted_who sorts.Resume s who game before = arbiter_does (Notes before) who plan
 sorted_who (sorts.Call call) s who game before =
     arbiter_does (Notes before) who (barred s.bar (plans.Call call)) (λ _. refl)
     (barred_does (Notes before) s.bar (plans.Call call) (λ _. refl) refl)
-sorted_who sorts.Link s who game before = link_does (Notes before) who false s.linked (λ _. refl) (λ _. refl)
-sorted_who sorts.Close s who game before = link_does (Notes before) who true s.linked (λ _. refl) (λ _. refl)
+sorted_who sorts.Link s who game before = link_does (Notes before) who changes.NewLink s.linked (λ _. refl) (λ _. refl)
+sorted_who sorts.Close s who game before = link_does (Notes before) who changes.NoLink s.linked (λ _. refl) (λ _. refl)
+sorted_who sorts.Player s who game before = join_does (Notes before) who s.newcomer (λ _. refl) (λ _. refl) (λ _. refl)
 sorted_who sorts.Lobby s who game before = asked_who s plans.Lobby before refl
 sorted_who sorts.LeaveLobby s who game before = refl
 sorted_who sorts.Watch s who game before = watch_who s who game before
@@ -428,12 +431,19 @@ silent_good : (text : List ℕ) (who : Identity) (under said : Option (List ℕ)
 silent_good text who under said plan h =
     arbiter_does (λ p. Good [] under said (lines_of p said text) (said_after p said)) who plan (λ _. none_good [] under said) h
 
-order_good : (text : List ℕ) (s : Standing) (who : Identity) (under said : Option (List ℕ)) (closes : Bool) →
-    Good [] under said (lines_of (arbiter_plan who (order_plan closes s.linked)) said text)
-    (said_after (arbiter_plan who (order_plan closes s.linked)) said)
-order_good text s who under said closes =
-    link_does (λ p. Good [] under said (lines_of p said text) (said_after p said)) who closes s.linked (λ _. none_good [] under said)
+order_good : (text : List ℕ) (s : Standing) (who : Identity) (under said : Option (List ℕ)) (change : Change) →
+    Good [] under said (lines_of (arbiter_plan who (order_plan change s.linked)) said text)
+    (said_after (arbiter_plan who (order_plan change s.linked)) said)
+order_good text s who under said change =
+    link_does (λ p. Good [] under said (lines_of p said text) (said_after p said)) who change s.linked (λ _. none_good [] under said)
     (λ _. none_good [] under said)
+
+join_good : (text : List ℕ) (s : Standing) (who : Identity) (under said : Option (List ℕ)) →
+    Good [] under said (lines_of (arbiter_plan who (newcomer_plan s.newcomer)) said text)
+    (said_after (arbiter_plan who (newcomer_plan s.newcomer)) said)
+join_good text s who under said =
+    join_does (λ p. Good [] under said (lines_of p said text) (said_after p said)) who s.newcomer (λ _. none_good [] under said)
+    (λ _. none_good [] under said) (λ _. none_good [] under said)
 
 leave_good : (text : List ℕ) (s : Standing) (who : Identity) (under said : Option (List ℕ)) (game : Option ℕ) →
     Good [] under said (lines_of (numbered_plan sorts.Leave s who game) said text) (said_after (numbered_plan sorts.Leave s who game) said)
@@ -475,8 +485,9 @@ sorted_good players text s said who game (sorts.Call call) other message is smal
     silent_good text who under said (barred s.bar (plans.Call call))
     (barred_does (λ p. Good [] under said (lines_of p said text) (said_after p said)) s.bar (plans.Call call)
     (λ _. none_good [] under said) (none_good [] under said))
-sorted_good players text s said who game sorts.Link other message is small named = order_good text s who (name_for players (is_agreement s.accord) (Some who) text) said false
-sorted_good players text s said who game sorts.Close other message is small named = order_good text s who (name_for players (is_agreement s.accord) (Some who) text) said true
+sorted_good players text s said who game sorts.Link other message is small named = order_good text s who (name_for players (is_agreement s.accord) (Some who) text) said changes.NewLink
+sorted_good players text s said who game sorts.Close other message is small named = order_good text s who (name_for players (is_agreement s.accord) (Some who) text) said changes.NoLink
+sorted_good players text s said who game sorts.Player other message is small named = join_good text s who (name_for players (is_agreement s.accord) (Some who) text) said
 sorted_good players text s said who game sorts.Lobby other message is small named =
     asked_good (codes "list" ∷ []) text s (name_for players (is_agreement s.accord) (Some who) text) said plans.Lobby
     (λ _. reads_good (name_for players (is_agreement s.accord) (Some who) text) said (codes "list" ∷ []) (list_reads, tt) (list_whole, tt)) named
@@ -693,7 +704,11 @@ told_alike (Said c text at) lines tells f g same p q acts k h = (
 told_alike (Hurried c) lines tells f g same p q acts k h = (sym (same c) ∙ h.0, h.1, h.2)
 told_alike (Heard line) lines tells f g same p q acts k h = h
 told_alike (Renewed later) lines tells f g same p q acts k h = h
-told_alike (Linked c text later token) lines tells f g same p q acts k h = (sym (same c) ∙ h.0, h.1, h.2)
+told_alike (Linked c text later token) lines tells f g same p q acts k h = (
+  sym (same c) ∙ h.0,
+  h.1,
+  h.2 ∙ ap (λ (w : Option Identity). change_told (name_of w) c text token) (acts c),
+)
 told_alike (ServerTurned is_here) lines tells f g same p q acts k h = all_alike f g same (lost k.owed) (presence is_here) tells h
 
 -- each drop, and each pairing, that waits was asked for
@@ -819,6 +834,7 @@ sorted_asks sorts.Resume s who game said text = tt
 sorted_asks (sorts.Call call) s who game said text = tt
 sorted_asks sorts.Link s who game said text = tt
 sorted_asks sorts.Close s who game said text = tt
+sorted_asks sorts.Player s who game said text = tt
 sorted_asks sorts.Lobby s who game said text = tt
 sorted_asks sorts.LeaveLobby s who game said text = tt
 sorted_asks sorts.Watch s who game said text = tt
@@ -929,6 +945,7 @@ sorted_pairs players sorts.Resume s who game said text same = tt
 sorted_pairs players (sorts.Call call) s who game said text same = tt
 sorted_pairs players sorts.Link s who game said text same = tt
 sorted_pairs players sorts.Close s who game said text same = tt
+sorted_pairs players sorts.Player s who game said text same = tt
 sorted_pairs players sorts.Lobby s who game said text same = tt
 sorted_pairs players sorts.LeaveLobby s who game said text same = tt
 sorted_pairs players sorts.Watch s who game said text same = tt
@@ -989,6 +1006,7 @@ asked_if_drop players past c by text sorts.Resume game h k = tt
 asked_if_drop players past c by text (sorts.Call call) game h k = tt
 asked_if_drop players past c by text sorts.Link game h k = tt
 asked_if_drop players past c by text sorts.Close game h k = tt
+asked_if_drop players past c by text sorts.Player game h k = tt
 asked_if_drop players past c by text sorts.Lobby game h k = tt
 asked_if_drop players past c by text sorts.LeaveLobby game h k = tt
 asked_if_drop players past c by text sorts.Watch game h k = tt
@@ -1124,6 +1142,7 @@ drop_names_none sorts.Resume h = absurd (false≢true h)
 drop_names_none (sorts.Call call) h = absurd (false≢true h)
 drop_names_none sorts.Link h = absurd (false≢true h)
 drop_names_none sorts.Close h = absurd (false≢true h)
+drop_names_none sorts.Player h = absurd (false≢true h)
 drop_names_none sorts.Lobby h = absurd (false≢true h)
 drop_names_none sorts.LeaveLobby h = absurd (false≢true h)
 drop_names_none sorts.Watch h = absurd (false≢true h)
@@ -1374,7 +1393,7 @@ done_good players past old (Renewed later) lines tells now agrees step =
 done_good players past old (Linked c text later token) lines tells now agrees step =
     let orders = linked_orders (players_in players past) old c text later token step.1 in
     none_done players past (Linked c text later token) lines now
-    (λ none. (none, subst IsArbiter (step.1.who ∙ agrees.who c) orders.arbiter, orders.message, orders.sort_is, step.1.relinks))
+    (λ none. (none, subst IsArbiter (step.1.who ∙ agrees.who c) orders.arbiter, orders.message, orders.sort_is, step.1.changes))
     step.0.none (step.0.said_is ∙ agrees.said)
     (λ d. renewed_who players past old later lines now agrees step.0 d)
 done_good players past old (ServerTurned is_here) lines tells now agrees step =

@@ -10,7 +10,7 @@ use Rattle.lobby_words.specs.declared.players.Player.{Player}
 use Rattle.lobby_words.specs.Words.{rest_of, as_name, as_line, line_said, actor, black_name, pair_line, is_message}
 use Rattle.lobby_words.specs.Words.{sort_of, is_act_sort, is_as_sort, is_pair_sort, is_drop_sort, is_name_sort}
 use Rattle.lobby_words.specs.Words.{is_login_sort, is_link_sort, number_or_0}
-use Rattle.lobby_words.specs.Players.{holder_of, known_name, renewed, IsRelinked}
+use Rattle.lobby_words.specs.Players.{holder_of, known_name, renewed, IsChanged}
 use Rattle.lobby_words.specs.Answers.{act_game, answer, is_entered, lone_player}
 use Rattle.lobby_table.specs.Sending.{name_line, game_line, join_line, notice_lines}
 use Rattle.lobby_desk.specs.Events.{DeskInput, Opened, Closed, Said, Heard, ServerTurned, Renewed, Linked, MessageValue}
@@ -279,8 +279,8 @@ has_come [] c = false
 has_come (s ∷ past) c = comes s.event c || has_come past c
 
 -- What goes out for an event; for a message no `drop` does. A connection that comes has a number that none had before.
--- A link is changed for a message of an arbiter's that asks for that; the players are then those before, but that the
--- one whom the message names has its token, which nobody had.
+-- A link is changed, or a player added, for a message of an arbiter's that asks for that; the players are then those
+-- before, but that the one whom the message names has its token, which nobody had, or is a player more, with it.
 abbrev pub IsRight : List Player → List Step → DeskInput → List (List ℕ) → Type 0
 IsRight players past (Said c text at) lines =
     ActsRight (name_for (players_in players past) (is_agreement (accord_in players past c text at))
@@ -293,7 +293,7 @@ IsRight players past (Opened c) lines = (lines ≡ []) × (has_come past c ≡ f
 IsRight players past (Linked c text later token) lines =
     (lines ≡ []) × IsArbiter (player_in players past c) × (is_message text ≡ true)
     × (is_link_sort (sort_of text) ≡ true)
-    × IsRelinked (rest_of text) token (players_in players past) later
+    × IsChanged text token (players_in players past) later
 IsRight players past _ lines = lines ≡ []
 
 -- a line that has 1 to 255 bytes, each of them 32 to 126, so that no line feed is in it
@@ -440,9 +440,10 @@ entries_now acts (Heard line) k =
 entries_now acts _ k = []
 
 -- What the log is told for a message that asks for nothing of the server, which is none of an act: what `AreToldSome`
--- says of an arbiter's, where everybody is told of it.
+-- says of an arbiter's, where everybody is told of it, and `change_told` where the players' file was changed.
 abbrev pub said_entries : DeskInput → List MessageValue → List (List ℕ)
 said_entries (Said c text at) tells = log_texts tells
+said_entries (Linked c text players token) tells = log_texts tells
 said_entries _ tells = []
 
 abbrev pub entries_in : List Player → List Step → List (List ℕ)

@@ -248,15 +248,18 @@ offers_notice table = record { to = table; kind = kinds.Whole; text = codes "off
 abbrev pub AreToldOffers : List ℕ → ℕ → List MessageValue → Type 0
 AreToldOffers table c tells = (text : List ℕ) × (tells ≡ to_one c text ∷ offers_notice table ∷ [])
 
--- What the log is told where everybody is told something of an arbiter's: who said it, and the message. It is none of
--- an act.
+-- What the log is told of an arbiter's message: in front what comes of it, then who said it, and the message.
+abbrev pub said_by : List ℕ → List ℕ → List ℕ → List ℕ
+said_by front by text = front ++ by ++ codes " " ++ text ++ codes "\n"
+
+-- what it is told where everybody is told something, which is none of an act
 abbrev pub call_front : Call → List ℕ
 call_front calls.Announce = codes "told by "
 call_front calls.Decide = codes "told by "
 call_front _ = codes "clocks by "
 
 abbrev pub call_said : Call → List ℕ → List ℕ → List ℕ
-call_said call by text = call_front call ++ by ++ codes " " ++ text ++ codes "\n"
+call_said call by text = said_by (call_front call) by text
 
 abbrev pub call_logged : Call → List ℕ → List ℕ → MessageValue
 call_logged call by text = to_log (call_said call by text)
@@ -401,13 +404,17 @@ abbrev pub presence : Bool → List ℕ
 presence true = codes "server here\n"
 presence false = codes "server gone\n"
 
--- The answer to a message that asks for a link, `link NAME` or `close NAME`, once that is done: the token is told of a
--- new one.
+-- The answer to a message that asks for a change of the players' file, `link NAME`, `close NAME` or
+-- `player NAME FULL NAME`, once that is done: the token is told of a new link. The log is told before who said it.
 abbrev pub token_told : Bool → List ℕ → List ℕ
 token_told closes token = if closes then codes "\n" else codes " " ++ token ++ codes "\n"
 
 abbrev pub linked_text : List ℕ → List ℕ → List ℕ
 linked_text text token = codes "ok " ++ text ++ token_told (is_close_sort (sort_of text)) token
+
+abbrev pub change_told : List ℕ → ℕ → List ℕ → List ℕ → List MessageValue
+change_told by c text token =
+    to_log (said_by (codes "players by ") by text) ∷ to_one c (linked_text text token) ∷ []
 
 -- these messages, and behind them one to every connection that is open
 abbrev pub AreToldAll : (ℕ → Bool) → List MessageValue → List ℕ → List MessageValue → Type 0
@@ -429,5 +436,5 @@ IsTold (Hurried c) lines tells is_open acts_for k =
 IsTold (Heard line) lines tells is_open acts_for k = IsToldHeard (is_counted k line) k (answer k.begun line) lines tells
 IsTold (Renewed players) lines tells is_open acts_for k = tells ≡ []
 IsTold (Linked c text players token) lines tells is_open acts_for k =
-    (is_open c ≡ true) × (owes k.owed c ≡ false) × (tells ≡ to_one c (linked_text text token) ∷ [])
+    (is_open c ≡ true) × (owes k.owed c ≡ false) × (tells ≡ change_told (name_of (acts_for c)) c text token)
 IsTold (ServerTurned is_here) lines tells is_open acts_for k = AreToldAll is_open (lost k.owed) (presence is_here) tells

@@ -25,8 +25,9 @@ use Rattle.lobby_words.specs.Words.{rest_of, as_name, black_name, is_pair, actor
 use Rattle.lobby_words.specs.Words.{is_decide_sort, is_decision, is_login_sort}
 use Rattle.lobby_words.specs.Waiting.{opens_game, joins_game}
 use Rattle.lobby_words.specs.Players.{holder_of, known_name, renewed, login_text, players_text}
-use Rattle.lobby_words.specs.Players.{present_names, who_text, IsRelinked}
-use Rattle.lobby_words.specs.Plans.{refusal_text, plan_of, order_of}
+use Rattle.lobby_words.specs.Players.{present_names, who_text, IsChanged}
+use Rattle.lobby_words.specs.Plans.{refusal_text, taken_text, plan_of, order_of}
+use Rattle.lobby_players.specs.Joining.{newcomer_said}
 use Rattle.lobby_desk.specs.Lines.{bytes_of, lines_of, said_after, IsNamed}
 use Rattle.lobby_table.specs.Sending.{act_lines, join_line, notice_lines}
 use Rattle.lobby_words.specs.Answers.{act_game, answer, lone_player}
@@ -113,6 +114,7 @@ is_own plans.Pause = true
 is_own plans.Resume = true
 is_own (plans.Call call) = true
 is_own (plans.Order order) = true
+is_own (plans.Taken name) = true
 is_own plans.LeaveLobby = true
 is_own (plans.Leave game) = true
 is_own (plans.Room game at) = true
@@ -161,6 +163,7 @@ IsOwnText seen players plans.Pause text = text ≡ codes "ok pause entries\n"
 IsOwnText seen players plans.Resume text = text ≡ codes "ok resume entries\n"
 IsOwnText seen players (plans.Call call) text = text ≡ call_answer call
 IsOwnText seen players (plans.Order order) text = text ≡ refusal_text refusals.NotWritten
+IsOwnText seen players (plans.Taken name) text = text ≡ taken_text name
 IsOwnText seen players plans.LeaveLobby text = text ≡ codes "ok leave lobby\n"
 IsOwnText seen players (plans.Leave game) text = text ≡ codes "ok leave " ++ decimal game ++ codes "\n"
 IsOwnText seen players (plans.Room game at) text = IsRoom (gathering seen) game at text
@@ -330,6 +333,7 @@ standing_of put desk c text at = record {
   named = known_name desk.players.items (as_name text);
   black = known_name desk.players.items (black_name text);
   linked = known_name desk.players.items (rest_of text);
+  newcomer = newcomer_said desk.players.items text;
   is_here = desk.line.is_here;
   is_full = is_full desk.watches.items c (u32_in (rest_of text));
   bar = bar_of desk.limits (known desk) (halted desk.halts) put (who_of desk c) text;
@@ -339,7 +343,7 @@ standing_of put desk c text at = record {
   at = at;
 }
 
--- what a message at this moment has done with a player's link; nothing where it comes too fast
+-- what a message at this moment has done in the players' file; nothing where it comes too fast
 abbrev pub order_asked : Desk → ℕ → List ℕ → ℕ → Option Order
 order_asked desk c text at =
     if is_too_fast (until_of desk c) at then None
@@ -375,6 +379,7 @@ pub record IsSaid (players : List Player) (old : View) (c : ℕ) (text : List �
   pub other : standing.named ≡ known_name players (as_name text)
   pub black : standing.black ≡ known_name players (black_name text)
   pub link : standing.linked ≡ known_name players (rest_of text)
+  pub newcomer : standing.newcomer ≡ newcomer_said players text
   pub here : standing.is_here ≡ old.here
   pub full : standing.is_full ≡ is_full old.known.watches c (u32_in (rest_of text))
   pub put : Bool
@@ -511,15 +516,16 @@ pub record IsRenewed (players : List Player) (old : View) (later : List Player) 
   pub who_is : (d : ℕ) → new.who d ≡ renewed players later (old.who d)
 
 -- The plan for a message is an order of an arbiter's: the players from now on are those before, but that the one whom
--- the message names has this token, which nobody had.
+-- the message names has this token, which nobody had, or is a player more, with it.
 pub record IsLinked (players : List Player) (old : View) (c : ℕ) (text : List ℕ) (later : List Player)
     (token : List ℕ) : Type 0 where
   pub standing : Standing
   pub who : standing.who ≡ old.who c
   pub link : standing.linked ≡ known_name players (rest_of text)
+  pub newcomer : standing.newcomer ≡ newcomer_said players text
   pub order : Order
   pub planned : plan_of (is_message text) (sort_of text) standing (u32_in (rest_of text)) ≡ plans.Order order
-  pub relinks : IsRelinked (rest_of text) token players later
+  pub changes : IsChanged text token players later
 
 -- what the desk does about an event: the lines that go out, and for whom connections act then
 abbrev pub IsDone : List Player → View → DeskInput → List (List ℕ) → List MessageValue → View → Type 0

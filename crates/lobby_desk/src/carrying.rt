@@ -7,6 +7,7 @@ ghost use Rattle.lobby_table.specs.Sending.{IsHeardSame};
 ghost use Rattle.lobby_desk.specs.Events.{plan_asker};
 ghost use Rattle.lobby_table.specs.Owed.{owed_of, owed_lines};
 ghost use Rattle.lobby_desk.specs.Tellings.{token_told};
+ghost use Rattle.lobby_words.specs.Plans.{closes};
 ghost use Rattle.lobby_table.specs.Visitors.{who_in, open_in_map, until_in};
 ghost use Rattle.lobby_desk.specs.Who.{who_noted, plan_watches, plan_table};
 ghost use Rattle.lobby_desk.specs.Who.{is_own, seen, view, IsOwnText};
@@ -17,7 +18,10 @@ use lobby_table::{
     Due, ServerLine, Visitor, Watch, present_rows, put, rise, room_text, unwatch, waiting_act,
     who_acts,
 };
-use lobby_words::{Call, Identity, Order, Plan, Refusal, as_line, headed, login_line, player_rows};
+use lobby_words::{
+    Call, Change, Identity, Order, Plan, Refusal, as_line, headed, login_line, player_rows,
+    taken_line,
+};
 use std::alloc::{AllocError, Global};
 use std::collections::BTreeMap;
 
@@ -67,6 +71,7 @@ impl Desk {
             Plan::Call(Call::Announce) => Ok(Some(String::from_str(alloc, "ok announce\n")?)),
             Plan::Call(Call::Decide) => Ok(Some(String::from_str(alloc, "ok decide\n")?)),
             Plan::Order(_) => Ok(Some(String::from_str(alloc, Refusal::NotWritten.line())?)),
+            Plan::Taken(name) => Ok(Some(taken_line(alloc, name)?)),
             Plan::LeaveLobby => Ok(Some(String::from_str(alloc, "ok leave lobby\n")?)),
             Plan::Leave(game) => Ok(Some(headed(alloc, "ok leave ", u64::from(*game))?)),
             Plan::Room(game, at) => {
@@ -136,7 +141,7 @@ fn who_noted(before: Option<Identity>, plan: &Plan) -> Option<Identity>
     }
 }
 
-/// The answer to a message that asks for a player's link, once that is done.
+/// The answer to a message that asks for a change of the players' file, once that is done.
 pub fn linked_line(
     alloc: Global,
     text: &str,
@@ -144,11 +149,11 @@ pub fn linked_line(
     token: &str,
 ) -> Result<String, AllocError>
     ensures { IfOk result (λ line. string_bytes line
-        ≡ codes "ok " ++ text.now ++ token_told order.now.closes token.now) }
+        ≡ codes "ok " ++ text.now ++ token_told (closes order.now.change) token.now) }
 {
     let mut line = String::from_str(alloc, "ok ")?;
     line.push_str(text)?;
-    if !order.closes {
+    if !matches!(order.change, Change::NoLink) {
         line.push(' ')?;
         line.push_str(token)?;
     }

@@ -5,3 +5,4 @@ pub mod Written
 pub mod NewLink
 pub mod Same
 pub mod TokenText
+pub mod Newcomer

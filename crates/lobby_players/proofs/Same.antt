@@ -76,11 +76,11 @@ same_entries some others is =
     let parts = and_parts (length some == length others) (list_all same_pair (zip some others)) is in
     all_entries some others ((Decides-eqb (length some) (length others)).0 parts.0) parts.1
 
-abbrev first_or : Entry → List Entry → Entry
+abbrev pub first_or : Entry → List Entry → Entry
 first_or d [] = d
 first_or d (e ∷ es) = e
 
-abbrev behind_first : List Entry → List Entry
+abbrev pub behind_first : List Entry → List Entry
 behind_first [] = []
 behind_first (e ∷ es) = es
 

@@ -2,3 +2,4 @@ pub mod File
 pub mod Faults
 pub mod Adding
 pub mod Relinking
+pub mod Joining

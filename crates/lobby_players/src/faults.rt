@@ -3,6 +3,7 @@ ghost use Rattle.std.specs.Prelude.{◌≡◌};
 ghost use Rattle.lobby_players.specs.declared.faults.PlayersFault.TheVariants as faults;
 ghost use Rattle.lobby_players.specs.declared.faults.AddFault.TheVariants as add_faults;
 ghost use Rattle.lobby_players.specs.declared.faults.LinkFault.TheVariants as link_faults;
+ghost use Rattle.lobby_players.specs.declared.faults.JoinFault.TheVariants as join_faults;
 
 use std::alloc::AllocError;
 use thiserror::Error;
@@ -110,4 +111,35 @@ impl From<AllocError> for LinkFault {
     fn from(_fault: AllocError) -> LinkFault {
         LinkFault::NoMemory
     }
+}
+
+/// Why a player who walks in is not put into a players' file.
+#[derive(Clone, Copy, Debug, Error)]
+pub enum JoinFault {
+    #[error("{0}")]
+    Add(AddFault),
+    /// Its players are others than those by whom the lobby serves.
+    #[error("the players' file was changed a moment ago, or is not taken as it stands")]
+    OtherPlayers,
+    #[error("the file has a player of this name")]
+    NameTaken,
+    #[error("memory was refused")]
+    NoMemory,
+}
+
+impl From<AllocError> for JoinFault {
+    ghost from_gives = { λ _ fault. fault ≡ join_faults.NoMemory };
+
+    fn from(_fault: AllocError) -> JoinFault {
+        JoinFault::NoMemory
+    }
+}
+
+/// Why an order is not carried out in a players' file.
+#[derive(Clone, Copy, Debug, Error)]
+pub enum OrderFault {
+    #[error("{0}")]
+    Link(LinkFault),
+    #[error("{0}")]
+    Join(JoinFault),
 }

@@ -3,17 +3,19 @@
 //! paused, and in a file of its own why all clocks are stopped.
 //!
 //! Modules: `line` has the line of a player, `lines` what stands in front of a line and which names are alike,
-//! `reading` the file, `adding` a player more, `relinking` a player's new link, `token` tokens and links, `faults` what
-//! is wrong; `file` reads and puts the file on a disk, by one at a time (`Hold`), `pause_file` keeps beside it
-//! whether entries are paused, `stop_file` why clocks are stopped, `players` has who stands in a file, `putting` is the word that puts a player into one.
-//! `proofs/Told` has what a line tells, `proofs/EachLine` the players of lines, `proofs/Written` that a file that was
-//! written is read back, `proofs/NewLink` whose the new link is, `proofs/Same` which players are the same, and
-//! `proofs/TokenText` that a token's text is one.
+//! `reading` the file, `adding` a player more, `joining` one who walks in, `relinking` a player's new link, `token`
+//! tokens and links, `faults` what is wrong; `file` reads and puts the file on a disk, by one at a time (`Hold`),
+//! `pause_file` keeps beside it whether entries are paused, `stop_file` why clocks are stopped, `players` has who stands
+//! in a file, `putting` is the word that puts a player into one. `proofs/Told` has what a line tells, `proofs/EachLine`
+//! the players of lines, `proofs/Written` that a file that was written is read back, `proofs/NewLink` whose the new link
+//! is, `proofs/Newcomer` who has walked in, `proofs/Same` which players are the same, and `proofs/TokenText` that a
+//! token's text is one.
 #![tactic(auto)]
 
 mod adding;
 mod faults;
 mod file;
+mod joining;
 mod line;
 mod lines;
 mod pause_file;
@@ -25,12 +27,15 @@ mod stop_file;
 mod token;
 
 pub use adding::{Addition, WithPlayer, added};
-pub use faults::{AddFault, LineFault, LinkFault, PlayersFault, RereadFault};
+pub use faults::{
+    AddFault, JoinFault, LineFault, LinkFault, OrderFault, PlayersFault, RereadFault,
+};
 pub use file::{Hold, put_file, read_file};
+pub use joining::{carried_out, newcomer_said};
 pub use pause_file::PauseFile;
 pub use players::{full_name, later_players_of, players_of};
 pub use putting::{Adding, add_player};
 pub use reading::{read, reread};
-pub use relinking::{ChangedFile, relinked};
+pub use relinking::ChangedFile;
 pub use stop_file::StopFile;
 pub use token::{forget, link_text, new_token, token_text};

@@ -17,7 +17,7 @@ use player_name::Name;
 use sha2::{Digest, Sha256};
 use std::alloc::{AllocError, Global};
 
-/// A players' file in which a player has a new link.
+/// A players' file in which a player has a new link, or is new.
 #[derive(Drop)]
 pub struct ChangedFile {
     /// The file's new text.
@@ -36,8 +36,8 @@ fn is_same_player(one: &Player, other: &Player) -> bool
         && one.full_name.as_str() == other.full_name.as_str()
 }
 
-// Whether players are the same, one for one.
-fn are_same_players(some: &[Player], others: &[Player]) -> bool
+/// Whether players are the same, one for one.
+pub fn are_same_players(some: &[Player], others: &[Player]) -> bool
     ensures { result ≡ are_same_players some.now others.now }
 {
     if some.len() != others.len() {

@@ -1,16 +1,16 @@
-//! Players' links, changed in the players' file, whether entries are paused, kept beside it, why clocks are stopped,
-//! and what arbiters decide.
+//! Players' links, changed in the players' file, players who are added there, whether entries are paused, kept beside
+//! it, why clocks are stopped, and what arbiters decide.
 ghost use Rattle.std.specs.Prelude.{ℕ, List, [], ◌≡◌, IfOk, IfSome};
 ghost use Rattle.std.specs.String.{string_bytes};
 ghost use Rattle.hex.specs.Hex.{encode_lower};
-ghost use Rattle.lobby_words.specs.Players.{IsRelinked};
+ghost use Rattle.lobby_words.specs.Players.{IsCarriedOut};
 
 use crate::asked::Serving;
 use anyhow::Result;
 use lobby_desk::{Halts, Order};
 use lobby_loop::KeepsLinks;
-use lobby_players::{ChangedFile, Hold, PauseFile, StopFile, new_token, relinked};
-use lobby_words::{Linked, Player, cut_word, player_by_name};
+use lobby_players::{ChangedFile, Hold, PauseFile, StopFile, carried_out, new_token};
+use lobby_words::{Change, Linked, Player, cut_word, player_by_name};
 use rand::rngs::SysRng;
 use rand_core::TryRng;
 use std::fs::File;
@@ -69,15 +69,16 @@ where
         })
     }
 
-    // One of these players, who are those of the file, which is held, has the sum of a new token in it: that of bytes
-    // which the source gave.
+    // One of these players, who are those of the file, which is held, or one more has the sum of a new token in it: that
+    // of bytes which the source gave.
     fn put<G: TryRng>(
         &self,
         source: &mut G,
         order: &Order,
+        full_name: &str,
         players: &[Player],
     ) -> Result<ChangedFile>
-        ensures relinked { IfOk result (λ new. IsRelinked order.now.name
+        ensures carried { IfOk result (λ new. IsCarriedOut order.now full_name.now
             (string_bytes new.linked.token) players.now new.linked.players.items) }
         ensures given { IfOk result (λ new.
             (bytes : List ℕ) × G.may_fill source.old bytes source.new
@@ -85,11 +86,12 @@ where
     {
         let text = lobby_players::read_file(self.rt, self.file)?;
         let token = new_token(source)?;
-        let new = relinked(
+        let new = carried_out(
             self.rt.alloc(),
             players,
             text.as_slice(),
-            &order.name,
+            order,
+            full_name,
             &token,
         )?;
         lobby_players::put_file(self.rt, self.rt.alloc(), self.file, new.text.as_str())?;
@@ -101,16 +103,17 @@ where
         &mut self,
         source: &mut G,
         order: &Order,
+        full_name: &str,
         players: &[Player],
     ) -> Result<Linked>
-        ensures relinked { IfOk result (λ linked. IsRelinked order.now.name
+        ensures carried { IfOk result (λ linked. IsCarriedOut order.now full_name.now
             (string_bytes linked.token) players.now linked.players.items) }
         ensures given { IfOk result (λ linked.
             (bytes : List ℕ) × G.may_fill source.old bytes source.new
             × (string_bytes linked.token ≡ encode_lower bytes)) }
     {
         let _hold = Hold::at_once(self.rt, self.file)?;
-        let new = self.put(source, order, players)?;
+        let new = self.put(source, order, full_name, players)?;
         Ok(new.linked)
     }
 }
@@ -120,13 +123,16 @@ where
     R: Files<File = File> + AllocGlobal + RandomSource + Eprint,
     D: KeepsDecisions + Drop,
 {
-    fn change(&mut self, order: &Order, players: &[Player]) -> Option<Linked> {
+    fn change(&mut self, order: &Order, full_name: &str, players: &[Player]) -> Option<Linked> {
         let mut source = SysRng::new(self.rt);
-        match self.changed(&mut source, order, players) {
+        match self.changed(&mut source, order, full_name, players) {
             Ok(linked) => Some(linked),
             Err(error) => {
                 let name = order.name.as_str();
-                let _ = eprintln!(self.rt; "the link of {name} is as it was: {error:#}");
+                let _ = match order.change {
+                    Change::NewPlayer => eprintln!(self.rt; "{name} is not added: {error:#}"),
+                    _ => eprintln!(self.rt; "the link of {name} is as it was: {error:#}"),
+                };
                 None
             }
         }

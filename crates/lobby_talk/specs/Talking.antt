@@ -55,8 +55,8 @@ pub record MovesAnew (old : Talk) (event : DeskInput) (new : Talk) : Type 0 wher
   pub nothing : new.wire.items ≡ []
   pub next : new.next ≡ old.next
 
--- How the desk takes a message: it came in time, at this moment; or too fast; or it asked for a player's link, for
--- which the players' file has these players and this token was made.
+-- How the desk takes a message: it came in time, at this moment; or too fast; or it asked for a player's link, or a
+-- player more, for which the players' file has these players and this token was made.
 pub data Saying : Type 0 where
   InTime : (at : ℕ) → Saying
   TooFast : Saying

@@ -1,7 +1,7 @@
-//! Who changes players' links, puts an arbiter's decisions down, and keeps what he halts.
+//! Who changes players' links, adds players, puts an arbiter's decisions down, and keeps what he halts.
 ghost use Rattle.std.specs.Prelude.{IfSome};
 ghost use Rattle.std.specs.String.{string_bytes};
-ghost use Rattle.lobby_words.specs.Players.{IsRelinked};
+ghost use Rattle.lobby_words.specs.Players.{IsCarriedOut};
 
 use lobby_desk::{Halts, Order};
 use lobby_words::{Linked, Player};
@@ -9,12 +9,12 @@ use std::io;
 
 /// Keeps the players' file, by which links hold, beside it whether entries are paused, and why all clocks are stopped.
 pub trait KeepsLinks {
-    /// Gives one of these players a new link, or closes it, in the file: the old one holds no more. It answers once
-    /// the file is on the disk, by the players from then on and the token of the new link: they are these, but that
-    /// the player of the order has this token, which none of them had. `None` where that was not done, as where the
-    /// file has other players, and the file is as it was.
-    fn change(&mut self, order: &Order, players: &[Player]) -> Option<Linked>
-        ensures { IfSome result (λ linked. IsRelinked order.now.name
+    /// Gives one of these players a new link, or closes it, in the file: the old one holds no more; or puts one more
+    /// there, of this full name. It answers once the file is on the disk, by the players from then on and the token of
+    /// the new link: they are these, but that the player of the order, who may be new, has this token, which none of
+    /// them had. `None` where that was not done, as where the file has other players, and the file is as it was.
+    fn change(&mut self, order: &Order, full_name: &str, players: &[Player]) -> Option<Linked>
+        ensures { IfSome result (λ linked. IsCarriedOut order.now full_name.now
             (string_bytes linked.token) players.now linked.players.items) };
 
     /// Puts the decision of a message to those of its round: of this arbiter, who is one of these players. It answers
@@ -26,12 +26,12 @@ pub trait KeepsLinks {
     fn keep(&mut self, halts: &Halts) -> io::Result<()>;
 }
 
-/// No file: no link is changed, nothing is decided, and nothing is kept.
+/// No file: no link is changed, nobody added, nothing is decided, and nothing is kept.
 #[derive(Clone, Copy)]
 pub struct NoLinks;
 
 impl KeepsLinks for NoLinks {
-    fn change(&mut self, _order: &Order, _players: &[Player]) -> Option<Linked> {
+    fn change(&mut self, _order: &Order, _full_name: &str, _players: &[Player]) -> Option<Linked> {
         None
     }
 

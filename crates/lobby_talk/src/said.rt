@@ -1,7 +1,8 @@
 //! What a browser says, as the desk takes it.
 ghost use Rattle.std.specs.Prelude.{◌≡◌, true, Some, IfSome, OnOk};
 ghost use Rattle.std.specs.String.{string_bytes};
-ghost use Rattle.lobby_words.specs.Players.{IsRelinked};
+ghost use Rattle.lobby_words.specs.Players.{IsCarriedOut};
+ghost use Rattle.lobby_words.specs.Words.{full_said};
 ghost use Rattle.lobby_desk.specs.Events.{message_values};
 ghost use Rattle.lobby_desk.specs.Who.{IsReady, IsDecisionTold, decides_now, order_asked};
 ghost use Rattle.lobby_talk.specs.Talking.{Says, IsTextSaid, IsOrderTold};
@@ -9,7 +10,7 @@ ghost use Rattle.lobby_talk.specs.Talking.{Says, IsTextSaid, IsOrderTold};
 use crate::links::KeepsLinks;
 use crate::talk::Talk;
 use lobby_desk::Order;
-use lobby_words::Linked;
+use lobby_words::{Linked, full_said};
 use std::alloc::AllocError;
 use std::str;
 
@@ -24,8 +25,8 @@ fn say_done(
 ) -> Result<(), AllocError>
     requires ready { IsReady talk.old.desk number }
     requires asked { order_asked talk.old.desk number shown.now at ≡ Some order.now }
-    requires relinked { IfSome done (λ linked. IsRelinked order.now.name (string_bytes linked.token)
-        talk.old.desk.players.items linked.players.items) }
+    requires carried { IfSome done (λ linked. IsCarriedOut order.now (full_said shown.now)
+        (string_bytes linked.token) talk.old.desk.players.items linked.players.items) }
     ensures says { OnOk result (Says shown.now number at talk.old talk.new) }
     ensures told { OnOk result (IsOrderTold done number talk.old talk.new) }
 {
@@ -41,7 +42,7 @@ fn say_done(
     }
 }
 
-// A message is said to the desk that asks for a player's link: whoever keeps the players' file is asked first.
+// A message is said to the desk that asks for a change of the players' file: whoever keeps it is asked first.
 fn say_order<K: KeepsLinks>(
     shown: &str,
     number: u64,
@@ -54,7 +55,7 @@ fn say_order<K: KeepsLinks>(
     requires asked { order_asked talk.old.desk number shown.now at ≡ Some order.now }
     ensures { OnOk result (Says shown.now number at talk.old talk.new) }
 {
-    let done = links.change(order, talk.players());
+    let done = links.change(order, full_said(shown), talk.players());
     say_done(shown, number, talk, at, order, done)
 }
 
@@ -98,7 +99,7 @@ fn say_decision<K: KeepsLinks>(
     say_decided(shown, number, talk, at, is_put)
 }
 
-// A message is said to the desk that asks for no player's link.
+// A message is said to the desk that asks for no change of the players' file.
 fn say_plain<K: KeepsLinks>(
     shown: &str,
     number: u64,

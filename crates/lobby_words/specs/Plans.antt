@@ -1,10 +1,14 @@
 -- What is done about a message.
-use Rattle.std.specs.Prelude.{ℕ, Bool, true, false, ◌&&◌, not, List, codes, Option, None, Some, if◌then◌else◌}
+use Rattle.std.specs.Prelude.{ℕ, Bool, true, false, ◌&&◌, ◌++◌, not, List, codes, Option, None, Some, if◌then◌else◌}
 use Rattle.lobby_words.specs.declared.words.Sort.{Sort}
 use Rattle.lobby_words.specs.declared.words.Sort.TheVariants as sorts
 use Rattle.lobby_words.specs.Words.{is_login_sort}
 use Rattle.lobby_words.specs.declared.planning.Identity.{Identity}
 use Rattle.lobby_words.specs.declared.planning.Order.{Order}
+use Rattle.lobby_words.specs.declared.planning.Change.{Change}
+use Rattle.lobby_words.specs.declared.planning.Change.TheVariants as changes
+use Rattle.lobby_words.specs.declared.planning.Newcomer.{Newcomer}
+use Rattle.lobby_words.specs.declared.planning.Newcomer.TheVariants as newcomers
 use Rattle.lobby_words.specs.declared.planning.Accord.{Accord}
 use Rattle.lobby_words.specs.declared.planning.Accord.TheVariants as accords
 use Rattle.lobby_words.specs.declared.refusals.Refusal.{Refusal}
@@ -33,6 +37,13 @@ refusal_text refusals.TooManyOver = codes "no 45 TooManyOver\n"
 refusal_text refusals.ClocksStopped = codes "no 46 ClocksStopped\n"
 refusal_text refusals.NoClocks = codes "no 47 NoClocks\n"
 refusal_text refusals.NotDecided = codes "no 48 NotDecided\n"
+refusal_text refusals.BadName = codes "no 49 BadName\n"
+refusal_text refusals.BadFullName = codes "no 51 BadFullName\n"
+
+-- the line that says that this player has the name of who is to be added, or one that differs in small and capital
+-- letters alone
+abbrev pub taken_text : List ℕ → List ℕ
+taken_text name = codes "no 50 NameTaken " ++ name ++ codes "\n"
 
 -- what asks for the server
 abbrev pub asked : Standing → Plan → Plan
@@ -88,11 +99,27 @@ abbrev pub arbiter_plan : Identity → Plan → Plan
 arbiter_plan who plan = if who.is_arbiter then plan else plans.Refuse refusals.NotArbiter
 
 -- the link of a player is changed, or closed: not where no player has the name
-abbrev pub order_plan : Bool → Option (List ℕ) → Plan
-order_plan closes None = plans.Refuse refusals.NoPlayer
-order_plan closes (Some name) = plans.Order (record { name = name; closes = closes })
+abbrev pub order_plan : Change → Option (List ℕ) → Plan
+order_plan change None = plans.Refuse refusals.NoPlayer
+order_plan change (Some name) = plans.Order (record { name = name; change = change })
 
--- what a plan has done with a link
+-- a player is added: not where the name or the full name is none, or a player has that name or one like it
+abbrev pub newcomer_plan : Newcomer → Plan
+newcomer_plan newcomers.BadName = plans.Refuse refusals.BadName
+newcomer_plan (newcomers.Taken name) = plans.Taken name
+newcomer_plan newcomers.BadFullName = plans.Refuse refusals.BadFullName
+newcomer_plan (newcomers.New name) = plans.Order (record { name = name; change = changes.NewPlayer })
+
+-- whether a change leaves nobody a link, and whether it adds a player
+abbrev pub closes : Change → Bool
+closes changes.NoLink = true
+closes _ = false
+
+abbrev pub adds : Change → Bool
+adds changes.NewPlayer = true
+adds _ = false
+
+-- what a plan has done in the players' file
 abbrev pub order_of : Plan → Option Order
 order_of (plans.Order order) = Some order
 order_of _ = None
@@ -130,8 +157,9 @@ sort_plan sorts.Who s who game = arbiter_plan who plans.Who
 sort_plan sorts.Pause s who game = arbiter_plan who plans.Pause
 sort_plan sorts.Resume s who game = arbiter_plan who plans.Resume
 sort_plan (sorts.Call call) s who game = arbiter_plan who (barred s.bar (plans.Call call))
-sort_plan sorts.Link s who game = arbiter_plan who (order_plan false s.linked)
-sort_plan sorts.Close s who game = arbiter_plan who (order_plan true s.linked)
+sort_plan sorts.Link s who game = arbiter_plan who (order_plan changes.NewLink s.linked)
+sort_plan sorts.Close s who game = arbiter_plan who (order_plan changes.NoLink s.linked)
+sort_plan sorts.Player s who game = arbiter_plan who (newcomer_plan s.newcomer)
 sort_plan sorts.Lobby s who game = asked s plans.Lobby
 sort_plan sorts.LeaveLobby s who game = plans.LeaveLobby
 sort_plan sorts.Name s who game = plans.Refuse refusals.BadLine

@@ -1,12 +1,15 @@
 -- Whom a token shows, and how players are told.
-use Rattle.std.specs.Prelude.{ℕ, ◌≡◌, Bool, true, false, ◌&&◌, ◌||◌, ◌==◌, nat_le, List, [], length, ◌++◌, codes}
+use Rattle.std.specs.Prelude.{ℕ, ◌≡◌, Bool, true, false, ◌&&◌, ◌||◌, ◌==◌, nat_le, List, [], ◌∷◌, length, ◌++◌, codes}
 use Rattle.std.specs.Prelude.{decimal, map, filter, Option, Some, None, find, option_map, if◌then◌else◌}
 use Rattle.std.specs.List.{AllZip, flat_map, list_any, list_all}
 use Rattle.std.specs.String.{string_bytes}
-use Rattle.std.specs.Str.{bytes_eq}
+use Rattle.std.specs.Str.{bytes_eq, str_eq_ignore_ascii_case}
 use Rattle.sha2.specs.Sha256.{sha256}
 use Rattle.lobby_words.specs.declared.players.Player.{Player}
 use Rattle.lobby_words.specs.declared.planning.Identity.{Identity}
+use Rattle.lobby_words.specs.declared.planning.Order.{Order}
+use Rattle.lobby_words.specs.Words.{rest_of, as_name, full_said, sort_of, is_player_sort}
+use Rattle.lobby_words.specs.Plans.{adds}
 use Rattle.lobby_words.specs.Answers.{ended}
 
 abbrev pub identity_of : Player → Identity
@@ -123,6 +126,42 @@ pub record IsRelinked (name token : List ℕ) (before after : List Player) : Typ
   pub each : AllZip (λ (old new : Player). IsWithSum (sum_given name (sha256 token) old) old new) before after
   pub fresh : list_any (has_sum (sha256 token)) before ≡ false
   pub holds : is_token_of after token name ≡ true
+
+-- a player has this name, or one that differs in small and capital letters alone
+abbrev pub is_named_like : List ℕ → Player → Bool
+is_named_like name player = str_eq_ignore_ascii_case player.name name
+
+-- The players are those before, each as he was, and behind them one more: of this name, which nobody had, nor one like
+-- it; of this full name; no arbiter; and with this token, which nobody had.
+pub record IsJoined (name full_name token : List ℕ) (before after : List Player) : Type 0 where
+  pub others : List Player
+  pub newcomer : Player
+  pub behind : after ≡ others ++ newcomer ∷ []
+  pub each : AllZip (λ (old new : Player). IsWithSum old.sum old new) before others
+  pub named : newcomer.name ≡ name
+  pub full : string_bytes newcomer.full_name ≡ full_name
+  pub role : newcomer.is_arbiter ≡ false
+  pub sum_is : newcomer.sum ≡ sha256 token
+  pub alone : list_any (is_named_like name) before ≡ false
+  pub fresh : list_any (has_sum (sha256 token)) before ≡ false
+  pub holds : is_token_of after token name ≡ true
+
+-- The change of the players that a message asks for has been made, with this token: there is one more, of the name and
+-- the full name of the message, or the one whom the message names has the token.
+abbrev pub IsChangedIf : Bool → List ℕ → List ℕ → List Player → List Player → Type 0
+IsChangedIf true text token before after = IsJoined (as_name text) (full_said text) token before after
+IsChangedIf false text token before after = IsRelinked (rest_of text) token before after
+
+abbrev pub IsChanged : List ℕ → List ℕ → List Player → List Player → Type 0
+IsChanged text token before after = IsChangedIf (is_player_sort (sort_of text)) text token before after
+
+-- an order has been carried out, with this full name of who is added by it
+abbrev pub IsCarriedIf : Bool → List ℕ → List ℕ → List ℕ → List Player → List Player → Type 0
+IsCarriedIf true name full_name token before after = IsJoined name full_name token before after
+IsCarriedIf false name full_name token before after = IsRelinked name token before after
+
+abbrev pub IsCarriedOut : Order → List ℕ → List ℕ → List Player → List Player → Type 0
+IsCarriedOut order full_name token before after = IsCarriedIf (adds order.change) order.name full_name token before after
 
 -- two players who differ in no more than their full names
 pub record IsAlike (a b : Player) : Type 0 where

@@ -60,6 +60,10 @@ as_name text = word_of (rest_of text)
 abbrev pub as_line : List ℕ → List ℕ
 as_line text = rest_of (rest_of text)
 
+-- the full name in a message `player NAME FULL NAME`, in which both stand as NAME and LINE do there; without one NAME
+abbrev pub full_said : List ℕ → List ℕ
+full_said text = if length (as_line text) == 0 then as_name text else as_line text
+
 -- Of a message `pair WHITE BLACK TIMES`, in which WHITE stands where NAME does in `as NAME LINE`: whether its word is
 -- this; the name of BLACK, and the times, which are all that stands behind it; and the line that opens its game, under
 -- WHITE.
@@ -136,8 +140,9 @@ arbiter_sort w text =
     if bytes_eq w (codes "link") then sorts.Link
     else (if bytes_eq w (codes "close") then sorts.Close
     else (if bytes_eq w (codes "pair") then pair_sort text
+    else (if bytes_eq w (codes "player") then sorts.Player
     else (if bytes_eq w (codes "unpair") then sorts.Unpair
-    else whole_sort text)))
+    else whole_sort text))))
 
 abbrev pub own_sort : List ℕ → List ℕ → Sort
 own_sort w text =
@@ -189,11 +194,16 @@ abbrev pub is_login_sort : Sort → Bool
 is_login_sort sorts.Login = true
 is_login_sort _ = false
 
--- a player's link is changed, or closed
+-- the players' file is changed: a player's link is another, or closed, or there is a player more
 abbrev pub is_link_sort : Sort → Bool
 is_link_sort sorts.Link = true
 is_link_sort sorts.Close = true
+is_link_sort sorts.Player = true
 is_link_sort _ = false
+
+abbrev pub is_player_sort : Sort → Bool
+is_player_sort sorts.Player = true
+is_player_sort _ = false
 
 abbrev pub is_close_sort : Sort → Bool
 is_close_sort sorts.Close = true

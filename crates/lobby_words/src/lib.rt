@@ -31,14 +31,16 @@ pub use listing::{
 };
 pub use naming::{is_said, takes_name};
 pub use planning::{
-    Accord, Identity, Order, Plan, Standing, asks_for_decision, asks_for_link, order_of, plan_of,
-    shows_token,
+    Accord, Change, Identity, Newcomer, Order, Plan, Standing, asks_for_decision, asks_for_link,
+    asks_for_player, order_of, plan_of, shows_token,
 };
 pub use players::{Player, holder_of, is_same_sum, is_token};
 pub use refusals::Refusal;
-pub use rows::{headed, is_among, known_name, login_line, player_by_name, player_rows, who_text};
+pub use rows::{
+    headed, is_among, known_name, login_line, player_by_name, player_rows, taken_line, who_text,
+};
 pub use words::{
-    Call, Sort, actor, are_message_bytes, as_line, as_name, black_name, cut_word, is_decision,
-    is_message, is_of_clocks, is_pair, is_play_word, line_said, number_named, number_or_0,
-    pair_times, sort_of,
+    Call, Sort, actor, are_message_bytes, as_line, as_name, black_name, cut_word, full_said,
+    is_decision, is_message, is_of_clocks, is_pair, is_play_word, line_said, number_named,
+    number_or_0, pair_times, sort_of,
 };

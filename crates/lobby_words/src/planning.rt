@@ -14,12 +14,35 @@ pub struct Identity {
     pub is_arbiter: bool,
 }
 
-/// What an arbiter has done with the link of a player.
+/// What is done with a player in the players' file.
+#[derive(Clone, Copy)]
+pub enum Change {
+    /// He has a new link.
+    NewLink,
+    /// His link is closed, so that nobody has one.
+    NoLink,
+    /// He is added, with a link.
+    NewPlayer,
+}
+
+/// What an arbiter has done with a player in the players' file.
 #[derive(Clone, Copy)]
 pub struct Order {
     pub name: Name,
-    /// Whether the link is closed, so that nobody has one; else there is a new one.
-    pub closes: bool,
+    pub change: Change,
+}
+
+/// Whether whom a message names may be added to the players.
+#[derive(Clone, Copy)]
+pub enum Newcomer {
+    /// The name is none.
+    BadName,
+    /// This player has it, or a name that differs in small and capital letters alone.
+    Taken(Name),
+    /// The full name is none.
+    BadFullName,
+    /// Nobody has this name, nor one like it.
+    New(Name),
 }
 
 /// What a message is between its player, who is no arbiter, and another.
@@ -63,8 +86,10 @@ pub enum Plan {
     Resume,
     /// Everybody is told something.
     Call(Call),
-    /// A player's link is changed in the players' file.
+    /// A player's link is changed in the players' file, or a player is added there.
     Order(Order),
+    /// No player is added, since this one has the name, or one that differs in small and capital letters alone.
+    Taken(Name),
     Lobby,
     LeaveLobby,
     Watch(u32),
@@ -89,6 +114,8 @@ pub struct Standing {
     pub black: Option<Name>,
     /// All that stands behind the message's word, where that is a name that a player has.
     pub linked: Option<Name>,
+    /// Whether who is to be added by the message may be.
+    pub newcomer: Newcomer,
     /// Whether the server is there.
     pub is_here: bool,
     /// Whether the connection watches as many games as may be.
@@ -112,11 +139,18 @@ pub fn shows_token(text: &str) -> bool
     matches!(sort_of(text), Sort::Login)
 }
 
-/// Whether a message asks for a player's link.
+/// Whether a message asks for a change of the players' file.
 pub fn asks_for_link(text: &str) -> bool
     ensures { result ≡ words.is_link_sort (words.sort_of text.now) }
 {
-    matches!(sort_of(text), Sort::Link | Sort::Close)
+    matches!(sort_of(text), Sort::Link | Sort::Close | Sort::Player)
+}
+
+/// Whether a message asks for a player more.
+pub fn asks_for_player(text: &str) -> bool
+    ensures { result ≡ words.is_player_sort (words.sort_of text.now) }
+{
+    matches!(sort_of(text), Sort::Player)
 }
 
 /// Whether a message asks for an arbiter's decision to be put.
@@ -248,16 +282,31 @@ fn arbiter_plan(who: Identity, plan: Plan) -> Plan
 }
 
 // The link of a player is changed, or closed.
-fn order_plan(closes: bool, linked: Option<Name>) -> Plan
-    ensures { result ≡ plans.order_plan closes linked }
+fn order_plan(change: Change, linked: Option<Name>) -> Plan
+    ensures { result ≡ plans.order_plan change linked }
 {
     match linked {
         None => Plan::Refuse(Refusal::NoPlayer),
-        Some(name) => Plan::Order(Order { name, closes }),
+        Some(name) => Plan::Order(Order { name, change }),
     }
 }
 
-/// What a plan has done with a player's link.
+// A player is added.
+fn newcomer_plan(newcomer: Newcomer) -> Plan
+    ensures { result ≡ plans.newcomer_plan newcomer }
+{
+    match newcomer {
+        Newcomer::BadName => Plan::Refuse(Refusal::BadName),
+        Newcomer::Taken(name) => Plan::Taken(name),
+        Newcomer::BadFullName => Plan::Refuse(Refusal::BadFullName),
+        Newcomer::New(name) => Plan::Order(Order {
+            name,
+            change: Change::NewPlayer,
+        }),
+    }
+}
+
+/// What a plan has done in the players' file.
 pub fn order_of(plan: &Plan) -> Option<Order>
     ensures { result ≡ plans.order_of plan.now }
 {
@@ -313,8 +362,9 @@ fn sort_plan(sort: Sort, standing: &Standing, who: Identity, game: Option<u32>) 
         Sort::Pause => arbiter_plan(who, Plan::Pause),
         Sort::Resume => arbiter_plan(who, Plan::Resume),
         Sort::Call(call) => arbiter_plan(who, barred(standing.bar, Plan::Call(call))),
-        Sort::Link => arbiter_plan(who, order_plan(false, standing.linked)),
-        Sort::Close => arbiter_plan(who, order_plan(true, standing.linked)),
+        Sort::Link => arbiter_plan(who, order_plan(Change::NewLink, standing.linked)),
+        Sort::Close => arbiter_plan(who, order_plan(Change::NoLink, standing.linked)),
+        Sort::Player => arbiter_plan(who, newcomer_plan(standing.newcomer)),
         Sort::Lobby => asked(standing, Plan::Lobby),
         Sort::LeaveLobby => Plan::LeaveLobby,
         Sort::Moves => Plan::Moves,

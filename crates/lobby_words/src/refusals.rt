@@ -41,6 +41,10 @@ pub enum Refusal {
     NoClocks,
     /// The decision was not put to those of its round.
     NotDecided,
+    /// Who is to be added has a name that is none.
+    BadName,
+    /// Who is to be added has a full name that is none.
+    BadFullName,
 }
 
 impl Refusal {
@@ -67,6 +71,8 @@ impl Refusal {
             Refusal::ClocksStopped => "no 46 ClocksStopped\n",
             Refusal::NoClocks => "no 47 NoClocks\n",
             Refusal::NotDecided => "no 48 NotDecided\n",
+            Refusal::BadName => "no 49 BadName\n",
+            Refusal::BadFullName => "no 51 BadFullName\n",
         }
     }
 }

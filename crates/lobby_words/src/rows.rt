@@ -7,6 +7,7 @@ ghost use Rattle.std.specs.String.{string_bytes};
 ghost use Rattle.lobby_words.specs.Answers.{ended};
 ghost use Rattle.lobby_words.specs.Players.{role_text, row_of, known_name, full_name_of, login_text, players_text};
 ghost use Rattle.lobby_words.specs.Players.{who_front, who_text};
+ghost use Rattle.lobby_words.specs.Plans.{taken_text};
 
 use crate::Identity;
 use crate::players::Player;
@@ -57,6 +58,16 @@ fn full_name_of<'a>(players: &'a [Player], name: &str) -> &'a str
     ensures { result.now ≡ full_name_of players.now name.now }
 {
     player_by_name(players, name).map_or("", |player| player.full_name.as_str())
+}
+
+/// The refusal to add a player, since this one has the name, or one like it.
+pub fn taken_line(alloc: Global, name: &Name) -> Result<String, AllocError>
+    ensures { IfOk result (λ text. string_bytes text ≡ taken_text name.now) }
+{
+    let mut text = String::from_str(alloc, "no 50 NameTaken ")?;
+    text.push_str(name.as_str())?;
+    text.push('\n')?;
+    Ok(text)
 }
 
 /// The answer to a `login` that is accepted.

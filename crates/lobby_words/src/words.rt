@@ -44,6 +44,8 @@ pub enum Sort {
     /// A player has a new link from now on, or none.
     Link,
     Close,
+    /// A player more has a link from now on.
+    Player,
     Lobby,
     LeaveLobby,
     Watch,
@@ -195,6 +197,18 @@ pub fn pair_times(text: &str) -> &str
     times
 }
 
+/// The full name in a message `player NAME FULL NAME`; where none stands there, NAME.
+pub fn full_said(text: &str) -> &str
+    ensures { result.now ≡ words.full_said text.entry.now }
+{
+    let full_name = as_line(text);
+    if full_name.is_empty() {
+        as_name(text)
+    } else {
+        full_name
+    }
+}
+
 // What a message asks for whose word is `pair`: two players, and times with which the line that opens is not too long.
 fn pair_sort(text: &str) -> Sort
     ensures { result ≡ words.pair_sort text.now }
@@ -298,7 +312,7 @@ fn own_sort(word: &str, text: &str) -> Sort
     }
 }
 
-// What a message asks for whose word is of links or of pairings.
+// What a message asks for whose word is of players or of pairings.
 fn arbiter_sort(word: &str, text: &str) -> Sort
     ensures { result ≡ words.arbiter_sort word.now text.now }
 {
@@ -308,6 +322,8 @@ fn arbiter_sort(word: &str, text: &str) -> Sort
         Sort::Close
     } else if word == "pair" {
         pair_sort(text)
+    } else if word == "player" {
+        Sort::Player
     } else if word == "unpair" {
         Sort::Unpair
     } else {

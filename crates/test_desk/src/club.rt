@@ -50,6 +50,23 @@ pub fn give_token(
     Ok(())
 }
 
+/// From now on there is a player more, with this token.
+pub fn add_member(
+    members: &mut Vec<Member>,
+    alloc: Global,
+    name: &str,
+    token: &str,
+    full_name: &str,
+) -> Result<(), AllocError> {
+    members.push(Member {
+        name: String::from_str(alloc, name)?,
+        token: String::from_str(alloc, token)?,
+        is_arbiter: false,
+        full_name: String::from_str(alloc, full_name)?,
+    })?;
+    Ok(())
+}
+
 /// The players' file of these.
 pub fn file_of(alloc: Global, members: &[Member]) -> Result<String> {
     let mut file = String::new(alloc);

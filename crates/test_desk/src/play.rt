@@ -1,10 +1,11 @@
 //! One line after another, and what comes of it.
-use crate::club::{Member, file_of, give_token, members_of, players_of};
+use crate::club::{Member, add_member, file_of, give_token, members_of, players_of};
 use crate::tags::Tags;
 use anyhow::{Context, Result, bail};
 use hex::FromHex;
 use lobby_desk::{Desk, Halts, Kind, Limits, Message};
-use lobby_players::relinked;
+use lobby_players::carried_out;
+use lobby_words::{Change, full_said};
 use std::alloc::Global;
 use std::mem;
 
@@ -114,7 +115,7 @@ impl Play {
         Ok(())
     }
 
-    // A browser says a text that asks for a link, which is made with this token.
+    // A browser says a text that asks for a link, or for a player more, which is made with this token.
     fn link(&mut self, given: &str, told: &mut Vec<Message>) -> Result<()> {
         let (from, rest) = leading_number(given)?;
         let (token, text) = rest.split_once(' ').context("nothing is said")?;
@@ -127,8 +128,20 @@ impl Play {
         let bytes = <[u8; 16]>::from_hex(token).ok().context("a token is none")?;
         let file = file_of(self.alloc, self.members.as_slice())?;
         let players = self.desk.players();
-        let new = relinked(self.alloc, players, file.as_bytes(), &order.name, &bytes)?;
-        give_token(&mut self.members, self.alloc, order.name.as_str(), token)?;
+        let full_name = full_said(text);
+        let new = carried_out(
+            self.alloc,
+            players,
+            file.as_bytes(),
+            &order,
+            full_name,
+            &bytes,
+        )?;
+        let name = order.name.as_str();
+        match order.change {
+            Change::NewPlayer => add_member(&mut self.members, self.alloc, name, token, full_name)?,
+            _ => give_token(&mut self.members, self.alloc, name, token)?,
+        }
         self.desk
             .linked(from, text, self.now, &order, new.linked, told)?;
         Ok(())

@@ -5,9 +5,9 @@ use lobby_desk::{Halts, Limits, Order};
 use lobby_loop::{
     Acceptor, ActLog, Fault, Hall, KeepsLinks, NoActLog, NoLinks, Roll, Welcomed, welcome,
 };
-use lobby_players::relinked;
+use lobby_players::carried_out;
 use lobby_web::Kind;
-use lobby_words::{Linked, Player};
+use lobby_words::{Change, Linked, Player};
 use player_name::Name;
 use sockets::AcceptFault;
 use std::alloc::Global;
@@ -66,7 +66,7 @@ impl ActLog for Kept {
     }
 }
 
-/// A players' file that changes a link once, and what it was told of entries.
+/// A players' file that is changed once, and what it was told of entries.
 #[derive(Drop)]
 struct Once {
     alloc: Global,
@@ -80,11 +80,11 @@ const FILE: &[u8] =
     eve arbiter dfb417454d7432715ecfaa33d89abdaba4457c3b2cbd85a4a20620d0cd806da6 eve\n";
 
 impl KeepsLinks for Once {
-    fn change(&mut self, order: &Order, players: &[Player]) -> Option<Linked> {
-        if self.is_done || order.closes {
+    fn change(&mut self, order: &Order, full_name: &str, players: &[Player]) -> Option<Linked> {
+        if self.is_done || matches!(order.change, Change::NoLink) {
             return None;
         }
-        let new = relinked(self.alloc, players, FILE, &order.name, &[7; 16]).ok()?;
+        let new = carried_out(self.alloc, players, FILE, order, full_name, &[7; 16]).ok()?;
         self.is_done = true;
         Some(new.linked)
     }
