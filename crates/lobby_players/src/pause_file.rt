@@ -37,7 +37,7 @@ impl<'a, R: Files<File = File> + AllocGlobal + Eprint> PauseFile<'a, R> {
         let file = format!(in rt.alloc(); "{players}.paused")?;
         let is_paused = is_there(rt, file.as_str())?;
         if is_paused {
-            eprintln!(rt; "entries are paused, as they were: {file} is there")?;
+            let _ = eprintln!(rt; "entries are paused, as they were: {file} is there");
         }
         Ok(PauseFile {
             rt,

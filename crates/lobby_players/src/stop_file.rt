@@ -44,7 +44,9 @@ impl<'a, R: Files<File = File> + AllocGlobal + Eprint> StopFile<'a, R> {
             ""
         };
         if is_there {
-            eprintln!(rt; "all clocks are stopped, as they were: {file} is there: {reason}")?;
+            let _ = eprintln!(rt;
+                "all clocks are stopped, as they were: {file} is there: {reason}"
+            );
         }
         let reason = String::from_str(rt.alloc(), reason)?;
         Ok(StopFile { rt, file, reason })
