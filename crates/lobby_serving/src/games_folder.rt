@@ -4,11 +4,12 @@ use crate::mark::Mark;
 use lobby_loop::Lobby;
 use lobby_web::Kind;
 use std::alloc::{AllocError, Global};
+use std::collections::HashSet;
 use std::fs::{self, File};
 use std::rt::Files;
 use text_parts::number_of_32_bits;
 
-/// The files of so many games are served at most.
+/// The files of so many games are served at most: the newest.
 const GAMES_MOST: usize = 1_024;
 
 /// So many files are looked at in a turn.
@@ -57,6 +58,23 @@ where
     Ok(games)
 }
 
+// These numbers.
+fn set_of(alloc: Global, games: &[u32]) -> Result<HashSet<u32>, AllocError> {
+    let mut set = HashSet::new(alloc);
+    for game in games {
+        set.insert(*game)?;
+    }
+    Ok(set)
+}
+
+// The newest of these games, so many as are served at most, in their order.
+fn newest(alloc: Global, games: &[u32]) -> Result<Vec<u32>, AllocError> {
+    let mut games = games.to_vec(alloc)?;
+    games.sort()?;
+    let older = games.len().saturating_sub(GAMES_MOST);
+    games.as_slice().iter().skip(older).copied().collect(alloc)
+}
+
 impl<'a> GamesFolder<'a> {
     /// It was not looked at.
     pub fn new(alloc: Global, folder: &'a str) -> Result<Self, AllocError> {
@@ -74,16 +92,20 @@ impl<'a> GamesFolder<'a> {
 
     // The files of these games are served, and of no others.
     fn put_games(&mut self, lobby: &mut Lobby, games: &[u32]) -> Result<(), AllocError> {
+        let served = set_of(self.alloc, games)?;
         for known in self.games.iter() {
-            if !games.contains(&known.game) {
+            if !served.contains(&known.game) {
                 lobby.take_off_file(known.file.path.as_bytes());
             }
         }
-        self.games.retain(|known| games.contains(&known.game));
+        self.games.retain(|known| served.contains(&known.game));
+        let mut known = HashSet::new(self.alloc);
+        for one in self.games.iter() {
+            known.insert(one.game)?;
+        }
         let folder = self.folder;
         for game in games {
-            let is_known = self.games.iter().any(|known| known.game == *game);
-            if self.games.len() < GAMES_MOST && !is_known {
+            if !known.contains(game) {
                 let path = format!(in self.alloc; "/games/{game}.json")?;
                 let file = format!(in self.alloc; "{folder}/{game}.json")?;
                 self.games.push(GameFile {
@@ -103,7 +125,8 @@ impl<'a> GamesFolder<'a> {
         let seen = self.all.seen;
         if seen != self.looked {
             self.looked = seen;
-            self.put_games(lobby, games_in(rt, self.folder)?.as_slice())?;
+            let games = games_in(rt, self.folder)?;
+            self.put_games(lobby, newest(self.alloc, games.as_slice())?.as_slice())?;
             self.next = 0;
         }
         Ok(())
