@@ -9,9 +9,11 @@ All mounts are made in a name space of mounts of the bench's own, and loop devic
 of the bench end, however they do, nothing is left. """
 
 import bisect
+import contextlib
 import ctypes
 import errno
 import fcntl
+import itertools
 import mmap
 import os
 import signal
@@ -92,6 +94,38 @@ def work_for_parent():
     die_with_parent()
     signal.signal(signal.SIGTERM, signal.SIG_DFL)
     signal.signal(signal.SIGINT, signal.SIG_IGN)
+
+
+@contextlib.contextmanager
+def small_disk(folder, size):
+    """A disk in memory with so much room, as `4m`, on a folder that is made; none where this program may not mount."""
+    os.mkdir(folder)
+    try:
+        mount('none', folder, 'tmpfs', 0, 'size=' + size)
+    except PermissionError:
+        yield None
+        return
+    try:
+        yield folder
+    finally:
+        checked(LIBC.umount2(folder.encode(), DETACH))
+
+
+def fill(path):
+    """Fills the disk by a file."""
+    with open(path, 'wb', buffering=0) as file:
+        for size in (65536, 1):
+            with contextlib.suppress(OSError):
+                while True:
+                    file.write(bytes(size))
+
+
+def take_inodes(folder):
+    """Makes files in a new folder until the disk has no inode left."""
+    os.mkdir(folder)
+    with contextlib.suppress(OSError):
+        for number in itertools.count():
+            put(os.path.join(folder, str(number)), '')
 
 
 def end_on_signals(seconds):
