@@ -9,12 +9,15 @@ import { colourWord, refusalWords, timesWords } from './words.js';
 
 const LOOKS = 20000;                 // milliseconds: nobody tells of one that has run out
 const BEGINS_WITHIN = 1500;          // so long after an offer that was accepted its game may be told
+const QUIET = 10000;                 // so long after a player's offer was said another one of the same is only shown
 
 export class Challenges {
   /** app: {wire, me(), isArbiter(), nameWords(name), players, reachable(), go(route), turns}. */
   constructor(app) {
     this.app = app;
     this.items = new Map();            // of each offer that is shown, by its row, the element
+    this.said = new Set();             // the rows of those that were said
+    this.saidAt = new Map();           // of each player of whom one was said, when
     this.isLooking = this.isStale = false;
     setInterval(() => this.items.size && this.look(), LOOKS);
   }
@@ -58,18 +61,24 @@ export class Challenges {
   }
 
   show(rows) {
-    const come = rows.filter((row) => !this.items.has(row) && !this.isOwn(row));
     for (const row of this.items.keys()) {
       if (!rows.includes(row)) this.items.delete(row);
     }
     for (const row of rows) if (!this.items.has(row)) this.items.set(row, this.item(row));
     arrange(byId('challenges'), rows.map((row) => this.items.get(row)));
-    for (const row of come) {
-      const words = this.words(row);
-      say(words);
-      sound('offer');
-      this.app.turns.tell(words);
-    }
+    this.said = new Set(rows.filter((row) => this.said.has(row)));
+    for (const row of rows) if (!this.said.has(row) && !this.isOwn(row)) this.tell(row);
+  }
+
+  /** Says an offer; but who offers again and again is not heard all the time. */
+  tell(row) {
+    const { other } = this.read(row), now = Date.now(), words = this.words(row);
+    if (now - (this.saidAt.get(other) || 0) < QUIET) return;
+    this.said.add(row);
+    this.saidAt.set(other, now);
+    say(words);
+    sound('offer');
+    this.app.turns.tell(words);
   }
 
   isOwn(row) {
