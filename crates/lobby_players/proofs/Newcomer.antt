@@ -165,13 +165,15 @@ each_same [] [] same = tt
 each_same [] (p ∷ ps) same = absurd (omega (arith, ap length same))
 each_same (b ∷ bs) [] same = absurd (omega (arith, ap length same))
 each_same (b ∷ bs) (p ∷ ps) same =
-    let one : entry_of p ≡ entry_of b = ap (first_or (entry_of b)) same in
-    (record {
-      name = ap (λ (e : Entry). e.name) one;
-      full_name = ap (λ (e : Entry). e.full_name) one;
-      is_arbiter = ap (λ (e : Entry). e.is_arbiter) one;
-      sum_is = ap (λ (e : Entry). e.sum) one;
-    }, each_same bs ps (ap behind_first same))
+    let one : entry_of p ≡ entry_of b = ap (first_or (entry_of b)) same in (
+      record {
+        name = ap (λ (e : Entry). e.name) one;
+        full_name = ap (λ (e : Entry). e.full_name) one;
+        is_arbiter = ap (λ (e : Entry). e.is_arbiter) one;
+        sum_is = ap (λ (e : Entry). e.sum) one;
+      },
+      each_same bs ps (ap behind_first same),
+    )
 
 -- ---- nobody has the name or the sum
 
