@@ -38,7 +38,7 @@ use Rattle.lobby_desk.specs.Events.{MessageValue, to_one, sort_asker, asker, fol
 use Rattle.lobby_desk.specs.Events.{is_asked_behind, game_if, asked_after}
 use Rattle.lobby_table.specs.Owed.{ForItself, ForPositions, ForTable, ForGame, ForAct, Owed, Nobody, Naming, Asker}
 use Rattle.lobby_table.specs.Owed.{Dropper, Pairer, Followers, Behind, owed_last, owed_acted, owed_some, owed_lines}
-use Rattle.lobby_desk.specs.Tellings.{IsToldOrSent, AreToldCall, AreToldSome, IsArbiter, hears, Known, is_counted, open_now, left_game, leaves_table, watch_heard, watch_next, watches_now, table_heard, table_next, table_now, owed_answered, owed_now, known_now, presence, lost, AreToldAll, IsTold, change_told, name_of}
+use Rattle.lobby_desk.specs.Tellings.{IsToldOrSent, AreToldCall, AreToldSome, IsArbiter, hears, Known, is_counted, open_now, left_game, leaves_table, watch_heard, watch_next, watches_now, table_heard, table_next, table_now, owed_answered, owed_now, known_now, presence, lost, AreToldAll, IsTold, change_told}
 use Rattle.lobby_desk.specs.Who.{View, BeginsView, IsSaid, IsHeard, IsDropped, IsPaired, IsSentFor, IsSentNext, IsSentHeard, IsDone, IsRenewed, IsLinked, IsKnown, who_noted, name_of, speaker, offers_now}
 use Rattle.lobby_words.specs.Players.{known_name, is_named, renewed, holder_of}
 use Rattle.lobby_offers.specs.Offers.{Offered, is_answered, is_agreed, other_party, may_offer, accord_by, accord_of, offers_said}
