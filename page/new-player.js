@@ -64,7 +64,7 @@ export class NewPlayer {
   /** What is to be done with the command, and how the player is added without it. */
   how() {
     const spelled = plain(this.full());
-    const run = t`Not all of its letters can be sent: run this on the club’s machine, with the evening’s folder for
+    const run = t`Not all letters of the name can be sent: run this on the club’s machine, with the evening’s folder for
       FOLDER.`;
     return spelled.includes('?') ? run : t`${run} Or write the name as ${spelled}: the player is added at once then.`;
   }

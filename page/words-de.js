@@ -870,7 +870,7 @@ export const WORDS = {
   'Copy the command': 'Befehl kopieren',
   'The command is copied.': 'Der Befehl ist kopiert.',
   'A player of this full name is listed already.': 'Jemand mit diesem vollen Namen ist schon aufgeführt.',
-  'Not all of its letters can be sent: run this on the club’s machine, with the evening’s folder for FOLDER.':
+  'Not all letters of the name can be sent: run this on the club’s machine, with the evening’s folder for FOLDER.':
     'Dieser Name hat Buchstaben, die sich von hier nicht senden lassen. Führe dies auf dem Rechner des Vereins aus, '
     + 'mit dem Ordner des Abends statt FOLDER.',
   '{0} Or write the name as {1}: the player is added at once then.':

@@ -862,7 +862,7 @@ export const WORDS = {
   'Copy the command': 'Copiar la orden',
   'The command is copied.': 'La orden está copiada.',
   'A player of this full name is listed already.': 'Ya figura alguien con este nombre completo.',
-  'Not all of its letters can be sent: run this on the club’s machine, with the evening’s folder for FOLDER.':
+  'Not all letters of the name can be sent: run this on the club’s machine, with the evening’s folder for FOLDER.':
     'Este nombre tiene letras que no se pueden enviar desde aquí. Ejecuta esto en la máquina del club, con la carpeta '
     + 'de la velada en lugar de FOLDER.',
   '{0} Or write the name as {1}: the player is added at once then.':

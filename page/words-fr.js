@@ -876,7 +876,7 @@ export const WORDS = {
   'Copy the command': 'Copier la commande',
   'The command is copied.': 'La commande est copiée.',
   'A player of this full name is listed already.': 'Quelqu’un de ce nom complet figure déjà dans la liste.',
-  'Not all of its letters can be sent: run this on the club’s machine, with the evening’s folder for FOLDER.':
+  'Not all letters of the name can be sent: run this on the club’s machine, with the evening’s folder for FOLDER.':
     'Ce nom a des lettres qui ne peuvent pas être envoyées d’ici. Lancez ceci sur la machine du club, avec le dossier '
     + 'de la soirée à la place de FOLDER.',
   '{0} Or write the name as {1}: the player is added at once then.':

@@ -867,7 +867,7 @@ export const WORDS = {
   'Copy the command': 'Copia il comando',
   'The command is copied.': 'Il comando è copiato.',
   'A player of this full name is listed already.': 'Qualcuno con questo nome completo è già nell’elenco.',
-  'Not all of its letters can be sent: run this on the club’s machine, with the evening’s folder for FOLDER.':
+  'Not all letters of the name can be sent: run this on the club’s machine, with the evening’s folder for FOLDER.':
     'Questo nome ha lettere che da qui non si possono inviare. Esegui questo sulla macchina del circolo, con la '
     + 'cartella della serata al posto di FOLDER.',
   '{0} Or write the name as {1}: the player is added at once then.':

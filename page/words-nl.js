@@ -869,7 +869,7 @@ export const WORDS = {
   'Copy the command': 'Opdracht kopiëren',
   'The command is copied.': 'De opdracht is gekopieerd.',
   'A player of this full name is listed already.': 'Iemand met deze volledige naam staat al in de lijst.',
-  'Not all of its letters can be sent: run this on the club’s machine, with the evening’s folder for FOLDER.':
+  'Not all letters of the name can be sent: run this on the club’s machine, with the evening’s folder for FOLDER.':
     'Deze naam heeft letters die van hieruit niet te versturen zijn. Voer dit uit op de machine van de club, met de '
     + 'map van de avond in plaats van FOLDER.',
   '{0} Or write the name as {1}: the player is added at once then.':

@@ -861,7 +861,7 @@ export const WORDS = {
   'Copy the command': 'Kopiuj polecenie',
   'The command is copied.': 'Polecenie skopiowano.',
   'A player of this full name is listed already.': 'Ktoś o tym pełnym nazwisku jest już na liście.',
-  'Not all of its letters can be sent: run this on the club’s machine, with the evening’s folder for FOLDER.':
+  'Not all letters of the name can be sent: run this on the club’s machine, with the evening’s folder for FOLDER.':
     'To nazwisko ma litery, których nie da się stąd wysłać. Uruchom to na komputerze klubu, z folderem wieczoru '
     + 'zamiast FOLDER.',
   '{0} Or write the name as {1}: the player is added at once then.':

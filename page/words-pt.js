@@ -857,7 +857,7 @@ export const WORDS = {
   'Copy the command': 'Copiar o comando',
   'The command is copied.': 'O comando foi copiado.',
   'A player of this full name is listed already.': 'Já há alguém com este nome completo na lista.',
-  'Not all of its letters can be sent: run this on the club’s machine, with the evening’s folder for FOLDER.':
+  'Not all letters of the name can be sent: run this on the club’s machine, with the evening’s folder for FOLDER.':
     'Este nome tem letras que não podem ser enviadas daqui. Execute isto na máquina do clube, com a pasta da noite no '
     + 'lugar de FOLDER.',
   '{0} Or write the name as {1}: the player is added at once then.':

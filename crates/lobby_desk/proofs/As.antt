@@ -61,7 +61,7 @@ own_not_as w text =
     (bytes_eq w (codes "room")) (bytes_eq w (codes "moves")) (bytes_eq w (codes "leave") && not (bytes_eq text (codes "leave lobby"))) (bytes_eq w (codes "link")) (bytes_eq w (codes "close"))
     (bytes_eq w (codes "pair")) (may_pair text) (if bytes_eq w (codes "player") then sorts.Player else (if bytes_eq w (codes "unpair") then sorts.Unpair else whole_sort text))
     (player_none (bytes_eq w (codes "player")) (if bytes_eq w (codes "unpair") then sorts.Unpair else whole_sort text) (whole_none (bytes_eq w (codes "unpair")) (bytes_eq text (codes "players")) (bytes_eq text (codes "who")) (bytes_eq text (codes "offers")) (bytes_eq text (codes "pause entries"))
-    (bytes_eq text (codes "resume entries")) (bytes_eq text (codes "lobby")) (bytes_eq text (codes "leave lobby")) (is_stop text) (bytes_eq text (codes "start clocks")) (bytes_eq (word_of text) (codes "announce")) (is_decision text && nat_le 1 (length (as_line (pair_times text)))))
+    (bytes_eq text (codes "resume entries")) (bytes_eq text (codes "lobby")) (bytes_eq text (codes "leave lobby")) (is_stop text) (bytes_eq text (codes "start clocks")) (bytes_eq (word_of text) (codes "announce")) (is_decision text && nat_le 1 (length (as_line (pair_times text))))))
 
 plays_if : (a b c d e p : Bool) (last : Sort) → is_as_sort last ≡ false →
     is_as_sort (if a then sorts.Name else (if b then sorts.Read else (if c then sorts.Act else (if d then sorts.Drop
@@ -312,7 +312,7 @@ pairs_so text is =
     (bytes_eq w (codes "room")) (bytes_eq w (codes "moves")) (bytes_eq w (codes "leave") && not (bytes_eq text (codes "leave lobby"))) (bytes_eq w (codes "link")) (bytes_eq w (codes "close"))
     (bytes_eq w (codes "pair")) (may_pair text) (if bytes_eq w (codes "player") then sorts.Player else (if bytes_eq w (codes "unpair") then sorts.Unpair else whole_sort text))
     (player_no_pair (bytes_eq w (codes "player")) (if bytes_eq w (codes "unpair") then sorts.Unpair else whole_sort text) (whole_no_pair (bytes_eq w (codes "unpair")) (bytes_eq text (codes "players")) (bytes_eq text (codes "who")) (bytes_eq text (codes "offers")) (bytes_eq text (codes "pause entries"))
-    (bytes_eq text (codes "resume entries")) (bytes_eq text (codes "lobby")) (bytes_eq text (codes "leave lobby")) (is_stop text) (bytes_eq text (codes "start clocks")) (bytes_eq (word_of text) (codes "announce")) (is_decision text && nat_le 1 (length (as_line (pair_times text)))))
+    (bytes_eq text (codes "resume entries")) (bytes_eq text (codes "lobby")) (bytes_eq text (codes "leave lobby")) (is_stop text) (bytes_eq text (codes "start clocks")) (bytes_eq (word_of text) (codes "announce")) (is_decision text && nat_le 1 (length (as_line (pair_times text))))))
     (pair_if (bytes_eq w (codes "name")) (is_read text) (is_act_word w) (bytes_eq w (codes "drop")) (bytes_eq w (codes "as"))
     (as_sort text) (own_sort w text) (as_no_pair (is_act_word (word_of (as_line text)))) (ap is_pair_sort is))
 

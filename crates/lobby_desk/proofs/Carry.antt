@@ -476,13 +476,13 @@ planned_tells false sort s game = tt
 planned_tells true sort s game = who_tells s.who sort s game
 
 -- a message is answered at once where nothing goes out by its plan
-act_sent : (is_open : ℕ → Bool) (table : List ℕ) (who : Option Identity) (said : List ℕ) (b : Bool) (name text : List ℕ) (rest : List (List ℕ)) (c : ℕ) (tells : List MessageValue) → tells ≡ [] →
-    IsToldOrSent is_open table who said (if b then text ∷ rest else name_line name ∷ text ∷ rest) c tells
-act_sent is_open table who said true name text rest c tells h = h
-act_sent is_open table who said false name text rest c tells h = h
+act_sent : (is_open : ℕ → Bool) (table : List ℕ) (acts_for : ℕ → Option Identity) (said : List ℕ) (b : Bool) (name text : List ℕ) (rest : List (List ℕ)) (c : ℕ) (tells : List MessageValue) → tells ≡ [] →
+    IsToldOrSent is_open table acts_for said (if b then text ∷ rest else name_line name ∷ text ∷ rest) c tells
+act_sent is_open table acts_for said true name text rest c tells h = h
+act_sent is_open table acts_for said false name text rest c tells h = h
 
 pub answered_or_sent : (players : List Player) (v : View) (plan : Plan) (said : Option (List ℕ)) (text : List ℕ) (c : ℕ) (tells : List MessageValue) → OfTold (Calls (sort_of text) (v.who c)) (sort_of text ≡ sorts.Moves) plan → IsAnswered players v text plan c tells →
-    IsToldOrSent v.is_open v.known.table (v.who c) text (lines_of plan said text) c tells
+    IsToldOrSent v.is_open v.known.table v.who text (lines_of plan said text) c tells
 answered_or_sent players v (plans.Refuse refusal) said text c tells asks h = inl (h.0, h.2)
 answered_or_sent players v (plans.Offer who) said text c tells asks h = inr (inl (h.0, h.2))
 answered_or_sent players v (plans.Unpair who) said text c tells asks h = inr (inl (h.0, h.2))
@@ -490,9 +490,9 @@ answered_or_sent players v (plans.Call call) said text c tells asks h =
     inr (inr (inl (record { call = call; asked = asks.asked; arbiter = asks.arbiter; text = h.0; told = h.2 })))
 answered_or_sent players v (plans.Offers who at) said text c tells asks h = inl (h.0, h.2)
 answered_or_sent players v plans.Read said text c tells asks h = h
-answered_or_sent players v (plans.Act who) said text c tells asks h = act_sent v.is_open v.known.table (v.who c) text (is_said said who.name) who.name text (notice_lines (game_named text)) c tells h
-answered_or_sent players v (plans.ActAs who name) said text c tells asks h = act_sent v.is_open v.known.table (v.who c) text (is_said said name) name (as_line text) (notice_lines (game_named text)) c tells h
-answered_or_sent players v (plans.Pair who white black) said text c tells asks h = act_sent v.is_open v.known.table (v.who c) text (is_said said white) white (pair_line text) [] c tells h
+answered_or_sent players v (plans.Act who) said text c tells asks h = act_sent v.is_open v.known.table v.who text (is_said said who.name) who.name text (notice_lines (game_named text)) c tells h
+answered_or_sent players v (plans.ActAs who name) said text c tells asks h = act_sent v.is_open v.known.table v.who text (is_said said name) name (as_line text) (notice_lines (game_named text)) c tells h
+answered_or_sent players v (plans.Pair who white black) said text c tells asks h = act_sent v.is_open v.known.table v.who text (is_said said white) white (pair_line text) [] c tells h
 answered_or_sent players v (plans.Drop who game) said text c tells asks h = h
 answered_or_sent players v (plans.Login who) said text c tells asks h = inl (h.0, h.2)
 answered_or_sent players v plans.Players said text c tells asks h = inl (h.0, h.2)

@@ -32,11 +32,13 @@ use Rattle.lobby_table.specs.Refusals.{game_named}
 use Rattle.lobby_table.specs.Watching.{watch_if, sit_if, watches_kept, table_kept, risen}
 use Rattle.lobby_table.specs.Visitors.{acting}
 use Rattle.lobby_desk.specs.Events.{DeskInput, Opened, Closed, Said, Hurried, Heard, ServerTurned, Renewed, Linked}
-use Rattle.lobby_desk.specs.Events.{MessageValue, sort_asker, asker, followers_of, follower, Following}
+use Rattle.lobby_words.specs.declared.words.Call.{Call}
+use Rattle.lobby_words.specs.declared.words.Call.TheVariants as calls
+use Rattle.lobby_desk.specs.Events.{MessageValue, to_one, sort_asker, asker, followers_of, follower, Following}
 use Rattle.lobby_desk.specs.Events.{is_asked_behind, game_if, asked_after}
 use Rattle.lobby_table.specs.Owed.{ForItself, ForPositions, ForTable, ForGame, ForAct, Owed, Nobody, Naming, Asker}
 use Rattle.lobby_table.specs.Owed.{Dropper, Pairer, Followers, Behind, owed_last, owed_acted, owed_some, owed_lines}
-use Rattle.lobby_desk.specs.Tellings.{IsToldOrSent, Known, is_counted, open_now, left_game, leaves_table, watch_heard, watch_next, watches_now, table_heard, table_next, table_now, owed_answered, owed_now, known_now, presence, lost, AreToldAll, IsTold, change_told, name_of}
+use Rattle.lobby_desk.specs.Tellings.{IsToldOrSent, AreToldCall, AreToldSome, IsArbiter, hears, Known, is_counted, open_now, left_game, leaves_table, watch_heard, watch_next, watches_now, table_heard, table_next, table_now, owed_answered, owed_now, known_now, presence, lost, AreToldAll, IsTold, change_told}
 use Rattle.lobby_desk.specs.Who.{View, BeginsView, IsSaid, IsHeard, IsDropped, IsPaired, IsSentFor, IsSentNext, IsSentHeard, IsDone, IsRenewed, IsLinked, IsKnown, who_noted, name_of, speaker, offers_now}
 use Rattle.lobby_words.specs.Players.{known_name, is_named, renewed, holder_of}
 use Rattle.lobby_offers.specs.Offers.{Offered, is_answered, is_agreed, other_party, may_offer, accord_by, accord_of, offers_said}
@@ -671,26 +673,42 @@ all_alike : (f g : ℕ → Bool) → ((c : ℕ) → f c ≡ g c) → (first : Li
     AreToldAll f first text tells → AreToldAll g first text tells
 all_alike f g same first text tells h = (h.0, λ c. h.1 c ∙ same c, h.2)
 
-said_alike : (f g : ℕ → Bool) → ((c : ℕ) → f c ≡ g c) → (table : List ℕ) (who : Option Identity) (said : List ℕ) (lines : List (List ℕ)) (c : ℕ) (tells : List MessageValue) →
-    IsToldOrSent f table who said lines c tells → IsToldOrSent g table who said lines c tells
-said_alike f g same table who said [] c tells h =
+-- who hears it is alike where who is open and who acts are
+hears_alike : (call : Call) (f g : ℕ → Bool) → ((c : ℕ) → f c ≡ g c) → (p q : ℕ → Option Identity) → ((c : ℕ) → p c ≡ q c) → (c : ℕ) →
+    hears call f p c ≡ hears call g q c
+hears_alike calls.StopClocks f g same p q acts c = same c
+hears_alike calls.StartClocks f g same p q acts c = same c
+hears_alike calls.Announce f g same p q acts c = same c
+hears_alike calls.Decide f g same p q acts c =
+    ap (λ (b : Bool). acting p c && b) (same c) ∙ ap (λ (w : Option Identity). is_some w && g c) (acts c)
+
+some_alike : (f g : ℕ → Bool) → ((c : ℕ) → f c ≡ g c) → (p q : ℕ → Option Identity) → ((c : ℕ) → p c ≡ q c) → (said : List ℕ) (c : ℕ) (tells : List MessageValue) →
+    AreToldSome f p said c tells → AreToldSome g q said c tells
+some_alike f g same p q acts said c tells some =
+    let one : AreToldCall (hears some.call g q) (name_of (p c)) said some.call (to_one c some.text) tells =
+    record { to = some.told.to; all = λ d. some.told.all d ∙ hears_alike some.call f g same p q acts d; told = some.told.told } in
+    record {
+      call = some.call;
+      asked = some.asked;
+      arbiter = subst IsArbiter (acts c) some.arbiter;
+      text = some.text;
+      told = subst (λ (w : Option Identity). AreToldCall (hears some.call g q) (name_of w) said some.call (to_one c some.text) tells) (acts c) one;
+    }
+
+said_alike : (f g : ℕ → Bool) → ((c : ℕ) → f c ≡ g c) → (p q : ℕ → Option Identity) → ((c : ℕ) → p c ≡ q c) → (table : List ℕ) (said : List ℕ) (lines : List (List ℕ)) (c : ℕ) (tells : List MessageValue) →
+    IsToldOrSent f table p said lines c tells → IsToldOrSent g table q said lines c tells
+said_alike f g same p q acts table said [] c tells h =
     elim h [
       | inl one ↦ inl one
       | inr more ↦ elim more [
         | inl two ↦ inr (inl two)
         | inr rest ↦ elim rest [
-          | inl some ↦ inr (inr (inl (record {
-            call = some.call;
-            asked = some.asked;
-            arbiter = some.arbiter;
-            text = some.text;
-            told = record { to = some.told.to; all = λ d. some.told.all d ∙ same d; told = some.told.told };
-          })))
+          | inl some ↦ inr (inr (inl (some_alike f g same p q acts said c tells some)))
           | inr moves ↦ inr (inr (inr moves))
         ]
       ]
     ]
-said_alike f g same table who said (line ∷ lines) c tells h = h
+said_alike f g same p q acts table said (line ∷ lines) c tells h = h
 
 told_alike : (event : DeskInput) (lines : List (List ℕ)) (tells : List MessageValue) (f g : ℕ → Bool) → ((c : ℕ) → f c ≡ g c) →
     (p q : ℕ → Option Identity) → ((c : ℕ) → p c ≡ q c) → (k : Known) → IsTold event lines tells f p k → IsTold event lines tells g q k
@@ -699,7 +717,7 @@ told_alike (Closed c) lines tells f g same p q acts k h = h
 told_alike (Said c text at) lines tells f g same p q acts k h = (
   sym (same c) ∙ h.0,
   h.1,
-  said_alike f g same k.table (q c) text lines c tells (subst (λ (w : Option Identity). IsToldOrSent f k.table w text lines c tells) (acts c) h.2),
+  said_alike f g same p q acts k.table text lines c tells h.2,
 )
 told_alike (Hurried c) lines tells f g same p q acts k h = (sym (same c) ∙ h.0, h.1, h.2)
 told_alike (Heard line) lines tells f g same p q acts k h = h

@@ -21,6 +21,7 @@ use Rattle.lobby_words.specs.Answers.{left_after, is_whole, answer, is_shown, is
 use Rattle.lobby_words.specs.Answers.{tells_end, lone_player}
 use Rattle.lobby_table.specs.Watching.{at_table, watch_if, sit_if, unwatched, none_watched, risen, followers}
 use Rattle.lobby_table.specs.Watching.{watches_kept, table_kept}
+use Rattle.lobby_table.specs.Visitors.{acting}
 use Rattle.lobby_desk.specs.Events.{DeskInput, Opened, Closed, Said, Hurried, Heard, ServerTurned, Renewed, Linked}
 use Rattle.lobby_desk.specs.Events.{MessageValue, to_one, to_one_as, to_log}
 use Rattle.lobby_table.specs.Owed.{Ask, ForPositions, ForGame, ForTable, ForAct, Owed}
@@ -288,21 +289,26 @@ abbrev pub IsArbiter : Option Identity → Type 0
 IsArbiter None = ⊥
 IsArbiter (Some who) = who.is_arbiter ≡ true
 
--- The log is told first who said so, then he is answered, and then every connection that is open is told.
-pub record AreToldCall (is_open : ℕ → Bool) (by said : List ℕ) (call : Call) (own : MessageValue)
+-- who hears it: each connection that is open, but of what is decided those alone that act for a player
+abbrev pub hears : Call → (ℕ → Bool) → (ℕ → Option Identity) → ℕ → Bool
+hears calls.Decide is_open acts_for c = acting acts_for c && is_open c
+hears _ is_open acts_for c = is_open c
+
+-- The log is told first who said so, then he is answered, and then they are told who hear it.
+pub record AreToldCall (is_heard : ℕ → Bool) (by said : List ℕ) (call : Call) (own : MessageValue)
     (tells : List MessageValue) : Type 0 where
   pub to : List ℕ
-  pub all : (c : ℕ) → at_table to c ≡ is_open c
+  pub all : (c : ℕ) → at_table to c ≡ is_heard c
   pub told : tells ≡ call_logged call by said ∷ own ∷ call_notice to call said ∷ []
 
 -- They are for an arbiter's message that asks for just this.
-pub record AreToldSome (is_open : ℕ → Bool) (who : Option Identity) (said : List ℕ) (c : ℕ)
+pub record AreToldSome (is_open : ℕ → Bool) (acts_for : ℕ → Option Identity) (said : List ℕ) (c : ℕ)
     (tells : List MessageValue) : Type 0 where
   pub call : Call
   pub asked : sort_of said ≡ sorts.Call call
-  pub arbiter : IsArbiter who
+  pub arbiter : IsArbiter (acts_for c)
   pub text : List ℕ
-  pub told : AreToldCall is_open (name_of who) said call (to_one c text) tells
+  pub told : AreToldCall (hears call is_open acts_for) (name_of (acts_for c)) said call (to_one c text) tells
 
 -- the answer to `moves FEN`, which is made of the message as it goes out
 abbrev pub moves_told : ℕ → List ℕ → MessageValue
@@ -311,12 +317,13 @@ moves_told c said = to_one_as c kinds.Moves said
 abbrev pub AreToldMoves : List ℕ → ℕ → List MessageValue → Type 0
 AreToldMoves said c tells = (sort_of said ≡ sorts.Moves) × (tells ≡ moves_told c said ∷ [])
 
--- A message of a connection that acts so is answered at once where nothing goes to the server for it.
-abbrev pub IsToldOrSent : (ℕ → Bool) → List ℕ → Option Identity → List ℕ → List (List ℕ) → ℕ → List MessageValue →
+-- A message of a connection is answered at once where nothing goes to the server for it.
+abbrev pub IsToldOrSent : (ℕ → Bool) → List ℕ → (ℕ → Option Identity) → List ℕ → List (List ℕ) → ℕ → List MessageValue →
     Type 0
-IsToldOrSent is_open table who said [] c tells =
-    IsToldOne c tells ⊎ AreToldOffers table c tells ⊎ AreToldSome is_open who said c tells ⊎ AreToldMoves said c tells
-IsToldOrSent is_open table who said (line ∷ lines) c tells = tells ≡ []
+IsToldOrSent is_open table acts_for said [] c tells =
+    IsToldOne c tells ⊎ AreToldOffers table c tells ⊎ AreToldSome is_open acts_for said c tells
+    ⊎ AreToldMoves said c tells
+IsToldOrSent is_open table acts_for said (line ∷ lines) c tells = tells ≡ []
 
 -- The answer to an act is the server's; but that to a pairing, once its game is joined, tells the game.
 abbrev pub pair_told : Option ℕ → List ℕ → List ℕ
@@ -430,7 +437,7 @@ abbrev pub IsTold : DeskInput → List (List ℕ) → List MessageValue → (ℕ
 IsTold (Opened c) lines tells is_open acts_for k = IsToldOne c tells
 IsTold (Closed c) lines tells is_open acts_for k = tells ≡ []
 IsTold (Said c text at) lines tells is_open acts_for k =
-    (is_open c ≡ true) × (owes k.owed c ≡ false) × IsToldOrSent is_open k.table (acts_for c) text lines c tells
+    (is_open c ≡ true) × (owes k.owed c ≡ false) × IsToldOrSent is_open k.table acts_for text lines c tells
 IsTold (Hurried c) lines tells is_open acts_for k =
     (is_open c ≡ true) × (owes k.owed c ≡ false) × (tells ≡ to_one c (codes "no 34 TooFast\n") ∷ [])
 IsTold (Heard line) lines tells is_open acts_for k = IsToldHeard (is_counted k line) k (answer k.begun line) lines tells

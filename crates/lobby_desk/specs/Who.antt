@@ -48,7 +48,7 @@ use Rattle.lobby_desk.specs.Tellings.{pairings_next, pairings_now, refused_heard
 use Rattle.lobby_desk.specs.Tellings.{follows_next, follows_now, misnamed_heard, misnamed_next, misnamed_now, owed_now}
 use Rattle.lobby_desk.specs.Tellings.{left_now, begun_now, last_now, owed_answered, presence, IsTold, IsToldFor}
 use Rattle.lobby_table.specs.Owed.{owes}
-use Rattle.lobby_desk.specs.Tellings.{IsToldNext, offers_notice, AreToldCall, moves_told}
+use Rattle.lobby_desk.specs.Tellings.{IsToldNext, offers_notice, hears, AreToldCall, moves_told}
 pub use Rattle.lobby_desk.specs.Tellings.{name_of}
 use Rattle.lobby_table.specs.declared.rooms.Attendance.{Attendance}
 use Rattle.lobby_table.specs.Rooms.{Gathering, IsRoom, AreLeft, attended, left_by}
@@ -235,7 +235,8 @@ seen v = record {
 abbrev pub IsToldBehind : View → List ℕ → ℕ → Plan → MessageValue → List MessageValue → Type 0
 IsToldBehind v said c (plans.Offer who) own tells = tells ≡ own ∷ offers_notice v.known.table ∷ []
 IsToldBehind v said c (plans.Unpair who) own tells = tells ≡ own ∷ offers_notice v.known.table ∷ []
-IsToldBehind v said c (plans.Call call) own tells = AreToldCall v.is_open (name_of (v.who c)) said call own tells
+IsToldBehind v said c (plans.Call call) own tells =
+    AreToldCall (hears call v.is_open v.who) (name_of (v.who c)) said call own tells
 IsToldBehind v said c plans.Moves own tells = tells ≡ moves_told c said ∷ []
 IsToldBehind v said c _ own tells = tells ≡ own ∷ []
 
@@ -365,7 +366,8 @@ decides_now desk c text at =
 abbrev pub IsDecisionTold : Bool → Desk → ℕ → List ℕ → List MessageValue → List MessageValue → Type 0
 IsDecisionTold true desk c text before after =
     (tells : List MessageValue) × (after ≡ before ++ tells)
-    × AreToldCall (open_of desk) (name_of (who_of desk c)) text calls.Decide (to_one c (call_answer calls.Decide)) tells
+    × AreToldCall (hears calls.Decide (open_of desk) (who_of desk)) (name_of (who_of desk c)) text calls.Decide
+    (to_one c (call_answer calls.Decide)) tells
 IsDecisionTold false desk c text before after =
     after ≡ before ++ to_one c (refusal_text refusals.NotDecided) ∷ []
 

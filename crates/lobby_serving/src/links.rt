@@ -69,8 +69,8 @@ where
         })
     }
 
-    // One of these players, who are those of the file, which is held, or one more has the sum of a new token in it: that
-    // of bytes which the source gave.
+    // One of these players, who are those of the file, which is held, or one more has the sum of a new token in it:
+    // that of bytes which the source gave.
     fn put<G: TryRng>(
         &self,
         source: &mut G,

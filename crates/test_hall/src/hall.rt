@@ -439,6 +439,20 @@ static ACTS: [Case; 8] = [
     ),
 ];
 
+// An arbiter adds a player: not where another has the name, and the token is told once that is done.
+static ADDS: [Case; 1] = [(
+    (
+        b"UP~\x81\xa6\0\0\0\0login eeeeeeeeeeeeeeeeeeeeeeeeeeeeeeee\x81\x8a\0\0\0\0player ANN~\x81\x92\0\0\0\0player \
+        zoe Zoe Lee",
+        b"",
+        How::Plainly,
+    ),
+    (40, 1),
+    b"",
+    b"ok login eve arbiter eve\n\x81\x14no 50 NameTaken ann\n\x81\x37ok player zoe Zoe Lee \
+    07070707070707070707070707070707\n",
+)];
+
 // What becomes of scripts; and it is kept that entries are paused where they were at first, or where that was told.
 fn check_cases(rt: &impl Abort, lab: &mut Lab, cases: &[Case]) {
     for (script, (turns, apart), asked, told) in cases {
@@ -461,6 +475,8 @@ const LOGGED: &str =
 fn acts_are_logged_and_told(rt: &impl Abort, lab: &mut Lab) {
     check_cases(rt, lab, &ACTS);
     assert!(rt; lab.log.text.as_str() == LOGGED);
+    check_cases(rt, lab, &ADDS);
+    assert!(rt; lab.log.text.as_str() == "players by eve player zoe Zoe Lee\n");
 }
 
 // A browser that shows ann's token and opens a game.
