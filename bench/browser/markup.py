@@ -13,9 +13,11 @@ from watching import watching
 
 TYPED = '"><img src=x onerror=hurt()>\'</script><a class=typed href="javascript:hurt()">%s</a>&lt;'
 # What a page has of elements that it would not make itself; and whether something of them has run.
-MADE = '''const own = (e) => [...e.attributes].some((one) => one.name.startsWith('on') || /^ *javascript:/i.test(one.value));
-    return [...document.querySelectorAll('*')].filter((e) => own(e) || e.matches('.typed, iframe, object, embed'))
-        .map((e) => e.outerHTML).concat(typeof window.hurt === 'string' ? [window.hurt] : [])'''
+MADE = '''const own = (e) => [...e.attributes].some((one) => one.name.startsWith('on')
+        || /^ *javascript:/i.test(one.value));
+    return [...document.querySelectorAll('*')]
+        .filter((e) => own(e) || e.matches('.typed, iframe, object, embed')).map((e) => e.outerHTML)
+        .concat(typeof window.hurt === 'string' ? [window.hurt] : [])'''
 READ = '''return document.body.textContent.includes(arguments[0])
     || [...document.querySelectorAll('option, [title], [aria-label], input, textarea')].some((e) =>
         [e.value, e.title, e.getAttribute('aria-label')].some((text) => text && text.includes(arguments[0])))'''
