@@ -7,7 +7,7 @@ import { Picture } from './board.js';
 import { Clock } from './clock.js';
 import { Decision } from './decide.js';
 import { pgnOf } from './kept.js';
-import { t } from './language.js';
+import { language, t } from './language.js';
 import { isNoGame, placementOf, readLine, readRefusal, readShow, readStanding, readWho, squaresOf } from './lines.js';
 import { Links } from './links.js';
 import { arrange, byId, focused, make, save, setText } from './make.js';
@@ -18,12 +18,14 @@ import { Question } from './question.js';
 import { stopped } from './stopped.js';
 import { Waits } from './waits.js';
 import {
-  AGREED, NO_GAME, OTHER, SIDES, actWords, arbiterWords, colourWord, refusalWords, resultWords, sanShown, withReason,
+  AGREED, NO_GAME, OTHER, SIDES, actWords, arbiterWords, colourWord, lawWords, refusalWords, resultWords, sanShown,
+  withReason,
 } from './words.js';
 
 const MOST = 12;                     // games on a page: each that runs is watched
 const OWN_HOSTS = ['localhost', '127.0.0.1', '[::1]']; // of which nothing leaves the machine
 const ASKS_WHO = 10000;
+const LOOKS_AT_ROUND = 15000;
 const ASKS_TABLE = 4000;             // nobody tells of games that were opened or taken off past the lobby
 const RUNS = 0, WAITS = 1, OVER = 2; // the kinds of games, as they stand behind each other
 const ASKS_AGAIN = 4000;             // for a game that was not told
@@ -85,11 +87,12 @@ export class ArbiterView {
 
   open() {
     this.root.hidden = false;
-    clearInterval(this.asking);
-    clearInterval(this.askingTable);
+    this.stopAsking();
     this.asking = setInterval(() => this.askWho(), ASKS_WHO);
     this.askingTable = setInterval(() => this.askTable(), ASKS_TABLE);
+    this.looking = setInterval(() => this.lookAtRound(), LOOKS_AT_ROUND);
     this.askWho();
+    this.lookAtRound();
     this.render();
     this.waits.open();
     this.lookAgain();
@@ -97,13 +100,16 @@ export class ArbiterView {
 
   close() {
     this.root.hidden = true;
-    clearInterval(this.asking);
-    clearInterval(this.askingTable);
+    this.stopAsking();
     for (const part of [this.question, this.waits, this.adjourned, this.links, this.decision]) part.close();
     for (const number of [...this.cards.keys()]) this.remove(number);
     this.places.clear();
     this.shown = [];
     this.note('');
+  }
+
+  stopAsking() {
+    for (const timer of [this.asking, this.askingTable, this.looking]) clearInterval(timer);
   }
 
   /** The games that this view has to be told of. */
@@ -299,9 +305,10 @@ export class ArbiterView {
     card.title = make('a', { href: `#/game/${number}`, 'data-key': `game-${number}` }, t`Game ${number}`);
     card.state = make('p', { class: 'desk-state' });
     card.last = make('p', { class: 'desk-last small' });
+    card.law = make('p', { class: 'desk-law small' });
     card.note = make('p', { class: 'note', role: 'status' });
     card.root = make('article', { class: 'desk-card', 'aria-label': t`Game ${number}` }, card.board.root,
-      make('h2', {}, card.title), player('b'), card.state, card.last, player('w'),
+      make('h2', {}, card.title), player('b'), card.state, card.last, card.law, player('w'),
       make('div', { class: 'desk-acts', role: 'group', 'aria-label': t`Decide game ${number}` },
         act('w', t`White resigns`), act('b', t`Black resigns`), act('draw', t`Draw`), act('mistake', t`By mistake`),
         act('flag', t`Flag`), act('adjourn', t`Adjourn`), act('pgn', t`Save PGN`),
@@ -404,6 +411,7 @@ export class ArbiterView {
     }
     setText(card.state, this.stateWords(card));
     setText(card.last, card.act ? t`Last: ${card.act}` : '');
+    this.renderLaw(card);
     card.root.classList.toggle('done', card.isOver);
     this.renderActs(card);
     this.renderAway(card);
@@ -422,6 +430,34 @@ export class ArbiterView {
     const offers = [...offer].map((one) => t`${colourWord(one)} offers a draw`);
     const fallen = clocks[side].now() <= 0 ? t`${colourWord(side)}’s flag has fallen` : t`${colourWord(side)} to move`;
     return [fallen, ...offers].join(' · ');
+  }
+
+  /** What the Laws ask of its result, where a round's file tells that. */
+  renderLaw(card) {
+    const law = card.standing && this.app.round.lawOf(card.number);
+    setText(card.law, law ? `${lawWords(law)}.` : '');
+    card.acts.decide.classList.toggle('strong', Boolean(law && law.side && law.found === 'cannot'));
+  }
+
+  /** Of a round's file the desk shows what the Laws ask of its games, and how far the log goes. */
+  async lookAtRound() {
+    if (this.root.hidden || document.hidden || !this.app.isArbiter()) return;
+    await this.app.round.look();
+    if (this.root.hidden) return;
+    for (const card of this.cards.values()) this.renderLaw(card);
+    this.renderLog();
+    this.waits.render();
+  }
+
+  renderLog() {
+    const log = this.app.round.log();
+    byId('desk-log').hidden = !log;
+    if (!log) return;
+    const { lines, sum, at, broken } = log;
+    setText(byId('log-lines'), at ? t`Lines of the log: ${lines}; the last was put at ${timeWords(at)}. Its sum, to be written
+      down as a round ends:` : t`The log is empty.`);
+    setText(byId('log-sum'), at ? sum.match(/.{1,4}/g).join(' ') : '');
+    setText(byId('log-broken'), broken ? t`Line ${broken} of the log does not fit behind the line before it.` : '');
   }
 
   renderActs(card) {
@@ -643,6 +679,11 @@ export class ArbiterView {
     note.className = text ? `note ${kind}` : 'note';
     setText(note, text);
   }
+}
+
+/** The day and the time of a moment, by this machine's clock. */
+function timeWords(at) {
+  return new Date(at).toLocaleString(language === 'en' ? 'en-GB' : language, { dateStyle: 'short', timeStyle: 'medium' });
 }
 
 /** Of a row of the table, or of how a game stands. */

@@ -7,11 +7,15 @@ import { readRefusal, readShow } from './lines.js';
 import { byId, setText } from './make.js';
 import { mayMate } from './material.js';
 import { plain } from './plain.js';
-import { AGREED, OTHER, colourWord, kindWords, refusalWords, resultWords, withReason } from './words.js';
+import {
+  AGREED, OTHER, colourWord, kindWords, lawWords, refusalWords, resultWords, whyWords, withReason,
+} from './words.js';
 
 const LONGEST = 255;                   // so many bytes a line has that the lobby takes
 /** By which a game ended that is a draw where the winner cannot mate. */
 const LOST_BY = ['6.9', '5.1.2'];
+/** What is filled in of a decision. */
+const FILLED = ['result', 'article', 'reason'];
 const FORFEIT = { w: '-/+', b: '+/-', wb: '-/-' }; // of who did not come
 
 export class Decision {
@@ -20,6 +24,7 @@ export class Decision {
     this.desk = desk;
     this.app = desk.app;
     this.about = 0;                    // the number of the game that is asked about
+    this.standing = null;              // how it stood then
     this.isKnown = false;              // whether its board was told
     this.dialog = byId('decide-dialog');
     this.form = byId('decide-form');
@@ -52,6 +57,7 @@ export class Decision {
     setText(told, !standing ? t`There is no game of this number.`
       : !standing.article && !isAbsent(standing) ? t`Game ${number} goes on: first its result is entered.` : '');
     if (standing && !told.textContent) this.ask(standing);
+    else byId('decide-a-result').open = true;
   }
 
   /** How a game stands that has left the table; null where there is none. */
@@ -64,22 +70,35 @@ export class Decision {
   ask(standing) {
     const { number } = standing, fields = this.form.elements, at = performance.now();
     const [white, black] = [standing.white, standing.black].map((name) => this.nameOf(name));
-    this.about = number;
-    const filled = likely(standing, this.desk.absences.absent(standing));
-    for (const [name, value] of Object.entries(filled)) fields[name].value = value;
+    Object.assign(this, { about: number, standing });
+    setText(byId('decide-it'), isAbsent(standing) ? t`Decide it, and end the game` : t`Decide it`);
+    for (const name of FILLED) fields[name].value = '';
+    this.fill(standing);
     fields.board.value = '';
     fields.round.value = String(this.app.round.newest() || 1);
     setText(byId('decide-title'), t`Decide the result of game ${number}: ${white} – ${black}`);
     this.tell(standing, at);
     this.fillPlace();
     const goesOn = (told) => () => this.about === number && told();
-    this.app.round.look().then(goesOn(() => this.fillPlace()));
+    this.app.round.look().then(goesOn(() => {
+      this.fill(standing);
+      this.tell(standing, at);
+      this.fillPlace();
+    }));
     if (isAbsent(standing)) this.desk.absences.ask(number).then(goesOn(() => this.tell(standing, at)));
     this.dialog.showModal();
   }
 
   nameOf(name) {
     return this.app.nameWords(name);
+  }
+
+  /** Fills in what is likely, where nothing stands there. */
+  fill(standing) {
+    const fields = this.form.elements;
+    if (FILLED.some((name) => fields[name].value)) return;
+    const filled = likely(standing, this.desk.absences.absent(standing), this.app.round.lawOf(standing.number));
+    for (const name of FILLED) fields[name].value = filled[name];
   }
 
   /** Which board of which round it is, where that was told and nothing was written meanwhile. */
@@ -102,7 +121,7 @@ export class Decision {
       ? t`The server says ${words.score}: ${withReason(words.result, words.reason).trim()}.`
       : ran === null ? t`${colourWord(side)} has not made a move.`
       : t`${colourWord(side)} has not made a move; the clocks have run for ${Math.floor(ran / MINUTE)} min.`);
-    setText(byId('decide-law'), lawWords(standing));
+    setText(byId('decide-law'), saidByLaws(standing, this.app.round.lawOf(standing.number)));
   }
 
   /** What is said to the lobby: `decide ROUND BOARD RESULT ARTICLE REASON`; empty where something is not filled in. */
@@ -119,45 +138,67 @@ export class Decision {
       the pairings.`);
   }
 
-  /** Says it; where it is put down, every page is told. */
+  /** Says it; where it is put down, every page is told, and a game in which who is to move has not made a move ends. */
   async decide() {
-    const line = this.line(), { about } = this;
+    const line = this.line(), { about, standing } = this, loser = LOSERS[this.form.elements.result.value];
     if (!line) return;
+    if (isAbsent(standing) && !await this.isAbsentStill(about)) {
+      setText(byId('decide-told'), t`Both have moved meanwhile. Nothing was entered.`);
+      return;
+    }
     const [answer] = await this.app.wire.say(line), refusal = readRefusal(answer);
     if (this.about !== about) return;
     if (answer.startsWith('ok ')) {
       this.close();
+      if (isAbsent(standing)) this.end(standing, loser || standing.side);
       return;
     }
     setText(byId('decide-told'), refusal ? refusalWords(refusal)
       : t`The connection broke before the answer came. Do it again.`);
   }
+
+  async isAbsentStill(number) {
+    return isAbsent(readShow((await this.app.wire.say(`show ${number}`))[0]));
+  }
+
+  /** Enters the resignation of a side in a game about whose board it was decided. */
+  async end({ number, white, black }, side) {
+    const [answer] = await this.app.wire.say(`as ${side === 'w' ? white : black} resign ${number}`);
+    if (answer.startsWith('ok ')) return;
+    this.desk.note(t`It is decided, but game ${number} was not ended. Look how it stands.`, 'refused');
+  }
 }
+
+/** Who has lost by a decision, where one alone has. */
+const LOSERS = { '1-0': 'b', '+/-': 'b', '0-1': 'w', '-/+': 'w' };
 
 /** Who has lost a game that is over; '' where nobody has. */
 function loserOf({ result }) {
   return { '1-0': 'b', '0-1': 'w' }[result] || '';
 }
 
-/** What is likely to be decided of a game, as the form has it, where these sides have not come. */
-function likely({ ply, article, result, fen }, absent) {
+/** What is likely to be decided of a game, as the form has it, where these sides have not come and this is what the Laws
+ * ask of it. */
+function likely({ ply, article, result, fen }, absent, law) {
   const loser = loserOf({ result }), sides = ply < AGREED ? absent.join('') || loser : '';
   if (sides) {
     return { result: FORFEIT[sides], article: '6.7', reason: sides.length > 1 ? t`neither player came in time`
       : t`${colourWord(sides)} did not come in time` };
   }
-  if (loser && LOST_BY.includes(article) && !mayMate(OTHER[loser], fen)) {
+  if (loser && LOST_BY.includes(article) && (law ? law.found === 'cannot' : !mayMate(OTHER[loser], fen))) {
     return { result: '1/2-1/2', article, reason: t`${colourWord(OTHER[loser])} cannot mate by any legal moves` };
   }
   return { result: '', article: '', reason: '' };
 }
 
-/** What the Laws say of it. */
-function lawWords(standing) {
+/** What the Laws say of it, where the round's file tells that; else by the men alone. */
+function saidByLaws(standing, law) {
+  if (law) return `${lawWords(law)}. ${whyWords(law)}`.trim();
+
   const { article, ply, fen } = standing, loser = loserOf(standing);
   if (isAbsent(standing)) {
-    return t`By 6.7 who comes after the default time loses, unless the arbiter decides otherwise. The game goes on until
-      it is ended here, by “By mistake” or “Flag”.`;
+    return t`By 6.7 who comes after the default time loses, unless the arbiter decides otherwise. The decision ends the
+      game: a resignation is entered for who has not come.`;
   }
   if (!loser || !LOST_BY.includes(article) || ply < AGREED) return '';
   const winner = OTHER[loser], words = colourWord(winner), men = menWords(fen, winner);

@@ -78,6 +78,24 @@ export class RoundView {
     return null;
   }
 
+  /** The boards of which the file tells what the Laws ask of their game: {round, board, game, white, black, law}. */
+  asked() {
+    return (this.told ? this.told.rounds : []).flatMap((boards, place) => boards.filter(({ law }) => law)
+      .map(({ board, game, white, black, law }) => ({ round: place + 1, board, game, white: this.seat(white),
+        black: this.seat(black), law })));
+  }
+
+  /** What the Laws ask of a game, as it was told last; null where nothing was. */
+  lawOf(number) {
+    const found = this.asked().find(({ game }) => game === number);
+    return found ? found.law : null;
+  }
+
+  /** How far the log goes, as it was told last: {lines, sum, at, broken}; null where it was not. */
+  log() {
+    return this.told && this.told.log || null;
+  }
+
   /** The number of the newest round, 0 where none was told. */
   newest() {
     return this.told ? this.told.rounds.length : 0;

@@ -1,10 +1,10 @@
-// What waits for an arbiter, in any running game: an offer of a draw, a clock that has run out without a word, and a
-// player who has not moved within the default time.
+// What waits for an arbiter: in any running game an offer of a draw, a clock that has run out without a word, and a player
+// who has not moved within the default time; and a board of a round whose game is a draw by the Laws.
 
 import { t } from './language.js';
 import { readShow } from './lines.js';
 import { arrange, byId, make, say, setText } from './make.js';
-import { SIDES, colourWord } from './words.js';
+import { SIDES, colourWord, lawWords } from './words.js';
 
 const STEP = 250;                    // a game is asked how it stands four times a second at most,
 const ANEW = 10000;                  // and the same game every ten seconds at most
@@ -88,9 +88,10 @@ export class Waits {
 
   // ---- showing
 
-  /** [{number, kind, words, row}]: a clock that the server tells as run out, each offer, and who has not come. */
+  /** [{kind, words, row}]: a clock that the server tells as run out, each offer, who has not come, and what is a draw by
+   * the Laws. */
   found() {
-    const found = [];
+    const found = this.drawn();
     for (const row of this.desk.running()) {
       const { standing, at } = this.seen.get(row.number) || {};
       if (!standing) continue;
@@ -99,7 +100,7 @@ export class Waits {
           called it` });
       }
       const absent = this.desk.absences.words(standing, at);
-      if (absent && standing.left[standing.side] > 0) found.push({ row, kind: 'late', words: absent });
+      if (absent && standing.left[standing.side] > 0) found.push({ row, kind: 'late', words: absent, standing });
       const offers = SIDES.filter((side) => standing.offer.includes(side)).map(colourWord);
       if (offers.length) {
         const words = offers.length > 1 ? t`White and Black offer a draw` : t`${offers[0]} offers a draw`;
@@ -107,6 +108,12 @@ export class Waits {
       }
     }
     return found.sort((a, b) => a.kind.localeCompare(b.kind) || a.row.number - b.row.number);
+  }
+
+  /** The boards of rounds about which an arbiter has to decide, as their file was told last. */
+  drawn() {
+    return this.desk.app.round.asked().filter(({ law }) => law.found === 'cannot').map(({ game, white, black, law }) => ({
+      kind: 'law', words: lawWords(law), names: [white, black], goesOn: !law.side, row: { number: game } }));
   }
 
   render() {
@@ -133,12 +140,14 @@ export class Waits {
     else if (found.length > 1) say(t`${found.length} more things wait for an arbiter.`);
   }
 
-  item({ row, kind, words }) {
-    const names = [row.white, row.black].map((name) => this.desk.app.nameWords(name)).join(' – ');
+  item({ row, kind, words, names: told, goesOn, standing }) {
+    const names = (told || [row.white, row.black].map((name) => this.desk.app.nameWords(name))).join(' – ');
+    const { desk } = this, isDecided = kind === 'late' || kind === 'law' && !goesOn;
+    const decide = () => (standing ? desk.decision.ask(standing) : desk.decision.lookUp(row.number));
     return make('li', { class: `wait ${kind}` }, make('span', { class: 'wait-words' }, words),
       make('span', { class: 'wait-game' }, t`Game ${row.number}: ${names}`),
       make('button', { type: 'button', 'data-key': `show-${row.number}-${kind}`,
-        onclick: () => this.desk.showGame(row.number) }, t`Show it`, make('span', { class: 'unseen' }, t`, game
-          ${row.number}`)));
+        onclick: () => (isDecided ? decide() : desk.showGame(row.number)) },
+      isDecided ? t`Decide the result` : t`Show it`, make('span', { class: 'unseen' }, t`, game ${row.number}`)));
   }
 }

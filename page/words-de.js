@@ -907,16 +907,34 @@ export const WORDS = {
   '{0} did not come in time': '{0} ist nicht rechtzeitig gekommen',
   'neither player came in time': 'keiner der beiden ist rechtzeitig gekommen',
   '{0} cannot mate by any legal moves': '{0} kann durch keine regelgemäßen Züge matt setzen',
-  ['By 6.7 who comes after the default time loses, unless the arbiter decides otherwise. The game goes on until it '
-    + 'is ended here, by “By mistake” or “Flag”.']:
-    'Nach 6.7 verliert, wer nach der Wartezeit kommt, wenn der Schiedsrichter nicht anders entscheidet. Die Partie '
-    + 'läuft weiter, bis sie hier beendet wird, durch „Versehentlich“ oder „Zeit“.',
+  ['By 6.7 who comes after the default time loses, unless the arbiter decides otherwise. The decision ends the '
+    + 'game: a resignation is entered for who has not come.']:
+    'Nach 6.7 verliert, wer nach der Wartezeit kommt, wenn der Schiedsrichter nicht anders entscheidet. Die '
+    + 'Entscheidung beendet die Partie: für den, der nicht gekommen ist, wird die Aufgabe eingetragen.',
+  'Decide it, and end the game': 'Entscheiden und die Partie beenden',
+  'It is decided, but game {0} was not ended. Look how it stands.':
+    'Es ist entschieden, aber Partie {0} wurde nicht beendet. Sieh nach, wie sie steht.',
   'By {0} it is a draw: {1} cannot mate by any legal moves. {2} has: {3}; {4} has: {5}.':
     'Nach {0} ist es remis: {1} kann durch keine regelgemäßen Züge matt setzen. {2} hat: {3}; {4} hat: {5}.',
   ['By {0} it is a draw where {1} cannot mate by any legal moves. {2} has: {3}. Whether that is so depends on the '
     + 'position: the note of “chess-club results” says what the Laws say.']:
     'Nach {0} ist es remis, wenn {1} durch keine regelgemäßen Züge matt setzen kann. {2} hat: {3}. Ob das so ist, '
     + 'hängt von der Stellung ab: was die Regeln sagen, steht in der Anmerkung von „chess-club results“.',
+  'By the Laws a draw (5.2.2): neither side can mate by any legal moves':
+    'Nach den Regeln remis (5.2.2): keine Seite kann durch regelgemäße Züge matt setzen',
+  'By the Laws a draw ({0}): {1} cannot mate by any legal moves':
+    'Nach den Regeln remis ({0}): {1} kann durch keine regelgemäßen Züge matt setzen',
+  '{0} can still mate ({1}), as by {2}': '{0} kann noch matt setzen ({1}), etwa durch {2}',
+  'Whether {0} could still mate by any legal moves ({1}) was not found out':
+    'Ob {0} durch regelgemäße Züge noch matt setzen könnte ({1}), ließ sich nicht feststellen',
+  'It has its king alone.': 'Es ist nur noch der König da.',
+  'No such men ever mate.': 'Solche Figuren setzen nie matt.',
+  'Each position that can still come was looked at.': 'Jede Stellung, die noch kommen kann, wurde angesehen.',
+  'Lines of the log: {0}; the last was put at {1}. Its sum, to be written down as a round ends:':
+    'Zeilen des Protokolls: {0}; die letzte kam am {1}. Ihre Summe, am Ende einer Runde zu notieren:',
+  'The log is empty.': 'Das Protokoll ist leer.',
+  'Line {0} of the log does not fit behind the line before it.':
+    'Zeile {0} des Protokolls passt nicht hinter die Zeile davor.',
   '1–0: White wins': '1–0: Weiß gewinnt',
   '½–½: a draw': '½–½: remis',
   '0–1: Black wins': '0–1: Schwarz gewinnt',

@@ -898,10 +898,13 @@ export const WORDS = {
   '{0} did not come in time': '{0}: no se presentaron a tiempo',
   'neither player came in time': 'ninguno de los dos se presentó a tiempo',
   '{0} cannot mate by any legal moves': '{0} no pueden dar mate con ninguna serie de jugadas legales',
-  ['By 6.7 who comes after the default time loses, unless the arbiter decides otherwise. The game goes on until it '
-    + 'is ended here, by “By mistake” or “Flag”.']:
-    'Según 6.7 pierde quien llega después del tiempo de espera, salvo que el árbitro decida otra cosa. La partida '
-    + 'sigue hasta que se termine aquí, con «Por error» o «Bandera».',
+  ['By 6.7 who comes after the default time loses, unless the arbiter decides otherwise. The decision ends the '
+    + 'game: a resignation is entered for who has not come.']:
+    'Según 6.7 pierde quien llega después del tiempo de espera, salvo que el árbitro decida otra cosa. La '
+    + 'decisión termina la partida: se anota el abandono de quien no se presentó.',
+  'Decide it, and end the game': 'Decidir y terminar la partida',
+  'It is decided, but game {0} was not ended. Look how it stands.':
+    'Está decidido, pero la partida {0} no se terminó. Mira cómo está.',
   'By {0} it is a draw: {1} cannot mate by any legal moves. {2} has: {3}; {4} has: {5}.':
     'Según {0} son tablas: {1} no pueden dar mate con ninguna serie de jugadas legales. {2} tienen: {3}; {4} '
     + 'tienen: {5}.',
@@ -909,6 +912,21 @@ export const WORDS = {
     + 'position: the note of “chess-club results” says what the Laws say.']:
     'Según {0} son tablas si {1} no pueden dar mate con ninguna serie de jugadas legales. {2} tienen: {3}. Que sea '
     + 'así depende de la posición: la nota de «chess-club results» dice lo que dicen las Leyes.',
+  'By the Laws a draw (5.2.2): neither side can mate by any legal moves':
+    'Según las Leyes, tablas (5.2.2): ningún bando puede dar mate con jugadas legales',
+  'By the Laws a draw ({0}): {1} cannot mate by any legal moves':
+    'Según las Leyes, tablas ({0}): {1} no pueden dar mate con ninguna serie de jugadas legales',
+  '{0} can still mate ({1}), as by {2}': '{0} aún pueden dar mate ({1}), por ejemplo con {2}',
+  'Whether {0} could still mate by any legal moves ({1}) was not found out':
+    'No se pudo averiguar si {0} aún podrían dar mate con jugadas legales ({1})',
+  'It has its king alone.': 'Solo queda el rey.',
+  'No such men ever mate.': 'Con esas piezas nunca hay mate.',
+  'Each position that can still come was looked at.': 'Se miró cada posición que aún puede darse.',
+  'Lines of the log: {0}; the last was put at {1}. Its sum, to be written down as a round ends:':
+    'Líneas del registro: {0}; la última se escribió el {1}. Su suma, para anotarla al terminar la ronda:',
+  'The log is empty.': 'El registro está vacío.',
+  'Line {0} of the log does not fit behind the line before it.':
+    'La línea {0} del registro no encaja tras la línea anterior.',
   '1–0: White wins': '1–0: ganan blancas',
   '½–½: a draw': '½–½: tablas',
   '0–1: Black wins': '0–1: ganan negras',

@@ -912,10 +912,13 @@ export const WORDS = {
   '{0} did not come in time': '{0} : absence à l’heure limite',
   'neither player came in time': 'aucun des deux n’est venu à temps',
   '{0} cannot mate by any legal moves': 'Les {0} ne peuvent mater par aucune suite de coups légaux',
-  ['By 6.7 who comes after the default time loses, unless the arbiter decides otherwise. The game goes on until it '
-    + 'is ended here, by “By mistake” or “Flag”.']:
-    'Selon 6.7, qui arrive après le délai d’attente perd, sauf décision contraire de l’arbitre. La partie continue '
-    + 'jusqu’à ce qu’elle soit terminée ici, par « Par erreur » ou « Drapeau ».',
+  ['By 6.7 who comes after the default time loses, unless the arbiter decides otherwise. The decision ends the '
+    + 'game: a resignation is entered for who has not come.']:
+    'Selon 6.7, qui arrive après le délai d’attente perd, sauf décision contraire de l’arbitre. La décision '
+    + 'termine la partie : l’abandon de qui n’est pas venu est inscrit.',
+  'Decide it, and end the game': 'Décider et terminer la partie',
+  'It is decided, but game {0} was not ended. Look how it stands.':
+    'C’est décidé, mais la partie {0} n’a pas été terminée. Voyez où elle en est.',
   'By {0} it is a draw: {1} cannot mate by any legal moves. {2} has: {3}; {4} has: {5}.':
     'Selon {0}, la partie est nulle : les {1} ne peuvent mater par aucune suite de coups légaux. Les {2} ont : '
     + '{3} ; les {4} ont : {5}.',
@@ -923,6 +926,21 @@ export const WORDS = {
     + 'position: the note of “chess-club results” says what the Laws say.']:
     'Selon {0}, la partie est nulle si les {1} ne peuvent mater par aucune suite de coups légaux. Les {2} ont : '
     + '{3}. Cela dépend de la position : la note de « chess-club results » dit ce que disent les Règles.',
+  'By the Laws a draw (5.2.2): neither side can mate by any legal moves':
+    'Selon les Règles, partie nulle (5.2.2) : aucun camp ne peut mater par des coups légaux',
+  'By the Laws a draw ({0}): {1} cannot mate by any legal moves':
+    'Selon les Règles, partie nulle ({0}) : les {1} ne peuvent mater par aucune suite de coups légaux',
+  '{0} can still mate ({1}), as by {2}': 'Les {0} peuvent encore mater ({1}), par exemple par {2}',
+  'Whether {0} could still mate by any legal moves ({1}) was not found out':
+    'On n’a pas pu établir si les {0} pourraient encore mater par des coups légaux ({1})',
+  'It has its king alone.': 'Il ne reste que le roi.',
+  'No such men ever mate.': 'De telles pièces ne matent jamais.',
+  'Each position that can still come was looked at.': 'Toutes les positions encore possibles ont été examinées.',
+  'Lines of the log: {0}; the last was put at {1}. Its sum, to be written down as a round ends:':
+    'Lignes du journal : {0} ; la dernière a été écrite le {1}. Sa somme, à noter à la fin d’une ronde :',
+  'The log is empty.': 'Le journal est vide.',
+  'Line {0} of the log does not fit behind the line before it.':
+    'La ligne {0} du journal ne s’accorde pas avec la ligne précédente.',
   '1–0: White wins': '1–0 : les Blancs gagnent',
   '½–½: a draw': '½–½ : nulle',
   '0–1: Black wins': '0–1 : les Noirs gagnent',

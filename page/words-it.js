@@ -904,10 +904,13 @@ export const WORDS = {
   '{0} did not come in time': 'Il {0} non è venuto in tempo',
   'neither player came in time': 'nessuno dei due è venuto in tempo',
   '{0} cannot mate by any legal moves': 'Il {0} non può dare matto con alcuna serie di mosse legali',
-  ['By 6.7 who comes after the default time loses, unless the arbiter decides otherwise. The game goes on until it '
-    + 'is ended here, by “By mistake” or “Flag”.']:
-    'Secondo 6.7 perde chi arriva dopo il tempo di attesa, se l’arbitro non decide altrimenti. La partita continua '
-    + 'finché non è chiusa qui, con «Per errore» o «Bandierina».',
+  ['By 6.7 who comes after the default time loses, unless the arbiter decides otherwise. The decision ends the '
+    + 'game: a resignation is entered for who has not come.']:
+    'Secondo 6.7 perde chi arriva dopo il tempo di attesa, se l’arbitro non decide altrimenti. La decisione '
+    + 'chiude la partita: si registra l’abbandono di chi non è venuto.',
+  'Decide it, and end the game': 'Decidi e chiudi la partita',
+  'It is decided, but game {0} was not ended. Look how it stands.':
+    'È deciso, ma la partita {0} non è stata chiusa. Guarda come sta.',
   'By {0} it is a draw: {1} cannot mate by any legal moves. {2} has: {3}; {4} has: {5}.':
     'Secondo {0} è patta: il {1} non può dare matto con alcuna serie di mosse legali. Il {2} ha: {3}; il {4} ha: '
     + '{5}.',
@@ -915,6 +918,21 @@ export const WORDS = {
     + 'position: the note of “chess-club results” says what the Laws say.']:
     'Secondo {0} è patta se il {1} non può dare matto con alcuna serie di mosse legali. Il {2} ha: {3}. Se sia così '
     + 'dipende dalla posizione: la nota di «chess-club results» dice ciò che dicono le Regole.',
+  'By the Laws a draw (5.2.2): neither side can mate by any legal moves':
+    'Secondo le Regole è patta (5.2.2): nessuno dei due può dare matto con mosse legali',
+  'By the Laws a draw ({0}): {1} cannot mate by any legal moves':
+    'Secondo le Regole è patta ({0}): il {1} non può dare matto con alcuna serie di mosse legali',
+  '{0} can still mate ({1}), as by {2}': 'Il {0} può ancora dare matto ({1}), per esempio con {2}',
+  'Whether {0} could still mate by any legal moves ({1}) was not found out':
+    'Non si è potuto stabilire se il {0} possa ancora dare matto con mosse legali ({1})',
+  'It has its king alone.': 'Resta solo il re.',
+  'No such men ever mate.': 'Con tali pezzi non c’è mai matto.',
+  'Each position that can still come was looked at.': 'È stata esaminata ogni posizione che può ancora venire.',
+  'Lines of the log: {0}; the last was put at {1}. Its sum, to be written down as a round ends:':
+    'Righe del registro: {0}; l’ultima è stata scritta il {1}. La sua somma, da annotare alla fine di un turno:',
+  'The log is empty.': 'Il registro è vuoto.',
+  'Line {0} of the log does not fit behind the line before it.':
+    'La riga {0} del registro non si accorda con la riga precedente.',
   '1–0: White wins': '1–0: il Bianco vince',
   '½–½: a draw': '½–½: patta',
   '0–1: Black wins': '0–1: il Nero vince',

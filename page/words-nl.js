@@ -905,10 +905,13 @@ export const WORDS = {
   '{0} did not come in time': '{0} is niet op tijd gekomen',
   'neither player came in time': 'geen van beiden is op tijd gekomen',
   '{0} cannot mate by any legal moves': '{0} kan met geen enkele reglementaire zettenreeks mat zetten',
-  ['By 6.7 who comes after the default time loses, unless the arbiter decides otherwise. The game goes on until it '
-    + 'is ended here, by “By mistake” or “Flag”.']:
-    'Volgens 6.7 verliest wie na de wachttijd komt, tenzij de arbiter anders beslist. De partij gaat door tot ze '
-    + 'hier wordt beëindigd, met ‘Vergissing’ of ‘Vlag’.',
+  ['By 6.7 who comes after the default time loses, unless the arbiter decides otherwise. The decision ends the '
+    + 'game: a resignation is entered for who has not come.']:
+    'Volgens 6.7 verliest wie na de wachttijd komt, tenzij de arbiter anders beslist. De beslissing beëindigt de '
+    + 'partij: voor wie niet is gekomen wordt opgave ingevoerd.',
+  'Decide it, and end the game': 'Beslissen en de partij beëindigen',
+  'It is decided, but game {0} was not ended. Look how it stands.':
+    'Het is beslist, maar partij {0} is niet beëindigd. Kijk hoe ze staat.',
   'By {0} it is a draw: {1} cannot mate by any legal moves. {2} has: {3}; {4} has: {5}.':
     'Volgens {0} is het remise: {1} kan met geen enkele reglementaire zettenreeks mat zetten. {2} heeft: {3}; {4} '
     + 'heeft: {5}.',
@@ -916,6 +919,21 @@ export const WORDS = {
     + 'position: the note of “chess-club results” says what the Laws say.']:
     'Volgens {0} is het remise als {1} met geen enkele reglementaire zettenreeks mat kan zetten. {2} heeft: {3}. Of '
     + 'dat zo is, hangt van de stelling af: de opmerking van ‘chess-club results’ zegt wat de Regels zeggen.',
+  'By the Laws a draw (5.2.2): neither side can mate by any legal moves':
+    'Volgens de Regels remise (5.2.2): geen van beide partijen kan met reglementaire zetten mat zetten',
+  'By the Laws a draw ({0}): {1} cannot mate by any legal moves':
+    'Volgens de Regels remise ({0}): {1} kan met geen enkele reglementaire zettenreeks mat zetten',
+  '{0} can still mate ({1}), as by {2}': '{0} kan nog mat zetten ({1}), bijvoorbeeld met {2}',
+  'Whether {0} could still mate by any legal moves ({1}) was not found out':
+    'Of {0} nog met reglementaire zetten mat zou kunnen zetten ({1}), was niet vast te stellen',
+  'It has its king alone.': 'Alleen de koning is over.',
+  'No such men ever mate.': 'Zulke stukken zetten nooit mat.',
+  'Each position that can still come was looked at.': 'Elke stelling die nog kan komen, is bekeken.',
+  'Lines of the log: {0}; the last was put at {1}. Its sum, to be written down as a round ends:':
+    'Regels van het logboek: {0}; de laatste kwam op {1}. De som ervan, te noteren aan het eind van een ronde:',
+  'The log is empty.': 'Het logboek is leeg.',
+  'Line {0} of the log does not fit behind the line before it.':
+    'Regel {0} van het logboek past niet achter de regel ervoor.',
   '1–0: White wins': '1–0: Wit wint',
   '½–½: a draw': '½–½: remise',
   '0–1: Black wins': '0–1: Zwart wint',

@@ -895,16 +895,34 @@ export const WORDS = {
   '{0} did not come in time': '{0}: nieobecność po czasie oczekiwania',
   'neither player came in time': 'nikt z obojga nie przyszedł na czas',
   '{0} cannot mate by any legal moves': '{0} nie mogą zamatować żadną serią prawidłowych posunięć',
-  ['By 6.7 who comes after the default time loses, unless the arbiter decides otherwise. The game goes on until it '
-    + 'is ended here, by “By mistake” or “Flag”.']:
-    'Według 6.7 przegrywa ten, kto przychodzi po czasie oczekiwania, o ile sędzia nie zdecyduje inaczej. Partia '
-    + 'trwa, aż zakończy się ją tutaj przez „Pomyłka” lub „Czas”.',
+  ['By 6.7 who comes after the default time loses, unless the arbiter decides otherwise. The decision ends the '
+    + 'game: a resignation is entered for who has not come.']:
+    'Według 6.7 przegrywa ten, kto przychodzi po czasie oczekiwania, o ile sędzia nie zdecyduje inaczej. Decyzja '
+    + 'kończy partię: wpisuje się poddanie tego, kto nie przyszedł.',
+  'Decide it, and end the game': 'Rozstrzygnij i zakończ partię',
+  'It is decided, but game {0} was not ended. Look how it stands.':
+    'Rozstrzygnięto, ale partia {0} nie została zakończona. Sprawdź jej stan.',
   'By {0} it is a draw: {1} cannot mate by any legal moves. {2} has: {3}; {4} has: {5}.':
     'Według {0} jest remis: {1} nie mogą zamatować żadną serią prawidłowych posunięć. {2} mają: {3}; {4} mają: {5}.',
   ['By {0} it is a draw where {1} cannot mate by any legal moves. {2} has: {3}. Whether that is so depends on the '
     + 'position: the note of “chess-club results” says what the Laws say.']:
     'Według {0} jest remis, jeśli {1} nie mogą zamatować żadną serią prawidłowych posunięć. {2} mają: {3}. Czy tak '
     + 'jest, zależy od pozycji: uwaga „chess-club results” mówi, co mówią Przepisy.',
+  'By the Laws a draw (5.2.2): neither side can mate by any legal moves':
+    'Według Przepisów remis (5.2.2): żadna strona nie może zamatować prawidłowymi posunięciami',
+  'By the Laws a draw ({0}): {1} cannot mate by any legal moves':
+    'Według Przepisów remis ({0}): {1} nie mogą zamatować żadną serią prawidłowych posunięć',
+  '{0} can still mate ({1}), as by {2}': '{0} mogą jeszcze zamatować ({1}), na przykład przez {2}',
+  'Whether {0} could still mate by any legal moves ({1}) was not found out':
+    'Nie udało się ustalić, czy {0} mogłyby jeszcze zamatować prawidłowymi posunięciami ({1})',
+  'It has its king alone.': 'Został sam król.',
+  'No such men ever mate.': 'Takie figury nigdy nie matują.',
+  'Each position that can still come was looked at.': 'Sprawdzono każdą pozycję, która może jeszcze powstać.',
+  'Lines of the log: {0}; the last was put at {1}. Its sum, to be written down as a round ends:':
+    'Wiersze dziennika: {0}; ostatni zapisano {1}. Jego suma, do zanotowania na koniec rundy:',
+  'The log is empty.': 'Dziennik jest pusty.',
+  'Line {0} of the log does not fit behind the line before it.':
+    'Wiersz {0} dziennika nie pasuje do wiersza przed nim.',
   '1–0: White wins': '1–0: białe wygrywają',
   '½–½: a draw': '½–½: remis',
   '0–1: Black wins': '0–1: czarne wygrywają',

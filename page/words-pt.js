@@ -893,16 +893,34 @@ export const WORDS = {
   '{0} did not come in time': '{0}: não chegaram a tempo',
   'neither player came in time': 'nenhum dos dois chegou a tempo',
   '{0} cannot mate by any legal moves': '{0} não podem dar mate por nenhuma série de lances legais',
-  ['By 6.7 who comes after the default time loses, unless the arbiter decides otherwise. The game goes on until it '
-    + 'is ended here, by “By mistake” or “Flag”.']:
-    'Por 6.7 perde quem chega depois do tempo de tolerância, salvo decisão do árbitro. A partida continua até ser '
-    + 'encerrada aqui, por “Por engano” ou “Seta”.',
+  ['By 6.7 who comes after the default time loses, unless the arbiter decides otherwise. The decision ends the '
+    + 'game: a resignation is entered for who has not come.']:
+    'Por 6.7 perde quem chega depois do tempo de tolerância, salvo decisão do árbitro. A decisão encerra a '
+    + 'partida: registra-se o abandono de quem não veio.',
+  'Decide it, and end the game': 'Decidir e encerrar a partida',
+  'It is decided, but game {0} was not ended. Look how it stands.':
+    'Está decidido, mas a partida {0} não foi encerrada. Veja como está.',
   'By {0} it is a draw: {1} cannot mate by any legal moves. {2} has: {3}; {4} has: {5}.':
     'Por {0} é empate: {1} não podem dar mate por nenhuma série de lances legais. {2} têm: {3}; {4} têm: {5}.',
   ['By {0} it is a draw where {1} cannot mate by any legal moves. {2} has: {3}. Whether that is so depends on the '
     + 'position: the note of “chess-club results” says what the Laws say.']:
     'Por {0} é empate se {1} não podem dar mate por nenhuma série de lances legais. {2} têm: {3}. Se é assim '
     + 'depende da posição: a nota de “chess-club results” diz o que dizem as Leis.',
+  'By the Laws a draw (5.2.2): neither side can mate by any legal moves':
+    'Pelas Leis é empate (5.2.2): nenhum lado pode dar mate por lances legais',
+  'By the Laws a draw ({0}): {1} cannot mate by any legal moves':
+    'Pelas Leis é empate ({0}): {1} não podem dar mate por nenhuma série de lances legais',
+  '{0} can still mate ({1}), as by {2}': '{0} ainda podem dar mate ({1}), por exemplo com {2}',
+  'Whether {0} could still mate by any legal moves ({1}) was not found out':
+    'Não se pôde apurar se {0} ainda poderiam dar mate por lances legais ({1})',
+  'It has its king alone.': 'Só resta o rei.',
+  'No such men ever mate.': 'Com essas peças nunca há mate.',
+  'Each position that can still come was looked at.': 'Foi vista cada posição que ainda pode surgir.',
+  'Lines of the log: {0}; the last was put at {1}. Its sum, to be written down as a round ends:':
+    'Linhas do registro: {0}; a última foi escrita em {1}. A soma dela, para anotar ao fim de uma rodada:',
+  'The log is empty.': 'O registro está vazio.',
+  'Line {0} of the log does not fit behind the line before it.':
+    'A linha {0} do registro não se ajusta à linha anterior.',
   '1–0: White wins': '1–0: brancas vencem',
   '½–½: a draw': '½–½: empate',
   '0–1: Black wins': '0–1: pretas vencem',

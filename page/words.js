@@ -246,3 +246,18 @@ export function clockText(ms) {
 export function clockWords(ms) {
   return ms < 1000 ? t`no time` : spoken(Math.floor(ms / 1000));
 }
+
+/** What was found out of what the Laws ask of a game, as a round's file tells it. */
+export function lawWords({ article, side, found, line }) {
+  if (!side) return t`By the Laws a draw (5.2.2): neither side can mate by any legal moves`;
+  const words = colourWord(side[0]);
+  if (found === 'cannot') return t`By the Laws a draw (${article}): ${words} cannot mate by any legal moves`;
+  return found === 'mates' ? t`${words} can still mate (${article}), as by ${line.split(' ').map(sanShown).join(' ')}`
+    : t`Whether ${words} could still mate by any legal moves (${article}) was not found out`;
+}
+
+/** Why a side cannot mate; empty where it can, or that was not found out. */
+export function whyWords({ why }) {
+  return { king: t`It has its king alone.`, men: t`No such men ever mate.`,
+    positions: t`Each position that can still come was looked at.` }[why] || '';
+}

@@ -2,7 +2,9 @@
 
 import json
 import os
+import re
 
+from evening import in_languages, is_in
 from lib.program import put
 from page_lines import by_lines
 from readable import well_on_screens
@@ -11,6 +13,8 @@ from round import round_told, serves
 PAIRINGS = 'board,white,black,times,start\n1,ann,bob,20,\n2,cid,dee,300,\n'
 # Black's knight never mates a king that has a queen alone.
 KNIGHT = '8/8/4k3/8/8/2n5/8/4KQ2 w - - 0 1'
+# A sum, as a log's last line has one.
+SUM = 'fb7bbecde876abfd2185952b538e06f413603fdea5cff2456fe908fa433cdf16'
 KEPT = '''[Event "Club night"]
 [Site "?"]
 [Date "2026.11.27"]
@@ -96,10 +100,7 @@ def a_decision(hall):
     sue.reads('#decide-board', 'look at the pairings')
     sue.is_so(value(sue, 'reason') == 'neither player came in time', 'neither is there')
     sue.is_so(value(sue, 'result') == '-/-', 'nobody has won')
-    sue.reads('#decide-told', 'Fill in the board').type('#decide-form [name=round]', '1')
-    sue.type('#decide-form [name=board]', '2').type('#decide-form [name=reason]', 'Cid’s train, "late", cost $1')
-    decides(hall, 1, 'The arbiter has decided board 2 of round 1: -/-. Why: 6.7, Cid\'s train, "late", cost $1', board=2,
-            result='-/-', article='6.7', reason='Cid\'s train, "late", cost $1')
+    sue.reads('#decide-told', 'Fill in the board').click('#decide-leave')
     sue.lacks('.wait.late', 'nothing waits').type('#default-time', '1')
     sue.run('const now = performance.now.bind(performance); performance.now = () => now() + 61000')
     sue.reads('#waits-list', 'Neither player has come within the default time, 1 min')
@@ -109,10 +110,17 @@ def a_decision(hall):
     sue.reads('#waits-list', 'Black has come after the default time, 1 min')
     entered(hall, 'as ann resign ' + here)
     sue.reload().finds('.wait.late', 'the time is kept', patience=90)
-    entered(hall, 'as cid move %s 0 e2e4' % absent, 'as dee move %s 1 e7e5' % absent)
-    sue.loses('.wait.late', 'until both have moved').click('#decide-a-result summary')
+    sue.click('#waits-list [data-key="show-%s-late"]' % absent)
+    sue.is_so(value(sue, 'result') == '+/-', 'White has come').type('#decide-form [name=round]', '1')
+    sue.type('#decide-form [name=board]', '2').type('#decide-form [name=reason]', 'Dee’s train, "late", cost $1')
+    decides(hall, 1, 'The arbiter has decided board 2 of round 1: +/-. Why: 6.7, Dee\'s train, "late", cost $1', board=2,
+            result='+/-', article='6.7', reason='Dee\'s train, "late", cost $1')
+    sue.loses('.wait.late', 'the game has ended').reads(on_card(absent, '.desk-state'), 'White wins by resignation')
+    runs = paired(hall, 'ann', 'dee', '300 0')
+    entered(hall, 'as ann move %s 0 e2e4' % runs, 'as dee move %s 1 e7e5' % runs)
+    sue.click('#decide-a-result summary')
     put(hall.lobby.kept, KEPT)
-    for number, told in ((absent, 'Game %s goes on' % absent), ('4000000001', 'There is no game of this number.')):
+    for number, told in ((runs, 'Game %s goes on' % runs), ('4000000001', 'There is no game of this number.')):
         sue.type('#decide-find [name=number]', number).click('#decide-find button').reads('#decide-found', told)
     sue.type('#decide-find [name=number]', '4000000077').click('#decide-find button')
     sue.reads('#decide-stands', 'The server says 1–0: White wins by resignation.')
@@ -122,4 +130,43 @@ def a_decision(hall):
     serves(hall, '')
 
 
-DECIDED = (a_decision,)
+def laws_told(number, **found):
+    """A round's file in which the Laws ask this of a game, and that tells how far the log goes."""
+    told = round_told(number)
+    told['rounds'][1][0] |= {'result': '0-1', 'law': {'article': '5.1.2', 'side': 'black', 'why': '', 'line': ''} | found}
+    return told | {'log': {'lines': 2406, 'sum': SUM, 'at': 1764160000123}}
+
+
+def the_laws_at_the_desk(hall):
+    """The desk shows what the Laws say of a result beside it: a draw by them waits, and the decision is filled in; moves
+    that mate stand there, and nothing waits. It shows how far the log goes, with the sum of its last line."""
+    sue = hall.sit()[2]
+    number = paired(hall, 'ann', 'bob', '300 0')
+    entered(hall, 'as ann move %s 0 e2e4' % number, 'as bob move %s 1 e7e5' % number, 'as ann resign ' + number)
+    serves(hall, json.dumps(laws_told(number, found='cannot', why='positions')))
+    hall.signs_in(sue, 'eve', 'an arbiter')
+    draw = 'By the Laws a draw (5.1.2): Black cannot mate by any legal moves'
+    sue.click('#to-arbiter').reads(on_card(number, '.desk-law'), draw).reads('#waits-list', draw)
+    sue.reads('#log-lines', 'Lines of the log: 2406').shows('#log-sum', ' '.join(re.findall('....', SUM)), 'by fours')
+    well_on_screens(sue, 'what the Laws say')
+    sue.click('#waits-list [data-key="show-%s-law"]' % number).reads('#decide-title', 'game %s: Ann Lee' % number)
+    sue.reads('#decide-law', draw, 'Each position that can still come was looked at.')
+    sue.until(lambda: [value(sue, name) for name in ('round', 'board', 'result', 'article', 'reason')] == [
+        '2', '1', '1/2-1/2', '5.1.2', 'Black cannot mate by any legal moves'], 'the decision is filled in')
+    sue.click('#decide-leave')
+    serves(hall, json.dumps(laws_told(number, found='mates', line='Nf6 Kh1') | {
+        'log': {'lines': 2406, 'sum': SUM, 'at': 1764160000123, 'broken': 17}}))
+    sue.reload().reads(on_card(number, '.desk-law'), 'Black can still mate (5.1.2), as by Nf6 Kh1')
+    sue.lacks('#waits-list .law', 'nothing waits').reads('#log-broken', 'Line 17 of the log does not fit')
+    sue.click(on_card(number, '[data-key^=decide-]')).reads('#decide-law', 'Black can still mate')
+    sue.is_so(value(sue, 'result') == '', 'nothing is filled in').click('#decide-leave')
+    serves(hall, json.dumps(laws_told(number, found='unknown')))
+    sue.reload().reads(on_card(number, '.desk-law'), 'was not found out').lacks('#waits-list .law', 'nothing waits')
+    sue.is_quiet()
+    for language in in_languages(sue):
+        sue.goes('arbiter').reload().finds('#log-sum', 'the desk in ' + language)
+        is_in(language, sue, 'what the Laws say')
+    serves(hall, '')
+
+
+DECIDED = (a_decision, the_laws_at_the_desk)

@@ -10,8 +10,8 @@ use command_lines::{CLUB, NotDone, end_of, words_given};
 use lobby_players::add_player;
 use lobby_serving::{KeepsDecisions, serve};
 use night_boards::start;
-use night_games::{print_evidence, verify_log};
-use night_keeping::{export, keep, live};
+use night_games::verify_log;
+use night_keeping::{evidence, export, keep, live};
 use night_outcomes::{decide_in, decide_result, write_results};
 use night_standings::write_standings;
 use std::process::ExitCode;
@@ -45,7 +45,7 @@ fn do_words(rt: &HostRuntime) -> std::result::Result<(), NotDone> {
             serve(rt, &serving, RoundFiles { rt, folder })
         }
         Word::Player(adding) => add_player(rt, &adding),
-        Word::Evidence(asked) => print_evidence(rt, &asked),
+        Word::Evidence(asked) => evidence(rt, &asked),
         Word::VerifyLog(log) => verify_log(rt, log),
         Word::Keep(keeping) => keep(rt, &keeping),
         Word::Export(exporting) => export(rt, &exporting),

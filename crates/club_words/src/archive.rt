@@ -1,11 +1,13 @@
-//! The words of the archive, with the texts of their help: games are kept, exported and written live.
+//! The words of the archive and of the log, with the texts of their help: games are kept, exported and written live,
+//! the log tells of a game.
 use crate::addresses::server_named;
 use crate::options::{ARCHIVE, INITIALS, PARTICULARS, PLAYERS, SERVER};
 use crate::rounds::rounds_of;
 use clap::ArgMatches;
 use command_lines::{OptionText, OptionValue, WordText};
 use lobby_words::name_form;
-use night_keeping::{Besides, Exporting, Form, Keeping, Living, Source};
+use night_games::Evidence;
+use night_keeping::{AskedEvidence, Besides, Exporting, Form, Keeping, Living, Source};
 use std::alloc::{AllocError, Global};
 use std::net::SocketAddr;
 use text_pgn::{Heading, is_date};
@@ -72,6 +74,37 @@ not know.
 
 Example:
   chess-club live --server 127.0.0.1:5001 --file live.pgn --log club.log --every 5";
+
+const HELP_OF_EVIDENCE: &str = "\
+It prints what the log has of a game, a line for each act: when it was answered (UTC), who
+said what, the answer, and what both clocks showed behind it, - where that is not known. An
+answer to show that stands behind no act has a line of its own, and so have moves that the
+log has not got, and that it has no end. The log is only read, also while a lobby writes it.
+
+With --html it prints the same as a page, to be printed on A4 and signed: with how far the log
+goes and the sum of its last line, and what arbiters decided about the board. Full names,
+round and board are told there by --players, --particulars and --rounds.
+
+Exit status: 0; 1 with what is wrong on standard error, as where the log has no such game; 2
+for words that the program does not know.
+
+Examples:
+  chess-club evidence --game 7 --log club.log
+  chess-club evidence --game 7 --log club.log --html --players club.players \\
+      --rounds round1.csv,round1.games,round1.decisions >game7.html";
+
+const HELP_OF_VERIFY_LOG: &str = "\
+It looks whether each line of the log tells the sum of the line before it, as the lobby puts
+it: where a line was changed, taken out or put in, the first that does not fit is told. Else
+it prints how many lines there are, and the sum of the last, which an arbiter may write down:
+it stands as prev in the line behind, once there is one. The log is only read, also while a
+lobby writes it.
+
+Exit status: 0; 1 with what is wrong on standard error; 2 for words that the program does
+not know.
+
+Example:
+  chess-club verify-log --log club.log";
 
 const PLAYERS_NAMED: OptionText = OptionText {
     help: "The players' file, for full names",
@@ -198,6 +231,27 @@ const LIVE_EVERY: OptionText = OptionText {
     ..KEEP_EVERY
 };
 
+const GAME: OptionText = OptionText {
+    name: "game",
+    value: OptionValue::Number("G", 0, 4_294_967_295),
+    help: "The game's number",
+    is_required: true,
+};
+
+const ITS_LOG: OptionText = OptionText {
+    name: "log",
+    value: OptionValue::Text("FILE"),
+    help: "The log",
+    is_required: true,
+};
+
+const HTML: OptionText = OptionText {
+    name: "html",
+    value: OptionValue::Nothing,
+    help: "Prints it as a page of HTML, which asks nothing of any host",
+    is_required: false,
+};
+
 pub const KEEP: WordText = WordText {
     name: "keep",
     about: "Keeps the games that are over",
@@ -247,6 +301,20 @@ pub const LIVE: WordText = WordText {
         DELAY,
         LIVE_EVERY,
     ],
+};
+
+pub const EVIDENCE: WordText = WordText {
+    name: "evidence",
+    about: "Tells what the log has of a game",
+    help: HELP_OF_EVIDENCE,
+    options: &[GAME, ITS_LOG, HTML, PLAYERS_NAMED, PARTICULARS, ROUNDS],
+};
+
+pub const VERIFY_LOG: WordText = WordText {
+    name: "verify-log",
+    about: "Looks whether the log stands as it was put",
+    help: HELP_OF_VERIFY_LOG,
+    options: &[ITS_LOG],
 };
 
 // What is said where an option gives a date that is none.
@@ -358,6 +426,31 @@ pub fn exporting_of<'a>(
         archive,
         form,
         players: values.get_str("players"),
+        besides,
+    }))
+}
+
+/// What `evidence` asks for; none where a round's files are none, or what only a page tells is named without one.
+pub fn evidence_of<'a>(
+    alloc: Global,
+    values: &ArgMatches<'a>,
+) -> Result<Option<AskedEvidence<'a>>, AllocError> {
+    let (Some(game), Some(log), Some(besides)) = (
+        values.get_one("game"),
+        values.get_str("log"),
+        besides_of(alloc, values)?,
+    ) else {
+        return Ok(None);
+    };
+    let (as_page, players) = (values.get_flag("html"), values.get_str("players"));
+    let is_plain = players.is_none() && besides.particulars.is_none() && besides.rounds.is_empty();
+    if !as_page && !is_plain {
+        return Ok(None);
+    }
+    Ok(Some(AskedEvidence {
+        evidence: Evidence { game, log },
+        as_page,
+        players,
         besides,
     }))
 }

@@ -1,5 +1,4 @@
-//! The words of the lobby, with the texts of their help: it serves browsers, a player is put into the file, the log
-//! tells of a game.
+//! The words of the lobby, with the texts of their help: it serves browsers, and a player is put into the file.
 use crate::addresses::{own_address, server_address};
 use crate::limits::limits_of;
 use crate::options::{PLAYERS, SERVER};
@@ -7,7 +6,6 @@ use clap::ArgMatches;
 use command_lines::{OptionText, OptionValue, WordText};
 use lobby_players::Adding;
 use lobby_serving::Serving;
-use night_games::Evidence;
 use std::alloc::{AllocError, Global};
 use std::net::{IpAddr, Ipv6Addr, SocketAddr};
 
@@ -73,31 +71,6 @@ Example:
   chess-club player ann --full-name \"Ann Lee\" --players club.players
 prints
   http://127.0.0.1:8080/#6f2d..";
-
-const HELP_OF_EVIDENCE: &str = "\
-It prints what the log has of a game, a line for each act: when it was answered (UTC), who
-said what, the answer, and what both clocks showed behind it, - where that is not known. An
-answer to show that stands behind no act has a line of its own, and so have moves that the
-log has not got, and that it has no end. The log is only read, also while a lobby writes it.
-
-Exit status: 0; 1 with what is wrong on standard error, as where the log has no such game; 2
-for words that the program does not know.
-
-Example:
-  chess-club evidence --game 7 --log club.log";
-
-const HELP_OF_VERIFY_LOG: &str = "\
-It looks whether each line of the log tells the sum of the line before it, as the lobby puts
-it: where a line was changed, taken out or put in, the first that does not fit is told. Else
-it prints how many lines there are, and the sum of the last, which an arbiter may write down:
-it stands as prev in the line behind, once there is one. The log is only read, also while a
-lobby writes it.
-
-Exit status: 0; 1 with what is wrong on standard error; 2 for words that the program does
-not know.
-
-Example:
-  chess-club verify-log --log club.log";
 
 const PORT: u16 = 8_080;
 
@@ -227,20 +200,6 @@ const ARBITER: OptionText = OptionText {
     is_required: false,
 };
 
-const GAME: OptionText = OptionText {
-    name: "game",
-    value: OptionValue::Number("G", 0, 4_294_967_295),
-    help: "The game's number",
-    is_required: true,
-};
-
-const ITS_LOG: OptionText = OptionText {
-    name: "log",
-    value: OptionValue::Text("FILE"),
-    help: "The log",
-    is_required: true,
-};
-
 const DECISIONS: OptionText = OptionText {
     name: "decisions",
     help: "The folder of the rounds' files, to whose decisions an arbiter's are put",
@@ -278,20 +237,6 @@ pub const PLAYER: WordText = WordText {
     about: "Puts a player into the players' file, and prints the personal link",
     help: HELP_OF_PLAYER,
     options: &[NAME, FULL_NAME, PLAYERS, URL, ARBITER],
-};
-
-pub const EVIDENCE: WordText = WordText {
-    name: "evidence",
-    about: "Tells what the log has of a game",
-    help: HELP_OF_EVIDENCE,
-    options: &[GAME, ITS_LOG],
-};
-
-pub const VERIFY_LOG: WordText = WordText {
-    name: "verify-log",
-    about: "Looks whether the log stands as it was put",
-    help: HELP_OF_VERIFY_LOG,
-    options: &[ITS_LOG],
 };
 
 // The address of the proxy, if one is named; none where it is no address.
@@ -419,13 +364,5 @@ pub fn adding_of<'a>(values: &ArgMatches<'a>) -> Option<Adding<'a>> {
         is_arbiter: values.get_flag("arbiter"),
         players: values.get_str("players")?,
         page,
-    })
-}
-
-/// What `evidence` asks for.
-pub fn evidence_of<'a>(values: &ArgMatches<'a>) -> Option<Evidence<'a>> {
-    Some(Evidence {
-        game: values.get_one("game")?,
-        log: values.get_str("log")?,
     })
 }

@@ -104,7 +104,8 @@ tie-break after another, in the order of --by, as FIDE's Handbook has them (C.07
   BHC1  Buchholz, Cut 1             SB   Sonneborn-Berger
   WIN   wins                        BP   board points, with --teams alone
 Results are looked for, and counted, as for trf. With --form crosstable it writes who met whom
-in each round, and with --form json what the lobby serves by its --round, for the page. With
+in each round, and with --form json what the lobby serves by its --round, for the page; --log
+has the arbiter's desk tell how far the log goes, and the sum of its last line. With
 --teams it does so for teams: a match is the boards of a round at which two of them meet.
 
 Exit status: 0; 1 with what is wrong on standard error; 2 for words that the program does
@@ -320,6 +321,13 @@ const FORM: OptionText = OptionText {
     is_required: false,
 };
 
+const LOG: OptionText = OptionText {
+    name: "log",
+    value: OptionValue::Text("FILE"),
+    help: "The lobby's log, of which --form json tells the sum of the last line, for the desk",
+    is_required: false,
+};
+
 const TEAMS: OptionText = OptionText {
     name: "teams",
     value: OptionValue::Nothing,
@@ -407,6 +415,7 @@ pub const STANDINGS: WordText = WordText {
         NAME,
         BY,
         FORM,
+        LOG,
         INITIALS,
         TEAMS,
         PARTICULARS,
@@ -668,13 +677,15 @@ fn form_of(values: &ArgMatches<'_>) -> Option<Form> {
     }
 }
 
-// What is asked for in this form; none where an address, a number, a round's files, a tie-break or the form are none.
+// What is asked for in this form; none where an address, a number, a round's files, a tie-break or the form are none,
+// or a log is named in another form than JSON.
 fn asked_of<'a>(
     alloc: Global,
     values: &ArgMatches<'a>,
     form: Option<Form>,
     names: NameForm,
     of_teams: bool,
+    log: Option<&'a str>,
 ) -> Result<Option<Standing<'a>>, AllocError> {
     let (Some(reporting), Some(criteria), Some(form)) = (
         reporting_of(alloc, values)?,
@@ -683,12 +694,16 @@ fn asked_of<'a>(
     ) else {
         return Ok(None);
     };
+    if log.is_some() && !matches!(form, Form::Json) {
+        return Ok(None);
+    }
     Ok(Some(Standing {
         reporting,
         criteria,
         form,
         of_teams,
         names,
+        log,
     }))
 }
 
@@ -697,10 +712,18 @@ pub fn report_of<'a>(
     alloc: Global,
     values: &ArgMatches<'a>,
 ) -> Result<Option<Standing<'a>>, AllocError> {
-    asked_of(alloc, values, Some(Form::Report), NameForm::Full, false)
+    asked_of(
+        alloc,
+        values,
+        Some(Form::Report),
+        NameForm::Full,
+        false,
+        None,
+    )
 }
 
-/// What `standings` asks for; none where an address, a round's files, a tie-break or the form are none.
+/// What `standings` asks for; none where an address, a round's files, a tie-break or the form are none, or a log is
+/// named in another form than JSON.
 pub fn standing_of<'a>(
     alloc: Global,
     values: &ArgMatches<'a>,
@@ -712,5 +735,6 @@ pub fn standing_of<'a>(
         form_of(values),
         names,
         values.get_flag("teams"),
+        values.get_str("log"),
     )
 }

@@ -1,8 +1,9 @@
 //! The words of the club's program, and what they ask for.
 use crate::archive::{
-    EXPORT, KEEP, LIVE, exporting_of, keeping_of, living_of, no_date_told, no_dates_told,
+    EVIDENCE, EXPORT, KEEP, LIVE, VERIFY_LOG, evidence_of, exporting_of, keeping_of, living_of,
+    no_date_told, no_dates_told,
 };
-use crate::lobby::{EVIDENCE, LOBBY, PLAYER, VERIFY_LOG, adding_of, evidence_of, serving_of};
+use crate::lobby::{LOBBY, PLAYER, adding_of, serving_of};
 use crate::rounds::{
     DECIDE, RESULTS, STANDINGS, START, TRF, asking_of, deciding_of, no_day_told, report_of,
     standing_of, starting_of,
@@ -12,8 +13,7 @@ use command_lines::{CLUB, WordText, command_line, read_by, read_or_told};
 use lobby_players::Adding;
 use lobby_serving::Serving;
 use night_boards::Starting;
-use night_games::Evidence;
-use night_keeping::{Exporting, Keeping, Living};
+use night_keeping::{AskedEvidence, Exporting, Keeping, Living};
 use night_outcomes::{Asking, Deciding};
 use night_standings::Standing;
 use std::alloc::{AllocError, Global};
@@ -26,7 +26,7 @@ pub enum Word<'a> {
     /// To put a player into a players' file.
     Player(Adding<'a>),
     /// To tell what the log has of a game.
-    Evidence(Evidence<'a>),
+    Evidence(AskedEvidence<'a>),
     /// To look whether a log, of this name, stands as it was put.
     VerifyLog(&'a str),
     /// To keep games that are over.
@@ -96,7 +96,7 @@ fn word_of<'a>(alloc: Global, matches: &ArgMatches<'a>) -> Result<Option<Word<'a
     Ok(match word {
         "lobby" => serving_of(alloc, values)?.map(Word::Lobby),
         "player" => adding_of(values).map(Word::Player),
-        "evidence" => evidence_of(values).map(Word::Evidence),
+        "evidence" => evidence_of(alloc, values)?.map(Word::Evidence),
         "verify-log" => values.get_str("log").map(Word::VerifyLog),
         "keep" => keeping_of(values).map(Word::Keep),
         "export" => exporting_of(alloc, values)?.map(Word::Export),
@@ -119,6 +119,9 @@ fn fault_of(matches: &ArgMatches<'_>) -> &'static str {
         Some(("player", _)) => {
             "an address is none: that of a page begins with http:// or https://, and has no # and no space"
         }
+        Some(("evidence", _)) => {
+            "a round's files are none, or --players, --particulars or --rounds stands without --html"
+        }
         Some(("keep", _)) => {
             "an address is none, a tag's value has a control character, or --lobby stands without --drop"
         }
@@ -137,7 +140,8 @@ fn fault_of(matches: &ArgMatches<'_>) -> &'static str {
             "an address, a number, a round's files or a tie-break are none, or neither --archive nor --server is given"
         }
         Some(("standings", _)) => {
-            "an address, a round's files, a tie-break or the form are none, or neither --archive nor --server is given"
+            "an address, a round's files, a tie-break or the form are none, neither --archive nor --server is given, \
+            or --log stands without --form json"
         }
         _ => "a word is missing",
     }

@@ -1,1 +1,2 @@
 mod Faults
+mod Escaped

@@ -1,2 +1,3 @@
+pub mod Html
 pub mod Particulars
 pub mod Roster

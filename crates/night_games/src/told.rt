@@ -1,7 +1,7 @@
 //! What is told of games besides their PGNs: who the players are, which board they are, what an arbiter decided.
-use crate::kept::Kept;
 use anyhow::{Context, Result};
 use lobby_words::Player;
+use night_archive::Kept;
 use night_report::Particulars;
 use std::alloc::{AllocError, Global};
 use text_parts::{before, parts};
@@ -146,8 +146,18 @@ impl Telling<'_> {
             .find(|told| is_called(self.players, told, value))
     }
 
-    // The board of a game.
-    fn board_of(&self, game: u32) -> Option<&BoardGame> {
+    /// The full name of a player of this name, and the name itself where none is known.
+    pub(crate) fn full_name<'b>(&'b self, name: &'b str) -> &'b str {
+        let player = self.players.iter().find(|one| one.name.as_str() == name);
+        let full = match player {
+            Some(player) => player.full_name.as_str(),
+            None => name,
+        };
+        name_told(self.known_as(name), full)
+    }
+
+    /// The board of a game.
+    pub(crate) fn board_of(&self, game: u32) -> Option<&BoardGame> {
         self.games.iter().find(|board| board.game == game)
     }
 

@@ -1,6 +1,7 @@
 //! What is asked of the archive.
 use lobby_words::NameForm;
 use night_boards::Round;
+use night_games::Evidence;
 use std::net::SocketAddr;
 use text_pgn::Heading;
 
@@ -72,4 +73,15 @@ pub struct Living<'a> {
     pub besides: Besides<'a>,
     /// How many minutes later the file has what there is.
     pub delay: u32,
+}
+
+/// What is told of a game by the log, and how.
+#[derive(Drop)]
+pub struct AskedEvidence<'a> {
+    pub evidence: Evidence<'a>,
+    /// Whether it is a page to print, which alone tells of the rest.
+    pub as_page: bool,
+    /// The players' file, for full names.
+    pub players: Option<&'a str>,
+    pub besides: Besides<'a>,
 }

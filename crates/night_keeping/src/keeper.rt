@@ -7,9 +7,8 @@ ghost use Rattle.night_keeping.specs.Games.{games_over_in, is_at};
 
 use crate::asking::{Knowledge, pgn_of};
 use anyhow::{Context, Result, anyhow, bail};
-use night_archive::{Archive, Night};
+use night_archive::{Archive, Kept, Night, games_kept, has_game, push_ended};
 use night_files::DiskFile;
-use night_games::{Kept, games_kept, has_game, push_ended};
 use night_links::Link;
 use night_log::{EndedGame, first_half, is_opened_for};
 use server_answers::{Row, seat_text};

@@ -2,8 +2,8 @@
 use crate::initials::push_with;
 use anyhow::Result;
 use lobby_words::NameForm;
-use night_archive::lines_of;
-use night_games::{Kept, Telling, games_kept};
+use night_archive::{Kept, games_kept, lines_of};
+use night_games::Telling;
 use night_links::{FileState, WrittenFile};
 use std::alloc::Global;
 use std::fs::File;

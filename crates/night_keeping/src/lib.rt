@@ -1,11 +1,10 @@
-//! The words by which games are kept, exported and written live.
+//! The words by which games are kept, exported and written live, and by which the log tells of one.
 //!
-//! Modules: `asked` has what is asked of them, `keeping`, `exporting` and `living` are what the three do. `keeper` does
-//! what the clerk decides. `rows` has the games of
-//! the server's list, `asking` asks for a game's PGN, `sources` has what PGNs are made with: `players` has the players
-//! of their file, `log_reader` the log, read on as it grows; `initials` tells of players by
-//! their initials; `besides` reads what is told of players and boards besides, `board_games` which game is which board;
-//! `kept` writes the file of all games of an archive.
+//! Modules: `asked` has what is asked of them, `keeping`, `exporting`, `living` and `evidence` are what the four do.
+//! `keeper` does what the clerk decides. `rows` has the games of the server's list, `asking` asks for a game's PGN,
+//! `sources` has what PGNs are made with: `players` has the players of their file, `log_reader` the log, read on as it
+//! grows; `initials` tells of players by their initials; `besides` reads what is told of players and boards besides,
+//! `board_games` which game is which board; `kept` writes the file of all games of an archive.
 //! `specs/Games` says which games of a list are over, `specs/Names` how a tag tells of a player, `specs/Told` what is
 //! told of a decision.
 #![tactic(auto)]
@@ -14,6 +13,7 @@ mod asked;
 mod asking;
 mod besides;
 mod board_games;
+mod evidence;
 mod exporting;
 mod initials;
 mod keeper;
@@ -25,7 +25,8 @@ mod players;
 mod rows;
 mod sources;
 
-pub use asked::{Besides, Exporting, Form, Keeping, Living, Source};
+pub use asked::{AskedEvidence, Besides, Exporting, Form, Keeping, Living, Source};
+pub use evidence::evidence;
 pub use exporting::export;
 pub use keeping::keep;
 pub use living::live;

@@ -56,7 +56,7 @@ struct Writer<'a, R> {
 
 // Whether a game that is on the table still is written as the archive has it: it is over, and was kept.
 fn is_kept(board: &Board, archived: &[Board]) -> bool {
-    board.is_over && has_game(archived, board.game)
+    board.is_over && archived.iter().any(|one| one.game == board.game)
 }
 
 // Whether a PGN has a tag Date with this value, or a later one. (What is not known of a date counts as late.)
@@ -68,11 +68,6 @@ fn is_since(alloc: Global, pgn: &[u8], date: &str) -> Result<bool> {
         Some(value) => Ok(value.as_str() >= date),
         None => Ok(false),
     }
-}
-
-// Whether a game is among boards.
-fn has_game(boards: &[Board], game: u32) -> bool {
-    boards.iter().any(|board| board.game == game)
 }
 
 // Whether the table's board of a game is written.

@@ -3,11 +3,34 @@
 //! nothing: an arbiter does.
 use crate::outcomes::Ended;
 use chess_bits::Colour;
-use chess_board::Board;
+use chess_board::{Board, Move};
 use chess_fen::fen_read;
 use chess_mates::{Answer, Reason, decide};
+use chess_moves::after_legal;
+use chess_san::{rewound, write};
 use std::alloc::{AllocError, Global};
 use text_pgn::line_answer;
+
+/// Whether a side can mate.
+#[derive(Drop)]
+pub enum FoundOut {
+    /// By these legal moves of both sides, in SAN.
+    Mates(String),
+    Cannot(Reason),
+    /// It was not found out.
+    Unknown,
+}
+
+/// What the Laws ask of a game, and what was found out.
+#[derive(Drop)]
+pub struct Law {
+    pub game: u32,
+    /// `6.9` or `5.1.2`, by which it was won; `5.2.2` of one that goes on.
+    pub article: &'static str,
+    /// Who has won, and would have to be able to mate; none of one that goes on, in which neither side can.
+    pub side: Option<Colour>,
+    pub found: FoundOut,
+}
 
 // The board behind the last move of a game, by the last line `N SAN MOVE FEN` of its positions.
 fn board_in(lines: &str) -> Option<Board> {
@@ -29,6 +52,29 @@ fn last_board(alloc: Global, pgn: &str) -> Result<Option<Board>, AllocError> {
     }
 }
 
+// Moves in SAN, up to one that is not legal.
+fn line_text(alloc: Global, board: &Board, moves: &[Move]) -> Result<String, AllocError> {
+    let mut text = String::new(alloc);
+    let mut at = *board;
+    for mv in moves {
+        if at.halfmove() >= u16::MAX {
+            return Ok(text);
+        }
+        if at.fullmove() >= u16::MAX {
+            return Ok(text);
+        }
+        let Some(after) = after_legal(&at, *mv) else {
+            return Ok(text);
+        };
+        if !text.is_empty() {
+            text.push(' ')?;
+        }
+        text.push_str(write(&at, *mv).as_str())?;
+        at = after;
+    }
+    Ok(text)
+}
+
 // Why a side cannot mate.
 fn reason_text(reason: Reason) -> &'static str {
     match reason {
@@ -38,42 +84,40 @@ fn reason_text(reason: Reason) -> &'static str {
     }
 }
 
-fn side_text(side: Colour) -> &'static str {
-    match side {
-        Colour::White => "White",
-        Colour::Black => "Black",
-    }
-}
-
-// What is said of a win of a side by this article, on time or since the other resigned.
+// What was found out of a win of a side by this article, on time or since the other resigned.
 fn of_win(
     alloc: Global,
+    game: u32,
     board: &Board,
     side: Colour,
-    article: &str,
-) -> Result<Option<String>, AllocError> {
-    let name = side_text(side);
-    match decide(alloc, board, side)? {
-        Answer::Mates(_) => Ok(None),
-        Answer::Cannot(reason) => {
-            let why = reason_text(reason);
-            Ok(Some(format!(in alloc;
-                "by the Laws a draw ({article}): {name} cannot mate by any legal moves, since {why}"
-            )?))
+    article: &'static str,
+) -> Result<Law, AllocError> {
+    let found = match decide(alloc, board, side)? {
+        Answer::Mates(moves) => {
+            FoundOut::Mates(line_text(alloc, &rewound(board), moves.as_slice())?)
         }
-        Answer::Unknown => Ok(Some(format!(in alloc;
-            "whether {name} could still mate by any legal moves ({article}) was not found out"
-        )?)),
-    }
+        Answer::Cannot(reason) => FoundOut::Cannot(reason),
+        Answer::Unknown => FoundOut::Unknown,
+    };
+    Ok(Law {
+        game,
+        article,
+        side: Some(side),
+        found,
+    })
 }
 
-// What is said of a position where nobody can mate.
-fn dead(alloc: Global, board: &Board) -> Result<Option<String>, AllocError> {
-    if matches!(decide(alloc, board, Colour::White)?, Answer::Cannot(_))
-        && matches!(decide(alloc, board, Colour::Black)?, Answer::Cannot(_))
+// That nobody can mate in a position, where it was found out.
+fn dead(alloc: Global, game: u32, board: &Board) -> Result<Option<Law>, AllocError> {
+    if let Answer::Cannot(_) = decide(alloc, board, Colour::White)?
+        && let Answer::Cannot(reason) = decide(alloc, board, Colour::Black)?
     {
-        let told = "by the Laws a draw (5.2.2): neither side can mate by any legal moves";
-        return Ok(Some(String::from_str(alloc, told)?));
+        return Ok(Some(Law {
+            game,
+            article: "5.2.2",
+            side: None,
+            found: FoundOut::Cannot(reason),
+        }));
     }
     Ok(None)
 }
@@ -83,17 +127,49 @@ pub fn is_asked(ended: &Ended) -> bool {
     matches!(ended.article.as_str(), "6.9" | "5.1.2" | "")
 }
 
-/// What the Laws say of a game's result that was won on time or by a resignation, or goes on; none where they let it
-/// stand, as far as was found out.
-pub fn said_by_laws(alloc: Global, pgn: &str, ended: &Ended) -> Result<Option<String>, AllocError> {
+/// What the Laws ask of a game that was won on time or by a resignation, and what was found out; of one that goes on,
+/// where neither side can mate. None else, and where the PGN has no game.
+pub fn law_of(
+    alloc: Global,
+    game: u32,
+    pgn: &str,
+    ended: &Ended,
+) -> Result<Option<Law>, AllocError> {
     let Some(board) = last_board(alloc, pgn)? else {
         return Ok(None);
     };
-    let article = ended.article.as_str();
-    match (article, ended.result.as_str()) {
-        ("6.9" | "5.1.2", "1-0") => of_win(alloc, &board, Colour::White, article),
-        ("6.9" | "5.1.2", "0-1") => of_win(alloc, &board, Colour::Black, article),
-        ("", "*") => dead(alloc, &board),
-        _ => Ok(None),
+    let law = match (ended.article.as_str(), ended.result.as_str()) {
+        ("6.9", "1-0") => of_win(alloc, game, &board, Colour::White, "6.9")?,
+        ("6.9", "0-1") => of_win(alloc, game, &board, Colour::Black, "6.9")?,
+        ("5.1.2", "1-0") => of_win(alloc, game, &board, Colour::White, "5.1.2")?,
+        ("5.1.2", "0-1") => of_win(alloc, game, &board, Colour::Black, "5.1.2")?,
+        ("", "*") => return dead(alloc, game, &board),
+        _ => return Ok(None),
+    };
+    Ok(Some(law))
+}
+
+/// What is said of it; nothing where the result stands.
+pub fn said_by_law(alloc: Global, law: &Law) -> Result<Option<String>, AllocError> {
+    let article = law.article;
+    let Some(side) = law.side else {
+        let told = "by the Laws a draw (5.2.2): neither side can mate by any legal moves";
+        return Ok(Some(String::from_str(alloc, told)?));
+    };
+    let name = match side {
+        Colour::White => "White",
+        Colour::Black => "Black",
+    };
+    match &law.found {
+        FoundOut::Mates(_) => Ok(None),
+        FoundOut::Cannot(reason) => {
+            let why = reason_text(*reason);
+            Ok(Some(format!(in alloc;
+                "by the Laws a draw ({article}): {name} cannot mate by any legal moves, since {why}"
+            )?))
+        }
+        FoundOut::Unknown => Ok(Some(format!(in alloc;
+            "whether {name} could still mate by any legal moves ({article}) was not found out"
+        )?)),
     }
 }

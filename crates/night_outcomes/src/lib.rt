@@ -22,6 +22,7 @@ pub use asked::{Asking, Deciding, Reporting, Source};
 pub use decide_word::{decide_in, decide_result};
 pub use decisions::decisions_of;
 pub use entrants::{entrants_of, shown_names};
+pub use laws::{FoundOut, Law};
 pub use meetings::{Met, met_in};
 pub use outcomes::{check_fault, noted_game};
 pub use results_word::{players_in, write_results};

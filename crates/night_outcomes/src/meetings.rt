@@ -1,6 +1,7 @@
 //! What was met in the rounds of a tournament, as its report and its standings tell it.
 use crate::asked::Reporting;
 use crate::decisions::decisions_of;
+use crate::laws::Law;
 use crate::outcomes::{Boards, Ended, Outcomes};
 use anyhow::{Context, Result};
 use lobby_words::Player;
@@ -9,6 +10,7 @@ use night_report::{Meeting, Opponent, Particulars, Play, Score};
 use night_rounds::{Against, Pairing, Scored, counted};
 use player_name::Name;
 use std::alloc::Global;
+use std::mem;
 use std::net::{Net, TcpStream};
 use std::rt::Files;
 
@@ -164,10 +166,12 @@ fn waits_for(rounds: &[Vec<Meeting>]) -> Option<&'static str> {
     }
 }
 
-/// The meetings of each round, and what was wrong, though all were told.
+/// The meetings of each round, what the Laws ask of their games, and what was wrong, though all were told.
 #[derive(Drop)]
 pub struct Met {
     pub rounds: Vec<Vec<Meeting>>,
+    /// What the Laws ask of games of boards about which no arbiter decided.
+    pub laws: Vec<Law>,
     pub fault: Option<&'static str>,
     /// That a report of it has to wait, where it has.
     pub waits: Option<&'static str>,
@@ -190,6 +194,7 @@ where
     Ok(Met {
         fault: outcomes.fault(),
         waits: waits_for(rounds.as_slice()),
+        laws: mem::replace(&mut outcomes.laws, Vec::new(rt.alloc())),
         rounds,
     })
 }

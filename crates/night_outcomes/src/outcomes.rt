@@ -1,7 +1,7 @@
 //! What came of games: in the archive, and on the table.
 use crate::archived::ArchivedGames;
 use crate::asked::Source;
-use crate::laws::{is_asked, said_by_laws};
+use crate::laws::{Law, is_asked, law_of, said_by_law};
 use crate::tags::{PgnTags, tags_in};
 use anyhow::{Result, bail};
 use command_lines::tell;
@@ -61,6 +61,8 @@ pub struct Outcomes<'a> {
     players: &'a [Player],
     // What is to be told of boards.
     words: Vec<String>,
+    /// What the Laws ask of games of boards about which no arbiter decided.
+    pub laws: Vec<Law>,
     // Whether a board's game is of others.
     has_others: bool,
     // Whether a board's game was played on as another.
@@ -245,6 +247,7 @@ impl<'a> Outcomes<'a> {
             server: server_of(rt, source.server)?,
             players,
             words: Vec::new(rt.alloc()),
+            laws: Vec::new(rt.alloc()),
             has_others: false,
             has_halves: false,
         })
@@ -407,26 +410,33 @@ impl<'a> Outcomes<'a> {
     }
 
     // What the Laws say of what came of a game, or that it goes on.
-    fn note_of_ended(&mut self, game: u32, ended: &Ended) -> Result<String> {
+    fn note_of_ended(&mut self, game: u32, ended: &Ended, is_decided: bool) -> Result<String> {
         let pgn = if is_asked(ended) {
             self.pgn(game)?
         } else {
             None
         };
-        let said = match pgn {
-            Some(pgn) => said_by_laws(self.alloc, pgn.as_str(), ended)?,
+        let law = match pgn {
+            Some(pgn) => law_of(self.alloc, game, pgn.as_str(), ended)?,
             None => None,
         };
+        let Some(law) = law else {
+            return Ok(String::from_str(self.alloc, going_on(ended))?);
+        };
+        let said = said_by_law(self.alloc, &law)?;
+        if !is_decided {
+            self.laws.push(law)?;
+        }
         Ok(joined(self.alloc, going_on(ended), said)?)
     }
 
     // Why nothing came of a board's game, that it goes on, or what the Laws say of it.
-    fn note_of(&mut self, game: Option<u32>, found: &Found) -> Result<String> {
+    fn note_of(&mut self, game: Option<u32>, found: &Found, is_decided: bool) -> Result<String> {
         match (found, game) {
             (Found::Others(why), _) | (Found::Unknown(why), _) => {
                 Ok(String::from_str(self.alloc, why.as_str())?)
             }
-            (Found::Ended(ended), Some(game)) => self.note_of_ended(game, ended),
+            (Found::Ended(ended), Some(game)) => self.note_of_ended(game, ended, is_decided),
             _ => Ok(String::new(self.alloc)),
         }
     }
@@ -498,7 +508,8 @@ impl<'a> Outcomes<'a> {
         let game = noted_game(boards.notes, board);
         let half = self.half_of(board, game)?;
         self.put_words(boards, board, &found, &half)?;
-        let why = self.note_of(game, &found)?;
+        let is_decided = last_about(boards.decisions, board).is_some();
+        let why = self.note_of(game, &found, is_decided)?;
         let note = joined(self.alloc, why.as_str(), half)?;
         self.put_word(boards.file, board, note.as_str())?;
         Ok(Told {

@@ -27,4 +27,6 @@ pub struct Standing<'a> {
     pub of_teams: bool,
     /// How much of a full name is told.
     pub names: NameForm,
+    /// The log, of which the object of JSON tells how far it goes.
+    pub log: Option<&'a str>,
 }

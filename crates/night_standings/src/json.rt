@@ -1,16 +1,21 @@
 //! Rounds and standings as an object of JSON, which the lobby serves and the page shows.
 use crate::places::value_at;
 use crate::texts::{Table, criterion_word, name_at};
+use chess_bits::Colour;
+use chess_mates::Reason;
+use night_outcomes::{FoundOut, Law};
 use night_report::{Bye, Meeting, Opponent, Play, Score};
 use std::alloc::{AllocError, Global};
 use text_parts::push_escaped;
 
-/// A board of a round, by its number, its game where one was noted, and who met; or a match.
+/// A board of a round, by its number, its game where one was noted, who met, and what the Laws ask of its game; or a
+/// match.
 #[derive(Clone, Copy)]
-pub struct Board {
+pub struct Board<'a> {
     pub number: u32,
     pub game: Option<u32>,
     pub meeting: Meeting,
+    pub law: Option<&'a Law>,
 }
 
 // Appends a text, as it is.
@@ -111,13 +116,42 @@ fn put_meeting(
     }
 }
 
+// Appends what the Laws ask of a board's game, and what was found out.
+fn put_law(out: &mut Vec<u8>, law: &Law) -> Result<(), AllocError> {
+    let side = match law.side {
+        Some(Colour::White) => "white",
+        Some(Colour::Black) => "black",
+        None => "",
+    };
+    let (found, why, line) = match &law.found {
+        FoundOut::Mates(line) => ("mates", "", line.as_str()),
+        FoundOut::Cannot(Reason::KingAlone) => ("cannot", "king", ""),
+        FoundOut::Cannot(Reason::DeadMaterial) => ("cannot", "men", ""),
+        FoundOut::Cannot(Reason::Searched) => ("cannot", "positions", ""),
+        FoundOut::Unknown => ("unknown", "", ""),
+    };
+    let members = [
+        ("article", law.article),
+        ("side", side),
+        ("found", found),
+        ("why", why),
+        ("line", line),
+    ];
+    put(out, ",\"law\":{")?;
+    for (at, member) in members.iter().enumerate() {
+        put_comma(out, at)?;
+        put_string(out, member.0, member.1)?;
+    }
+    put(out, "}")
+}
+
 // Appends a board.
 fn put_board(
     out: &mut Vec<u8>,
     alloc: Global,
     table: Table<'_, '_>,
     round: usize,
-    board: &Board,
+    board: &Board<'_>,
 ) -> Result<(), AllocError> {
     let number = board.number;
     let head = format!(in alloc; "{{\"board\":{number}")?;
@@ -127,34 +161,27 @@ fn put_board(
         let member = format!(in alloc; ",\"game\":{game}")?;
         put(out, member.as_str())?;
     }
-    put(out, "}")
-}
-
-fn put_round(
-    out: &mut Vec<u8>,
-    alloc: Global,
-    table: Table<'_, '_>,
-    round: usize,
-    boards: &[Board],
-) -> Result<(), AllocError> {
-    put(out, "[")?;
-    for (at, board) in boards.iter().enumerate() {
-        put_comma(out, at)?;
-        put_board(out, alloc, table, round, board)?;
+    if let Some(law) = board.law {
+        put_law(out, law)?;
     }
-    put(out, "]")
+    put(out, "}")
 }
 
 fn put_rounds(
     out: &mut Vec<u8>,
     alloc: Global,
     table: Table<'_, '_>,
-    rounds: &[Vec<Board>],
+    rounds: &[Vec<Board<'_>>],
 ) -> Result<(), AllocError> {
     put(out, ",\"rounds\":[")?;
-    for (at, boards) in rounds.iter().enumerate() {
-        put_comma(out, at)?;
-        put_round(out, alloc, table, at, boards.as_slice())?;
+    for (round, boards) in rounds.iter().enumerate() {
+        put_comma(out, round)?;
+        put(out, "[")?;
+        for (at, board) in boards.iter().enumerate() {
+            put_comma(out, at)?;
+            put_board(out, alloc, table, round, board)?;
+        }
+        put(out, "]")?;
     }
     put(out, "]")
 }
@@ -229,12 +256,12 @@ fn put_players(
     put(out, "]")
 }
 
-/// Rounds and standings as an object of JSON (docs/client/LOBBY.md, "A tournament's file"), in a line; `names` are
+/// Rounds and standings as an object of JSON (docs/client/LOBBY.md, "A tournament's file") up to its end; `names` are
 /// those of the protocol.
 pub fn round_json(
     alloc: Global,
     event: &str,
-    rounds: &[Vec<Board>],
+    rounds: &[Vec<Board<'_>>],
     names: &[&str],
     table: Table<'_, '_>,
 ) -> Result<Vec<u8>, AllocError> {
@@ -244,6 +271,5 @@ pub fn round_json(
     put_rounds(&mut out, alloc, table, rounds)?;
     put_criteria(&mut out, table)?;
     put_players(&mut out, alloc, table, names)?;
-    put(&mut out, "}\n")?;
     Ok(out)
 }

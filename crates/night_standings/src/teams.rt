@@ -71,7 +71,7 @@ fn check_rounds(
 }
 
 // The matches of a round, numbered from 1 on.
-fn numbered(alloc: Global, matches: &[Meeting]) -> Result<Vec<Board>, AllocError> {
+fn numbered(alloc: Global, matches: &[Meeting]) -> Result<Vec<Board<'static>>, AllocError> {
     let mut boards = Vec::new(alloc);
     let mut number: u32 = 0;
     for meeting in matches {
@@ -80,6 +80,7 @@ fn numbered(alloc: Global, matches: &[Meeting]) -> Result<Vec<Board>, AllocError
             number,
             game: None,
             meeting: *meeting,
+            law: None,
         })?;
     }
     Ok(boards)

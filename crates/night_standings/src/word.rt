@@ -9,8 +9,8 @@ use anyhow::{Result, ensure};
 use lobby_players::players_of;
 use lobby_words::Player;
 use night_boards::{Paired, Round, paired_of};
-use night_games::roster_in;
-use night_outcomes::{Met, check_fault, entrants_of, met_in, noted_game, shown_names};
+use night_games::{last_line_of, roster_in};
+use night_outcomes::{Law, Met, check_fault, entrants_of, met_in, noted_game, shown_names};
 use night_report::{Meeting, Particulars, teams_of};
 use std::alloc::{AllocError, Global};
 use std::io::{self, Write};
@@ -18,31 +18,45 @@ use std::net::{Net, TcpStream};
 use std::rt::Files;
 
 // The boards of a round.
-fn boards_of(
+fn boards_of<'a>(
     alloc: Global,
     paired: &Paired,
     meetings: &[Meeting],
-) -> Result<Vec<Board>, AllocError> {
-    meetings
-        .iter()
-        .map(|meeting| Board {
+    laws: &'a [Law],
+) -> Result<Vec<Board<'a>>, AllocError> {
+    let mut boards = Vec::new(alloc);
+    for meeting in meetings {
+        let game = noted_game(paired.notes.as_slice(), meeting.board);
+        let law = match game {
+            Some(game) => laws.iter().find(|law| law.game == game),
+            None => None,
+        };
+        boards.push(Board {
             number: meeting.board,
-            game: noted_game(paired.notes.as_slice(), meeting.board),
+            game,
             meeting: *meeting,
-        })
-        .collect(alloc)
+            law,
+        })?;
+    }
+    Ok(boards)
 }
 
 // The boards of each round.
-fn all_boards<R: Files + AllocGlobal + Eprint>(
+fn all_boards<'a, R: Files + AllocGlobal + Eprint>(
     rt: &R,
     rounds: &[Round<'_>],
-    met: &[Vec<Meeting>],
-) -> Result<Vec<Vec<Board>>> {
+    met: &'a Met,
+) -> Result<Vec<Vec<Board<'a>>>> {
     let mut all = Vec::new(rt.alloc());
-    for (round, meetings) in rounds.iter().zip(met) {
+    for (round, meetings) in rounds.iter().zip(met.rounds.as_slice()) {
         let paired = paired_of(rt, round.pairings, round.games)?;
-        all.push(boards_of(rt.alloc(), &paired, meetings.as_slice())?)?;
+        let boards = boards_of(
+            rt.alloc(),
+            &paired,
+            meetings.as_slice(),
+            met.laws.as_slice(),
+        )?;
+        all.push(boards)?;
     }
     Ok(all)
 }
@@ -52,7 +66,7 @@ fn text_of<'a, R: Files + AllocGlobal + Eprint>(
     rt: &R,
     asked: &'a Standing<'_>,
     players: &[Particulars<'_>],
-    rounds: &[Vec<Meeting>],
+    met: &Met,
     standings: &'a Standings,
 ) -> Result<Vec<u8>> {
     let alloc = rt.alloc();
@@ -65,9 +79,9 @@ fn text_of<'a, R: Files + AllocGlobal + Eprint>(
         boards: None,
     };
     match asked.form {
-        Form::Crosstable => Ok(table.crosstable_csv(alloc, rounds)?),
+        Form::Crosstable => Ok(table.crosstable_csv(alloc, met.rounds.as_slice())?),
         Form::Json => {
-            let boards = all_boards(rt, asked.reporting.rounds.as_slice(), rounds)?;
+            let boards = all_boards(rt, asked.reporting.rounds.as_slice(), met)?;
             let names: Vec<&str> = players.iter().map(|player| player.name).collect(alloc)?;
             let event = asked.reporting.tournament.name;
             Ok(round_json(alloc, event, boards.as_slice(), names.as_slice(), table)?)
@@ -81,8 +95,9 @@ fn players_text<R: Files + AllocGlobal + Eprint>(
     rt: &R,
     asked: &Standing<'_>,
     players: &[Particulars<'_>],
-    rounds: &[Vec<Meeting>],
+    met: &Met,
 ) -> Result<Vec<u8>> {
+    let rounds = met.rounds.as_slice();
     ensure!(
         players.len() <= 9_999,
         "standings are of 9,999 players at most"
@@ -90,7 +105,7 @@ fn players_text<R: Files + AllocGlobal + Eprint>(
     ensure!(rounds.len() <= 99, "standings are of 99 rounds at most");
     let count = players.len() as u32;
     let standings = standings_of(rt.alloc(), rounds, &[], count, asked.criteria.as_slice())?;
-    text_of(rt, asked, players, rounds, &standings)
+    text_of(rt, asked, players, met, &standings)
 }
 
 // The report.
@@ -112,20 +127,35 @@ fn report_text(
     )?)
 }
 
+// Ends the object of rounds and standings: with how far the log goes, where one is named.
+fn end_object<R>(rt: &R, asked: &Standing<'_>, text: &mut Vec<u8>) -> Result<()>
+where
+    R: Files + AllocGlobal,
+{
+    if let Some(log) = asked.log {
+        let last = last_line_of(rt, log)?;
+        last.push_json(text, rt.alloc())?;
+    }
+    Ok(text.extend_from_slice(b"}\n")?)
+}
+
 // Writes what is asked of what was met. It fails behind that where something was wrong.
 fn write_met<R>(rt: &R, asked: &Standing<'_>, players: &[Particulars<'_>], met: &Met) -> Result<()>
 where
     R: Files + AllocGlobal + Print + Eprint,
 {
     let rounds = met.rounds.as_slice();
-    let (text, fault) = match asked.form {
+    let (mut text, fault) = match asked.form {
         Form::Report => (
             report_text(rt.alloc(), asked, players, rounds)?,
             met.fault.or(met.waits),
         ),
         _ if asked.of_teams => (teams_text(rt.alloc(), asked, players, rounds)?, met.fault),
-        _ => (players_text(rt, asked, players, rounds)?, met.fault),
+        _ => (players_text(rt, asked, players, met)?, met.fault),
     };
+    if let Form::Json = asked.form {
+        end_object(rt, asked, &mut text)?;
+    }
     io::writer(rt).write_all(text.as_slice())?;
     check_fault(fault)
 }

@@ -1,7 +1,6 @@
 //! What no clause says: which texts are written of an archive's games, where its last line is torn, and where a game
 //! goes on in another.
-use night_archive::lines_of;
-use night_games::{Kept, games_kept, write_games, write_rows};
+use night_archive::{Kept, games_kept, lines_of, write_games, write_rows};
 use std::alloc::Global;
 use std::fs;
 use std::process::Abort;

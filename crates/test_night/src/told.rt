@@ -1,6 +1,7 @@
 //! What is told of a game besides its PGN: tags in their order, names, and a decision before the result.
 use lobby_words::Player;
-use night_games::{BoardGame, Kept, Telling};
+use night_archive::Kept;
+use night_games::{BoardGame, Telling};
 use night_report::Particulars;
 use player_name::Name;
 use std::alloc::Global;

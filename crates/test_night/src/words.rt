@@ -87,8 +87,10 @@ fn said_by(alloc: Global, word: &Word<'_>) -> Result<String, AllocError> {
             format!(in alloc; "player {name} {full_name} {page} {is_arbiter}")
         }
         Word::Evidence(asked) => {
-            let (game, log) = (asked.game, asked.log);
-            format!(in alloc; "evidence {game} {log}")
+            let (game, log) = (asked.evidence.game, asked.evidence.log);
+            let (as_page, players) = (asked.as_page, asked.players.unwrap_or("-"));
+            let besides = besides_said(alloc, &asked.besides)?;
+            format!(in alloc; "evidence {game} {log} {as_page} {players} {besides}")
         }
         Word::VerifyLog(log) => format!(in alloc; "verify-log {log}"),
         Word::Keep(keeping) => keep_said(alloc, keeping),
@@ -123,7 +125,10 @@ fn said_by(alloc: Global, word: &Word<'_>) -> Result<String, AllocError> {
                 );
                 let (breaks, of_teams) = (standing.criteria.len(), standing.of_teams);
                 let is_json = matches!(form, night_standings::Form::Json);
-                format!(in alloc; "standings {players} {rounds} {breaks} {is_json} {of_teams}")
+                let log = standing.log.unwrap_or("-");
+                format!(in alloc;
+                    "standings {players} {rounds} {breaks} {is_json} {of_teams} {log}"
+                )
             }
         },
     }
@@ -143,7 +148,7 @@ fn check_line(rt: &impl Abort, alloc: Global, line: &str, wanted: Result<&str, E
 }
 
 // Command lines, and what each asks for, or why it is refused.
-static LINES: [(&str, Result<&str, ErrorKind>); 51] = [
+static LINES: [(&str, Result<&str, ErrorKind>); 54] = [
     (
         "chess-club lobby --players p --server 127.0.0.1:1",
         Ok("lobby p 127.0.0.1:8080 page 0 4 8 32"),
@@ -156,7 +161,18 @@ static LINES: [(&str, Result<&str, ErrorKind>); 51] = [
         "chess-club player ann --full-name Ann --players p --arbiter",
         Ok("player ann Ann http://127.0.0.1:8080/ true"),
     ),
-    ("chess-club evidence --game 7 --log l", Ok("evidence 7 l")),
+    (
+        "chess-club evidence --game 7 --log l",
+        Ok("evidence 7 l false - - 0"),
+    ),
+    (
+        "chess-club evidence --game 7 --log l --html --players p --rounds a,b",
+        Ok("evidence 7 l true p - 1"),
+    ),
+    (
+        "chess-club evidence --game 7 --log l --players p",
+        Err(ErrorKind::InvalidValue),
+    ),
     ("chess-club verify-log --log l", Ok("verify-log l")),
     (
         "chess-club keep --server s/ --archive a --drop --lobby 127.0.0.1:2 --event E --every 5",
@@ -233,19 +249,23 @@ static LINES: [(&str, Result<&str, ErrorKind>); 51] = [
     ),
     (
         "chess-club standings --players p --archive a --rounds a,b",
-        Ok("standings p 1 5 false false"),
+        Ok("standings p 1 5 false false -"),
     ),
     (
-        "chess-club standings --players p --archive a --rounds a,b --by SB,DE --form json",
-        Ok("standings p 1 2 true false"),
+        "chess-club standings --players p --archive a --rounds a,b --log l",
+        Err(ErrorKind::InvalidValue),
+    ),
+    (
+        "chess-club standings --players p --archive a --rounds a,b --by SB,DE --form json --log l",
+        Ok("standings p 1 2 true false l"),
     ),
     (
         "chess-club standings --teams --players p --archive a --rounds a,b",
-        Ok("standings p 1 6 false true"),
+        Ok("standings p 1 6 false true -"),
     ),
     (
         "chess-club standings --teams --players p --archive a --rounds a,b --by BP,DE",
-        Ok("standings p 1 2 false true"),
+        Ok("standings p 1 2 false true -"),
     ),
     (
         "chess-club standings --players p --archive a --rounds a,b --by BP,DE",

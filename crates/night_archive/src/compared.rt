@@ -1,5 +1,5 @@
 //! Whether a game of the table is the one that the archive has under its number.
-use night_archive::{game_of, pgn_of};
+use crate::reading::{game_of, pgn_of};
 use std::alloc::{AllocError, Global};
 use text_parts::parts;
 use text_pgn::is_tag;

@@ -1,6 +1,6 @@
 //! Games that were kept.
+use crate::reading::{game_of, pgn_of};
 use anyhow::{Result, bail};
-use night_archive::{game_of, pgn_of};
 use std::alloc::Global;
 use text_parts::parts;
 
