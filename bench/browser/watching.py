@@ -36,7 +36,7 @@ class Shown:
     def __init__(self):
         self.games, self.files, self.asked = {}, {}, []
         self.said = {'stopped': '', 'announced': ''}
-        self.is_away, self.ahead = False, 0
+        self.is_away, self.ahead, self.later = False, 0, 0
         shown = self
 
         class Answers(http.server.BaseHTTPRequestHandler):
@@ -64,7 +64,8 @@ class Shown:
         path, known = request.path, request.headers.get('If-None-Match')
         body = self.body(path)
         tag = '"%d"' % hash(body)
-        status = 404 if body is None else 304 if known == tag else 200
+        is_later = self.later and path.startswith('/games')
+        status = 503 if is_later else 404 if body is None else 304 if known == tag else 200
         self.asked.append((time.monotonic(), path, 'gone' if self.is_away else status))
         if self.is_away:
             request.close_connection = True
@@ -74,6 +75,8 @@ class Shown:
                                                       else 'application/json'))
         request.send_header('Content-Security-Policy', POLICY)
         request.send_header('ETag', tag)
+        if is_later:
+            request.send_header('Retry-After', str(self.later))
         request.send_header('Content-Length', str(len(body or b'') if status == 200 else 0))
         request.end_headers()
         if status == 200:
@@ -275,6 +278,22 @@ def the_files_away(sue, shown):
     sue.moved(SANS[:5], 'and followed')
     sue.is_so(sue.run(SOCKETS) == 0, 'no socket was opened')
     is_quiet(sue)
+
+
+@watching
+def more_than_are_served(sue, shown):
+    """Who is told to come later says so, and asks nothing until then."""
+    shown.has(7, 1)
+    comes(sue, shown, '#/game/7').moved(['e4'], 'the game')
+    shown.later = 8
+    sue.reads('#lost', 'The lobby does not answer').moved(['e4'], 'the game stays in sight')
+    begun = time.monotonic()
+    time.sleep(5)
+    asked = shown.of('/games.json', begun) + shown.of('/games/7.json', begun)
+    sue.is_so(not asked, 'nothing is asked meanwhile: %s' % asked)
+    shown.later = 0
+    shown.has(7, 4)
+    sue.loses('#lost', 'it is back', 15).moved(SANS[:4], 'and the game goes on')
 
 
 @watching
