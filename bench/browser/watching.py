@@ -416,5 +416,5 @@ def an_announcement_by_files(sue, shown):
     is_quiet(sue)
 
 
-WATCHING = (a_game_by_files, the_hall_by_files, an_announcement_by_files, the_files_away, a_hidden_tab,
-            a_game_not_there, files_on_a_phone, a_screen_by_files)
+WATCHING = (a_game_by_files, the_hall_by_files, an_announcement_by_files, the_files_away, more_than_are_served,
+            a_hidden_tab, a_game_not_there, files_on_a_phone, a_screen_by_files)
