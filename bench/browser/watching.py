@@ -285,8 +285,9 @@ def more_than_are_served(sue, shown):
     """Who is told to come later says so, and asks nothing until then."""
     shown.has(7, 1)
     comes(sue, shown, '#/game/7').moved(['e4'], 'the game')
-    shown.later = 8
+    shown.later = 9
     sue.reads('#lost', 'The lobby does not answer').moved(['e4'], 'the game stays in sight')
+    time.sleep(1)
     begun = time.monotonic()
     time.sleep(5)
     asked = shown.of('/games.json', begun) + shown.of('/games/7.json', begun)

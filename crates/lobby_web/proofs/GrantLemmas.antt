@@ -1,7 +1,8 @@
--- Which requests are answered by an upgrade.
-use Rattle.std.proofs.Common.{ℕ, ◌≡◌, ◌⊎◌, inl, inr, List, Option, None, Some, [], Bool, true, false, MatchBool, Result, Ok, Err, OnOk, codes, refl, sym, arith, subst}
+-- Which requests are answered by an upgrade, and what stands in answers.
+use Rattle.std.proofs.Common.{ℕ, ◌≡◌, ◌⊎◌, inl, inr, List, Option, None, Some, [], Bool, true, false, MatchBool, Result, Ok, Err, OnOk, codes, refl, sym, ap, ◌++◌, ◌∷◌, ◌∙◌, append_assoc, arith, subst}
 use Rattle.std.specs.Prelude.{◌&&◌}
 use Rattle.http.specs.declared.request.Request.{Request}
+use Rattle.http1.specs.Fields.{Header}
 use Rattle.http_server.specs.declared.response.Response.{Response}
 use Rattle.http_server.specs.Response.{IsResponse}
 use Rattle.websocket.specs.declared.handshake.failure.HandshakeError.{HandshakeError}
@@ -85,3 +86,9 @@ paged (Ok x) site r known file response reads asks is answer =
     subst (λ (b : Bool). MatchBool b (IsFileAnswer site.is_full (field r (codes "if-none-match")) (file_at site (served_path (path_of r))) response) (IsOtherMethodAnswer response)) (sym reads)
     (subst (λ (k : List ℕ). IsFileAnswer site.is_full k (file_at site (served_path (path_of r))) response) asks
     (subst (λ (f : Option File). IsFileAnswer site.is_full known f response) is answer))
+
+-- one field behind the other
+pub added : {E : Type 0} (result : Result (Unit {0}) E) (old between new : List Header) (a b : Header) → between ≡ old ++ a ∷ []
+    → OnOk result (new ≡ between ++ b ∷ []) → OnOk result (new ≡ old ++ a ∷ b ∷ [])
+added (Err e) old between new a b first second = tt
+added (Ok x) old between new a b first second = second ∙ ap (λ (l : List Header). l ++ b ∷ []) first ∙ append_assoc old (a ∷ []) (b ∷ [])
