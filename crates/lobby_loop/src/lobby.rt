@@ -10,7 +10,7 @@ ghost use Rattle.either.specs.Either.{either};
 ghost use Rattle.lobby_loop.specs.Turning.{BeginsHall, Comer, AreAdmitted, IsReached, IsLobbyTurn, has_more, texts_put};
 ghost use Rattle.lobby_loop.specs.Turning.{unknown, short_after, left_at, held_after};
 ghost use Rattle.lobby_loop.specs.Living.{IsWoken, Files, KeepsFiles, Renews};
-ghost use Rattle.lobby_loop.specs.Crowd.{seen, is_over};
+ghost use Rattle.lobby_loop.specs.Comers.{seen, is_over};
 ghost use Rattle.lobby_loop.specs.Logging.{Logs};
 ghost use Rattle.lobby_loop.specs.Roll.{here_in};
 ghost use Rattle.lobby_talk.specs.Roll.{here_by, news};
@@ -248,14 +248,14 @@ impl Lobby {
     /// It is seen at a moment, in milliseconds, how many connections came in the second that goes: one begins where the
     /// last one is over. Once these are more than 2,200 who asks for games is told to come later, by 503, until it is
     /// over; all files stay as they are.
-    pub fn see_crowd(&mut self, at: u64)
-        ensures crowd { self.new.hall.crowd ≡ seen self.old.hall.next_key at self.old.hall.crowd }
-        ensures full { self.new.hall.site.is_full ≡ is_over self.old.hall.next_key self.new.hall.crowd }
+    pub fn see_comers(&mut self, at: u64)
+        ensures comers { self.new.hall.comers ≡ seen self.old.hall.next_key at self.old.hall.comers }
+        ensures full { self.new.hall.site.is_full ≡ is_over self.old.hall.next_key self.new.hall.comers }
         ensures files { (path : List ℕ) → Files path (file_at self.old.hall.site path) self.old.hall self.new.hall }
         ensures held { self.new.held_until ≡ self.old.held_until }
         ensures short { self.new.short_until ≡ self.old.short_until }
     {
-        self.hall.see_crowd(at);
+        self.hall.see_comers(at);
     }
 
     /// The players are these from now on. A connection acts for a player on just where these have him with the sum that

@@ -523,7 +523,7 @@ fn check_look(rt: &impl Abort, lab: &mut Lab, came: usize, at: u64, front: &[u8]
     for _ in 0..came {
         assert!(rt; lab.hall.next_key().is_some());
     }
-    lab.hall.see_crowd(at);
+    lab.hall.see_comers(at);
     assert!(rt; lab.turn(rt, 4, 1).is_none());
     assert!(rt; lab.is_told(front));
 }
