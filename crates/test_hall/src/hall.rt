@@ -486,7 +486,8 @@ fn an_act_counts_only_under_its_name(rt: &impl Abort, lab: &mut Lab) {
 }
 
 // (it is not read in the turn behind one in which something was written to it)
-const ASKS: &[u8] = b"GET /health HTTP/1.1\r\nHost: a:1\r\n\r\n~GET /health HTTP/1.1\r\nHost: a:1\r\n\r\n\
+const ASKS: &[u8] =
+    b"GET /health HTTP/1.1\r\nHost: a:1\r\n\r\n~GET /health HTTP/1.1\r\nHost: a:1\r\n\r\n\
     ~~GET /health HTTP/1.1\r\nHost: a:1\r\n\r\n";
 
 fn a_file_changes_between_turns(rt: &impl Abort, lab: &mut Lab) {
@@ -507,11 +508,7 @@ fn a_file_changes_between_turns(rt: &impl Abort, lab: &mut Lab) {
 fn begin_look(rt: &impl Abort, lab: &mut Lab, how: How) {
     lab.begin(
         rt,
-        &(
-            b"GET /live.pgn HTTP/1.1\r\nHost: a:1\r\n\r\n",
-            b"",
-            how,
-        ),
+        &(b"GET /live.pgn HTTP/1.1\r\nHost: a:1\r\n\r\n", b"", how),
     );
     let file = file_of(rt, lab.alloc, b"/live.pgn", Kind::Pgn, b"one");
     lab.hall.put_file(file).expect(rt, "memory");
