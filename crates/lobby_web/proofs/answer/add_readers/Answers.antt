@@ -1,4 +1,4 @@
-use Rattle.std.proofs.Common.{◌≡◌, ◌⊎◌, inl, inr, ◌++◌, OnOk, sym, subst}
+use Rattle.std.proofs.Common.{◌≡◌, inl, inr, ◌++◌, OnOk, sym, subst}
 use Rattle.http_server.specs.Response.{fields_of}
 use Rattle.lobby_web.specs.declared.site.Kind.{Kind}
 use Rattle.lobby_web.specs.Answering.{readers}
