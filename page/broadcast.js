@@ -40,6 +40,14 @@ class Host {
   }
 }
 
+/** What is answered in the place of a file, and after how many milliseconds one is to ask again, where that is told. */
+class Refusal extends Error {
+  constructor({ status, headers }) {
+    super(String(status));
+    this.pause = 1000 * Number(headers.get('retry-after')) || 0;
+  }
+}
+
 /** A file that is asked for again by its tag: `told` is what it has, null where it is not there. */
 class File {
   constructor(name, host) {
@@ -73,7 +81,7 @@ class File {
       this.host.heard(answer.headers.get('date'), sent, performance.now());
       if (answer.status === 404) Object.assign(this, { told: null, tag: '' });
       else if (answer.ok) Object.assign(this, { told: await answer.json(), tag: answer.headers.get('etag') || '' });
-      else if (answer.status !== 304) throw new Error(String(answer.status));
+      else if (answer.status !== 304) throw new Refusal(answer);
     } finally {
       clearTimeout(timer);
     }
@@ -147,15 +155,15 @@ export class Broadcast {
   async look() {
     if (this.isLooking || this.left.signal.aborted || document.hidden) return;
     this.isLooking = true;
-    const isRead = await this.readShown().then(() => true, () => false);
+    const fault = await this.readShown().then(() => null, (error) => error);
     this.isLooking = false;
     if (this.left.signal.aborted) return;
-    this.failures = isRead ? 0 : this.failures + 1;
-    const pause = !isRead ? PAUSES[Math.min(this.failures, PAUSES.length) - 1]
+    this.failures = fault ? this.failures + 1 : 0;
+    const pause = fault ? Math.max(fault.pause || 0, PAUSES[Math.min(this.failures, PAUSES.length) - 1])
       : !this.games.told ? LOOKS_FOR : this.isAtTable ? LOOKS.all : LOOKS.one;
     this.timer = setTimeout(() => this.look(), pause);
-    if (isRead) this.came();
-    else this.failed(pause);
+    if (fault) this.failed(pause);
+    else this.came();
   }
 
   /** What an arbiter has everybody told stands in each file: all games are read for it where no other is. */

@@ -36,7 +36,7 @@ class Shown:
     def __init__(self):
         self.games, self.files, self.asked = {}, {}, []
         self.said = {'stopped': '', 'announced': ''}
-        self.is_away, self.ahead = False, 0
+        self.is_away, self.ahead, self.later = False, 0, 0
         shown = self
 
         class Answers(http.server.BaseHTTPRequestHandler):
@@ -64,7 +64,8 @@ class Shown:
         path, known = request.path, request.headers.get('If-None-Match')
         body = self.body(path)
         tag = '"%d"' % hash(body)
-        status = 404 if body is None else 304 if known == tag else 200
+        is_later = self.later and path.startswith('/games')
+        status = 503 if is_later else 404 if body is None else 304 if known == tag else 200
         self.asked.append((time.monotonic(), path, 'gone' if self.is_away else status))
         if self.is_away:
             request.close_connection = True
@@ -74,6 +75,8 @@ class Shown:
                                                       else 'application/json'))
         request.send_header('Content-Security-Policy', POLICY)
         request.send_header('ETag', tag)
+        if is_later:
+            request.send_header('Retry-After', str(self.later))
         request.send_header('Content-Length', str(len(body or b'') if status == 200 else 0))
         request.end_headers()
         if status == 200:
@@ -278,6 +281,23 @@ def the_files_away(sue, shown):
 
 
 @watching
+def more_than_are_served(sue, shown):
+    """Who is told to come later says so, and asks nothing until then."""
+    shown.has(7, 1)
+    comes(sue, shown, '#/game/7').moved(['e4'], 'the game')
+    shown.later = 9
+    sue.reads('#lost', 'The lobby does not answer').moved(['e4'], 'the game stays in sight')
+    time.sleep(1)
+    begun = time.monotonic()
+    time.sleep(5)
+    asked = shown.of('/games.json', begun) + shown.of('/games/7.json', begun)
+    sue.is_so(not asked, 'nothing is asked meanwhile: %s' % asked)
+    shown.later = 0
+    shown.has(7, 4)
+    sue.loses('#lost', 'it is back', 15).moved(SANS[:4], 'and the game goes on')
+
+
+@watching
 def a_hidden_tab(sue, shown):
     """A page that nobody sees asks for nothing, and looks at once when it is seen again."""
     shown.has(7, 1)
@@ -397,5 +417,5 @@ def an_announcement_by_files(sue, shown):
     is_quiet(sue)
 
 
-WATCHING = (a_game_by_files, the_hall_by_files, an_announcement_by_files, the_files_away, a_hidden_tab,
-            a_game_not_there, files_on_a_phone, a_screen_by_files)
+WATCHING = (a_game_by_files, the_hall_by_files, an_announcement_by_files, the_files_away, more_than_are_served,
+            a_hidden_tab, a_game_not_there, files_on_a_phone, a_screen_by_files)

@@ -1,9 +1,13 @@
 """Connections that show no token, and do all that a lobby lets them do, in a process of their own: for
-bench/speed/lobby. `-m lib.strangers PORT KIND COUNT` prints `ready`, and once standard input ends how many rounds they
-made, in how many seconds. With tokens behind that so many of each log in by it first."""
+bench/speed/lobby, and for bench/night/watchers those who look at games. `-m lib.strangers PORT KIND COUNT` prints
+`ready`, and once standard input ends how many rounds they made, in how many seconds, and how often who looked was
+answered by which status. With tokens behind that so many of each log in by it first."""
 
 import asyncio
+import collections
 import contextlib
+import json
+import random
 import socket
 import sys
 import time
@@ -11,6 +15,7 @@ import time
 from lib.program import module
 from lib.web import PING, TEXT, frame, handshake
 
+LOOKED_AT = 20                  # the games that are looked at, by their numbers
 ASKED = ('pgn 1', 'line 1', 'watch 1', 'list', 'lobby', 'players') * 3
 
 
@@ -19,6 +24,7 @@ class Stranger:
     below, or the path of a file."""
 
     rounds = 0
+    statuses = collections.Counter()
 
     def __init__(self, port, kind, token):
         self.port, self.kind, self.token, self.loop = port, kind, token, asyncio.get_running_loop()
@@ -64,6 +70,32 @@ class Stranger:
                 left -= len(await self.hear())
             Stranger.rounds += 1
 
+    async def looks(self):
+        """Looks at a game, a second apart or as late as is told, as a spectator's page does: by one connection as long
+        as that stays open. Who comes and is closed without an answer is counted too."""
+        tag, path, is_new = '', '/games/%d.json' % random.randint(1, LOOKED_AT), True
+        while True:
+            known = 'If-None-Match: %s\r\n' % tag if tag else ''
+            try:
+                await self.send(('GET %s HTTP/1.1\r\nHost: %s\r\n%s\r\n' % (path, self.host, known)).encode())
+                head, _, body = (await self.hear()).partition(b'\r\n\r\n')
+            except OSError:
+                Stranger.statuses['none'] += is_new
+                raise
+            first, *rows = head.decode().lower().split('\r\n')
+            fields = dict(row.split(': ', 1) for row in rows)
+            left = int(fields.get('content-length', 0)) - len(body)
+            while left > 0:
+                left -= len(await self.hear())
+            status, again = first.split()[1], int(fields.get('retry-after', 1))
+            Stranger.statuses[status if again == 1 else '%s after %d s' % (status, again)] += 1
+            Stranger.rounds += 1
+            tag, is_new = fields.get('etag', ''), False
+            if fields.get('connection') == 'close':
+                self.line.close()
+                return await asyncio.sleep(again)
+            await asyncio.sleep(again)
+
     async def churn(self):
         """A socket that is opened and closed."""
         await self.open_socket()
@@ -97,6 +129,7 @@ class Stranger:
             Stranger.rounds += 150
 
     async def run(self):
+        await asyncio.sleep(random.random() if self.kind == 'looks' else 0)
         while True:
             self.line = socket.socket()
             self.line.setblocking(False)
@@ -114,7 +147,7 @@ async def do(port, kind, count, *tokens):
     print('ready', flush=True)
     began = time.monotonic()
     await asyncio.to_thread(sys.stdin.read)
-    print('%d %.1f' % (Stranger.rounds, time.monotonic() - began), flush=True)
+    print('%d %.1f %s' % (Stranger.rounds, time.monotonic() - began, json.dumps(Stranger.statuses)), flush=True)
     for task in tasks:
         task.cancel()
 
@@ -127,10 +160,11 @@ class Crowd:
         self.process.stdout.readline()
 
     def end(self):
-        """How many rounds they made a second."""
+        """How many rounds they made a second; `statuses` is how often they were answered by which."""
         self.process.stdin.close()
-        rounds, seconds = self.process.stdout.readline().split()
+        rounds, seconds, statuses = self.process.stdout.readline().split(' ', 2)
         self.process.wait()
+        self.statuses = json.loads(statuses)
         return int(rounds) / float(seconds)
 
 

@@ -778,7 +778,7 @@ impl<S: Read + Write> Guest<S> {
             Gone::Interrupted => true,
             Gone::Bytes(count) => {
                 self.browser.written(site, count);
-                self.has_more = true;
+                self.has_more |= !self.browser.is_over();
                 true
             }
             Gone::Fault => {

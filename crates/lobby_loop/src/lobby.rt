@@ -10,9 +10,11 @@ ghost use Rattle.either.specs.Either.{either};
 ghost use Rattle.lobby_loop.specs.Turning.{BeginsHall, Comer, AreAdmitted, IsReached, IsLobbyTurn, has_more, texts_put};
 ghost use Rattle.lobby_loop.specs.Turning.{unknown, short_after, left_at, held_after};
 ghost use Rattle.lobby_loop.specs.Living.{IsWoken, Files, KeepsFiles, Renews};
+ghost use Rattle.lobby_loop.specs.Comers.{seen, is_over};
 ghost use Rattle.lobby_loop.specs.Logging.{Logs};
 ghost use Rattle.lobby_loop.specs.Roll.{here_in};
 ghost use Rattle.lobby_talk.specs.Roll.{here_by, news};
+ghost use Rattle.lobby_web.specs.Pages.{file_at};
 ghost use Rattle.lobby_loop.specs.declared.lobby.Turned.TheVariants.{Worked};
 
 use crate::act_log::{ActLog, Fault};
@@ -55,7 +57,7 @@ const PATIENCE: u64 = 5_000;
 const REST: u64 = 1_000;
 
 // So many milliseconds those who come next wait for those who are there, until it is looked at again, and at most.
-const HOLD: u64 = 10;
+const HOLD: u64 = 2;
 
 const HELD_MOST: u64 = 1_000;
 
@@ -241,6 +243,19 @@ impl Lobby {
         ensures { Files path.now None self.old.hall self.new.hall }
     {
         self.hall.take_off_file(path);
+    }
+
+    /// It is seen at a moment, in milliseconds, how many connections came in the second that goes: one begins where the
+    /// last one is over. Once these are more than 2,200 who asks for games is told to come later, by 503, until it is
+    /// over; all files stay as they are.
+    pub fn see_comers(&mut self, at: u64)
+        ensures comers { self.new.hall.comers ≡ seen self.old.hall.next_key at self.old.hall.comers }
+        ensures full { self.new.hall.site.is_full ≡ is_over self.old.hall.next_key self.new.hall.comers }
+        ensures files { (path : List ℕ) → Files path (file_at self.old.hall.site path) self.old.hall self.new.hall }
+        ensures held { self.new.held_until ≡ self.old.held_until }
+        ensures short { self.new.short_until ≡ self.old.short_until }
+    {
+        self.hall.see_comers(at);
     }
 
     /// The players are these from now on. A connection acts for a player on just where these have him with the sum that

@@ -162,6 +162,7 @@ where
         self.table.look(self.rt, lobby, at)?;
         self.health.look(lobby, &self.table, at)?;
         let games_rest = self.games.look(self.rt, lobby, at)?;
+        lobby.see_comers(at);
         let turned = lobby.turn(self.rt, at, log, &mut self.links)?;
         lobby.tell_roll(log)?;
         self.telling.tell_server(lobby.has_server());

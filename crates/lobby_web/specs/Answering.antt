@@ -1,5 +1,5 @@
 -- What a site answers to a request.
-use Rattle.std.specs.Prelude.{ℕ, ◌≡◌, ◌⊎◌, ◌==◌, ◌||◌, Bool, true, List, [], ◌∷◌, ◌++◌, Option, None, Some, bytes_eq}
+use Rattle.std.specs.Prelude.{ℕ, ◌≡◌, ◌⊎◌, ◌==◌, ◌&&◌, ◌||◌, Bool, true, false, List, [], ◌∷◌, ◌++◌, Option, None, Some, bytes_eq}
 use Rattle.std.specs.Prelude.{codes, MatchBool}
 use Rattle.http.specs.declared.request.Request.{Request}
 use Rattle.std.specs.List.{list_any}
@@ -38,10 +38,17 @@ plain_text = codes "text/plain; charset=utf-8"
 abbrev pub IsTold : ℕ → List ℕ → Response → Type 0
 IsTold status words = IsResponse status (guarded plain_text) words
 
--- Pages of other hosts may read games, and nothing else.
+-- Games, which spectators ask for again and again.
+abbrev pub has_games : Kind → Bool
+has_games Pgn = true
+has_games Games = true
+has_games kind = false
+
+-- Pages of other hosts may read games, and nothing else; and behind these the connection is closed, so that who looks
+-- at them keeps no place until he looks again.
 abbrev pub readers : Kind → List Header
-readers Pgn = (codes "access-control-allow-origin", codes "*") ∷ []
-readers Games = (codes "access-control-allow-origin", codes "*") ∷ []
+readers Pgn = (codes "access-control-allow-origin", codes "*") ∷ (codes "connection", codes "close") ∷ []
+readers Games = (codes "access-control-allow-origin", codes "*") ∷ (codes "connection", codes "close") ∷ []
 readers kind = []
 
 -- the fields of an answer of a file: its media type, who may read its kind, and its entity tag
@@ -62,12 +69,19 @@ is_tag_of file tag = bytes_eq tag file.tag.items || bytes_eq tag (codes "W/" ++ 
 abbrev pub is_known : List ℕ → File → Bool
 is_known known file = bytes_eq known (codes "*") || list_any (is_tag_of file) (elements known)
 
--- 200 with the file, 304 without it for who has it already, or 404
-abbrev pub IsFileAnswer : List ℕ → Option File → Response → Type 0
-IsFileAnswer known None response = IsTold 404 (codes "There is no such page here.") response
-IsFileAnswer known (Some file) response =
-    MatchBool (is_known known file) (IsResponse 304 (same_fields file) [] response)
-    (IsResponse 200 (file_fields file) file.bytes response)
+-- 503, and after how many seconds who asked is to come again (RFC 9110, 10.2.3)
+abbrev pub IsPutOff : File → Response → Type 0
+IsPutOff file response =
+    IsResponse 503 (guarded plain_text ++ readers file.kind ++ (codes "retry-after", codes "10") ∷ [])
+    (codes "More watch than are served here: come again later.") response
+
+-- 200 with the file, 304 without it for who has it already, or 404; where the site is full, for games 503
+abbrev pub IsFileAnswer : Bool → List ℕ → Option File → Response → Type 0
+IsFileAnswer full known None response = IsTold 404 (codes "There is no such page here.") response
+IsFileAnswer full known (Some file) response =
+    MatchBool (full && has_games file.kind) (IsPutOff file response)
+    (MatchBool (is_known known file) (IsResponse 304 (same_fields file) [] response)
+    (IsResponse 200 (file_fields file) file.bytes response))
 
 -- 405 with the methods that are answered
 abbrev pub IsOtherMethodAnswer : Response → Type 0
@@ -102,7 +116,7 @@ IsSocketAnswer r response =
 abbrev pub IsPageAnswer : Site → Request (List ℕ) → Response → Type 0
 IsPageAnswer site r response =
     MatchBool (only_reads r)
-    (IsFileAnswer (field r (codes "if-none-match")) (file_at site (served_path (path_of r))) response)
+    (IsFileAnswer site.is_full (field r (codes "if-none-match")) (file_at site (served_path (path_of r))) response)
     (IsOtherMethodAnswer response)
 
 -- What a site answers: 403 for a host that is not taken; else the socket at `/ws`, and everywhere else the page's

@@ -15,7 +15,7 @@ ghost use Rattle.lobby_web.specs.Requests.{field, last_field, forwarded_text, co
 ghost use Rattle.lobby_web.specs.Requests.{is_taken, is_page_of, path_of, is_from_page, lists_upgrade};
 ghost use Rattle.lobby_web.specs.Requests.{asks_upgrade, only_reads, is_number, names_game, is_board, served_path};
 ghost use Rattle.lobby_web.specs.Answering.{guards, guarded, readers, file_fields, same_fields, is_tag_of, is_known};
-ghost use Rattle.lobby_web.specs.Answering.{IsTold, IsFileAnswer, IsOtherMethodAnswer, IsSwitch, IsKeyAnswer};
+ghost use Rattle.lobby_web.specs.Answering.{IsTold, IsPutOff, IsFileAnswer, IsOtherMethodAnswer, IsSwitch, IsKeyAnswer};
 ghost use Rattle.lobby_web.specs.Answering.{IsSocketAnswer, IsPageAnswer, IsAnswer};
 
 use crate::listed::{Elements, last_element};
@@ -239,15 +239,18 @@ fn tell(response: &mut Response, status: StatusCode, words: &str) -> Result<(), 
     response.body.put_slice(words.as_bytes())
 }
 
-// Puts behind the fields that pages of other hosts may read what is of this kind, where they may: games, and nothing
-// else.
+// Puts behind the fields that pages of other hosts may read what is of this kind, where they may, and that the
+// connection is closed behind it: games, and nothing else.
 fn add_readers(response: &mut Response, kind: Kind) -> Result<(), AllocError>
     ensures headers { OnOk result (fields_of response.new ≡ fields_of response.old ++ readers kind) }
     ensures status { response.new.status ≡ response.old.status }
     ensures body { response.new.body ≡ response.old.body }
 {
     match kind {
-        Kind::Pgn | Kind::Games => add_field(response, "access-control-allow-origin", "*"),
+        Kind::Pgn | Kind::Games => {
+            add_field(response, "access-control-allow-origin", "*")?;
+            add_field(response, "connection", "close")
+        }
         _ => Ok(()),
     }
 }
@@ -294,17 +297,34 @@ fn is_known(file: &File, known: &[u8]) -> bool
     known == b"*".as_slice() || lists_tag(file, known)
 }
 
-// A file, or that who asks has it.
+// That who asks for this file is to come later.
+fn put_off(response: &mut Response, file: &File) -> Result<(), AllocError>
+    requires { IsBlank response.old }
+    ensures { OnOk result (IsPutOff file.now response.new) }
+{
+    tell(
+        response,
+        StatusCode::SERVICE_UNAVAILABLE,
+        "More watch than are served here: come again later.",
+    )?;
+    add_readers(response, file.kind)?;
+    add_field(response, "retry-after", "10")
+}
+
+// A file, or that who asks has it; or where the site is full that he is to come later, if it has games.
 fn answer_file(
     alloc: Global,
     response: &mut Response,
+    is_full: bool,
     file: &File,
     known: &[u8],
 ) -> Result<(), AllocError>
     requires { IsBlank response.old }
-    ensures { OnOk result (IsFileAnswer known.now (Some file.now) response.new) }
+    ensures { OnOk result (IsFileAnswer is_full known.now (Some file.now) response.new) }
 {
-    if is_known(file, known) {
+    if is_full && matches!(file.kind, Kind::Pgn | Kind::Games) {
+        put_off(response, file)
+    } else if is_known(file, known) {
         spare(alloc, response, file)
     } else {
         send(alloc, response, file)
@@ -315,14 +335,15 @@ fn answer_file(
 fn send_file(
     alloc: Global,
     response: &mut Response,
+    is_full: bool,
     file: Option<&File>,
     known: &[u8],
 ) -> Result<(), AllocError>
     requires { IsBlank response.old }
-    ensures { OnOk result (IsFileAnswer known.now (option_copied file.entry) response.new) }
+    ensures { OnOk result (IsFileAnswer is_full known.now (option_copied file.entry) response.new) }
 {
     match file {
-        Some(file) => answer_file(alloc, response, file, known),
+        Some(file) => answer_file(alloc, response, is_full, file, known),
         None => tell(
             response,
             StatusCode::NOT_FOUND,
@@ -450,6 +471,7 @@ fn send_page(
     send_file(
         alloc,
         response,
+        site.is_full,
         site.file_at(served_path(path_of(request))),
         field(request, "if-none-match"),
     )

@@ -3,8 +3,7 @@ ghost use Rattle.std.specs.Prelude.{◌≡◌, ◌≢◌, ◌≤◌, ◌↔◌, 
 ghost use Rattle.bytes.specs.Unread.{IsChunkOf};
 ghost use Rattle.http_server.specs.Connection.{config_of, history};
 ghost use Rattle.http_server.specs.History.{after_read};
-ghost use Rattle.websocket.specs.CloseCode.{is_allowed};
-ghost use Rattle.websocket.specs.Content.{text as Text, ping as Ping, close as Close};
+ghost use Rattle.websocket.specs.Content.{text as Text, ping as Ping};
 ghost use Rattle.lobby_web.specs.Browsing.{pending, unread, Answers, WantsBytes, IsOver, is_open, Takes};
 ghost use Rattle.lobby_web.specs.Browsing.{TakesBytes, Writes, HearsNext, SaysTo, IsNew, IsHeaded};
 ghost use Rattle.lobby_web.specs.declared.browser.Stage.TheVariants as At;
@@ -20,7 +19,6 @@ use std::alloc::Global;
 use std::hash::RandomState;
 use std::mem;
 use std::net::IpAddr;
-use websocket::protocol::CloseCode;
 
 /// So many bytes are taken at once.
 pub const MOST_AT_ONCE: usize = 16_384;
@@ -278,17 +276,6 @@ impl Browser {
     {
         match &mut self.stage {
             Stage::Socket(socket) => socket.ping(),
-            _ => Err(Unsaid::NotOpen),
-        }
-    }
-
-    /// Begins to close the socket. It is over once the browser's close has come.
-    pub fn close(&mut self, code: CloseCode) -> Result<(), Unsaid>
-        requires { is_allowed code ≡ true }
-        ensures { SaysTo (Close (Some (code, []))) self.old.stage self.new.stage result }
-    {
-        match &mut self.stage {
-            Stage::Socket(socket) => socket.close(code),
             _ => Err(Unsaid::NotOpen),
         }
     }

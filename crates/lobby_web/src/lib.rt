@@ -22,4 +22,3 @@ pub use crate::browser::{Browser, MOST_AT_ONCE};
 pub use crate::laws::{law_of_floods, law_of_heads, law_of_messages, law_of_sayings};
 pub use crate::site::{File, Kind, Site};
 pub use crate::socket::{Heard, Unsaid};
-pub use websocket::protocol::CloseCode;

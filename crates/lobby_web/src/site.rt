@@ -1,5 +1,5 @@
 //! What is served: the files of the page, under the hosts that are taken.
-ghost use Rattle.std.specs.Prelude.{◌≡◌, ◌++◌, ◌∷◌, [], Some, None, IfOk, OnOk, OnErr};
+ghost use Rattle.std.specs.Prelude.{◌≡◌, ◌++◌, ◌∷◌, [], Some, None, false, IfOk, OnOk, OnErr};
 ghost use Rattle.std.specs.Option.{option_copied};
 ghost use Rattle.lobby_web.specs.Pages.{tag_of, without_port, is_same_host};
 
@@ -107,6 +107,8 @@ impl File {
 pub struct Site {
     hosts: Vec<Vec<u8>>,
     files: Vec<File>,
+    /// Whether more come than are served: who asks for games is told to come later.
+    pub is_full: bool,
 }
 
 // A host without this port behind it.
@@ -132,11 +134,17 @@ impl Site {
 
     /// A site of these files. A host is one that a request has to name, with its port, as `127.0.0.1:8080`; one without
     /// a port has port 80, and small and capital letters are the same. Of two files with one path the first is served.
+    /// It is not full.
     pub fn new(hosts: Vec<Vec<u8>>, files: Vec<File>) -> Site
         ensures hosts { result.hosts ≡ hosts }
         ensures files { result.files ≡ files }
+        ensures full { result.is_full ≡ false }
     {
-        Site { hosts, files }
+        Site {
+            hosts,
+            files,
+            is_full: false,
+        }
     }
 
     /// Whether a host is taken.
@@ -168,6 +176,7 @@ impl Site {
     pub fn put(&mut self, file: File) -> Result<(), AllocError>
         ensures put { OnOk result (Changes file.path.items (Some file) self.old self.new) }
         ensures err { OnErr result (IsSameSite self.old self.new) }
+        ensures full { self.new.is_full ≡ self.old.is_full }
     {
         match self.place_of(file.path.as_slice()) {
             Some(place) => {
@@ -180,7 +189,8 @@ impl Site {
 
     /// From now on nothing is served at this path.
     pub fn take_off(&mut self, path: &[u8])
-        ensures { Changes path.now None self.old self.new }
+        ensures off { Changes path.now None self.old self.new }
+        ensures full { self.new.is_full ≡ self.old.is_full }
     {
         self.files.retain(|file| file.path.as_slice() != path);
     }

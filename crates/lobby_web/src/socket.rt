@@ -4,9 +4,8 @@ ghost use Rattle.std.specs.Prelude.{OnErr, IsUtf8, length, drop, option_map};
 ghost use Rattle.bytes.specs.Unread.{IsChunkOf};
 ghost use Rattle.websocket.specs.declared.protocol.config.Role.TheVariants.{Server};
 ghost use Rattle.lobby_web.specs.Codes.{code_of, IsFrameOf};
-ghost use Rattle.websocket.specs.CloseCode.{is_allowed};
 ghost use Rattle.websocket.specs.Content.{message_content, received_content, text as Text, ping as Ping};
-ghost use Rattle.websocket.specs.Content.{close as Close, IsReceivedInside};
+ghost use Rattle.websocket.specs.Content.{IsReceivedInside};
 ghost use Rattle.websocket.specs.Connection.{read_step, failed_connection, can_write};
 ghost use Rattle.websocket.specs.View.{Returns, ReadLeaves, KeepsRest, GivesError, IfMessage};
 
@@ -364,14 +363,5 @@ impl Socket {
         ensures { Says (Ping []) self.old self.new result }
     {
         self.send(Message::Ping(&[]))
-    }
-
-    /// Begins to close. Frames are read until the peer's close has come.
-    pub fn close(&mut self, code: CloseCode) -> Result<(), Unsaid>
-        requires { is_allowed code ≡ true }
-        ensures { Says (Close (Some (code, []))) self.old self.new result }
-    {
-        let frame = CloseFrame { code, reason: "" };
-        self.send(Message::Close(Some(frame)))
     }
 }

@@ -503,21 +503,51 @@ fn an_act_counts_only_under_its_name(rt: &impl Abort, lab: &mut Lab) {
 
 // (it is not read in the turn behind one in which something was written to it)
 const ASKS: &[u8] =
-    b"GET /live.pgn HTTP/1.1\r\nHost: a:1\r\n\r\n~GET /live.pgn HTTP/1.1\r\nHost: a:1\r\n\r\n\
-    ~~GET /live.pgn HTTP/1.1\r\nHost: a:1\r\n\r\n";
+    b"GET /health HTTP/1.1\r\nHost: a:1\r\n\r\n~GET /health HTTP/1.1\r\nHost: a:1\r\n\r\n\
+    ~~GET /health HTTP/1.1\r\nHost: a:1\r\n\r\n";
 
 fn a_file_changes_between_turns(rt: &impl Abort, lab: &mut Lab) {
     lab.begin(rt, &(ASKS, b"", How::Plainly));
     for bytes in [b"one".as_slice(), b"another"] {
-        let file = file_of(rt, lab.alloc, b"/live.pgn", Kind::Pgn, bytes);
+        let file = file_of(rt, lab.alloc, b"/health", Kind::Figures, bytes);
         lab.hall.put_file(file).expect(rt, "memory");
         assert!(rt; lab.turn(rt, 2, 1).is_none());
         assert!(rt; lab.is_told(bytes));
     }
-    lab.hall.take_off_file(b"/live.pgn");
+    lab.hall.take_off_file(b"/health");
     assert!(rt; lab.turn(rt, 2, 1).is_none());
     lab.turn_alone(rt, 2);
     assert!(rt; lab.is_told(b"There is no such page here."));
+}
+
+// Somebody looks at games.
+fn begin_look(rt: &impl Abort, lab: &mut Lab, how: How) {
+    lab.begin(
+        rt,
+        &(b"GET /live.pgn HTTP/1.1\r\nHost: a:1\r\n\r\n", b"", how),
+    );
+    let file = file_of(rt, lab.alloc, b"/live.pgn", Kind::Pgn, b"one");
+    lab.hall.put_file(file).expect(rt, "memory");
+}
+
+// Where so many have come by this moment, his answer begins so.
+fn check_look(rt: &impl Abort, lab: &mut Lab, came: usize, at: u64, front: &[u8]) {
+    begin_look(rt, lab, How::Slowly);
+    for _ in 0..came {
+        assert!(rt; lab.hall.next_key().is_some());
+    }
+    lab.hall.see_comers(at);
+    assert!(rt; lab.turn(rt, 4, 1).is_none());
+    assert!(rt; lab.is_told(front));
+}
+
+fn who_looks_keeps_no_place_or_comes_later(rt: &impl Abort, lab: &mut Lab) {
+    begin_look(rt, lab, How::Plainly);
+    lab.turn_alone(rt, 1);
+    assert!(rt; lab.hall.len() == 0);
+    check_look(rt, lab, 2_200, 999, b"HTTP/1.1 200 O");
+    check_look(rt, lab, 2_201, 999, b"HTTP/1.1 503 S");
+    check_look(rt, lab, 2_201, 1_000, b"HTTP/1.1 200 O");
 }
 
 const COUNTED: Script = (
@@ -871,6 +901,7 @@ fn halls(rt: HostRuntime) {
     acts_are_logged_and_told(&rt, &mut lab);
     an_act_counts_only_under_its_name(&rt, &mut lab);
     a_file_changes_between_turns(&rt, &mut lab);
+    who_looks_keeps_no_place_or_comes_later(&rt, &mut lab);
     what_was_said_is_counted(&rt, &mut lab);
     who_left_is_there_no_more(&rt, &mut lab);
     who_has_no_token_makes_room(&rt, &mut lab);

@@ -218,7 +218,7 @@ const WHOLE: &[u8] = b"HTTP/1.1 200 OK\r\n";
 fn check_files(rt: &impl Abort, lab: &mut Lab, bytes: &'static [u8]) {
     lab.put(rt, b"/live.pgn", Kind::Pgn, bytes);
     lab.put(rt, b"/health", Kind::Figures, bytes);
-    lab.check(rt, GAMES, b"", WHOLE, bytes, false);
+    lab.check(rt, GAMES, b"", WHOLE, bytes, true);
     lab.check(rt, FIGURES, b"", WHOLE, bytes, false);
 }
 
@@ -228,8 +228,9 @@ const FILES: [Request; 12] = [
         GAMES,
         WHOLE,
         b"\r\ncontent-type: application/x-chess-pgn; charset=utf-8\r\naccess-control-allow-origin: *\r\n\
+        connection: close\r\n\
         etag: \"e3b0c44298fc1c149afbf4c8996fb92427ae41e4649b934ca495991b7852b855\"\r\ncontent-length: 0\r\n\r\n",
-        false,
+        true,
     ),
     (
         FIGURES,
@@ -300,6 +301,24 @@ const FILES: [Request; 12] = [
     ),
 ];
 
+// Where more come than are served: games are to be asked for later, and all else is answered.
+const PUT_OFF: [Request; 3] = [
+    (
+        GAMES,
+        b"HTTP/1.1 503 ",
+        b"\r\naccess-control-allow-origin: *\r\nconnection: close\r\nretry-after: 10\r\ncontent-length: 50\r\n\r\n\
+        More watch than are served here: come again later.",
+        true,
+    ),
+    (FIGURES, WHOLE, b"", false),
+    (
+        b"GET / HTTP/1.1\r\nHost: a:1\r\n\r\n",
+        WHOLE,
+        b"the page",
+        false,
+    ),
+];
+
 fn files_come_and_go(rt: &impl Abort, lab: &mut Lab) {
     lab.check(rt, GAMES, b"", MISSING, b"", false);
     for bytes in [b"one".as_slice(), b"two", b""] {
@@ -307,6 +326,9 @@ fn files_come_and_go(rt: &impl Abort, lab: &mut Lab) {
     }
     lab.put(rt, b"/board.html", Kind::Html, b"a board");
     check_answers(rt, lab, &FILES);
+    lab.site.is_full = true;
+    check_answers(rt, lab, &PUT_OFF);
+    lab.site.is_full = false;
     lab.site.take_off(b"/live.pgn");
     lab.check(rt, GAMES, b"", MISSING, b"", false);
     lab.check(rt, FIGURES, b"", WHOLE, b"", false);

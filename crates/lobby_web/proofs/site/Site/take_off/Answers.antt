@@ -5,8 +5,8 @@ use Rattle.lobby_web.specs.declared.site.File.{File}
 use Rattle.lobby_web.proofs.PutLemmas.{is_at, but, there-off, others-off}
 use Rattle.lobby_web.proofs.site.Site.take_off.Goals as goal
 
-pub returns : goal.returns
-returns c =
+pub returns-clause-off : goal.returns-clause-off
+returns-clause-off c =
     let files = c.args.self.now.files.items in
     let path = c.args.path.now in
     let items : c.retain.new.self.items ≡ but path files =
