@@ -327,8 +327,8 @@ impl<'a, R: Files<File = File> + AllocGlobal + Eprint> Writer<'a, R> {
     }
 
     // The PGNs of all boards, with what is told besides; and writes the file of all games of the archive anew, where it
-    // is another.
-    fn pgns(&mut self) -> Result<Vec<Vec<u8>>> {
+    // is another: whether that was done.
+    fn pgns(&mut self) -> Result<(Vec<Vec<u8>>, Result<()>)> {
         let (alloc, form) = (self.rt.alloc(), self.living.names);
         let read = Read::now(self.rt, form, &self.living.besides)?;
         let known = read.known(alloc)?;
@@ -340,10 +340,11 @@ impl<'a, R: Files<File = File> + AllocGlobal + Eprint> Writer<'a, R> {
             self.archived.as_slice(),
             &telling,
         )?;
-        if let Some(kept) = &mut self.kept {
-            kept.renew(self.rt, form, &telling, self.archive)?;
-        }
-        Ok(pgns)
+        let renewed = match &mut self.kept {
+            Some(kept) => kept.renew(self.rt, form, &telling, self.archive),
+            None => Ok(()),
+        };
+        Ok((pgns, renewed))
     }
 }
 
@@ -401,17 +402,17 @@ impl<R> Work for Writer<'_, R>
 where
     R: Files<File = File> + Net<Stream = TcpStream> + AllocGlobal + Eprint + Clock + Clone + Drop,
 {
-    // (a file is written where it has changed)
+    // (a file is written where it has changed; spectators are told also where there is no room for the others)
     fn work(&mut self, _is_once: bool) -> Result<()> {
         let at = unix_time(self.rt)?.context("the system's clock shows a time before 1970")?;
         self.look(at)?;
-        let pgns = self.pgns()?;
+        let (pgns, renewed) = self.pgns()?;
         let text = text_of(self.rt.alloc(), pgns.as_slice())?;
         self.tell_spectators(pgns, at)?;
         if let Some(text) = self.delay.due(self.rt, text)? {
             self.file.put(self.rt, text)?;
         }
-        Ok(())
+        renewed
     }
 }
 
