@@ -400,7 +400,8 @@ export const WORDS = {
   'You are watching. To play, open your personal link.': 'Du siehst zu. Zum Spielen öffne deinen persönlichen Link.',
   'This personal link is not known here, at least not now. Ask your arbiter for a new one.':
     'Diesen persönlichen Link kennt hier niemand, wenigstens jetzt nicht. Bitte deinen Schiedsrichter um einen neuen.',
-  'Only an arbiter may do that.': 'Das darf nur ein Schiedsrichter.',
+  'Only an arbiter may do that, and nobody while the disk has no room for the lobby’s log.':
+    'Das darf nur ein Schiedsrichter, und niemand, solange auf der Platte kein Platz für das Protokoll der Lobby ist.',
   'That was too much within a second. Nothing was sent; try again.':
     'Das war zu viel in einer Sekunde. Nichts wurde gesendet; versuche es noch einmal.',
   ['As many of your games as may wait for an opponent already. Wait until one is joined, or ask an arbiter to take '

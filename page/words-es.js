@@ -395,7 +395,8 @@ export const WORDS = {
   'You are watching. To play, open your personal link.': 'Estás mirando. Para jugar, abre tu enlace personal.',
   'This personal link is not known here, at least not now. Ask your arbiter for a new one.':
     'Este enlace personal no se conoce aquí, al menos ahora. Pide uno nuevo a tu árbitro.',
-  'Only an arbiter may do that.': 'Eso solo puede hacerlo un árbitro.',
+  'Only an arbiter may do that, and nobody while the disk has no room for the lobby’s log.':
+    'Eso solo puede hacerlo un árbitro, y nadie mientras no haya sitio en el disco para el registro del lobby.',
   'That was too much within a second. Nothing was sent; try again.':
     'Fue demasiado en un segundo. No se ha enviado nada; inténtalo de nuevo.',
   ['As many of your games as may wait for an opponent already. Wait until one is joined, or ask an arbiter to take '

@@ -403,7 +403,8 @@ export const WORDS = {
     'Vous êtes spectateur. Pour jouer, ouvrez votre lien personnel.',
   'This personal link is not known here, at least not now. Ask your arbiter for a new one.':
     'Ce lien personnel n’est pas connu ici, du moins pas en ce moment. Demandez-en un nouveau à votre arbitre.',
-  'Only an arbiter may do that.': 'Seul un arbitre peut faire cela.',
+  'Only an arbiter may do that, and nobody while the disk has no room for the lobby’s log.':
+    'Seul un arbitre peut faire cela, et personne tant que le disque n’a pas de place pour le journal du lobby.',
   'That was too much within a second. Nothing was sent; try again.':
     'C’était trop en une seconde. Rien n’a été envoyé ; réessayez.',
   ['As many of your games as may wait for an opponent already. Wait until one is joined, or ask an arbiter to take '

@@ -399,7 +399,8 @@ export const WORDS = {
   'You are watching. To play, open your personal link.': 'Stai guardando. Per giocare, apri il tuo link personale.',
   'This personal link is not known here, at least not now. Ask your arbiter for a new one.':
     'Questo link personale qui non è conosciuto, almeno ora. Chiedine uno nuovo al tuo arbitro.',
-  'Only an arbiter may do that.': 'Questo può farlo solo un arbitro.',
+  'Only an arbiter may do that, and nobody while the disk has no room for the lobby’s log.':
+    'Questo può farlo solo un arbitro, e nessuno finché sul disco non c’è posto per il registro della lobby.',
   'That was too much within a second. Nothing was sent; try again.':
     'Era troppo in un secondo. Non è stato inviato nulla; riprova.',
   ['As many of your games as may wait for an opponent already. Wait until one is joined, or ask an arbiter to take '

@@ -398,7 +398,8 @@ export const WORDS = {
   'You are watching. To play, open your personal link.': 'Je kijkt toe. Open je persoonlijke link om te spelen.',
   'This personal link is not known here, at least not now. Ask your arbiter for a new one.':
     'Deze persoonlijke link is hier niet bekend, nu althans niet. Vraag je arbiter om een nieuwe.',
-  'Only an arbiter may do that.': 'Dat mag alleen een arbiter.',
+  'Only an arbiter may do that, and nobody while the disk has no room for the lobby’s log.':
+    'Dat mag alleen een arbiter, en niemand zolang er op de schijf geen ruimte is voor het logboek van de lobby.',
   'That was too much within a second. Nothing was sent; try again.':
     'Dat was te veel binnen een seconde. Er is niets verstuurd; probeer het opnieuw.',
   ['As many of your games as may wait for an opponent already. Wait until one is joined, or ask an arbiter to take '

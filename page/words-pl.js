@@ -396,7 +396,8 @@ export const WORDS = {
   'You are watching. To play, open your personal link.': 'Oglądasz jako widz. Aby grać, otwórz swój osobisty link.',
   'This personal link is not known here, at least not now. Ask your arbiter for a new one.':
     'Ten osobisty link nie jest tu znany, przynajmniej nie teraz. Poproś sędziego o nowy.',
-  'Only an arbiter may do that.': 'To może zrobić tylko sędzia.',
+  'Only an arbiter may do that, and nobody while the disk has no room for the lobby’s log.':
+    'To może zrobić tylko sędzia, a nikt, dopóki na dysku nie ma miejsca na dziennik lobby.',
   'That was too much within a second. Nothing was sent; try again.':
     'To było za dużo w ciągu sekundy. Niczego nie wysłano; spróbuj ponownie.',
   ['As many of your games as may wait for an opponent already. Wait until one is joined, or ask an arbiter to take '

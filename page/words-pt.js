@@ -393,7 +393,8 @@ export const WORDS = {
   'You are watching. To play, open your personal link.': 'Você está assistindo. Para jogar, abra o seu link pessoal.',
   'This personal link is not known here, at least not now. Ask your arbiter for a new one.':
     'Este link pessoal não é conhecido aqui, pelo menos agora. Peça um novo ao seu árbitro.',
-  'Only an arbiter may do that.': 'Só um árbitro pode fazer isso.',
+  'Only an arbiter may do that, and nobody while the disk has no room for the lobby’s log.':
+    'Só um árbitro pode fazer isso, e ninguém enquanto não houver espaço no disco para o registro do lobby.',
   'That was too much within a second. Nothing was sent; try again.':
     'Foi demais em um segundo. Nada foi enviado; tente de novo.',
   ['As many of your games as may wait for an opponent already. Wait until one is joined, or ask an arbiter to take '

@@ -30,7 +30,7 @@ const REFUSALS = {
   24: t`From that position the game would be over at once.`,
   31: t`You are watching. To play, open your personal link.`,
   32: t`This personal link is not known here, at least not now. Ask your arbiter for a new one.`,
-  33: t`Only an arbiter may do that.`,
+  33: t`Only an arbiter may do that, and nobody while the disk has no room for the lobby’s log.`,
   34: t`That was too much within a second. Nothing was sent; try again.`,
   35: t`As many of your games as may wait for an opponent already. Wait until one is joined, or ask an arbiter to take
     one off.`,

@@ -1,5 +1,5 @@
 //! The players as they stand in their file.
-ghost use Rattle.std.specs.Prelude.{List, ◌≡◌, ◌<◌, ◌≤◌, IfOk};
+ghost use Rattle.std.specs.Prelude.{List, ◌≡◌, ◌≢◌, ◌<◌, ◌≤◌, IfOk, None};
 ghost use Rattle.lobby_words.specs.declared.players.Player.{Player};
 
 use crate::mark::{Mark, mark_in};
@@ -60,7 +60,7 @@ fn later_players<R: Files + AllocGlobal + Eprint>(rt: &R, file: &str) -> Option<
 pub struct Players<'a, R> {
     rt: &'a R,
     file: &'a str,
-    // Whether a log has who said what: else nobody is an arbiter.
+    // Whether a log on the disk has who said what: else nobody is an arbiter.
     has_log: bool,
     seen: Option<Mark>,
     next_at: u64,
@@ -79,6 +79,19 @@ impl<'a, R: Files + AllocGlobal + Clock + Eprint> Players<'a, R> {
             has_log,
             seen: sight_of(rt, file).mark,
             next_at: 0,
+        }
+    }
+
+    /// Whether a log on the disk has who said what from now on. Where that is news, the file is read at the next look.
+    pub fn has_log_from_now_on(&mut self, has_log: bool)
+        ensures log { self.new.has_log ≡ has_log }
+        ensures news { self.old.has_log ≢ has_log → (self.new.seen ≡ None) × (self.new.next_at ≡ 0) }
+        ensures same { self.old.has_log ≡ has_log → self.new ≡ self.old }
+    {
+        if has_log != self.has_log {
+            self.has_log = has_log;
+            self.seen = None;
+            self.next_at = 0;
         }
     }
 

@@ -3,13 +3,13 @@ use crate::asked::Serving;
 use crate::games_files::GamesFiles;
 use crate::health::Health;
 use crate::links::{FileLinks, KeepsDecisions};
-use crate::log::FileLog;
+use crate::log::{FileLog, LookedAfter};
 use crate::page::{has_port, site_of};
 use crate::players::Players;
 use crate::table::Table;
 use anyhow::{Context, Result};
 use lobby_desk::Halts;
-use lobby_loop::{ActLog, Lobby, LobbyListener, NoActLog, Turned};
+use lobby_loop::{Lobby, LobbyListener, NoActLog, Turned};
 use lobby_words::Player;
 use sockets::{Moments, ServerAddress};
 use std::alloc::AllocError;
@@ -137,7 +137,7 @@ where
     }
 
     // Takes turns until something is at fault.
-    fn take_turns<L: ActLog>(
+    fn take_turns<L: LookedAfter>(
         &mut self,
         players: &mut Players<'_, R>,
         lobby: &mut Lobby,
@@ -149,16 +149,24 @@ where
             match lobby.left(at) {
                 Some(left) => lobby.rest(Turned::Idle(Some(left)))?,
                 None => {
+                    let looked = log.look(at).context("the log of acts")?;
+                    players.has_log_from_now_on(looked.is_safe);
                     players.look(lobby, at);
-                    self.turn(lobby, log, at)?;
+                    self.turn(lobby, log, at, looked.rest)?;
                 }
             }
         }
         Ok(())
     }
 
-    // Takes a turn of the lobby.
-    fn turn<L: ActLog>(&mut self, lobby: &mut Lobby, log: &mut L, at: u64) -> Result<()> {
+    // Takes a turn of the lobby, behind which the log is to be looked at after so many milliseconds at most.
+    fn turn<L: LookedAfter>(
+        &mut self,
+        lobby: &mut Lobby,
+        log: &mut L,
+        at: u64,
+        log_rest: Option<u64>,
+    ) -> Result<()> {
         self.table.look(self.rt, lobby, at)?;
         self.health.look(lobby, &self.table, at)?;
         let games_rest = self.games.look(self.rt, lobby, at)?;
@@ -167,7 +175,8 @@ where
         lobby.tell_roll(log)?;
         self.telling.tell_server(lobby.has_server());
         self.telling.tell_counts(lobby, at);
-        lobby.rest(within(within(turned, self.table.rest(at)), games_rest))?;
+        let rested = within(within(turned, self.table.rest(at)), games_rest);
+        lobby.rest(within(rested, log_rest))?;
         Ok(())
     }
 }
@@ -266,7 +275,7 @@ where
         + RandomSource,
 {
     // Prints the page's address, and takes turns until something is at fault.
-    fn serve_lobby<L: ActLog, D: KeepsDecisions + Drop>(
+    fn serve_lobby<L: LookedAfter, D: KeepsDecisions + Drop>(
         &self,
         players: &mut Players<'_, R>,
         links: FileLinks<'_, R, D>,
@@ -283,7 +292,7 @@ where
     }
 
     // Serves browsers, with a log of acts and who keeps decisions.
-    fn serve_with<L: ActLog, D: KeepsDecisions + Drop>(
+    fn serve_with<L: LookedAfter, D: KeepsDecisions + Drop>(
         &self,
         players: &mut Players<'_, R>,
         known: Vec<Player>,

@@ -31,6 +31,8 @@ mod positions;
 #[cfg(test)]
 mod report;
 #[cfg(test)]
+mod room;
+#[cfg(test)]
 mod rounds;
 #[cfg(test)]
 mod spectators;
