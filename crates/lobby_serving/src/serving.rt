@@ -183,45 +183,45 @@ where
 
 // Prints the addresses by which browsers may come to a port of all addresses of this machine: each host, with the port
 // where it names none; without a host that of the machine itself.
-fn tell_hosts<R: Print + Eprint>(rt: &R, port: u16, hosts: &[&str]) -> Result<()> {
+fn tell_hosts<R: Print + Eprint>(rt: &R, port: u16, hosts: &[&str]) {
     if hosts.is_empty() {
-        println!(rt; "http://127.0.0.1:{port}/")?;
-        eprintln!(rt;
+        let _ = println!(rt; "http://127.0.0.1:{port}/");
+        let _ = eprintln!(rt;
             "no --host names an address by which other devices come: their browsers are refused"
-        )?;
+        );
     }
     for host in hosts {
         if has_port(host) {
-            println!(rt; "http://{host}/")?;
+            let _ = println!(rt; "http://{host}/");
         } else {
-            println!(rt; "http://{host}:{port}/")?;
+            let _ = println!(rt; "http://{host}:{port}/");
         }
     }
-    Ok(())
 }
 
-// Prints the page's address, or where all of this machine's are listened at those of its hosts.
-fn tell_address<R: Print + Eprint>(rt: &R, address: SocketAddr, hosts: &[&str]) -> Result<()> {
+// Prints the page's address, or where all of this machine's are listened at those of its hosts. (A lobby of which nobody
+// reads what it tells goes on.)
+fn tell_address<R: Print + Eprint>(rt: &R, address: SocketAddr, hosts: &[&str]) {
     if address.ip().is_unspecified() {
-        tell_hosts(rt, address.port(), hosts)?;
+        tell_hosts(rt, address.port(), hosts);
     } else {
-        println!(rt; "http://{address}/")?;
+        let _ = println!(rt; "http://{address}/");
     }
     if !address.ip().is_loopback() {
-        eprintln!(rt; "the line is not encrypted: whoever is on the way reads along, links too")?;
+        let _ = eprintln!(rt;
+            "the line is not encrypted: whoever is on the way reads along, links too"
+        );
     }
-    Ok(())
 }
 
 // That browsers behind a proxy on this machine cannot be told apart, where a host is named and no proxy.
-fn tell_proxy<R: Eprint>(rt: &R, serving: &Serving<'_>) -> Result<()> {
+fn tell_proxy<R: Eprint>(rt: &R, serving: &Serving<'_>) {
     if serving.address.ip().is_loopback() && !serving.hosts.is_empty() && serving.proxy.is_none() {
-        eprintln!(rt;
+        let _ = eprintln!(rt;
             "there is --host and no --proxy: browsers that come by a proxy on this machine count as one, without \
             the limit of an address"
-        )?;
+        );
     }
-    Ok(())
 }
 
 // The lobby's server, as the command line asks for it.
@@ -283,8 +283,8 @@ where
         lobby: &mut Lobby,
         log: &mut L,
     ) -> Result<()> {
-        tell_address(self.rt, address, self.serving.hosts.as_slice())?;
-        tell_proxy(self.rt, self.serving)?;
+        tell_address(self.rt, address, self.serving.hosts.as_slice());
+        tell_proxy(self.rt, self.serving);
         let mut beside = Beside::new(self.rt, self.serving, links)?;
         let served = beside.take_turns(players, lobby, log);
         drop(beside);
@@ -336,7 +336,7 @@ where
     let mut players = Players::new(rt, serving.players, serving.log.is_some());
     let known = players.read()?;
     let Some(file) = serving.log else {
-        eprintln!(rt; "{NO_LOG}")?;
+        let _ = eprintln!(rt; "{NO_LOG}");
         return server.serve_with(&mut players, known, &mut NoActLog, decisions);
     };
     let mut log = FileLog::open(rt, file).context(format_args!("opening {file}"))?;
