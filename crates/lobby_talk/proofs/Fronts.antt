@@ -200,14 +200,12 @@ either text a b one other = λ is long. elim (or_either a b is) [ inl so ↦ one
 by_play : (text : List ℕ) → Begins text (is_play_word (word_of text))
 unfolding is_play_word
 by_play text =
-    either text _ _ (by_move text) (either text _ _ (by_offer text) (either text _ _ (by_accept text)
-    (either text _ _ (by_decline text) (either text _ _ (by_resign text) (either text _ _ (by_claim text) (by_flag text))))))
+    either text _ _ (either text _ _ (either text _ _ (either text _ _ (either text _ _ (either text _ _ (by_move text) (by_offer text)) (by_accept text)) (by_decline text)) (by_resign text)) (by_claim text)) (by_flag text)
 
 by_act : (text : List ℕ) → Begins text (is_act_word (word_of text))
 unfolding is_act_word
-by_act text = either text _ _ (by_open text) (either text _ _ (by_join text) (by_play text))
+by_act text = either text _ _ (either text _ _ (by_open text) (by_join text)) (by_play text)
 
 pub begins_as_act : (text : List ℕ) → Begins text (is_hasty_word (word_of text))
 begins_as_act text =
-    either text _ _ (by_act text) (either text _ _ (by_drop text) (either text _ _ (by_as text)
-    (either text _ _ (by_pair text) (by_login text))))
+    either text _ _ (either text _ _ (either text _ _ (either text _ _ (by_act text) (by_drop text)) (by_as text)) (by_pair text)) (by_login text)
