@@ -1,6 +1,6 @@
 //! The words by which games are kept, exported and written live, and by which the log tells of one.
 //!
-//! Modules: `asked` has what is asked of them, `keeping`, `exporting`, `living` and `evidence_word` are what the four do.
+//! Modules: `asked` has what is asked of them, `keeping`, `exporting`, `living`, `evidence_word` are what the four do.
 //! `keeper` does what the clerk decides. `rows` has the games of the server's list, `asking` asks for a game's PGN,
 //! `sources` has what PGNs are made with: `players` has the players of their file, `log_reader` the log, read on as it
 //! grows; `initials` tells of players by their initials; `besides` reads what is told of players and boards besides,
