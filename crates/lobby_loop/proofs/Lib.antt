@@ -1,4 +1,5 @@
 pub mod Serving
+pub mod Lined
 pub mod Living
 pub mod Waking
 pub mod Speaking

@@ -23,6 +23,7 @@ use Rattle.lobby_web.specs.declared.socket.Heard.{Heard as HeardOf}
 use Rattle.lobby_web.specs.declared.socket.Heard.TheVariants as heards
 use Rattle.lobby_guests.specs.declared.guest.Guest.{Guest}
 use Rattle.lobby_guests.specs.declared.waiting.Waiting.{Waiting}
+use Rattle.lobby_guests.specs.Waiting.{AtLine}
 use Rattle.lobby_loop.specs.declared.hall.Hall.{Hall}
 use Rattle.lobby_talk.specs.declared.link.Link.{Link}
 use Rattle.lobby_talk.specs.declared.talk.Talk.{Talk}
@@ -33,8 +34,9 @@ use Rattle.lobby_guests.specs.Guests.{IsNewGuest, IsHeardAs, IsAsBefore, IsLeftA
 use Rattle.lobby_talk.specs.Lines.{bytes_of as bytes_before, AreHeard}
 use Rattle.lobby_talk.specs.Held.{HoldsNoLine, IsKept}
 use Rattle.lobby_loop.specs.Turning.{BeginsHall, Admits, ServerComes, IsServerAsBefore, HearsServer, bytes_heard, PartsFromServer, TellsServer, HasTurned, texts_put, Comer, AreAdmitted, IsReached, IsLobbyTurn, is_look_time}
-use Rattle.lobby_loop.specs.Doing.{Gave, Spot, spot, DoesAt, all_tells, IsServed, AreServed, WereServed, Before}
+use Rattle.lobby_loop.specs.Doing.{Gave, Spot, spot, DoesAt, all_tells, IsServed, AreServed, WereServed, AreAtLine, Before}
 use Rattle.lobby_loop.specs.Living.{Happening, Came, Woke, ServerCame, Turned, IsWoken, IsLife, written_in, taken_in, put_in, lost_if, presences_in, kept, sent_in, line_more, lines_heard, presence_more, presences_told, IsHeld, IsOther, HasNone, IsOneOf, AreKnown, IsOwn, AreOwn, numbers, NoLineWaits, IsRightLife, Passing, TurnAt, Rested, IsLobbyLife, Filed, Files, before_in, Changed, Relisted, Renews, Enrolled}
+use Rattle.lobby_loop.proofs.Lined.{same_line, lines_by, lines_filter, lines_both, turn_lines}
 use Rattle.lobby_loop.proofs.Serving.{IsApart, ApartFrom, AreApart, served_before, served_read, served_looked, served_written, served_told, served_caught_up, gave_nothing, gave_again, gave_early, gave_opened, gave_text, all_served_on, all_served_zip, all_served_filter, all_served_more, all_came, served_new, ClosedIf, AllClosed, closed_if_on, all_were_on, all_were_out, all_were_came, all_let_go, came_more, site_more, all_filed, all_were_filed}
 
 -- ---- the desk's steps
@@ -1038,6 +1040,7 @@ pub record IsHallAt {S : Type 0} (remaining contents : S → Option (List ℕ)) 
       hall.talk.desk hall.talk.wire.items (message_values hall.talk.told.items)
   pub own : AreOwn hall.talk.next (numbers (former ++ hall.guests.items))
   pub whole : NoLineWaits hall.server
+  pub lined : AreAtLine former × AreAtLine hall.guests.items
 
 written_on : {S : Type 0} (contents : S → Option (List ℕ)) (front : List ℕ) (server after : Option (Link S)) (old new : List ℕ) →
     TellsServer contents front server after old new → old ≡ front ++ new
@@ -1117,6 +1120,7 @@ module _ {S : Type 0} (remaining contents : S → Option (List ℕ)) (players : 
     talk : IsAt players is_paused traffic later (AreKept remaining contents site came former later new.guests.items) new.talk.desk
         new.talk.wire.items (message_values new.talk.told.items)
     own : AreOwn new.talk.next (numbers (former ++ new.guests.items))
+    lined : AreAtLine former × AreAtLine new.guests.items
 
   -- one pass over browsers
   attended_pass : (at : ℕ) (former : List (Guest S)) (base : Traffic) (out : List MessageValue) (site : Site) (guests after : List (Guest S))
@@ -1137,8 +1141,9 @@ module _ {S : Type 0} (remaining contents : S → Option (List ℕ)) (players : 
       (t : HasTurned remaining contents at old new) →
       IsAt players is_paused base out (AreKept remaining contents old.site came former out old.guests.items) t.takes.parted.desk t.takes.parted.wire.items
       (message_values t.takes.parted.told.items) → AreOwn t.takes.parted.next (numbers (former ++ old.guests.items)) →
+      AreAtLine former × AreAtLine old.guests.items →
       IsTurnedTo (behind_front t.hands.front base) (out ++ message_values t.between.talk.told.items) old.site old new
-  attended_on at former base out old new t so_far own =
+  attended_on at former base out old new t so_far own lined =
       let site = old.site in
       let later = out ++ message_values t.between.talk.told.items in
       let wrote = behind_front t.hands.front base in
@@ -1233,6 +1238,12 @@ module _ {S : Type 0} (remaining contents : S → Option (List ℕ)) (players : 
         own = subst (λ (n : ℕ). AreOwn n (numbers ((gone_of settled ++ former) ++ new.guests.items))) (sym (closed.0.1 ∙ t.hands.next))
             (subst (λ (gs : List (Guest S)). AreOwn t.between.talk.next (numbers ((gone_of settled ++ former) ++ gs)))
             (sym t.hands.parted_from.stay_is) own_settled);
+        lined =
+            let lined_settled = turn_lines remaining contents at old new t lined.1 in (
+              lines_both (gone_of settled) former (lines_filter (λ (guest : Guest S). guest.is_lost) settled lined_settled) lined.0,
+              subst (λ (gs : List (Guest S)). AreAtLine gs) (sym t.hands.parted_from.stay_is)
+                  (lines_filter (λ (guest : Guest S). not guest.is_lost) settled lined_settled),
+            );
       }
 
   turned_on : (o : Outside) (at : ℕ) (old new : Hall S) (t : HasTurned remaining contents at old new) →
@@ -1253,7 +1264,7 @@ module _ {S : Type 0} (remaining contents : S → Option (List ℕ)) (players : 
       t.takes.server_heard t.between.server t.takes.heard t.takes.parted heard.0 t.takes.parts in
       let own_then : AreOwn t.takes.parted.next (numbers (former ++ old.guests.items)) =
       subst (λ (n : ℕ). AreOwn n (numbers (former ++ old.guests.items))) (sym (gone.1 ∙ heard.1)) so_far.own in
-      let so = attended_on at former base out old new t gone.0 own_then in
+      let so = attended_on at former base out old new t gone.0 own_then so_far.lined in
       record {
         out = later;
         heard = lines ++ so_far.heard;
@@ -1271,6 +1282,7 @@ module _ {S : Type 0} (remaining contents : S → Option (List ℕ)) (players : 
         whole = told_whole contents t.hands.front t.between.server new.server t.between.talk.wire.items t.hands.rest.wire.items t.hands.tells
             (parted_whole t.takes.is_gone t.takes.server_heard t.between.server t.takes.heard t.takes.parted t.takes.parts
             (heard_whole remaining old.server t.takes.server_heard old.talk t.takes.heard t.takes.hears so_far.whole));
+        lined = so.lined;
       }
 
 module _ {S : Type 0} (remaining contents : S → Option (List ℕ)) (players : List Player) (is_paused : Bool) where
@@ -1343,6 +1355,12 @@ module _ {S : Type 0} (remaining contents : S → Option (List ℕ)) (players : 
               (own_added old.talk.next former old.guests.items more.0 more.1.number so_far.own)
         ]);
         whole = subst (λ s. NoLineWaits s) (sym admits.server) so_far.whole;
+        lined = (so_far.lined.0, elim admits.guests [
+          | inl same ↦ subst (λ (gs : List (Guest S)). AreAtLine gs) (sym same) so_far.lined.1
+          | inr more ↦ subst (λ (gs : List (Guest S)). AreAtLine gs) (sym more.2)
+              (lines_both old.guests.items (more.0 ∷ []) so_far.lined.1
+              (subst (λ (l : List Waiting). AtLine l) (sym more.1.waits) tt, tt))
+        ]);
       }
 
   woken : (o : Outside) (came : Before S) (old new : Hall S) → IsWoken old new →
@@ -1364,7 +1382,14 @@ module _ {S : Type 0} (remaining contents : S → Option (List ℕ)) (players : 
             (own_as old.talk.next former old.guests.items new.guests.items
             (same_numbers IsLeftAlone (λ x y one. one.before.still.number) old.guests.items new.guests.items wakes.guests) so_far.own);
         whole = woken_whole old.server new.server wakes.server so_far.whole;
+        lined = (so_far.lined.0, lines_by IsLeftAlone (λ x y one. same_line x y one.before.still.waits) old.guests.items
+            new.guests.items wakes.guests so_far.lined.1);
       }
+
+  still_lined : (former : List (Guest S)) (old new : Hall S) → new.guests ≡ old.guests →
+      AreAtLine former × AreAtLine old.guests.items → AreAtLine former × AreAtLine new.guests.items
+  still_lined former old new guests lined =
+      (lined.0, subst (λ gs. AreAtLine gs.items) (sym guests) lined.1)
 
   -- another file is served
   filed : (o : Outside) (came : Before S) (path : List ℕ) (file : Option File) (old new : Hall S) → Files path file old new →
@@ -1395,6 +1420,7 @@ module _ {S : Type 0} (remaining contents : S → Option (List ℕ)) (players : 
         own = subst (λ (t : Talk). AreOwn t.next (numbers (former ++ new.guests.items))) (sym files.talk)
             (subst (λ (gs : List (Guest S)). AreOwn old.talk.next (numbers (former ++ gs))) (sym same) so_far.own);
         whole = subst (λ s. NoLineWaits s) (sym files.server) so_far.whole;
+        lined = still_lined former old new files.guests so_far.lined;
       }
 
   -- of a hall with the same browsers and the same site
@@ -1436,6 +1462,7 @@ module _ {S : Type 0} (remaining contents : S → Option (List ℕ)) (players : 
             old.guests.items (λ c. tt) (λ c. refl)) so_far.talk renews.talk.steps);
         own = still_own former old new renews.guests renews.talk.next so_far.own;
         whole = subst (λ s. NoLineWaits s) (sym renews.server) so_far.whole;
+        lined = still_lined former old new renews.guests so_far.lined;
       }
 
   -- (no line is held of a connection that begins)
@@ -1462,6 +1489,7 @@ module _ {S : Type 0} (remaining contents : S → Option (List ℕ)) (players : 
             (λ c. tt) (λ c. refl)) so_far.talk comes.talk.steps comes.talk.nothing);
         own = still_own former old new comes.guests comes.talk.next so_far.own;
         whole = subst (λ s. NoLineWaits s) (sym comes.server) (begun_whole comes.link comes.held);
+        lined = still_lined former old new comes.guests so_far.lined;
       }
 
   turned_by : (past : List (Happening S)) (at : ℕ) (taken : List ℕ) (gone : Bool) (put : List (List ℕ)) (front : List ℕ) (now : Hall S) →
@@ -1491,6 +1519,7 @@ module _ {S : Type 0} (remaining contents : S → Option (List ℕ)) (players : 
     };
     own = subst (λ (gs : List (Guest S)). AreOwn now.talk.next (numbers gs)) (sym begins.guests) tt;
     whole = subst (λ s. NoLineWaits s) (sym begins.server) tt;
+    lined = (tt, subst (λ (gs : List (Guest S)). AreAtLine gs) (sym begins.guests) tt);
   }
 
   life_at : (past : List (Happening S)) (now : Hall S) → IsLife remaining contents players is_paused past now →
@@ -1544,6 +1573,7 @@ module _ {S : Type 0} (remaining contents : S → Option (List ℕ)) (players : 
         known = at.talk.holds.known;
         served = at.talk.holds.served;
         were = at.talk.holds.were;
+        lined = at.lined;
       }
 
   -- ---- what passes at a lobby

@@ -10,7 +10,7 @@ use Rattle.lobby_guests.specs.declared.place.Role.{Role}
 use Rattle.lobby_guests.specs.declared.place.Role.TheVariants as roles
 use Rattle.lobby_loop.specs.declared.places.Class.{Class}
 use Rattle.lobby_loop.specs.declared.places.Class.TheVariants.{Players, Nameless, Aged, Own}
-use Rattle.lobby_loop.specs.Places.{is_of, own_room, each_own, IsOwned, is_at, is_nameless, is_player, has_address, counted, count_of, gone, leave, make_room, room_at, room_for, each_room, in_time, most_nameless, judged, IsKeptOrClosed, IsYoung, HasCrowd, HasChance, HaveChance, IsFair}
+use Rattle.lobby_loop.specs.Places.{is_of, own_room, each_own, HasOwn, AreSpared, IsOwned, is_at, is_nameless, is_player, has_address, counted, count_of, gone, leave, make_room, room_at, room_for, each_room, in_time, most_nameless, judged, IsKeptOrClosed, IsYoung, HasCrowd, HasChance, HaveChance, IsFair}
 
 -- ---- closing the first
 
@@ -566,8 +566,88 @@ few_or_any : (n : ℕ) → (n ≤ 16) ⊎ (0 < n)
 few_or_any zero = inl (omega arith)
 few_or_any (suc n) = inr (omega arith)
 
+-- who came first is closed, and 16 behind it are left
+spared_same : (ps : List Place) → AreSpared ps ps
+spared_same [] = tt
+spared_same (p ∷ ps) = (inl refl, spared_same ps)
+
+own_more : (o : Option (List ℕ)) (ps qs : List Place) → AllZip IsOwnKept ps qs → HasOwn o qs → HasOwn o ps
+own_more None ps qs kept own = own
+own_more (Some name) ps qs kept own = omega (arith, own, fewer_own name ps qs kept)
+
+one_spared : (p q r : Place) (ps qs : List Place) → AllZip IsOwnKept ps qs → (q ≡ p) ⊎ HasOwn p.player ps →
+    (r ≡ q) ⊎ HasOwn q.player qs → (r ≡ p) ⊎ HasOwn p.player ps
+one_spared p q r ps qs kept first second =
+    elim first [
+      | inr behind ↦ inr behind
+      | inl same ↦ elim second [
+        | inl again ↦ inl (again ∙ same)
+        | inr behind ↦ inr (own_more p.player ps qs kept (subst (λ (x : Place). HasOwn x.player qs) same behind))
+      ]
+    ]
+
+spared_trans : (ps qs rs : List Place) → AllZip IsOwnKept ps qs → AreSpared ps qs → AreSpared qs rs → AreSpared ps rs
+spared_trans [] qs rs kept first second = tt
+spared_trans (p ∷ ps) [] rs kept first second = absurd kept
+spared_trans (p ∷ ps) (q ∷ qs) [] kept first second = absurd second
+spared_trans (p ∷ ps) (q ∷ qs) (r ∷ rs) kept first second =
+    (one_spared p q r ps qs kept.1 first.0 second.0, spared_trans ps qs rs kept.1 first.1 second.1)
+
+of_player : (name : List ℕ) (o : Option (List ℕ)) (behind : List Place) → is_of name o ≡ true →
+    16 ≤ count_of None (Own name) behind → HasOwn o behind
+of_player name None behind is many = absurd (cc)
+of_player name (Some other) behind is many =
+    let same : other ≡ name = (bytes_eq-Decides other name).0 is in
+    subst (λ (n : List ℕ). 16 ≤ count_of None (Own n) behind) (sym same) many
+
+spared_leave : (name : List ℕ) (n : ℕ) (ps : List Place) → (n + 16 ≤ count_of None (Own name) ps) ⊎ (n ≡ 0) →
+    AreSpared ps (leave (counted None (Own name)) n ps)
+spared_leave name n [] left = tt
+spared_leave name n (p ∷ ps) left =
+    elim (leave_step (counted None (Own name)) n p ps) [
+      | inl one ↦
+          let here : count_of None (Own name) (p ∷ ps) ≡ 1 + count_of None (Own name) ps =
+          count_in (counted None (Own name)) p ps one.held in
+          elim left [
+            | inr none ↦ absurd (omega (arith, none, one.more))
+            | inl many ↦
+                let so_many : 16 ≤ count_of None (Own name) ps = omega (arith, many, here, one.more) in
+                let rest : (n - 1) + 16 ≤ count_of None (Own name) ps = omega (arith, many, here, one.more) in
+                rw one.is (
+                  inr (of_player name p.player ps (and_right (is_player p.role) (is_of name p.player) one.held) so_many),
+                  spared_leave name (n - 1) ps (inl rest),
+                )
+          ]
+      | inr passes ↦ rw passes.is (
+        inl refl,
+        spared_leave name n ps (elim left [
+          | inr none ↦ inr none
+          | inl many ↦ elim passes.fails [
+            | inl none ↦ inr none
+            | inr not_so ↦ inl (omega (arith, many, count_out (counted None (Own name)) p ps not_so))
+          ]
+        ]),
+      )
+    ]
+
+room_spared : (player : Option (List ℕ)) (ps : List Place) → AreSpared ps (own_room player ps)
+room_spared None ps = spared_same ps
+room_spared (Some name) ps =
+    spared_leave name (count_of None (Own name) ps - 16) ps
+    (elim (at_most_or_more (count_of None (Own name) ps) 16) [
+      | inl few ↦ inr (omega (arith, few))
+      | inr many ↦ inl (omega (arith, many))
+    ])
+
+each_spared : (qs ps : List Place) → AreSpared ps (each_own qs ps)
+each_spared [] ps = spared_same ps
+each_spared (q ∷ qs) ps =
+    spared_trans ps (own_room q.player ps) (each_own qs (own_room q.player ps)) (room_owns q.player ps) (room_spared q.player ps)
+    (each_spared qs (own_room q.player ps))
+
 pub owned : (ps : List Place) → IsOwned ps (each_own ps ps)
 owned ps = record {
   kept = each_owns ps ps;
   few = λ name. each_own_few name ps ps (few_or_any (count_of None (Own name) ps));
+  spared = each_spared ps ps;
 }

@@ -1,6 +1,6 @@
 -- What is done at a browser's connection is told on.
 use Rattle.std.proofs.Common.{◌≡◌, ◌≢◌, ◌≤◌, ℕ, Bool, true, false, inl, inr, List, [], ◌∷◌, ◌++◌, Option, None, Some, filter, cond, length, take, refl, ap, sym, ◌∙◌, subst, append_assoc, append-nil, length-append, arith, Vec, Global}
-use Rattle.std.specs.Prelude.{◌⊎◌, IsUtf8, if◌then◌else◌}
+use Rattle.std.specs.Prelude.{◌⊎◌, ◌||◌, IsUtf8, if◌then◌else◌}
 use Rattle.std.specs.List.{AllZip}
 use Rattle.std.specs.String.{string_bytes}
 use Rattle.std.specs.Io.KnownBytes.{Consumes, Appends}
@@ -10,7 +10,7 @@ use Rattle.lobby_desk.specs.declared.telling.Message.{Message}
 use Rattle.lobby_desk.specs.declared.desk.Desk.{Desk}
 use Rattle.lobby_desk.specs.Events.{DeskInput, Opened, Closed, Said, Hurried, Heard, ServerTurned, Renewed, Linked, MessageValue, message_value, message_values}
 use Rattle.lobby_desk.specs.Who.{at_table}
-use Rattle.lobby_desk.specs.History.{Step}
+use Rattle.lobby_desk.specs.History.{Step, comes, has_come}
 use Rattle.lobby_web.specs.declared.browser.Browser.{Browser}
 use Rattle.lobby_web.specs.declared.site.Site.{Site}
 use Rattle.lobby_web.specs.declared.socket.Heard.TheVariants as heards
@@ -68,11 +68,17 @@ opening_apart c (Renewed players) apart = refl
 opening_apart c (Heard line) apart = refl
 opening_apart c (ServerTurned is_here) apart = refl
 
+-- who has come has come, whatever follows
+come_on : (b rest : Bool) → rest ≡ true → (b || rest) ≡ true
+come_on true rest is = refl
+come_on false rest is = is
+
 said_on : (n : Option ℕ) (s : Step) (steps : List Step) (past : List Doing) → ApartFrom n s.event → IsSaidBy steps n past →
     IsSaidBy (s ∷ steps) n past
 said_on None s steps past apart said = said
-said_on (Some c) s steps past apart (opened, said) = (
+said_on (Some c) s steps past apart (opened, come, said) = (
   opened,
+  come_on (comes s.event c) (has_come steps c) come,
   subst (λ (l : List DeskInput). AllZip IsSaidAs (texts_given past) l)
       (sym (message_apart c s.event (messages_of c steps) apart)) said,
 )
@@ -98,8 +104,9 @@ told_on (Some c) s steps out past waits apart told = record {
 said_same : (n : Option ℕ) (steps : List Step) (p q : List Doing) → has_opened q ≡ has_opened p → texts_given q ≡ texts_given p →
     IsSaidBy steps n p → IsSaidBy steps n q
 said_same None steps p q opened texts said = opened ∙ said
-said_same (Some c) steps p q opened texts (was, said) = (
+said_same (Some c) steps p q opened texts (was, come, said) = (
   opened ∙ was,
+  come,
   subst (λ (l : List (List ℕ)). AllZip IsSaidAs l (messages_of c steps)) (sym texts) said,
 )
 
@@ -472,6 +479,7 @@ module _ {S : Type 0} (remaining contents : S → Option (List ℕ)) (site : Sit
         late = was.late;
         said = (
           refl,
+          ap (λ (e : DeskInput). comes e c || has_come steps c) is ∙ ap (λ (b : Bool). b || has_come steps c) (eq-eqb c c refl),
           subst (λ (l : List (List ℕ)). AllZip IsSaidAs l (messages_of c (s ∷ steps))) (sym (no_texts was.past was.said))
               (subst (λ (l : List DeskInput). AllZip IsSaidAs [] l) (sym none) tt),
         );
@@ -510,7 +518,8 @@ module _ {S : Type 0} (remaining contents : S → Option (List ℕ)) (site : Sit
       (¬ IsUtf8 text.items → shown ≡ []) → DoesAt remaining contents (Gave (Some (heards.Text text))) a b →
       Served steps out (Some c) a → Served (s ∷ steps) out (Some c) b
   gave_text steps s out c how text shown a b same is text_is text_is_not does was =
-      let (opened, said) = was.said in
+      let opened = was.said.0 in
+      let said = was.said.1.1 in
       let other : is_opening c s.event ≡ false = ap (is_opening c) is ∙ not_opening how c shown in
       record {
         first = was.first;
@@ -522,6 +531,7 @@ module _ {S : Type 0} (remaining contents : S → Option (List ℕ)) (site : Sit
         late = was.late;
         said = (
           opened,
+          come_on (comes s.event c) (has_come steps c) was.said.1.0,
           subst (λ (u : Bool). AllZip IsSaidAs (texts_more (Some (heards.Text text)) u (texts_given was.past))
               (message_of c s.event (messages_of c steps))) (sym opened)
               (subst (λ (e : DeskInput). AllZip IsSaidAs (text.items ∷ texts_given was.past) (message_of c e (messages_of c steps)))

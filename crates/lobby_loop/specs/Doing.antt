@@ -7,7 +7,7 @@ use Rattle.std.specs.String.{string_bytes}
 use Rattle.websocket.specs.Content.{Content}
 use Rattle.lobby_desk.specs.Events.{DeskInput, Opened, Closed, Said, Hurried, Linked, MessageValue}
 use Rattle.lobby_desk.specs.Who.{at_table}
-use Rattle.lobby_desk.specs.History.{Step}
+use Rattle.lobby_desk.specs.History.{Step, has_come}
 use Rattle.lobby_web.specs.declared.browser.Stage.{Stage}
 use Rattle.lobby_web.specs.declared.site.Site.{Site}
 use Rattle.lobby_web.specs.declared.socket.Heard.{Heard}
@@ -17,6 +17,7 @@ use Rattle.lobby_web.specs.Browsing.{IsNew, pending, WantsBytes, Takes, HearsNex
 use Rattle.lobby_web.specs.Happening.{text_of, is_close}
 use Rattle.lobby_guests.specs.declared.guest.Guest.{Guest}
 use Rattle.lobby_guests.specs.declared.waiting.Waiting.{Waiting}
+use Rattle.lobby_guests.specs.Waiting.{AtLine}
 use Rattle.lobby_talk.specs.Making.{IsFinished, IsMade}
 
 -- Bytes came of its socket, none where it is told that no more come; the socket was tried for nothing; it was asked
@@ -149,12 +150,13 @@ IsSaidAs text (Hurried c) = Unit {0}
 IsSaidAs text (Linked c shown players token) = (IsUtf8 text → shown ≡ text) × (¬ IsUtf8 text → shown ≡ [])
 IsSaidAs text _ = ⊥
 
--- The desk was told, under the number of this connection, each text that came of it, once and in their order, and
--- nothing else; and nothing before its socket was open.
+-- The desk was told, under the number of this connection, that it came and each text that came of it, once and in their
+-- order, and nothing else; and nothing before its socket was open.
 abbrev pub IsSaidBy : List Step → Option ℕ → List Doing → Type 0
 IsSaidBy steps None past = has_opened past ≡ false
 IsSaidBy steps (Some c) past =
-    (has_opened past ≡ true) × AllZip IsSaidAs (texts_given past) (messages_of c steps)
+    (has_opened past ≡ true) × (has_come steps c ≡ true)
+    × AllZip IsSaidAs (texts_given past) (messages_of c steps)
 
 -- all that the desk told connections, in its order, and that of it which is for one
 abbrev pub all_tells : List Step → List MessageValue
@@ -271,3 +273,8 @@ WereServed remaining contents site came steps out [] = Unit {0}
 WereServed remaining contents site came steps out (guest ∷ guests) =
     WasServed remaining contents site came steps out guest.number (spot guest)
     × WereServed remaining contents site came steps out guests
+
+-- What waits for each of these waits behind an answer to `line G` that was not there yet.
+abbrev pub AreAtLine : {S : Type 0} → List (Guest S) → Type 0
+AreAtLine [] = Unit {0}
+AreAtLine (guest ∷ guests) = AtLine guest.waits.items × AreAtLine guests

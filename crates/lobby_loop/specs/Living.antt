@@ -20,7 +20,7 @@ use Rattle.lobby_talk.specs.Lines.{bytes_of as bytes_before}
 use Rattle.lobby_talk.specs.Held.{HoldsNoLine}
 use Rattle.lobby_loop.specs.Turning.{BeginsHall, KeepsDoor, Admits, IsServerAsBefore, ServerComes, HasTurned}
 use Rattle.lobby_loop.specs.Turning.{bytes_heard, texts_put, IsLobbyTurn}
-use Rattle.lobby_loop.specs.Doing.{all_tells, AreServed, WereServed, Before}
+use Rattle.lobby_loop.specs.Doing.{all_tells, AreServed, WereServed, AreAtLine, Before}
 
 -- What happens to a hall: a browser comes, sockets may be ready, the server is there, at a path another file is served
 -- from now on, or none, in the place of what this site had, the players are these from now on, a turn. In a turn bytes
@@ -232,7 +232,8 @@ NoLineWaits (Some link) = HoldsNoLine link
 -- is to go; of what went out the log has all texts for it, each once and in their order. Of all browsers that came,
 -- those that were let go too, no two have one connection's number, and the desk was told of no connection but theirs;
 -- the desk has, under its number, all that a browser said, and of what went out all that is for its number was told it
--- or waits for it behind that. Its requests have the answers of the sites that were served.
+-- or waits for it behind that, which only an answer to `line G` does that was not there yet and what came behind it. Its
+-- requests have the answers of the sites that were served.
 pub record IsRightLife {S : Type 0} (remaining contents : S → Option (List ℕ)) (players : List Player)
     (is_paused : Bool)
     (past : List (Happening S)) (now : Hall S) : Type 0 where
@@ -256,6 +257,7 @@ pub record IsRightLife {S : Type 0} (remaining contents : S → Option (List ℕ
   pub known : AreKnown steps gone now.guests.items
   pub served : AreServed remaining contents now.site (before_in past) steps out now.guests.items
   pub were : WereServed remaining contents now.site (before_in past) steps out gone
+  pub lined : AreAtLine gone × AreAtLine now.guests.items
 
 -- Turns of a lobby, at these moments, and between them rests, in which sockets may become ready, and files that are
 -- served from then on, or no more, and other players.

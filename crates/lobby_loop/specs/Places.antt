@@ -124,10 +124,23 @@ judged at from ps =
 abbrev pub IsKeptOrGone : Place → Place → Type 0
 IsKeptOrGone old new = (new ≡ old) ⊎ (new ≡ gone old)
 
--- Each is as it was, or to be closed, who acts for a player; and for each player 16 act at most.
+-- Among these 16 connections are of a player.
+abbrev pub HasOwn : Option (List ℕ) → List Place → Type 0
+HasOwn None behind = ⊥
+HasOwn (Some name) behind = 16 ≤ count_of None (Own name) behind
+
+-- Each is as it was, or 16 of its player's came behind it.
+abbrev pub AreSpared : List Place → List Place → Type 0
+AreSpared [] new = Unit {0}
+AreSpared (p ∷ ps) [] = ⊥
+AreSpared (p ∷ ps) (q ∷ qs) = ((q ≡ p) ⊎ HasOwn p.player ps) × AreSpared ps qs
+
+-- Each is as it was, or to be closed, who acts for a player; and for each player 16 act at most. Who came first is
+-- closed, and none where no more than 16 are there: so 16 of more than these stay.
 pub record IsOwned (old new : List Place) : Type 0 where
   pub kept : AllZip (λ (p q : Place). (q ≡ p) ⊎ ((is_player p.role ≡ true) × (q ≡ gone p))) old new
   pub few : (name : List ℕ) → count_of None (Own name) new ≤ 16
+  pub spared : AreSpared old new
 
 -- It is as it was, or it is to be closed, which befalls who is nameless alone.
 abbrev pub IsKeptOrClosed : Place → Place → Type 0
