@@ -2,7 +2,8 @@
 use Rattle.std.proofs.Common.{◌≡◌, ◌<◌, ◌≤◌, ◌∙◌, ◌||◌, ℕ, Bool, true, false, List, [], ◌∷◌, not, length, get_or, refl, ap, sym, subst, arith}
 use Rattle.std.specs.List.{AllZip, remove}
 use Rattle.std.specs.String.{string_bytes}
-use Rattle.std.proofs.lemmas.Bool.{false≢true}
+use Rattle.std.proofs.lemmas.Bool.{false≢true, and_parts}
+use Rattle.std.proofs.lemmas.Slice.Eq.{bytes_eq-Decides}
 use Rattle.lobby_desk.specs.declared.telling.Message.{Message}
 use Rattle.lobby_talk.specs.Making.{IsOfLine}
 use Rattle.lobby_talk.specs.Counting.{is_for}
@@ -13,7 +14,7 @@ use Rattle.lobby_web.specs.Browsing.{SaysTo}
 use Rattle.lobby_guests.specs.declared.guest.Guest.{Guest}
 use Rattle.lobby_guests.specs.declared.waiting.Waiting.{Waiting}
 use Rattle.lobby_guests.specs.Waiting.{is_line, must_wait, IsToldBy, AtLine, has_whole}
-use Rattle.lobby_guests.specs.Guests.{IsSameVisit, IsStill, IsLeftAlone, NotesLogin, IsPassedOn, IsGivenIf, IsTold, IsFirst, IsCaughtUp, IsSaid, is_cut}
+use Rattle.lobby_guests.specs.Guests.{IsSameVisit, IsStill, IsLeftAlone, NotesLogin, IsPassedOn, IsGivenIf, IsTold, is_first, IsCaughtUp, IsSaid, is_cut}
 
 -- the first, and the others
 pub first_there : {X : Type 0} (xs : List X) (d : X) → 0 < length xs → d ≡ get_or xs 0 d → xs ≡ d ∷ remove xs 0
@@ -24,8 +25,8 @@ pub whole_there : (waits : List Waiting) → has_whole waits ≡ true → 0 < le
 whole_there [] is = absurd (false≢true is)
 whole_there (one ∷ ones) is = omega arith
 
-pub answer_there : (answer : KeptAnswer) (waits : List Waiting) → IsFirst answer waits → 0 < length waits
-answer_there answer [] none_such = absurd none_such
+pub answer_there : (answer : KeptAnswer) (waits : List Waiting) → is_first answer waits ≡ true → 0 < length waits
+answer_there answer [] is = absurd (false≢true is)
 answer_there answer (one ∷ ones) is = omega arith
 
 not_line : (b : Bool) → not b ≡ true → b ≡ false
@@ -56,10 +57,11 @@ told_whole waits one ones told is whole same =
     (not_line (is_line one.kind) (ap has_whole (sym is) ∙ whole)) same
 
 pub told_answer : (waits : List Waiting) (one : Waiting) (ones : List Waiting) (told : List ℕ) (answer : KeptAnswer) → waits ≡ one ∷ ones →
-    IsFirst answer waits → told ≡ string_bytes answer.answer → IsToldBy (is_line one.kind) (string_bytes one.text) told
+    is_first answer waits ≡ true → told ≡ string_bytes answer.answer → IsToldBy (is_line one.kind) (string_bytes one.text) told
 told_answer waits one ones told answer is first same =
-    let here = subst (λ (l : List Waiting). IsFirst answer l) is first in
-    by_answer (is_line one.kind) (string_bytes one.text) told (string_bytes answer.pgn) here.0 here.1
+    let here = and_parts (is_line one.kind) _ (ap (is_first answer) (sym is) ∙ first) in
+    by_answer (is_line one.kind) (string_bytes one.text) told (string_bytes answer.pgn) here.0
+    ((bytes_eq-Decides (string_bytes one.text) (string_bytes answer.pgn)).0 here.1)
     (subst (λ (l : List ℕ). ∥ IsOfLine (string_bytes answer.pgn) l ∥₁) (sym same) answer.made)
 
 module _ {S : Type 0} where

@@ -5,6 +5,7 @@ use Rattle.std.specs.Prelude.{count_by, if◌then◌else◌, is_some, List, [], 
 use Rattle.std.specs.Prelude.{length, take, filter, Result, Ok, Err, is_err}
 use Rattle.std.specs.List.{AllZip}
 use Rattle.std.specs.Io.KnownBytes.{Consumes, Appends}
+use Rattle.std.specs.Str.{bytes_eq}
 use Rattle.std.specs.String.{string_bytes}
 use Rattle.websocket.specs.Content.{text as Text, ping as Ping}
 use Rattle.lobby_desk.specs.declared.telling.Message.{Message}
@@ -25,7 +26,9 @@ use Rattle.lobby_talk.specs.declared.talk.Talk.{Talk}
 use Rattle.lobby_talk.specs.Talking.{Moves, Opens, IsTextSaid, acts_at}
 use Rattle.lobby_talk.specs.Counting.{is_for, is_answer, refuses_login}
 use Rattle.lobby_talk.specs.Keeping.{IsMadeOf}
+use Rattle.lobby_talk.specs.Replaying.{Replays}
 use Rattle.lobby_talk.specs.declared.kept_answer.KeptAnswer.{KeptAnswer}
+use Rattle.lobby_talk.specs.declared.under_way.UnderWay.{UnderWay}
 use Rattle.lobby_guests.specs.declared.waiting.Waiting.{Waiting}
 use Rattle.lobby_guests.specs.Waiting.{IsCopyOf, is_line, must_wait, IsToldBy, AtLine, wanted, first_of}
 
@@ -469,16 +472,34 @@ AreNextTold at [] old new = new ≡ old
 AreNextTold {S = S} at (one ∷ before) old new =
     (between : Guest S) × AreNextTold at before old between × IsNextTold at one between new
 
--- The first that waits is what this answer was made of.
-abbrev pub IsFirst : KeptAnswer → List Waiting → Type 0
-IsFirst answer [] = ⊥
-IsFirst answer (one ∷ ones) = (is_line one.kind ≡ true) × (string_bytes one.text ≡ string_bytes answer.pgn)
+-- whether the first that waits is what this answer was made of
+abbrev pub is_first : KeptAnswer → List Waiting → Bool
+is_first answer [] = false
+is_first answer (one ∷ ones) = is_line one.kind && bytes_eq (string_bytes one.text) (string_bytes answer.pgn)
 
 -- A browser is told some of what waits for it, in front.
 pub record IsCaughtUp {S : Type 0} (at : ℕ) (old new : Guest S) : Type 0 where
   pub front : List Waiting
   pub are : AreNextTold at front old new
   pub at_line : AtLine old.waits.items → AtLine new.waits.items
+
+-- One more may be told this answer, for which it waits first: then less waits for it, and one less may be told it.
+abbrev pub IsAnsweredIf : {S : Type 0} → Bool → Guest S → Guest S → ℕ → ℕ → Type 0
+IsAnsweredIf true old new left after = (length new.waits.items < length old.waits.items) × (after ≡ left - 1)
+IsAnsweredIf false old new left after = after ≡ left
+
+abbrev pub IsAnsweredAt : {S : Type 0} → KeptAnswer → Guest S → Guest S → ℕ → ℕ → Type 0
+IsAnsweredAt answer old new left after =
+    IsAnsweredIf (nat_lt 0 left && is_first answer old.waits.items) old new left after
+
+-- So many are told an answer in a turn: each may be long.
+abbrev pub answered_most : ℕ
+answered_most = 1
+
+-- The first of these for which it waits first is told an answer, where there is one.
+abbrev pub AreAnswered : {S : Type 0} → Option KeptAnswer → List (Guest S) → List (Guest S) → Type 0
+AreAnswered None old new = new ≡ old
+AreAnswered (Some answer) old new = (left : ℕ) × InTurn (IsAnsweredAt answer) old new answered_most left
 
 -- the text of the first that waits for the first of these browsers for which something does
 abbrev pub first_wanted : {S : Type 0} → List (Guest S) → Option (List ℕ)
@@ -490,16 +511,19 @@ abbrev pub has_waiting : {S : Type 0} → List (Guest S) → Talk → Bool
 has_waiting guests talk = is_some talk.replay || is_some (first_wanted guests)
 
 -- At a moment each browser is told those of these messages that are for its connection, whole and in their order, as
--- they go out; but behind an answer that is not there yet they wait. Then some are told what waited for an answer, and
--- what stands behind it, up to the next such. One whose socket may say nothing is told nothing, and one for which there
--- is no room or memory has its socket ended.
+-- they go out; but behind an answer that is not there yet they wait. Then the replay under way goes on, or one begins
+-- for the first that waits. Where that brings an answer, the first who waits for it is told it, and what stands behind
+-- it, up to the next such. One whose socket may say nothing is told nothing, and one for which there is no room or
+-- memory has its socket ended.
 pub record AreDelivered {S : Type 0} (at : ℕ) (kept : List KeptAnswer) (told : List Message)
-    (old new : List (Guest S)) : Type 0 where
+    (replay after : Option UnderWay) (old new : List (Guest S)) : Type 0 where
   pub made : List Message
   pub are_made : AllZip (IsMadeOf kept) told made
   pub first : List (Guest S)
   pub are_told : AllZip (AreTold at made) old first
   pub caught_up : AllZip (IsCaughtUp at) first new
+  pub answers : ∥ ((answer : Option KeptAnswer) × Replays (first_wanted first) replay after answer
+      × AreAnswered answer first new) ∥₁
 
 -- What was written stood in front of what waits to be written, at most 16,384 bytes of it, and its connection goes on
 -- behind it. Or nothing was, and it may have failed.

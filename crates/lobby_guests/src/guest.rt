@@ -4,7 +4,8 @@ ghost use Rattle.std.specs.Prelude.{IsTrue, OnOk};
 ghost use Rattle.lobby_desk.specs.Who.{IsReady, at_table};
 ghost use Rattle.lobby_guests.specs.Guests.{has_time, IsNewGuest, ComesFrom, IsRead, IsStill};
 ghost use Rattle.lobby_guests.specs.Guests.{IsHeardAs, IsHeard, IsAsked, is_untimely, MaySpeak, IsSaid, IsTold};
-ghost use Rattle.lobby_guests.specs.Guests.{NotesLogin, IsPutBehind, IsNextTold, IsCaughtUp, IsFirst, IsSameVisit};
+ghost use Rattle.lobby_guests.specs.Guests.{NotesLogin, IsPutBehind, IsNextTold, IsCaughtUp, IsSameVisit};
+ghost use Rattle.lobby_guests.specs.Guests.{is_first, IsAnsweredAt};
 ghost use Rattle.lobby_guests.specs.Guests.{AreTold, IsPinged, IsAskedUnless, IsSettled, IsWritten};
 ghost use Rattle.lobby_guests.specs.Counting.{CountsNoLogin};
 ghost use Rattle.lobby_guests.specs.Waiting.{must_wait, AtLine};
@@ -600,7 +601,7 @@ impl<S> Guest<S> {
 
     // What waits first is told by this answer.
     fn tell_answer(&mut self, answer: &KeptAnswer, counts: &mut Counts)
-        requires { IsFirst answer.now self.old.waits.items }
+        requires { is_first answer.now self.old.waits.items ≡ true }
         ensures told { (one : WaitingValue) × IsNextTold counts.old.at one self.old self.new }
         ensures counts { CountsNoLogin counts.old counts.new }
     {
@@ -610,8 +611,9 @@ impl<S> Guest<S> {
 
     // What waits first is told by this answer, and then what stands behind it.
     fn catch_up(&mut self, answer: &KeptAnswer, counts: &mut Counts)
-        requires { IsFirst answer.now self.old.waits.items }
+        requires { is_first answer.now self.old.waits.items ≡ true }
         ensures up { IsCaughtUp counts.old.at self.old self.new }
+        ensures fewer { length self.new.waits.items < length self.old.waits.items }
         ensures counts { CountsNoLogin counts.old counts.new }
     {
         self.tell_answer(answer, counts);
@@ -620,7 +622,7 @@ impl<S> Guest<S> {
 
     // Whether the first that waits is what this answer was made of.
     fn is_first(&self, answer: &KeptAnswer) -> bool
-        ensures { result ≡ true → IsFirst answer.now self.now.waits.items }
+        ensures { result ≡ is_first answer.now self.now.waits.items }
     {
         match self.waits.first() {
             None => false,
@@ -632,6 +634,7 @@ impl<S> Guest<S> {
     /// that, and what waits behind it, up to the next that is to be made.
     pub fn be_answered(&mut self, answer: &KeptAnswer, left: &mut usize, counts: &mut Counts)
         ensures up { IsCaughtUp counts.old.at self.old self.new }
+        ensures answered { IsAnsweredAt answer.now self.old self.new left.old left.new }
         ensures counts { CountsNoLogin counts.old counts.new }
     {
         if *left > 0 && self.is_first(answer) {

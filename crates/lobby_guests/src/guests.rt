@@ -2,7 +2,7 @@
 #![tactic(auto, using(lobby_talk::proofs::Each::zipped_none, lobby_talk::proofs::Each::zipped_vec))]
 
 ghost use Rattle.std.specs.Prelude.{ℕ, Bool, true, false, nat_lt, length, ◌<◌, ◌≡◌, ◌++◌, ◌∷◌, [], List, Option, OnOk};
-ghost use Rattle.std.specs.Prelude.{count_by, slice_index_or, slice_set, ◌≢◌};
+ghost use Rattle.std.specs.Prelude.{Some, count_by, slice_index_or, slice_set, ◌≢◌};
 ghost use Rattle.std.specs.Option.{option_map};
 ghost use Rattle.std.specs.List.{AllZip, HoldsAt};
 ghost use Rattle.lobby_guests.specs.Counting.{refusals_in, CountsLogins, CountsNoLogin};
@@ -12,12 +12,13 @@ ghost use Rattle.lobby_guests.specs.Guests.{IsLeftAlone, IsSettled, IsServed, Is
 ghost use Rattle.lobby_guests.specs.Guests.{IsPlayerServed, IsAnswered, KnowsAsker, asked_most, Room, full_room};
 ghost use Rattle.lobby_guests.specs.Rounds.{room_of, others_room, TakesTurn, IsToAsk};
 ghost use Rattle.lobby_guests.specs.Guests.{AreAttended, AreTold, AreDelivered, IsWritten, IsLookedAfter, IsClosedIf};
-ghost use Rattle.lobby_guests.specs.Guests.{AreClosed, AreParted, IsCaughtUp, first_wanted, has_waiting};
+ghost use Rattle.lobby_guests.specs.Guests.{AreClosed, AreParted, IsCaughtUp, AreAnswered, first_wanted, has_waiting};
 ghost use Rattle.lobby_guests.specs.Guests.{LeavesOthers, LeavesStranger};
 ghost use Rattle.lobby_guests.specs.Waking.{IsAwake, StaysUnlessNamed, IsAwakeIfNamed, NamesGrow, IsPlaceNamed};
 ghost use Rattle.lobby_guests.specs.Waking.{number_named};
 ghost use Rattle.lobby_guests.specs.Waiting as waiting;
-ghost use Rattle.lobby_talk.specs.Replaying.{IsReplayed};
+ghost use Rattle.lobby_talk.specs.Replaying.{Replays};
+ghost use Rattle.lobby_talk.specs.declared.kept_answer.KeptAnswer.{KeptAnswer as KeptAnswerValue};
 ghost use Rattle.lobby_talk.specs.Talking.{IsTalkAsBefore, acts_at};
 ghost use Rattle.lobby_talk.specs.Keeping.{AreKept};
 
@@ -308,9 +309,10 @@ fn first_wanted<S>(guests: &[Guest<S>]) -> Option<&str>
     first
 }
 
-// Those are told this answer who wait for it first, some in a turn.
+// The first who waits for this answer first is told it.
 fn answer_all<S>(guests: &mut Vec<Guest<S>>, answer: &KeptAnswer, counts: &mut Counts)
     ensures up { AllZip (IsCaughtUp counts.old.at) guests.old.items guests.new.items }
+    ensures answered { AreAnswered (Some answer.now) guests.old.items guests.new.items }
     ensures counts { CountsNoLogin counts.old counts.new }
 {
     let mut left = ANSWERED_MOST;
@@ -319,14 +321,16 @@ fn answer_all<S>(guests: &mut Vec<Guest<S>>, answer: &KeptAnswer, counts: &mut C
     }
 }
 
-// A replay goes on for the first who waits. Where its answer is there, some who wait for it are told it.
+// A replay goes on for the first who waits. Where its answer is there, the first who waits for it is told it.
 fn answer_waiting<S>(
     guests: &mut Vec<Guest<S>>,
     talk: &mut Talk,
     counts: &mut Counts,
 ) -> Result<(), AllocError>
     ensures up { OnOk result (AllZip (IsCaughtUp counts.old.at) guests.old.items guests.new.items) }
-    ensures replays { OnOk result (∥ IsReplayed (first_wanted guests.old.items) talk.old.replay talk.new.replay ∥₁) }
+    ensures answers { OnOk result (∥ ((answer : Option KeptAnswerValue)
+        × Replays (first_wanted guests.old.items) talk.old.replay talk.new.replay answer
+        × AreAnswered answer guests.old.items guests.new.items) ∥₁) }
     ensures rest { OnOk result (IsTalkAsBefore talk.old talk.new) }
     ensures counts { OnOk result (CountsNoLogin counts.old counts.new) }
 {
@@ -357,12 +361,11 @@ pub fn deliver<S>(
     counts: &mut Counts,
 ) -> Result<(), AllocError>
     ensures guests { OnOk result (AreDelivered counts.old.at talk.old.kept.answers.items talk.old.told.items
-        guests.old.items guests.new.items) }
+        talk.old.replay talk.new.replay guests.old.items guests.new.items) }
     ensures none { OnOk result (talk.new.told.items ≡ []) }
     ensures desk { OnOk result (talk.new.desk ≡ talk.old.desk) }
     ensures wire { OnOk result (talk.new.wire ≡ talk.old.wire) }
     ensures next { OnOk result (talk.new.next ≡ talk.old.next) }
-    ensures replays { OnOk result (∥ ((next : Option (List ℕ)) × IsReplayed next talk.old.replay talk.new.replay) ∥₁) }
     ensures logins { OnOk result (CountsLogins talk.old.kept.answers.items talk.old.told.items guests.old.items
         counts.old.logins_refused counts.new.logins_refused) }
     ensures kept { OnOk result (AreKept talk.new.kept.answers.items) }

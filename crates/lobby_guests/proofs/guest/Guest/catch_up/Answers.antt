@@ -1,5 +1,5 @@
 -- One more is told, or none is left in front of the next answer.
-use Rattle.std.proofs.Common.{ℕ, [], ◌∷◌, ◌∙◌, refl, sym, subst}
+use Rattle.std.proofs.Common.{ℕ, ◌<◌, [], ◌∷◌, ◌∙◌, length, refl, ap, sym, subst, arith}
 use Rattle.lobby_guests.specs.declared.guest.Guest.{Guest}
 use Rattle.lobby_guests.specs.Guests.{AreNextTold, IsNextTold}
 use Rattle.lobby_guests.specs.Waiting.{AtLine}
@@ -9,6 +9,7 @@ pub loop-init : goal.loop-init
 loop-init g c = record {
   front = c.tell_answer.ensures.told.0 ∷ [];
   are = (c.args.self.now, refl, c.tell_answer.ensures.told.1);
+  fewer = omega (arith, ap length c.tell_answer.ensures.told.1.first);
   at = c.tell_answer.ensures.counts.at;
   logins = c.tell_answer.ensures.counts.logins;
 }
@@ -23,6 +24,7 @@ loop-preserved g c =
         c.loop.invariant.are,
         subst (λ (n : ℕ). IsNextTold n told.0 c.loop.self c.tell_whole.new.self) c.loop.invariant.at told.1,
       );
+      fewer = omega (arith, ap length told.1.first, c.loop.invariant.fewer);
       at = c.tell_whole.ensures.counts.at ∙ c.loop.invariant.at;
       logins = c.tell_whole.ensures.counts.logins ∙ c.loop.invariant.logins;
     }
@@ -36,6 +38,11 @@ returns-clause-up g c =
       are = subst (λ (guest : Guest g.row.S.Denot). AreNextTold at c.loop.invariant.front c.args.self.now guest) same c.loop.invariant.are;
       at_line = λ at. subst (λ (guest : Guest g.row.S.Denot). AtLine guest.waits.items) same (c.tell_whole.ensures.line c.loop-test.false);
     }
+
+pub returns-clause-fewer : goal.returns-clause-fewer
+returns-clause-fewer g c =
+    subst (λ (guest : Guest g.row.S.Denot). length guest.waits.items < length c.args.self.now.waits.items)
+    (sym (c.tell_whole.ensures.none c.loop-test.false)) c.loop.invariant.fewer
 
 pub returns-clause-counts : goal.returns-clause-counts
 returns-clause-counts g c = record {
