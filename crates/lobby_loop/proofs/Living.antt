@@ -27,6 +27,7 @@ use Rattle.lobby_guests.specs.Waiting.{AtLine}
 use Rattle.lobby_loop.specs.declared.hall.Hall.{Hall}
 use Rattle.lobby_talk.specs.declared.link.Link.{Link}
 use Rattle.lobby_talk.specs.declared.talk.Talk.{Talk}
+use Rattle.lobby_talk.specs.declared.under_way.UnderWay.{UnderWay}
 use Rattle.lobby_talk.specs.Talking.{Saying, InTime, TooFast, WithLink, saying, Moves}
 use Rattle.lobby_guests.specs.Guests.{asked_most}
 use Rattle.lobby_guests.proofs.Attending.{players_pass, others_pass}
@@ -1091,13 +1092,14 @@ module _ {S : Type 0} (remaining contents : S → Option (List ℕ)) (site : Sit
 module _ {S : Type 0} (remaining contents : S → Option (List ℕ)) (players : List Player) (is_paused : Bool) (came : Before S) where
   -- what went out is delivered, and a front of what is to go to the server is written
   gone_out : (at : ℕ) (site : Site) (former : List (Guest S)) (out : List MessageValue) (base : Traffic) (front : List ℕ) (said : Talk) (desk : Desk)
-      (wire : List ℕ) (guests told : List (Guest S)) → AreDelivered at said.kept.answers.items said.told.items guests told → said.wire.items ≡ front ++ wire →
+      (wire : List ℕ) (after : Option UnderWay) (guests told : List (Guest S)) →
+      AreDelivered at said.kept.answers.items said.told.items said.replay after guests told → said.wire.items ≡ front ++ wire →
       desk ≡ said.desk →
       IsAt players is_paused base out (AreKept remaining contents site came former out guests) said.desk said.wire.items
       (message_values said.told.items) →
       IsAt players is_paused (behind_front front base) (out ++ message_values said.told.items)
       (AreKept remaining contents site came former (out ++ message_values said.told.items) told) desk wire []
-  gone_out at site former out base front said desk wire guests told delivers split same so_far = record {
+  gone_out at site former out base front said desk wire after guests told delivers split same so_far = record {
     steps = so_far.steps;
     run = subst (λ (d : Desk). IsRun players is_paused so_far.steps (view d)) (sym same) so_far.run;
     players_are = ap (λ (d : Desk). d.players.items) same ∙ so_far.players_are;
@@ -1189,7 +1191,7 @@ module _ {S : Type 0} (remaining contents : S → Option (List ℕ)) (players : 
       (kept_same remaining contents site came former out (IsLookedAfter t.between.talk.desk (is_look_time at old) at)
       (λ steps x y one was. served_looked remaining contents site came t.between.talk.desk (is_look_time at old) at steps out x y one was)
       (λ x y one. one.number) t.takes.attended t.takes.looked t.takes.looks steps kept)) attended in
-      let told = gone_out at site former out base t.hands.front t.between.talk t.hands.rest.desk t.hands.rest.wire.items t.between.guests.items t.hands.told t.hands.delivers
+      let told = gone_out at site former out base t.hands.front t.between.talk t.hands.rest.desk t.hands.rest.wire.items t.hands.rest.replay t.between.guests.items t.hands.told t.hands.delivers
       (written_on contents t.hands.front t.between.server new.server t.between.talk.wire.items t.hands.rest.wire.items t.hands.tells) t.hands.desk looked in
       let none : message_values t.hands.rest.told.items ≡ [] = ap (λ (l : List Message). message_values l) t.hands.none in
       let at_settled : IsAt players is_paused wrote later (Closing remaining contents site came players is_paused former later settled (λ steps. Unit {0}))

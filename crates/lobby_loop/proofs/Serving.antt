@@ -441,7 +441,7 @@ module _ {S : Type 0} (remaining contents : S → Option (List ℕ)) (site : Sit
     done = (a, was.done, does);
     sites = at_more site came.sites (Gave (Some heards.Opened)) was.past tt was.sites;
     late = was.late;
-    said = (refl, was.said.1);
+    said = (refl, was.said.1, was.said.2);
     told = subst (λ (l : List Waiting). IsToldOf steps out c (Gave (Some heards.Opened) ∷ was.past) l) (sym same)
         (told_same (Some c) steps out was.past (Gave (Some heards.Opened) ∷ was.past) a.waits refl was.told);
   }
@@ -519,7 +519,7 @@ module _ {S : Type 0} (remaining contents : S → Option (List ℕ)) (site : Sit
       Served steps out (Some c) a → Served (s ∷ steps) out (Some c) b
   gave_text steps s out c how text shown a b same is text_is text_is_not does was =
       let opened = was.said.0 in
-      let said = was.said.1.1 in
+      let said = was.said.2 in
       let other : is_opening c s.event ≡ false = ap (is_opening c) is ∙ not_opening how c shown in
       record {
         first = was.first;
@@ -531,7 +531,7 @@ module _ {S : Type 0} (remaining contents : S → Option (List ℕ)) (site : Sit
         late = was.late;
         said = (
           opened,
-          come_on (comes s.event c) (has_come steps c) was.said.1.0,
+          come_on (comes s.event c) (has_come steps c) was.said.1,
           subst (λ (u : Bool). AllZip IsSaidAs (texts_more (Some (heards.Text text)) u (texts_given was.past))
               (message_of c s.event (messages_of c steps))) (sym opened)
               (subst (λ (e : DeskInput). AllZip IsSaidAs (text.items ∷ texts_given was.past) (message_of c e (messages_of c steps)))

@@ -15,7 +15,6 @@ use Rattle.lobby_guests.specs.Origins.{IsPlain, IsFrom}
 use Rattle.lobby_guests.specs.Guests.{IsNewGuest, ComesFrom, AreAttended, AreDelivered, IsWritten, IsLookedAfter}
 use Rattle.lobby_guests.specs.Guests.{AreParted, has_waiting, earlier, first_due, LeavesOthers, LeavesStranger}
 use Rattle.lobby_talk.specs.Held.{TakesIn, HandsOn, IsKept}
-use Rattle.lobby_talk.specs.Replaying.{IsReplayed}
 use Rattle.lobby_loop.specs.Seating.{AreSeatedIf}
 use Rattle.lobby_loop.specs.declared.hall.Hall.{Hall}
 
@@ -196,16 +195,16 @@ pub record TakesAllIn {S : Type 0} (remaining : S → Option (List ℕ)) (at : �
   pub site : new.site ≡ old.site
 
 -- What is to go is handed out at a moment: what the desk told is delivered, for which of all replays the one under way
--- goes on by at most 16 plies, and what is to go is written, to the server and to each browser, but in a short turn to
--- none that acts for nobody; and the desk is told who is let go.
+-- goes on by at most 16 plies, or one begins; and what is to go is written, to the server and to each browser, but in a
+-- short turn to none that acts for nobody; and the desk is told who is let go.
 pub record HandsAllOut {S : Type 0} (contents : S → Option (List ℕ)) (at : ℕ) (is_short : Bool)
     (old new : Hall S) : Type 0 where
   pub told : List (Guest S)
-  pub delivers : AreDelivered at old.talk.kept.answers.items old.talk.told.items old.guests.items told
   pub rest : Talk
+  pub delivers : AreDelivered at old.talk.kept.answers.items old.talk.told.items old.talk.replay rest.replay
+      old.guests.items told
   pub desk : rest.desk ≡ old.talk.desk
   pub next : rest.next ≡ old.talk.next
-  pub replays : ∥ ((next : Option (List ℕ)) × IsReplayed next old.talk.replay rest.replay) ∥₁
   pub none : rest.told.items ≡ []
   pub front : List ℕ
   pub tells : TellsServer contents front old.server new.server old.talk.wire.items rest.wire.items
