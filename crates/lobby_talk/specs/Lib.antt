@@ -2,6 +2,7 @@ pub mod Pieces
 pub mod Held
 pub mod Making
 pub mod Talking
+pub mod Deciding
 pub mod Roll
 pub mod Lines
 pub mod Counting

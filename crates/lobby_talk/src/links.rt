@@ -1,7 +1,8 @@
 //! Who changes players' links, puts an arbiter's decisions down, and keeps what he halts.
-ghost use Rattle.std.specs.Prelude.{IfSome};
+ghost use Rattle.std.specs.Prelude.{List, Option, None, ◌≡◌, IfSome};
 ghost use Rattle.std.specs.String.{string_bytes};
 ghost use Rattle.lobby_words.specs.Players.{IsRelinked};
+ghost use Rattle.lobby_talk.specs.Deciding.{Decision, IsPut};
 
 use lobby_desk::{Halts, Order};
 use lobby_words::{Linked, Player};
@@ -9,21 +10,27 @@ use std::io;
 
 /// Keeps the players' file, by which links hold, beside it whether entries are paused, and why all clocks are stopped.
 pub trait KeepsLinks {
+    /// The decisions that were put, in their order, where they are known.
+    ghost decided: { Self → Option (List Decision) } = { λ _. None };
+
     /// Gives one of these players a new link, or closes it, in the file: the old one holds no more. It answers once
     /// the file is on the disk, by the players from then on and the token of the new link: they are these, but that
     /// the player of the order has this token, which none of them had. `None` where that was not done, as where the
     /// file has other players, and the file is as it was.
     fn change(&mut self, order: &Order, players: &[Player]) -> Option<Linked>
-        ensures { IfSome result (λ linked. IsRelinked order.now.name
-            (string_bytes linked.token) players.now linked.players.items) };
+        ensures linked { IfSome result (λ linked. IsRelinked order.now.name
+            (string_bytes linked.token) players.now linked.players.items) }
+        ensures decided { decided self.new ≡ decided self.old };
 
     /// Puts the decision of a message to those of its round: of this arbiter, who is one of these players. It answers
     /// once it is on the disk, and `false` where that was not done: then the decisions are as they were.
-    fn decide(&mut self, arbiter: &str, text: &str, players: &[Player]) -> bool;
+    fn decide(&mut self, arbiter: &str, text: &str, players: &[Player]) -> bool
+        ensures { IsPut result arbiter.now text.now (decided self.old) (decided self.new) };
 
     /// This is halted now. It is told so in each turn, before browsers are told what came of it. Where it fails, since
     /// clocks would run that browsers are told to stand still, or stand still, the lobby ends.
-    fn keep(&mut self, halts: &Halts) -> io::Result<()>;
+    fn keep(&mut self, halts: &Halts) -> io::Result<()>
+        ensures { decided self.new ≡ decided self.old };
 }
 
 /// No file: no link is changed, nothing is decided, and nothing is kept.

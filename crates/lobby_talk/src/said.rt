@@ -1,15 +1,18 @@
 //! What a browser says, as the desk takes it.
-ghost use Rattle.std.specs.Prelude.{◌≡◌, true, Some, IfSome, OnOk};
+ghost use Rattle.std.specs.Prelude.{ℕ, ◌≡◌, true, List, [], Some, IfSome, IsUtf8, OnOk};
 ghost use Rattle.std.specs.String.{string_bytes};
 ghost use Rattle.lobby_words.specs.Players.{IsRelinked};
 ghost use Rattle.lobby_desk.specs.Events.{message_values};
 ghost use Rattle.lobby_desk.specs.Who.{IsReady, IsDecisionTold, decides_now, order_asked};
 ghost use Rattle.lobby_talk.specs.Talking.{Says, IsTextSaid, IsOrderTold};
+ghost use Rattle.lobby_talk.specs.Deciding.{IsDecided, name_in};
+ghost use Rattle.lobby_desk.specs.Strangers.{player_at};
 
 use crate::links::KeepsLinks;
 use crate::talk::Talk;
 use lobby_desk::Order;
 use lobby_words::Linked;
+use player_name::Name;
 use std::alloc::AllocError;
 use std::str;
 
@@ -52,7 +55,8 @@ fn say_order<K: KeepsLinks>(
 ) -> Result<(), AllocError>
     requires ready { IsReady talk.old.desk number }
     requires asked { order_asked talk.old.desk number shown.now at ≡ Some order.now }
-    ensures { OnOk result (Says shown.now number at talk.old talk.new) }
+    ensures says { OnOk result (Says shown.now number at talk.old talk.new) }
+    ensures decided { K.decided links.new ≡ K.decided links.old }
 {
     let done = links.change(order, talk.players());
     say_done(shown, number, talk, at, order, done)
@@ -80,6 +84,16 @@ fn say_decided(
     Ok(())
 }
 
+// A name, and the empty text where there is none.
+fn name_in(by: &Option<Name>) -> &str
+    ensures { result.now ≡ name_in by.now }
+{
+    match by {
+        None => "",
+        Some(name) => name.as_str(),
+    }
+}
+
 // The same, where whoever keeps the decisions is asked first.
 fn say_decision<K: KeepsLinks>(
     shown: &str,
@@ -90,15 +104,16 @@ fn say_decision<K: KeepsLinks>(
 ) -> Result<(), AllocError>
     requires ready { IsReady talk.old.desk number }
     requires decides { decides_now talk.old.desk number shown.now at ≡ true }
-    ensures { OnOk result (Says shown.now number at talk.old talk.new) }
+    ensures says { OnOk result (Says shown.now number at talk.old talk.new) }
+    ensures decided { OnOk result (IsDecided true number shown.now (K.decided links.old) (K.decided links.new)
+        talk.old talk.new) }
 {
     let by = talk.player_at(number);
-    let arbiter = by.as_ref().map_or("", |by| by.as_str());
-    let is_put = links.decide(arbiter, shown, talk.players());
+    let is_put = links.decide(name_in(&by), shown, talk.players());
     say_decided(shown, number, talk, at, is_put)
 }
 
-// A message is said to the desk that asks for no player's link.
+// A message is said to the desk that decides nothing.
 fn say_plain<K: KeepsLinks>(
     shown: &str,
     number: u64,
@@ -107,13 +122,16 @@ fn say_plain<K: KeepsLinks>(
     links: &mut K,
 ) -> Result<(), AllocError>
     requires { IsReady talk.old.desk number }
-    ensures { OnOk result (Says shown.now number at talk.old talk.new) }
+    ensures says { OnOk result (Says shown.now number at talk.old talk.new) }
+    ensures decided { K.decided links.new ≡ K.decided links.old }
 {
-    if talk.decides(number, shown, at) {
-        return say_decision(shown, number, talk, at, links);
+    match talk.order(number, shown, at) {
+        None => {
+            talk.said(number, shown, at)?;
+            Ok(())
+        }
+        Some(order) => say_order(shown, number, talk, at, &order, links),
     }
-    talk.said(number, shown, at)?;
-    Ok(())
 }
 
 // A message is said to the desk.
@@ -125,15 +143,19 @@ fn say<K: KeepsLinks>(
     links: &mut K,
 ) -> Result<(), AllocError>
     requires { IsReady talk.old.desk number }
-    ensures { OnOk result (Says shown.now number at talk.old talk.new) }
+    ensures says { OnOk result (Says shown.now number at talk.old talk.new) }
+    ensures decided { OnOk result (IsDecided (decides_now talk.old.desk number shown.now at) number shown.now
+        (K.decided links.old) (K.decided links.new) talk.old talk.new) }
 {
-    match talk.order(number, shown, at) {
-        None => say_plain(shown, number, talk, at, links),
-        Some(order) => say_order(shown, number, talk, at, &order, links),
+    if talk.decides(number, shown, at) {
+        say_decision(shown, number, talk, at, links)
+    } else {
+        say_plain(shown, number, talk, at, links)
     }
 }
 
-/// A text of a connection is said to the desk; one that is no UTF-8 as the empty text, which is refused.
+/// A text of a connection is said to the desk; one that is no UTF-8 as the empty text, which is refused. Where it is an
+/// arbiter's decision, it is put first, and told just where that was done.
 pub fn say_to_desk<K: KeepsLinks>(
     text: &[u8],
     number: u64,
@@ -142,7 +164,10 @@ pub fn say_to_desk<K: KeepsLinks>(
     links: &mut K,
 ) -> Result<(), AllocError>
     requires { IsReady talk.old.desk number }
-    ensures { OnOk result (IsTextSaid text.now number at talk.old talk.new) }
+    ensures said { OnOk result (IsTextSaid text.now number at talk.old talk.new) }
+    ensures decided { OnOk result ((shown : List ℕ) × (IsUtf8 text.now → shown ≡ text.now)
+        × (¬ IsUtf8 text.now → shown ≡ []) × IsDecided (decides_now talk.old.desk number shown at) number shown
+        (K.decided links.old) (K.decided links.new) talk.old talk.new) }
 {
     let shown = str::from_utf8(text).unwrap_or("");
     say(shown, number, talk, at, links)

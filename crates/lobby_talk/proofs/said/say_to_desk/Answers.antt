@@ -13,9 +13,16 @@ shown_of P text (Ok s) none shown cases empty is =
 shown_of P text (Err e) none shown cases empty is =
     (λ yes. absurd (cases.0 yes), λ _. ap (λ (b : Bor (List ℕ)). b.now) is ∙ empty)
 
-pub returns : goal.returns
-returns g c =
+pub returns-clause-said : goal.returns-clause-said
+returns-clause-said g c =
     let text = c.args.text.now in
     let shown = c.unwrap_or-shown.result.now in
     let both = shown_of _ text c.from_utf8.result _ c.unwrap_or-shown.result c.from_utf8.ensures.cases refl c.unwrap_or-shown.ensures in
-    on_ok_weaker c.say.result (λ says. (shown, both.0, both.1, says)) c.say.ensures
+    on_ok_weaker c.say.result (λ says. (shown, both.0, both.1, says)) c.say.ensures.says
+
+pub returns-clause-decided : goal.returns-clause-decided
+returns-clause-decided g c =
+    let text = c.args.text.now in
+    let shown = c.unwrap_or-shown.result.now in
+    let both = shown_of _ text c.from_utf8.result _ c.unwrap_or-shown.result c.from_utf8.ensures.cases refl c.unwrap_or-shown.ensures in
+    on_ok_weaker c.say.result (λ is. (shown, both.0, both.1, is)) c.say.ensures.decided
