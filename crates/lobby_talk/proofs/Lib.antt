@@ -3,6 +3,7 @@ pub mod Others
 pub mod Making
 pub mod Taking
 pub mod Saying
+mod Fronts
 pub mod Logging
 pub mod Keeping
 mod Replaying

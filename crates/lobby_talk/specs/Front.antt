@@ -2,6 +2,8 @@
 use Rattle.std.specs.Prelude.{ℕ, Bool, List, [], ◌∷◌, ◌==◌, ◌&&◌, ◌||◌, if◌then◌else◌, nat_le, eqb, codes, bit_xor}
 use Rattle.std.specs.Prelude.{length, slice_index}
 use Rattle.std.specs.List.{starts_with}
+use Rattle.std.specs.Str.{bytes_eq}
+use Rattle.lobby_words.specs.Words.{is_act_word, is_as_word}
 
 abbrev pub begins : List ℕ → List ℕ → Bool
 begins text word = starts_with eqb text word
@@ -14,6 +16,12 @@ is_act text =
     || begins text (codes "flag ") || begins text (codes "open ") || begins text (codes "join ")
     || begins text (codes "drop ") || begins text (codes "login") || begins text (codes "pair ")
     || begins text (codes "as ")
+
+-- the first words of acts, of a pairing and of a login
+abbrev pub is_hasty_word : List ℕ → Bool
+is_hasty_word w =
+    is_act_word w || bytes_eq w (codes "drop") || is_as_word w || bytes_eq w (codes "pair")
+    || bytes_eq w (codes "login")
 
 -- Whether it asks for little: how one game stands, or that no more is told.
 unfoldable pub is_brief : List ℕ → Bool

@@ -1,0 +1,213 @@
+-- A text with the first word of an act begins as one.
+use Rattle.std.proofs.Common.{ℕ, suc, ◌≡◌, ◌≤◌, ◌<◌, ◌+◌, ◌⊎◌, ◌||◌, ◌==◌, inl, inr, Bool, true, false, List, [], ◌∷◌, ◌++◌, codes, length, take, refl, ap, sym, ◌∙◌, subst, arith, if◌then◌else◌}
+use Rattle.std.specs.List.{position_or_len}
+use Rattle.std.specs.Str.{bytes_eq}
+use Rattle.std.proofs.lemmas.Bool.{cases_Bool}
+use Rattle.std.proofs.lemmas.Bool.Decides.{Decides-eqb}
+use Rattle.std.proofs.lemmas.List.Recursion.{is_position_or_len}
+use Rattle.std.proofs.lemmas.Slice.Eq.{bytes_eq-Decides}
+use Rattle.lobby_words.specs.Words.{word_of, is_act_word, is_play_word}
+use Rattle.lobby_talk.specs.Front.{is_act, is_hasty_word}
+
+-- ---- a text is its word, or that, a space and more
+
+until : List ℕ → ℕ
+until [] = 0
+until (x ∷ xs) = if x == 32 then 0 else 1 + until xs
+
+until_is : (text : List ℕ) → until text ≡ position_or_len (λ b. b == 32) text
+until_is text = is_position_or_len until (λ b. b == 32) refl (λ x xs. refl) text
+
+one_more : (n : ℕ) → 1 + n ≡ suc n
+one_more n = omega arith
+
+abbrev Splits : List ℕ → ℕ → Type 0
+Splits text n = (text ≡ take n text) ⊎ ((rest : List ℕ) × (text ≡ take n text ++ 32 ∷ rest))
+
+split_word : (text : List ℕ) → Splits text (until text)
+split_word [] = inl refl
+split_word (x ∷ xs) = elim (cases_Bool (x == 32)) [
+  | inl is ↦ subst (λ (n : ℕ). Splits (x ∷ xs) n) (sym (ap (λ (b : Bool). if b then 0 else 1 + until xs) is))
+      (inr (xs, ap (λ (y : ℕ). y ∷ xs) ((Decides-eqb x 32).0 is)))
+  | inr no ↦ subst (λ (n : ℕ). Splits (x ∷ xs) n)
+      (sym (ap (λ (b : Bool). if b then 0 else 1 + until xs) no ∙ one_more (until xs))) (elim (split_word xs) [
+        | inl same ↦ inl (ap (λ (l : List ℕ). x ∷ l) same)
+        | inr more ↦ inr (more.0, ap (λ (l : List ℕ). x ∷ l) more.1)
+      ])
+]
+
+word_text : (text w : List ℕ) → word_of text ≡ w → (text ≡ w) ⊎ ((rest : List ℕ) × (text ≡ w ++ 32 ∷ rest))
+word_text text w is =
+    let here : take (until text) text ≡ w = ap (λ (n : ℕ). take n text) (until_is text) ∙ is in
+    elim (split_word text) [
+      | inl same ↦ inl (same ∙ here)
+      | inr more ↦ inr (more.0, more.1 ∙ ap (λ (l : List ℕ). l ++ 32 ∷ more.0) here)
+    ]
+
+-- ---- so it begins as the word does
+
+begins_with : (text w : List ℕ) → bytes_eq (word_of text) w ≡ true → 5 ≤ length text →
+    (5 ≤ length w → is_act (take 5 w) ≡ true) → ((rest : List ℕ) → is_act (take 5 (w ++ 32 ∷ rest)) ≡ true) →
+    is_act (take 5 text) ≡ true
+begins_with text w is long whole more =
+    elim (word_text text w ((bytes_eq-Decides (word_of text) w).0 is)) [
+      | inl same ↦ subst (λ (l : List ℕ). is_act (take 5 l) ≡ true) (sym same)
+          (whole (subst (λ (l : List ℕ). 5 ≤ length l) same long))
+      | inr behind ↦ subst (λ (l : List ℕ). is_act (take 5 l) ≡ true) (sym behind.1) (more behind.0)
+    ]
+
+too_short : (w : List ℕ) (n : ℕ) → length w ≡ n → n < 5 → 5 ≤ length w → is_act (take 5 w) ≡ true
+too_short w n is few many = absurd (omega (arith, is, few, many))
+
+move_begins : (rest : List ℕ) → is_act (take 5 (codes "move" ++ 32 ∷ rest)) ≡ true
+unfolding is_act
+move_begins rest = refl
+
+by_move : (text : List ℕ) → bytes_eq (word_of text) (codes "move") ≡ true → 5 ≤ length text → is_act (take 5 text) ≡ true
+by_move text is long =
+    begins_with text (codes "move") is long (too_short (codes "move") 4 refl (omega arith)) move_begins
+
+offer_alone : is_act (take 5 (codes "offer")) ≡ true
+unfolding is_act
+offer_alone = refl
+
+offer_begins : (rest : List ℕ) → is_act (take 5 (codes "offer" ++ 32 ∷ rest)) ≡ true
+unfolding is_act
+offer_begins rest = refl
+
+by_offer : (text : List ℕ) → bytes_eq (word_of text) (codes "offer") ≡ true → 5 ≤ length text → is_act (take 5 text) ≡ true
+by_offer text is long =
+    begins_with text (codes "offer") is long (λ _. offer_alone) offer_begins
+
+accept_alone : is_act (take 5 (codes "accept")) ≡ true
+unfolding is_act
+accept_alone = refl
+
+accept_begins : (rest : List ℕ) → is_act (take 5 (codes "accept" ++ 32 ∷ rest)) ≡ true
+unfolding is_act
+accept_begins rest = refl
+
+by_accept : (text : List ℕ) → bytes_eq (word_of text) (codes "accept") ≡ true → 5 ≤ length text → is_act (take 5 text) ≡ true
+by_accept text is long =
+    begins_with text (codes "accept") is long (λ _. accept_alone) accept_begins
+
+decline_alone : is_act (take 5 (codes "decline")) ≡ true
+unfolding is_act
+decline_alone = refl
+
+decline_begins : (rest : List ℕ) → is_act (take 5 (codes "decline" ++ 32 ∷ rest)) ≡ true
+unfolding is_act
+decline_begins rest = refl
+
+by_decline : (text : List ℕ) → bytes_eq (word_of text) (codes "decline") ≡ true → 5 ≤ length text → is_act (take 5 text) ≡ true
+by_decline text is long =
+    begins_with text (codes "decline") is long (λ _. decline_alone) decline_begins
+
+resign_alone : is_act (take 5 (codes "resign")) ≡ true
+unfolding is_act
+resign_alone = refl
+
+resign_begins : (rest : List ℕ) → is_act (take 5 (codes "resign" ++ 32 ∷ rest)) ≡ true
+unfolding is_act
+resign_begins rest = refl
+
+by_resign : (text : List ℕ) → bytes_eq (word_of text) (codes "resign") ≡ true → 5 ≤ length text → is_act (take 5 text) ≡ true
+by_resign text is long =
+    begins_with text (codes "resign") is long (λ _. resign_alone) resign_begins
+
+claim_alone : is_act (take 5 (codes "claim")) ≡ true
+unfolding is_act
+claim_alone = refl
+
+claim_begins : (rest : List ℕ) → is_act (take 5 (codes "claim" ++ 32 ∷ rest)) ≡ true
+unfolding is_act
+claim_begins rest = refl
+
+by_claim : (text : List ℕ) → bytes_eq (word_of text) (codes "claim") ≡ true → 5 ≤ length text → is_act (take 5 text) ≡ true
+by_claim text is long =
+    begins_with text (codes "claim") is long (λ _. claim_alone) claim_begins
+
+flag_begins : (rest : List ℕ) → is_act (take 5 (codes "flag" ++ 32 ∷ rest)) ≡ true
+unfolding is_act
+flag_begins rest = refl
+
+by_flag : (text : List ℕ) → bytes_eq (word_of text) (codes "flag") ≡ true → 5 ≤ length text → is_act (take 5 text) ≡ true
+by_flag text is long =
+    begins_with text (codes "flag") is long (too_short (codes "flag") 4 refl (omega arith)) flag_begins
+
+open_begins : (rest : List ℕ) → is_act (take 5 (codes "open" ++ 32 ∷ rest)) ≡ true
+unfolding is_act
+open_begins rest = refl
+
+by_open : (text : List ℕ) → bytes_eq (word_of text) (codes "open") ≡ true → 5 ≤ length text → is_act (take 5 text) ≡ true
+by_open text is long =
+    begins_with text (codes "open") is long (too_short (codes "open") 4 refl (omega arith)) open_begins
+
+join_begins : (rest : List ℕ) → is_act (take 5 (codes "join" ++ 32 ∷ rest)) ≡ true
+unfolding is_act
+join_begins rest = refl
+
+by_join : (text : List ℕ) → bytes_eq (word_of text) (codes "join") ≡ true → 5 ≤ length text → is_act (take 5 text) ≡ true
+by_join text is long =
+    begins_with text (codes "join") is long (too_short (codes "join") 4 refl (omega arith)) join_begins
+
+drop_begins : (rest : List ℕ) → is_act (take 5 (codes "drop" ++ 32 ∷ rest)) ≡ true
+unfolding is_act
+drop_begins rest = refl
+
+by_drop : (text : List ℕ) → bytes_eq (word_of text) (codes "drop") ≡ true → 5 ≤ length text → is_act (take 5 text) ≡ true
+by_drop text is long =
+    begins_with text (codes "drop") is long (too_short (codes "drop") 4 refl (omega arith)) drop_begins
+
+as_begins : (rest : List ℕ) → is_act (take 5 (codes "as" ++ 32 ∷ rest)) ≡ true
+unfolding is_act
+as_begins rest = refl
+
+by_as : (text : List ℕ) → bytes_eq (word_of text) (codes "as") ≡ true → 5 ≤ length text → is_act (take 5 text) ≡ true
+by_as text is long =
+    begins_with text (codes "as") is long (too_short (codes "as") 2 refl (omega arith)) as_begins
+
+pair_begins : (rest : List ℕ) → is_act (take 5 (codes "pair" ++ 32 ∷ rest)) ≡ true
+unfolding is_act
+pair_begins rest = refl
+
+by_pair : (text : List ℕ) → bytes_eq (word_of text) (codes "pair") ≡ true → 5 ≤ length text → is_act (take 5 text) ≡ true
+by_pair text is long =
+    begins_with text (codes "pair") is long (too_short (codes "pair") 4 refl (omega arith)) pair_begins
+
+login_alone : is_act (take 5 (codes "login")) ≡ true
+unfolding is_act
+login_alone = refl
+
+login_begins : (rest : List ℕ) → is_act (take 5 (codes "login" ++ 32 ∷ rest)) ≡ true
+unfolding is_act
+login_begins rest = refl
+
+by_login : (text : List ℕ) → bytes_eq (word_of text) (codes "login") ≡ true → 5 ≤ length text → is_act (take 5 text) ≡ true
+by_login text is long =
+    begins_with text (codes "login") is long (λ _. login_alone) login_begins
+
+or_either : (a b : Bool) → (a || b) ≡ true → (a ≡ true) ⊎ (b ≡ true)
+or_either true b is = inl refl
+or_either false b is = inr is
+
+abbrev Begins : List ℕ → Bool → Type 0
+Begins text b = b ≡ true → 5 ≤ length text → is_act (take 5 text) ≡ true
+
+either : (text : List ℕ) (a b : Bool) → Begins text a → Begins text b → Begins text (a || b)
+either text a b one other = λ is long. elim (or_either a b is) [ inl so ↦ one so long | inr so ↦ other so long ]
+
+by_play : (text : List ℕ) → Begins text (is_play_word (word_of text))
+unfolding is_play_word
+by_play text =
+    either text _ _ (by_move text) (either text _ _ (by_offer text) (either text _ _ (by_accept text)
+    (either text _ _ (by_decline text) (either text _ _ (by_resign text) (either text _ _ (by_claim text) (by_flag text))))))
+
+by_act : (text : List ℕ) → Begins text (is_act_word (word_of text))
+unfolding is_act_word
+by_act text = either text _ _ (by_open text) (either text _ _ (by_join text) (by_play text))
+
+pub begins_as_act : (text : List ℕ) → Begins text (is_hasty_word (word_of text))
+begins_as_act text =
+    either text _ _ (by_act text) (either text _ _ (by_drop text) (either text _ _ (by_as text)
+    (either text _ _ (by_pair text) (by_login text))))
