@@ -38,7 +38,3 @@ Replays (Some text) None (Some new) None = BeginsOf text (More new)
 Replays (Some text) None None (Some answer) = BeginsOf text (Whole answer)
 Replays None None None None = Unit {0}
 Replays _ _ _ _ = ⊥
-
--- the same, whatever the answer
-abbrev pub IsReplayed : Option (List ℕ) → Option UnderWay → Option UnderWay → Type 0
-IsReplayed next old new = (answer : Option KeptAnswer) × Replays next old new answer

@@ -9,5 +9,5 @@ returns-in_ok-say_to_desk-in-Some-number-clause-told g c =
     let after = c.say_to_desk.new.talk in
     let said : IsTextSaid c.in-Text.text.items number c.args.at c.args.talk.now after =
     subst (λ (l : List ℕ). IsTextSaid l number c.args.at c.args.talk.now after) c.as_slice.ensures.value
-    c.in_ok-say_to_desk-in-Some-number.ensures in
+    c.in_ok-say_to_desk-in-Some-number.ensures.said in
     rw (c.in-Text.is, c.in-Some-number.is) (refl, said)
