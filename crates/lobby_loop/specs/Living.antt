@@ -224,16 +224,16 @@ abbrev pub NoLineWaits : {S : Type 0} → Option (Link S) → Type 0
 NoLineWaits None = Unit {0}
 NoLineWaits (Some link) = HoldsNoLine link
 
--- What is promised of whatever happened. The desk has taken a run of steps, in which every line to the server and every
--- message to a connection is right. What was written to the server since its connection began is a front of the bytes
--- of these lines, and the rest of them is to go. The lines that the desk heard since then stand in front of all bytes
--- that came of the server, and where its connection goes on no whole line of it waits; the desk was told that the
--- server is there or gone just where it was. What the desk told connections went out of its hands, and the rest of it
--- is to go; of what went out the log has all texts for it, each once and in their order. Of all browsers that came,
--- those that were let go too, no two have one connection's number, and the desk was told of no connection but theirs;
--- the desk has, under its number, all that a browser said, and of what went out all that is for its number was told it
--- or waits for it behind that, which only an answer to `line G` does that was not there yet and what came behind it. Its
--- requests have the answers of the sites that were served.
+-- What is promised of whatever happened. The desk has taken a run of steps, in which every line to the server and
+-- every message to a connection is right. What was written to the server since its connection began is a front of
+-- the bytes of these lines, and the rest of them is to go. The lines that the desk heard since then stand in front
+-- of all bytes that came of the server, and where its connection goes on no whole line of it waits; the desk was
+-- told that the server is there or gone just where it was. What the desk told connections went out of its hands, and
+-- the rest of it is to go; of what went out the log has all texts for it, each once and in their order. Of all
+-- browsers that came, those that were let go too, no two have one connection's number, and the desk was told of no
+-- connection but theirs; the desk has, under its number, all that a browser said, and of what went out all that is
+-- for its number was told it or waits for it behind that, which only an answer to `line G` does that was not there
+-- yet and what came behind it. Its requests have the answers of the sites that were served.
 pub record IsRightLife {S : Type 0} (remaining contents : S → Option (List ℕ)) (players : List Player)
     (is_paused : Bool)
     (past : List (Happening S)) (now : Hall S) : Type 0 where
