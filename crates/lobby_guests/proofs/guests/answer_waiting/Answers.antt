@@ -19,7 +19,11 @@ returns-in-None-clause-answers g c =
     let now = c.replay_on.new.self.replay in
     let next = c.first_wanted.ensures ∙ ap first_wanted c.as_slice.ensures.value in
     ∥∥₁_map c.in_ok-replay_on.ensures.replays
-    (λ goes. (c.in_ok-replay_on.field-0, subst (λ (n : Option (List ℕ)). Replays n old now c.in_ok-replay_on.field-0) next goes, refl))
+    (λ goes. (
+      c.in_ok-replay_on.field-0,
+      subst (λ (n : Option (List ℕ)). Replays n old now c.in_ok-replay_on.field-0) next goes,
+      subst (λ (answer : Option KeptAnswer). AreAnswered answer c.args.guests.now.items c.args.guests.now.items) (sym c.in-None.is) refl,
+    ))
 
 pub returns-in-Some-clause-answers : goal.returns-in-Some-clause-answers
 returns-in-Some-clause-answers g c =
@@ -34,6 +38,7 @@ returns-in-Some-clause-answers g c =
     (λ goes. (
       c.in_ok-replay_on.field-0,
       subst (λ (n : Option (List ℕ)). Replays n old now c.in_ok-replay_on.field-0) next goes,
-      c.answer_all.ensures.answered,
+      subst (λ (answer : Option KeptAnswer). AreAnswered answer c.args.guests.now.items c.answer_all.new.guests.items)
+          (sym c.in-Some.is) c.answer_all.ensures.answered,
     ))))
     c.keep.ensures.replay
