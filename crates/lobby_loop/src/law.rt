@@ -5,7 +5,7 @@ ghost use Rattle.lobby_desk.specs.Events.{MessageValue};
 ghost use Rattle.lobby_desk.specs.History.{Step};
 ghost use Rattle.lobby_web.specs.declared.site.Site.{Site};
 ghost use Rattle.lobby_loop.specs.declared.hall.Hall.{Hall};
-ghost use Rattle.lobby_loop.specs.Doing.{Spot, Before, IsServed};
+ghost use Rattle.lobby_loop.specs.Doing.{Spot, Before, around, IsServed};
 ghost use Rattle.std.specs.List.{AllZip};
 ghost use Rattle.lobby_guests.specs.Guests.{StaysLost};
 ghost use Rattle.lobby_loop.specs.Turning.{HasTurned};
@@ -44,7 +44,7 @@ pub fn law_of_lobbies<S>()
 pub fn law_of_browsers<S>()
     ensures { (remaining contents : S → Option (List ℕ)) (site : Site) (came : Before S) (steps : List Step)
         (out : List MessageValue)
-        (number : Option ℕ) (now : Spot S) → (served : IsServed remaining contents site came steps out number now) →
+        (number : Option ℕ) (now : Spot S) → (served : IsServed remaining contents (around site came) steps out number now) →
         Speaks served.past now.stage }
 {}
 
