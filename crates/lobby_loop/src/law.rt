@@ -43,9 +43,9 @@ pub fn law_of_lobbies<S>()
 /// their order, all of them while its socket is open. Before that HTTP answers what came, and nothing is said.
 pub fn law_of_browsers<S>()
     ensures { (remaining contents : S → Option (List ℕ)) (site : Site) (came : Before S) (steps : List Step)
-        (out : List MessageValue)
-        (number : Option ℕ) (now : Spot S) → (served : IsServed remaining contents (around site came) steps out number now) →
-        Speaks served.past now.stage }
+        (out : List MessageValue) (number : Option ℕ) (now : Spot S)
+        → (served : IsServed remaining contents (around site came) steps out number now)
+        → Speaks served.past now.stage }
 {}
 
 /// Whoever is to be closed once all that came in a turn was taken in, as one that has no place any more, is let go at
