@@ -22,8 +22,8 @@ use Rattle.lobby_loop.specs.Turning.{BeginsHall, KeepsDoor, Admits, IsServerAsBe
 use Rattle.lobby_loop.specs.Turning.{bytes_heard, texts_put, IsLobbyTurn}
 use Rattle.lobby_loop.specs.Doing.{all_tells, AreServed, WereServed, AreAtLine, Before}
 
--- A turn: its moment; the bytes that come of the server, and whether the connection to it is lost behind them; the texts
--- that the log has behind that, and the bytes that are written to the server then.
+-- A turn: its moment; the bytes that come of the server, and whether the connection to it is lost behind them; the
+-- texts that the log has behind that, and the bytes that are written to the server then.
 pub record Turn : Type 0 where
   pub at : ℕ
   pub taken : List ℕ
