@@ -1352,12 +1352,15 @@ module _ {S : Type 0} (remaining contents : S → Option (List ℕ)) (players : 
               (own_added old.talk.next former old.guests.items more.0 more.1.number so_far.own)
         ]);
         whole = subst (λ s. NoLineWaits s) (sym admits.server) so_far.whole;
-        lined = (so_far.lined.0, elim admits.guests [
-          | inl same ↦ subst (λ (gs : List (Guest S)). AreAtLine gs) (sym same) so_far.lined.1
-          | inr more ↦ subst (λ (gs : List (Guest S)). AreAtLine gs) (sym more.2)
-              (lines_both old.guests.items (more.0 ∷ []) so_far.lined.1
-              (subst (λ (l : List Waiting). AtLine l) (sym more.1.waits) tt, tt))
-        ]);
+        lined = (
+          so_far.lined.0,
+          elim admits.guests [
+            | inl same ↦ subst (λ (gs : List (Guest S)). AreAtLine gs) (sym same) so_far.lined.1
+            | inr more ↦ subst (λ (gs : List (Guest S)). AreAtLine gs) (sym more.2)
+                (lines_both old.guests.items (more.0 ∷ []) so_far.lined.1
+                (subst (λ (l : List Waiting). AtLine l) (sym more.1.waits) tt, tt))
+          ],
+        );
       }
 
   woken : (o : Outside) (came : Before S) (old new : Hall S) → IsWoken old new →
@@ -1379,8 +1382,11 @@ module _ {S : Type 0} (remaining contents : S → Option (List ℕ)) (players : 
             (own_as old.talk.next former old.guests.items new.guests.items
             (same_numbers IsLeftAlone (λ x y one. one.before.still.number) old.guests.items new.guests.items wakes.guests) so_far.own);
         whole = woken_whole old.server new.server wakes.server so_far.whole;
-        lined = (so_far.lined.0, lines_by IsLeftAlone (λ x y one. same_line x y one.before.still.waits) old.guests.items
-            new.guests.items wakes.guests so_far.lined.1);
+        lined = (
+          so_far.lined.0,
+          lines_by IsLeftAlone (λ x y one. same_line x y one.before.still.waits) old.guests.items
+              new.guests.items wakes.guests so_far.lined.1,
+        );
       }
 
   still_lined : (former : List (Guest S)) (old new : Hall S) → new.guests ≡ old.guests →
