@@ -10,12 +10,17 @@ pub record Decision : Type 0 where
   pub by : List ℕ
   pub text : List ℕ
 
+-- these, and behind them one more where it was put
+abbrev pub with_put : Bool → List Decision → Decision → List Decision
+with_put true before one = before ++ one ∷ []
+with_put false before one = before
+
 -- This decision stands behind those that were put before, or it was not put and they are as they were; where they are
 -- known.
 abbrev pub IsPut : Bool → List ℕ → List ℕ → Option (List Decision) → Option (List Decision) → Type 0
 IsPut is_put by text None after = ⊤
-IsPut true by text (Some before) after = after ≡ Some (before ++ record { by = by; text = text } ∷ [])
-IsPut false by text (Some before) after = after ≡ Some before
+IsPut is_put by text (Some before) after =
+    after ≡ Some (with_put is_put before (record { by = by; text = text }))
 
 -- a name, and the empty text where there is none
 abbrev pub name_in : Option (List ℕ) → List ℕ
