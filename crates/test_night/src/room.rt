@@ -57,10 +57,7 @@ impl AppendedFile for SmallFile {
     }
 }
 
-// What a log is told at its moments. There is room for the first alone; the others have some when they are put, and
-// none is lost.
-const TOLD: [&str; 4] = ["came ann", "came bob", "went ann", "went bob"];
-
+// What a log has then. There is room for the first alone; the others have some when they are put, and none is lost.
 const WANTED: [(u64, &str); 6] = [
     (1, "came ann"),
     (2, "lobby has no room for its log"),
@@ -70,13 +67,12 @@ const WANTED: [(u64, &str); 6] = [
     (4, "went bob"),
 ];
 
-// Tells a log one of these at its moment.
-fn tell(rt: &impl Abort, alloc: Global, log: &mut HoldingLog<SmallFile>, place: usize) {
+// Tells a log a text at a moment.
+fn tell(rt: &impl Abort, alloc: Global, log: &mut HoldingLog<SmallFile>, at: u64, text: &str) {
     let mut texts = Vec::new(alloc);
-    let text = String::from_str(alloc, TOLD[place]).expect(rt, "memory");
+    let text = String::from_str(alloc, text).expect(rt, "memory");
     texts.push(text).expect(rt, "memory");
-    log.put(alloc, place as u64 + 1, &texts)
-        .expect(rt, "a log that goes on");
+    log.put(alloc, at, &texts).expect(rt, "a log that goes on");
 }
 
 // Asks whether a log has room at a moment.
@@ -106,13 +102,13 @@ fn goes_on_without_room(rt: HostRuntime) {
     };
     let log = Log::open(alloc, file, &mut MemoryTorn::new(alloc, false)).expect(&rt, "a log");
     let mut log = HoldingLog::over(alloc, log).expect(&rt, "a log");
-    tell(&rt, alloc, &mut log, 0);
+    tell(&rt, alloc, &mut log, 1, "came ann");
     assert!(rt; has_room(&rt, alloc, &mut log, 5));
-    tell(&rt, alloc, &mut log, 1);
+    tell(&rt, alloc, &mut log, 2, "came bob");
     assert!(rt; !has_room(&rt, alloc, &mut log, 7));
-    tell(&rt, alloc, &mut log, 2);
+    tell(&rt, alloc, &mut log, 3, "went ann");
     assert!(rt; has_room(&rt, alloc, &mut log, 8));
-    tell(&rt, alloc, &mut log, 3);
+    tell(&rt, alloc, &mut log, 4, "went bob");
     let bytes = log.into_file().bytes;
     let found = verify_lines(alloc, &bytes).expect(&rt, "a log");
     let entries = entries_of(alloc, &bytes).expect(&rt, "a log");
