@@ -159,11 +159,16 @@ export class Broadcast {
     this.isLooking = false;
     if (this.left.signal.aborted) return;
     this.failures = fault ? this.failures + 1 : 0;
-    const pause = fault ? Math.max(fault.pause || 0, PAUSES[Math.min(this.failures, PAUSES.length) - 1])
-      : !this.games.told ? LOOKS_FOR : this.isAtTable ? LOOKS.all : LOOKS.one;
+    const pause = fault ? this.pauseBehind(fault) : !this.games.told ? LOOKS_FOR : this.isAtTable ? LOOKS.all : LOOKS.one;
     this.timer = setTimeout(() => this.look(), pause);
     if (fault) this.failed(pause);
     else this.came();
+  }
+
+  /** Of those who fail at the same time not all come again at the same time. */
+  pauseBehind(fault) {
+    const least = Math.max(fault.pause || 0, PAUSES[Math.min(this.failures, PAUSES.length) - 1]);
+    return least * (1 + Math.random() / 2);
   }
 
   /** What an arbiter has everybody told stands in each file: all games are read for it where no other is. */

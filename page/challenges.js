@@ -89,7 +89,8 @@ export class Challenges {
   read(row) {
     const [, white, black, ...times] = row.split(' '), isWhite = white === this.app.me();
     return { other: isWhite ? black : white, name: this.app.nameWords(isWhite ? black : white),
-      times: timesWords(readTimes(timesOfOpen(`open white ${times.join(' ')}`))) + (times.length > 2 ? ', FEN' : ''),
+      times: timesWords(readTimes(timesOfOpen(`open white ${times.join(' ')}`)))
+        + (times.length > 2 ? `, ${t`from a position`}` : ''),
       colour: colourWord(isWhite ? 'w' : 'b'), line: row.slice(row.indexOf(' ') + 1) };
   }
 
