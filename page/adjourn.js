@@ -99,7 +99,8 @@ export class Adjournments {
 
   /** The note of a game that has left the table; null where there is none. */
   async kept(number) {
-    const kept = await findKept(number), told = kept && toldOf(kept, (full) => this.app.nameOf(full));
+    const [kept] = await Promise.all([findKept(number), this.app.round.look()]);
+    const told = kept && toldOf(kept, (full) => this.app.nameOf(full));
     return told ? this.noteOf(told.standing, told.standing.fen, kept.tags.TimeControl || '') : null;
   }
 

@@ -133,10 +133,12 @@ class Page {
     return this.wire instanceof Broadcast ? this.wire.rankOf(name) : '';
   }
 
-  /** The name in the protocol of who has this full name, where that is one player; else the name as it is. */
+  /** The name in the protocol of who has this full name, here or in a tournament's particulars, where that is one
+   * player; else the name as it is. */
   nameOf(full) {
-    const names = [...this.players].filter(([, player]) => player.full === full).map(([name]) => name);
-    return names.length === 1 ? names[0] : full;
+    const known = [...this.players].map(([name, player]) => ({ name, full: player.full }));
+    const found = [...known, ...this.round.players()].filter((one) => one.full === full).map(({ name }) => name);
+    return new Set(found).size === 1 ? found[0] : full;
   }
 
   go(route) {

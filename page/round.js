@@ -91,6 +91,11 @@ export class RoundView {
     return found ? found.law : null;
   }
 
+  /** The players by {name, full}, as they were told last; of teams these. */
+  players() {
+    return this.told ? this.told.players : [];
+  }
+
   /** How far the log goes, as it was told last: {lines, sum, at, broken}; null where it was not. */
   log() {
     return this.told && this.told.log || null;
