@@ -141,9 +141,7 @@ where
             Some(held) => held,
             None => HeldFile::open(self.rt, path).context(format_args!("opening {path}"))?,
         };
-        let file = held
-            .file(self.rt)
-            .context(format_args!("opening {path}"))?;
+        let file = held.file(self.rt).context(format_args!("opening {path}"))?;
         let opened = open_archive(self.rt, path, file)?;
         self.held = Some(held);
         self.has_looked = true;
