@@ -236,6 +236,7 @@ class Page {
     this.leaveLater();
     this.atTable();
     byId('invited').hidden = byId('taken-back').hidden = true;
+    if (isGame) this.tellOther(number);
     for (const link of document.querySelectorAll('.top nav a')) {
       if (link.getAttribute('href') === (isGame ? '' : view.hash || '#/')) link.setAttribute('aria-current', 'page');
       else link.removeAttribute('aria-current');
@@ -297,35 +298,54 @@ class Page {
     return this.view === this.game && this.game.isPlaying();
   }
 
+  /** One's own games that go on, as the table has them: the newest first. */
+  ownRunning() {
+    const me = this.me();
+    if (!me) return [];
+    return [...this.table.rows.values()].filter(({ white, black, result }) => white && black && result === '*'
+      && (white === me || black === me)).reverse();
+  }
+
+  /** At the board of one's own game, that another one goes on, where it does. */
+  tellOther(number) {
+    const own = this.ownRunning(), row = own.find((one) => one.number !== number);
+    if (row && own.some((one) => one.number === number)) this.tellRunning(row.number, this.gameWords(row, t`goes on`));
+  }
+
+  gameWords({ number, white, black }, what) {
+    return t`Your game ${number} against ${this.nameWords(white === this.me() ? black : white)} ${what}`;
+  }
+
   /** A game of one's own that has begun since the table was first told; and one that runs already, for who comes by a
    * personal link. */
   findBegun() {
     const me = this.me();
     if (!me) return;
-    const own = [...this.table.rows.values()].filter(({ white, black, result }) => white && black && result === '*'
-      && (white === me || black === me)).reverse();
+    const own = this.ownRunning();
     const begun = this.begunFor === me && own.find(({ number }) => !this.begun.has(number));
     const row = begun || this.who.arrives && this.view === this.table && own[0];
     this.begunFor = me;
     this.who.arrives = false;
     own.forEach(({ number }) => this.begun.add(number));
-    if (row) this.begin(row.number, t`Your game ${row.number} against ${
-      this.nameWords(row.white === me ? row.black : row.white)} ${begun ? t`has begun` : t`goes on`}`);
+    if (row) this.begin(row.number, this.gameWords(row, begun ? t`has begun` : t`goes on`));
+    else if (this.view === this.game) this.tellOther(this.game.number);
   }
 
   /** One's own game has begun: one is taken to its board, or told the way where one plays at another. */
   begin(number, words) {
     this.begun.add(number);
-    if (this.isPlaying()) {
-      byId('invited').hidden = false;
-      byId('invited').replaceChildren(t`${words}: the clocks run. `,
-        make('a', { class: 'button strong', href: `#/game/${number}` }, t`Go there`));
-    } else {
-      this.go(`/game/${number}`);
-    }
+    if (this.isPlaying()) this.tellRunning(number, words);
+    else this.go(`/game/${number}`);
     say(`${words}.`);
     sound('offer');
     this.turns.tell(`${words}.`);
+  }
+
+  /** That a game goes on or has begun at another board, and the way there. */
+  tellRunning(number, words) {
+    byId('invited').hidden = false;
+    byId('invited').replaceChildren(t`${words}: the clocks run. `,
+      make('a', { class: 'button strong', href: `#/game/${number}` }, t`Go there`));
   }
 
   findOpened() {

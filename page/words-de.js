@@ -823,6 +823,8 @@ export const WORDS = {
   'Copy the games for chess-club start': 'Partien für chess-club start kopieren',
   'Look it up': 'Nachsehen',
   '{0} has not accepted your game.': '{0} hat deine Partie nicht angenommen.',
+  'Another game of yours goes on: press “Accept” again to play both at once.':
+    'Eine andere Partie von dir läuft: Drücke noch einmal „Annehmen“, um beide zugleich zu spielen.',
   'It is offered.': 'Angeboten.',
   'The round': 'Die Runde',
   'There is no round here.': 'Hier gibt es keine Runde.',

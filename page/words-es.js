@@ -815,6 +815,8 @@ export const WORDS = {
   'Copy the games for chess-club start': 'Copiar las partidas para chess-club start',
   'Look it up': 'Buscarla',
   '{0} has not accepted your game.': '{0} no ha aceptado tu partida.',
+  'Another game of yours goes on: press “Accept” again to play both at once.':
+    'Otra partida tuya está en curso: pulsa «Aceptar» otra vez para jugar las dos a la vez.',
   'It is offered.': 'Está ofrecida.',
   'The round': 'La ronda',
   'There is no round here.': 'Aquí no hay ninguna ronda.',

@@ -829,6 +829,8 @@ export const WORDS = {
   'Copy the games for chess-club start': 'Copier les parties pour chess-club start',
   'Look it up': 'La chercher',
   '{0} has not accepted your game.': '{0} n’a pas accepté votre partie.',
+  'Another game of yours goes on: press “Accept” again to play both at once.':
+    'Une autre de vos parties est en cours : appuyez encore sur « Accepter » pour jouer les deux à la fois.',
   'It is offered.': 'Elle est proposée.',
   'The round': 'La ronde',
   'There is no round here.': 'Il n’y a pas de ronde ici.',

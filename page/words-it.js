@@ -820,6 +820,8 @@ export const WORDS = {
   'Copy the games for chess-club start': 'Copia le partite per chess-club start',
   'Look it up': 'Cercala',
   '{0} has not accepted your game.': '{0} non ha accettato la tua partita.',
+  'Another game of yours goes on: press “Accept” again to play both at once.':
+    'Un’altra tua partita è in corso: premi di nuovo «Accetta» per giocarle entrambe insieme.',
   'It is offered.': 'È proposta.',
   'The round': 'Il turno',
   'There is no round here.': 'Qui non c’è alcun turno.',

@@ -822,6 +822,8 @@ export const WORDS = {
   'Copy the games for chess-club start': 'Partijen kopiëren voor chess-club start',
   'Look it up': 'Opzoeken',
   '{0} has not accepted your game.': '{0} heeft je partij niet aangenomen.',
+  'Another game of yours goes on: press “Accept” again to play both at once.':
+    'Er loopt nog een partij van je: druk nogmaals op ‘Aannemen’ om beide tegelijk te spelen.',
   'It is offered.': 'Ze is aangeboden.',
   'The round': 'De ronde',
   'There is no round here.': 'Er is hier geen ronde.',

@@ -814,6 +814,8 @@ export const WORDS = {
   'Copy the games for chess-club start': 'Kopiuj partie dla chess-club start',
   'Look it up': 'Wyszukaj',
   '{0} has not accepted your game.': '{0}: twoja partia nie została przyjęta.',
+  'Another game of yours goes on: press “Accept” again to play both at once.':
+    'Twoja inna partia trwa: naciśnij „Przyjmij” jeszcze raz, aby grać obie naraz.',
   'It is offered.': 'Zaproponowano.',
   'The round': 'Runda',
   'There is no round here.': 'Nie ma tu żadnej rundy.',

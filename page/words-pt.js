@@ -810,6 +810,8 @@ export const WORDS = {
   'Copy the games for chess-club start': 'Copiar as partidas para chess-club start',
   'Look it up': 'Procurar',
   '{0} has not accepted your game.': '{0} não aceitou a sua partida.',
+  'Another game of yours goes on: press “Accept” again to play both at once.':
+    'Outra partida sua está em curso: prima «Aceitar» outra vez para jogar as duas ao mesmo tempo.',
   'It is offered.': 'Está oferecida.',
   'The round': 'A ronda',
   'There is no round here.': 'Não há nenhuma ronda aqui.',
