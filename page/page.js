@@ -306,10 +306,10 @@ class Page {
       && (white === me || black === me)).reverse();
   }
 
-  /** At the board of one's own game, that another one goes on, where it does. */
+  /** At a board, that another game of one's own goes on, where it does. */
   tellOther(number) {
-    const own = this.ownRunning(), row = own.find((one) => one.number !== number);
-    if (row && own.some((one) => one.number === number)) this.tellRunning(row.number, this.gameWords(row, t`goes on`));
+    const row = this.ownRunning().find((one) => one.number !== number);
+    if (row) this.tellRunning(row.number, this.gameWords(row, t`goes on`));
   }
 
   gameWords({ number, white, black }, what) {
