@@ -8,6 +8,7 @@ import { isOf } from './pairing.js';
 import { arbiterWords, timesWords } from './words.js';
 
 const HEADER = 'board,white,black,times,start', FIELDS = 5;
+const LEAST = 60;                    // seconds of each player at first: fewer are taken for minutes that were meant
 const SETTLES = 700;                 // milliseconds between two looks at the table
 const ZONE = /(Z|[+-]\d\d:\d\d)$/;
 const FIELD = /(?:"((?:[^"]|"")*)"|([^,"\r\n]*))(,|\r?\n|$)/y;
@@ -204,5 +205,8 @@ function wrongWith(row, { line, start }, stranger, twice) {
   if (twice !== undefined) return t`${twice} stands twice`;
   if (Number.isNaN(start) || begins && !ZONE.test(begins)) return t`the start is not as 2026-11-26T19:30Z is`;
   const isBye = !black && !begins, areTimes = timesOfOpen(`open white ${line}`) === times;
-  return isBye || areTimes ? '' : t`the times are not as 300+2 is`;
+  if (!isBye && !areTimes) return t`the times are not as 300+2 is`;
+  // (the page writes 15+10 for 15 minutes, and this file has seconds)
+  const isShort = !isBye && readTimes(times).initial < LEAST;
+  return isShort ? t`the times are in seconds, and less than a minute: 15 minutes are 900` : '';
 }

@@ -741,8 +741,8 @@ export const WORDS = {
   'Hide': 'Masquer',
   'By the arbiter, {0}: it goes on later as another game. In the record this one is a draw.':
     'Par l’arbitre, {0} : elle reprend plus tard comme une autre partie. Dans les archives, celle-ci est nulle.',
-  'It is taken back at {0}, when you leave this page, or when another game of yours begins.':
-    'Elle est retirée à {0}, quand vous quittez cette page ou quand une autre de vos parties commence.',
+  'It is taken back at {0}, when you close this page, or when another game of yours begins.':
+    'Elle est retirée à {0}, quand vous fermez cette page ou quand une autre de vos parties commence.',
   'Your other game that waited is taken back, since one has begun.':
     'Votre autre partie en attente est retirée, puisqu’une a commencé.',
   'Nobody has joined your game in ten minutes: it is taken back.':
@@ -816,6 +816,8 @@ export const WORDS = {
   'no player has the name {0}': 'aucun joueur ne porte le nom {0}',
   '{0} stands twice': '{0} y figure deux fois',
   'the times are not as 300+2 is': 'la cadence ne s’écrit pas comme 300+2',
+  'the times are in seconds, and less than a minute: 15 minutes are 900':
+    'la cadence est en secondes, et de moins d’une minute : 15 minutes font 900',
   'the start is not as 2026-11-26T19:30Z is': 'le début ne s’écrit pas comme 2026-11-26T19:30Z',
   'Row {0}: {1}.': 'Ligne {0} : {1}.',
   'There is no board in it.': 'Il n’y a aucun échiquier dedans.',

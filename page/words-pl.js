@@ -728,8 +728,8 @@ export const WORDS = {
   'Hide': 'Ukryj',
   'By the arbiter, {0}: it goes on later as another game. In the record this one is a draw.':
     'Przez sędziego, {0}: będzie kontynuowana później jako inna partia. W zapisie ta jest remisem.',
-  'It is taken back at {0}, when you leave this page, or when another game of yours begins.':
-    'Zostanie cofnięta o {0}, gdy opuścisz tę stronę albo gdy zacznie się inna twoja partia.',
+  'It is taken back at {0}, when you close this page, or when another game of yours begins.':
+    'Zostanie cofnięta o {0}, gdy zamkniesz tę stronę albo gdy zacznie się inna twoja partia.',
   'Your other game that waited is taken back, since one has begun.':
     'Twoja druga oczekująca partia została cofnięta, bo jedna się zaczęła.',
   'Nobody has joined your game in ten minutes: it is taken back.':
@@ -802,6 +802,8 @@ export const WORDS = {
   'no player has the name {0}': 'żaden gracz nie ma nazwy {0}',
   '{0} stands twice': '{0} występuje dwa razy',
   'the times are not as 300+2 is': 'tempo nie jest jak 300+2',
+  'the times are in seconds, and less than a minute: 15 minutes are 900':
+    'czas podaje się w sekundach, a tu jest mniej niż minuta: 15 minut to 900',
   'the start is not as 2026-11-26T19:30Z is': 'początek nie jest jak 2026-11-26T19:30Z',
   'Row {0}: {1}.': 'Wiersz {0}: {1}.',
   'There is no board in it.': 'Nie ma w tym żadnej szachownicy.',

@@ -725,8 +725,8 @@ export const WORDS = {
   'Hide': 'Ocultar',
   'By the arbiter, {0}: it goes on later as another game. In the record this one is a draw.':
     'Pelo árbitro, {0}: continua mais tarde como outra partida. No registro, esta é empate.',
-  'It is taken back at {0}, when you leave this page, or when another game of yours begins.':
-    'É retirada às {0}, quando você deixa esta página ou quando outra partida sua começa.',
+  'It is taken back at {0}, when you close this page, or when another game of yours begins.':
+    'É retirada às {0}, quando você fecha esta página ou quando outra partida sua começa.',
   'Your other game that waited is taken back, since one has begun.':
     'Sua outra partida em espera foi retirada, pois uma começou.',
   'Nobody has joined your game in ten minutes: it is taken back.':
@@ -798,6 +798,8 @@ export const WORDS = {
   'no player has the name {0}': 'nenhum jogador tem o nome {0}',
   '{0} stands twice': '{0} aparece duas vezes',
   'the times are not as 300+2 is': 'os tempos não são como 300+2',
+  'the times are in seconds, and less than a minute: 15 minutes are 900':
+    'os tempos são em segundos e de menos de um minuto: 15 minutos são 900',
   'the start is not as 2026-11-26T19:30Z is': 'o início não é como 2026-11-26T19:30Z',
   'Row {0}: {1}.': 'Linha {0}: {1}.',
   'There is no board in it.': 'Não há nenhum tabuleiro.',

@@ -597,7 +597,7 @@ def offers_end(hall):
     is left; where it is loaded anew it is opened again, and it stays where another page is there."""
     ann, bob, _ = hall.sit()
     first, second = hall.set_up(), hall.set_up()
-    ann.reads('#outcome', 'It is taken back at', 'when you leave this page')
+    ann.reads('#outcome', 'It is taken back at', 'when you close this page')
     number = lambda: ann.driver.current_url.rsplit('/', 1)[1]
     ann.reload().until(lambda: number() not in (first, second), 'loaded anew, they are opened again')
     ann.reads('#outcome', 'Waiting for an opponent', 'It is taken back at')
