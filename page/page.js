@@ -243,6 +243,7 @@ class Page {
     }
     scrollTo(0, 0);
     byId('main').scrollTop = 0;
+    this.round.refresh();
   }
 
   /** Who plays, and who looks at the table or the hall, is told of the table; a watcher of one game is not. */
@@ -276,6 +277,7 @@ class Page {
     if (this.lostOpen) this.findOpened();
     this.findBegun();
     this.offers.look();
+    this.round.refresh();
     return true;
   }
 

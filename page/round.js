@@ -62,9 +62,14 @@ export class RoundView {
     if (this.app.view === this.app.game) this.app.game.render();
   }
 
+  /** Reads the file where it was read some time ago: so the head has the way here wherever one is. */
+  refresh() {
+    if (performance.now() - this.readAt > (this.told ? KNOWS_FOR : LOOKS_AGAIN)) this.look();
+  }
+
   /** For a game's page: which round's board a game is, in words; '' where it is none's. */
   boardWords(number) {
-    if (performance.now() - this.readAt > (this.told ? KNOWS_FOR : LOOKS_AGAIN)) this.look();
+    this.refresh();
     const place = this.placeOf(number);
     return place ? t`Round ${place.round}, board ${place.board}` : '';
   }
