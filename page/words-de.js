@@ -58,6 +58,9 @@ export const WORDS = {
   'the smaller time, {0} ({1})': 'die kleinere Zeit, {0} ({1})',
   '{0} gains {1}': '{0} bekommt {1} mehr',
   '{0} loses {1}': '{0} bekommt {1} weniger',
+  'Clocks': 'Uhren',
+  'as they stood behind the last move; whose turn it was had less at the end':
+    'wie sie nach dem letzten Zug standen; wer am Zug war, hatte am Ende weniger',
   'Goes on with': 'Geht weiter mit',
   'The game has ended meanwhile.': 'Die Partie ist inzwischen zu Ende.',
   ['A draw can be agreed on once both sides have made a move, so this game cannot be closed yet. Have both make '

@@ -56,6 +56,9 @@ export const WORDS = {
   'the smaller time, {0} ({1})': 'el tiempo menor, {0} ({1})',
   '{0} gains {1}': '{0}: {1} más',
   '{0} loses {1}': '{0}: {1} menos',
+  'Clocks': 'Relojes',
+  'as they stood behind the last move; whose turn it was had less at the end':
+    'como estaban tras la última jugada; quien tenía el turno tenía menos al final',
   'Goes on with': 'Sigue con',
   'The game has ended meanwhile.': 'La partida ha terminado entretanto.',
   ['A draw can be agreed on once both sides have made a move, so this game cannot be closed yet. Have both make '

@@ -60,6 +60,9 @@ export const WORDS = {
   'the smaller time, {0} ({1})': 'le plus petit temps, {0} ({1})',
   '{0} gains {1}': '{0} : {1} de plus',
   '{0} loses {1}': '{0} : {1} de moins',
+  'Clocks': 'Pendules',
+  'as they stood behind the last move; whose turn it was had less at the end':
+    'telles qu’après le dernier coup ; le camp au trait avait moins à la fin',
   'Goes on with': 'Reprise avec',
   'The game has ended meanwhile.': 'La partie s’est terminée entre-temps.',
   ['A draw can be agreed on once both sides have made a move, so this game cannot be closed yet. Have both make '

@@ -57,6 +57,9 @@ export const WORDS = {
   'the smaller time, {0} ({1})': 'il tempo minore, {0} ({1})',
   '{0} gains {1}': '{0}: {1} in più',
   '{0} loses {1}': '{0}: {1} in meno',
+  'Clocks': 'Orologi',
+  'as they stood behind the last move; whose turn it was had less at the end':
+    'come stavano dopo l’ultima mossa; chi doveva muovere aveva meno alla fine',
   'Goes on with': 'Riprende con',
   'The game has ended meanwhile.': 'Nel frattempo la partita è finita.',
   ['A draw can be agreed on once both sides have made a move, so this game cannot be closed yet. Have both make '

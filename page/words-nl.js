@@ -57,6 +57,9 @@ export const WORDS = {
   'the smaller time, {0} ({1})': 'de kleinste tijd, {0} ({1})',
   '{0} gains {1}': '{0} krijgt {1} meer',
   '{0} loses {1}': '{0} krijgt {1} minder',
+  'Clocks': 'Klokken',
+  'as they stood behind the last move; whose turn it was had less at the end':
+    'zoals ze na de laatste zet stonden; wie aan zet was, had aan het eind minder',
   'Goes on with': 'Gaat verder met',
   'The game has ended meanwhile.': 'De partij is intussen afgelopen.',
   ['A draw can be agreed on once both sides have made a move, so this game cannot be closed yet. Have both make '

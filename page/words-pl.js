@@ -57,6 +57,9 @@ export const WORDS = {
   'the smaller time, {0} ({1})': 'mniejszy czas, {0} ({1})',
   '{0} gains {1}': '{0}: o {1} więcej',
   '{0} loses {1}': '{0}: o {1} mniej',
+  'Clocks': 'Zegary',
+  'as they stood behind the last move; whose turn it was had less at the end':
+    'jak stały po ostatnim ruchu; strona na posunięciu miała na końcu mniej',
   'Goes on with': 'Wznowiona z czasem',
   'The game has ended meanwhile.': 'W międzyczasie partia się skończyła.',
   ['A draw can be agreed on once both sides have made a move, so this game cannot be closed yet. Have both make '

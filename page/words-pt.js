@@ -56,6 +56,9 @@ export const WORDS = {
   'the smaller time, {0} ({1})': 'o tempo menor, {0} ({1})',
   '{0} gains {1}': '{0}: mais {1}',
   '{0} loses {1}': '{0}: menos {1}',
+  'Clocks': 'Relógios',
+  'as they stood behind the last move; whose turn it was had less at the end':
+    'como estavam depois do último lance; quem tinha a vez tinha menos no fim',
   'Goes on with': 'Continua com',
   'The game has ended meanwhile.': 'Nesse meio-tempo a partida terminou.',
   ['A draw can be agreed on once both sides have made a move, so this game cannot be closed yet. Have both make '
