@@ -5,16 +5,20 @@ import { clockText, clockWords } from './words.js';
 
 const LOW = 20000;
 
-// Since when all clocks are stopped, by performance.now(), or 0; and how long they were before.
-let since = 0, stood = 0;
+// When all clocks stood still, {from, to} by performance.now(); they do so still where the last has no end.
+const halts = [];
 
-const moment = () => (since || performance.now()) - stood;
+/** A moment of performance.now() as clocks count it, which stands still while they do. */
+function moment(at = performance.now()) {
+  return at - halts.reduce((stood, { from, to }) => stood + Math.max(0, Math.min(at, to) - from), 0);
+}
 
 /** All clocks stand still from now on, or run again. */
 export function halt(isHalted) {
-  if (isHalted === Boolean(since)) return;
-  if (!isHalted) stood += performance.now() - since;
-  since = isHalted ? performance.now() : 0;
+  const last = halts[halts.length - 1], areHalted = Boolean(last) && last.to === Infinity;
+  if (isHalted === areHalted) return;
+  if (isHalted) halts.push({ from: performance.now(), to: Infinity });
+  else last.to = performance.now();
 }
 
 export class Clock {
@@ -31,7 +35,7 @@ export class Clock {
   /** The time left at the moment `at` of performance.now(), and whether it runs. */
   set(told) {
     clearTimeout(this.timer);
-    Object.assign(this, told, { at: moment() - (performance.now() - told.at), called: false });
+    Object.assign(this, told, { at: moment(told.at), called: false });
     this.isAbove = this.now() >= LOW;
     this.tick();
   }
