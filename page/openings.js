@@ -73,13 +73,13 @@ export class Openings {
   /** Whether the next board may be opened: not behind an answer that was lost. */
   async openOne(board) {
     const rows = await this.table(), { white, black, line } = board;
-    const known = rows && rows.find((row) => row.white === white && row.black === black);
     if (!rows) return this.isLost('');
+    const known = await this.found(rows, board, black);
     if (known) {
-      Object.assign(board, { game: known.number, said: t`A game of the two is on the table already.` });
+      Object.assign(board, { game: known, said: t`A game of the two is on the table already.` });
       return true;
     }
-    const waits = await this.waiting(rows, board), join = waits && `as ${black} join ${waits}`;
+    const waits = await this.found(rows, board, ''), join = waits && `as ${black} join ${waits}`;
     const [answer] = await this.app.wire.say(join || `pair ${white} ${black} ${line}`);
     const done = /^ok (?:pair|join) (\d+)/.exec(answer), refusal = readRefusal(answer);
     if (done) Object.assign(board, { game: Number(done[1]), said: '' });
@@ -89,10 +89,11 @@ export class Openings {
     return true;
   }
 
-  /** The game of White's with the board's times that waits for a second player, as a pairing that was cut off leaves
-   * it; 0 where there is none. */
-  async waiting(rows, { white, line }) {
-    for (const row of rows.filter((one) => one.white === white && !one.black && one.result === '*')) {
+  /** The game of White's with the board's times against Black, also one that is over; or, against nobody, that waits
+   * for a second player, as a pairing that was cut off leaves it. 0 where there is none. */
+  async found(rows, { white, line }, black) {
+    const isFit = (one) => one.white === white && (one.black || '') === black && (black || one.result === '*');
+    for (const row of rows.filter(isFit)) {
       const pgn = await this.app.wire.say(`pgn ${row.number}`);
       if (pgn[0].startsWith('ok ') && isOf(readPgn(pgn.slice(1)).tags, `open white ${line}`)) return row.number;
     }

@@ -146,7 +146,16 @@ class Page {
   }
 
   titled(text) {
-    document.title = t`${text} · Chess club`;
+    this.text = text;
+    this.retitle();
+  }
+
+  /** The tab's title: what is shown, unless it is one's turn in a game that is not. */
+  retitle() {
+    const own = this.view === this.table || this.isPlaying() ? [] : this.ownRunning(), { text } = this;
+    const yours = own.filter((row) => this.table.mayMove(row)).length;
+    const words = !yours ? text : yours === 1 ? t`Your turn in 1 game` : t`Your turn in ${yours} games`;
+    document.title = t`${words} · Chess club`;
   }
 
   /** It is one's turn, by a key that each turn has for its own; or it is not, by an empty one. */
@@ -236,7 +245,7 @@ class Page {
     this.leaveLater();
     this.atTable();
     byId('invited').hidden = byId('taken-back').hidden = true;
-    if (isGame) this.tellOther(number);
+    if (view !== this.table) this.tellOther(isGame ? number : 0);
     for (const link of document.querySelectorAll('.top nav a')) {
       if (link.getAttribute('href') === (isGame ? '' : view.hash || '#/')) link.setAttribute('aria-current', 'page');
       else link.removeAttribute('aria-current');
@@ -308,7 +317,7 @@ class Page {
       && (white === me || black === me)).reverse();
   }
 
-  /** At a board, that another game of one's own goes on, where it does. */
+  /** Elsewhere, and at another board, that a game of one's own goes on, where it does. */
   tellOther(number) {
     const row = this.ownRunning().find((one) => one.number !== number);
     if (row) this.tellRunning(row.number, this.gameWords(row, t`goes on`));
@@ -330,7 +339,7 @@ class Page {
     this.who.arrives = false;
     own.forEach(({ number }) => this.begun.add(number));
     if (row) this.begin(row.number, this.gameWords(row, begun ? t`has begun` : t`goes on`));
-    else if (this.view === this.game) this.tellOther(this.game.number);
+    else if (this.view !== this.table) this.tellOther(this.view === this.game ? this.game.number : 0);
   }
 
   /** One's own game has begun: one is taken to its board, or told the way where one plays at another. */
