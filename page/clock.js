@@ -29,13 +29,18 @@ export class Clock {
     this.lowered = lowered;
     this.label = '';
     this.left = this.at = 0;
-    this.set({ left: 0, at: 0, running: false });
+    this.called = false;
+    this.told = { left: 0, at: 0, running: false };
+    this.set(this.told);
   }
 
-  /** The time left at the moment `at` of performance.now(), and whether it runs. */
+  /** The time left at the moment `at` of performance.now(), and whether it runs. (One that is set again as it was is the
+   * one that was: it falls once.) */
   set(told) {
     clearTimeout(this.timer);
-    Object.assign(this, told, { at: moment(told.at), called: false });
+    const { at, left, running } = this.told;
+    const isSame = at === told.at && left === told.left && running === told.running;
+    Object.assign(this, told, { told, at: moment(told.at), called: isSame && this.called });
     this.isAbove = this.now() >= LOW;
     this.tick();
   }

@@ -20,6 +20,7 @@ export class RoundView {
     this.hash = '#/round';
     this.number = 0;                   // the round that is shown, 0 for the newest
     this.told = null;                  // what the file tells
+    this.text = '';                    // the file, as it was told last
     this.state = 'sought';
     this.readAt = -Infinity;
   }
@@ -48,9 +49,11 @@ export class RoundView {
    * of no round. */
   async look() {
     this.readAt = performance.now();
+    const before = this.text;
     try {
       const answer = await fetch(FILE, { cache: 'no-cache' }), text = answer.ok ? await answer.text() : '';
       const isNone = answer.ok ? !text.trim() : answer.status === 404;
+      if (isNone || answer.ok) this.text = text;
       if (isNone) Object.assign(this, { told: null, state: 'none' });
       else if (answer.ok) Object.assign(this, { told: JSON.parse(text), state: 'told' });
       else this.state = this.told ? 'told' : 'failed';
@@ -59,7 +62,7 @@ export class RoundView {
     }
     byId('to-round').hidden = !this.told;
     this.render();
-    if (this.app.view === this.app.game) this.app.game.render();
+    if (this.text !== before && this.app.view === this.app.game) this.app.game.render();
   }
 
   /** Reads the file where it was read some time ago: so the head has the way here wherever one is. */
