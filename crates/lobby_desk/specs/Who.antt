@@ -507,7 +507,8 @@ pub record IsTurned (old : View) (here : Bool) (lines : List (List ℕ)) (new : 
   pub who_is : (d : ℕ) → new.who d ≡ old.who d
 
 -- The players are others from now on: a connection acts for a player on just where his sum is the same. Who acts for
--- nobody then watches nothing more, and is told of the table no more (`watches_now`, `table_now`). Nothing else changes.
+-- nobody then watches nothing more, and is told of the table no more (`watches_now`, `table_now`). Nothing else
+-- changes.
 pub record IsRenewed (players : List Player) (old : View) (later : List Player) (lines : List (List ℕ))
     (new : View) : Type 0 where
   pub none : lines ≡ []

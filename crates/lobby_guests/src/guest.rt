@@ -48,7 +48,7 @@ const BYTES_A_MILLISECOND: u64 = 200;
 
 const AHEAD: u64 = 1_000;
 
-/// The same for one that acts for a player.
+/// So many milliseconds that of one which acts for a player may run ahead before its next message is taken.
 const AHEAD_OF_PLAYERS: u64 = 10_000;
 
 /// So many bytes that come of one take a millisecond of its time, whatever they are, beside one for each time that it
@@ -98,7 +98,7 @@ pub struct Guest<S> {
     /// Until when its time is taken by what came of it and by the answers that it was told; 0 where nothing was read
     /// yet, and once its socket opens.
     paid_until: u64,
-    /// The same by logins that were refused.
+    /// Until when its time is taken by logins that were refused.
     logins_until: u64,
     /// What it is told once the answer to `line G` is there that the first of these waits for.
     waits: Vec<Waiting>,

@@ -2,11 +2,11 @@
 ghost use Rattle.std.specs.Prelude.{◌≡◌, ◌<◌, ◌+◌, ◌&&◌, nat_lt, nat_le, true, false};
 ghost use Rattle.lobby_guests.specs.Guests.{others_most};
 
-/// So many of them are attended in a turn at most.
+/// So many who act for nobody are attended in a turn at most.
 pub const ATTENDED_MOST: usize = 8;
 
-/// Of these so many at most of whom nothing was heard yet, out of the round: who is about to show a token is heard soon
-/// then, whatever the others do.
+/// Of those who are attended in a turn so many at most of whom nothing was heard yet, out of the round: who is about to
+/// show a token is heard soon then, whatever the others do.
 const FRESH_MOST: usize = 6;
 
 /// So many messages of players that are no acts are taken in a turn at most.
@@ -15,7 +15,7 @@ pub const ASKED_MOST: usize = 8;
 /// To so many players more than a little is written in a turn at most.
 pub const TOLD_MOST: usize = 8;
 
-/// To so many of them something is written in a turn at most.
+/// To so many who act for nobody something is written in a turn at most.
 pub const WRITTEN_MOST: usize = 16;
 
 /// A round, by the names of their sockets.

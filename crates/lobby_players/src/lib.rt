@@ -5,11 +5,11 @@
 //! Modules: `line` has the line of a player, `lines` what stands in front of a line and which names are alike,
 //! `reading` the file, `adding` a player more, `joining` one who walks in, `relinking` a player's new link, `token`
 //! tokens and links, `faults` what is wrong; `file` reads and puts the file on a disk, by one at a time (`Hold`),
-//! `pause_file` keeps beside it whether entries are paused, `stop_file` why clocks are stopped, `players` has who stands
-//! in a file, `putting` is the word that puts a player into one. `proofs/Told` has what a line tells, `proofs/EachLine`
-//! the players of lines, `proofs/Written` that a file that was written is read back, `proofs/NewLink` whose the new link
-//! is, `proofs/Newcomer` who has walked in, `proofs/Same` which players are the same, and `proofs/TokenText` that a
-//! token's text is one.
+//! `pause_file` keeps beside it whether entries are paused, `stop_file` why clocks are stopped, `players` has who
+//! stands in a file, `putting` is the word that puts a player into one. `proofs/Told` has what a line tells,
+//! `proofs/EachLine` the players of lines, `proofs/Written` that a file that was written is read back,
+//! `proofs/NewLink` whose the new link is, `proofs/Newcomer` who has walked in, `proofs/Same` which players are the
+//! same, and `proofs/TokenText` that a token's text is one.
 #![tactic(auto)]
 
 mod adding;

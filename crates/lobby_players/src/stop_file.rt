@@ -19,7 +19,7 @@ fn reason_in(bytes: &[u8]) -> &str {
     if is_told { line } else { UNTOLD }
 }
 
-/// What is kept of that.
+/// Why all clocks are stopped, as a file keeps it.
 #[derive(Drop)]
 pub struct StopFile<'a, R> {
     rt: &'a R,
@@ -28,8 +28,8 @@ pub struct StopFile<'a, R> {
 }
 
 impl<'a, R: Files<File = File> + AllocGlobal + Eprint> StopFile<'a, R> {
-    /// As it is kept in this file; where clocks are stopped that is told. It fails where the system does not tell,
-    /// where something else than a file has its name, or where none can be written beside it.
+    /// Why all clocks are stopped, as it is kept in this file; where they are stopped that is told. It fails where the
+    /// system does not tell, where something else than a file has its name, or where none can be written beside it.
     pub fn new(rt: &'a R, file: &'a str) -> Result<Self> {
         let bytes = read_file(rt, file)?;
         let tried = format!(in rt.alloc(); "{file}.try")?;
@@ -57,7 +57,7 @@ impl<'a, R: Files<File = File> + AllocGlobal + Eprint> StopFile<'a, R> {
         self.reason.as_str()
     }
 
-    // Keeps it in the file.
+    // Keeps in the file why all clocks are stopped.
     fn put(&self, reason: &str) -> Result<()> {
         if reason.is_empty() {
             Ok(take_away(self.rt, self.file)?)
@@ -67,7 +67,7 @@ impl<'a, R: Files<File = File> + AllocGlobal + Eprint> StopFile<'a, R> {
         }
     }
 
-    /// Keeps it, where it is another. Where it answers, it is on the disk.
+    /// Keeps why all clocks are stopped, where that is news. Where it answers, it is on the disk.
     pub fn keep(&mut self, reason: &str) -> Result<()> {
         if reason == self.reason.as_str() {
             return Ok(());

@@ -98,7 +98,8 @@ where
         Ok(new)
     }
 
-    // The same, where nobody else holds the file. Where the link is closed nobody is told the token.
+    // One of these players, or one more, has the sum of a new token in the file, where nobody else holds that. Where
+    // the link is closed nobody is told the token.
     fn changed<G: TryRng>(
         &mut self,
         source: &mut G,

@@ -199,8 +199,8 @@ fn tell_hosts<R: Print + Eprint>(rt: &R, port: u16, hosts: &[&str]) {
     }
 }
 
-// Prints the page's address, or where all of this machine's are listened at those of its hosts. (A lobby of which nobody
-// reads what it tells goes on.)
+// Prints the page's address, or where all of this machine's are listened at those of its hosts. (A lobby of which
+// nobody reads what it tells goes on.)
 fn tell_address<R: Print + Eprint>(rt: &R, address: SocketAddr, hosts: &[&str]) {
     if address.ip().is_unspecified() {
         tell_hosts(rt, address.port(), hosts);

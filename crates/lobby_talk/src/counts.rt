@@ -54,7 +54,7 @@ pub fn is_answer(text: &str) -> bool
         || text.starts_with("lost\n")
 }
 
-// One more.
+// One more is counted.
 fn count(number: &mut u64)
     ensures { number.new ≡ counted_up number.old 1 }
 {

@@ -65,14 +65,14 @@ fn letter_at(unread: &[u8], place: usize, mask: usize) -> u8
     unread[place] ^ unread[mask]
 }
 
-// Whether what came begins with such a frame, and the first letters of its text are there.
+// Whether what came begins with a whole text message of at most 125 bytes, and the first letters of it are there.
 fn has_letters(unread: &[u8]) -> bool
     ensures { result ≡ has_letters unread.now }
 {
     unread.len() >= LETTERS_END && is_short_text(unread[0], unread[1])
 }
 
-// The first letters of the text in the first frame of what came; zeros where that is no such frame.
+// The first letters of the text in the first frame of what came; zeros where `has_letters` finds none.
 #[tactic(auto, unfolding(crate::specs::Front::letters))]
 fn letters(unread: &[u8]) -> [u8; 5]
     ensures { result ≡ letters unread.now }
@@ -96,7 +96,7 @@ pub fn has_act(unread: &[u8]) -> bool
     is_act(&letters(unread))
 }
 
-/// Whether it is one that begins as what asks for little.
+/// Whether the first frame of what came is a message that begins as what asks for little does.
 pub fn has_brief(unread: &[u8]) -> bool
     ensures { result ≡ has_brief unread.now }
 {

@@ -95,7 +95,7 @@ fn name_in(by: &Option<Name>) -> &str
     }
 }
 
-// The same, where whoever keeps the decisions is asked first.
+// A message is said to the desk by which an arbiter decides: whoever keeps the decisions is asked first.
 fn say_decision<K: KeepsLinks>(
     shown: &str,
     number: u64,

@@ -153,6 +153,7 @@ fn only_reads(request: &Request<Bytes>) -> bool
     has_method(request, b"GET") || has_method(request, b"HEAD")
 }
 
+// The media type of what a file is.
 fn media_type(kind: Kind) -> &'static str
     ensures value { result.now ≡ media_type kind }
     ensures visible { IsTrue (is_visible_text result.now) }
@@ -186,7 +187,7 @@ fn add_field(
     )
 }
 
-// The same with a value of these bytes; it fails too where they are none of a field.
+// Puts a field whose value is these bytes behind those of an answer; it fails too where they are none of a field.
 fn add_value(
     alloc: Global,
     response: &mut Response,
@@ -220,7 +221,7 @@ fn guard(response: &mut Response, status: StatusCode) -> Result<(), AllocError>
     add_field(response, "cache-control", "no-cache")
 }
 
-// The same with a media type.
+// The status and the fields that each answer has but an upgrade, with a media type, and no body yet.
 fn begin(response: &mut Response, status: StatusCode, kind: &'static str) -> Result<(), AllocError>
     requires blank { IsBlank response.old }
     requires visible { IsTrue (is_visible_text kind.now) }
