@@ -67,12 +67,6 @@ fn first_word(text: &str) -> &str {
         .map_or_else(|| text.trim_end(), |(word, _)| word)
 }
 
-// The word behind that.
-fn second_word(text: &str) -> &str {
-    text.split_once(' ')
-        .map_or("", |(_, rest)| first_word(rest))
-}
-
 // An act was accepted, if it is one.
 fn count_act(acts: &mut [u64; 11], word: &str) {
     for (act, number) in ACTS.iter().zip(acts.iter_mut()) {
@@ -180,7 +174,8 @@ impl Counts {
         match first_word(text) {
             "ok" => {
                 count(&mut self.ok);
-                count_act(&mut self.acts, second_word(text));
+                let behind = text.split_once(' ').map_or("", |(_, rest)| rest);
+                count_act(&mut self.acts, first_word(behind));
             }
             "no" => count(&mut self.no),
             "fallen" => count(&mut self.fallen),
