@@ -93,7 +93,7 @@ pub struct Lobby {
 /// What a lobby begins with.
 #[derive(Drop)]
 pub struct Beginning {
-    /// By which its tables sum what they have.
+    /// The keys of its tables' hashes.
     pub keys: RandomState,
     pub listener: LobbyListener,
     /// The address of its server.
@@ -174,7 +174,8 @@ fn has_listener(events: &Events) -> bool {
 }
 
 impl Lobby {
-    /// A lobby that begins with this, and has these limits. The system's error where it cannot be watched.
+    /// A lobby that begins with this: its server is at that address, this is halted, it has these limits, and it is
+    /// behind that proxy. The system's error where it cannot be watched.
     pub fn new(net: &impl Net, alloc: Global, beginning: Beginning) -> io::Result<Lobby>
         ensures begins { IfOk result (λ lobby.
             BeginsHall beginning.site beginning.players.items beginning.halts.is_paused lobby.hall) }
