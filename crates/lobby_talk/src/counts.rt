@@ -2,6 +2,8 @@
 ghost use Rattle.std.specs.Prelude.{◌≡◌};
 ghost use Rattle.lobby_talk.specs.Counting.{counted_up, is_answer, one_if, refuses_login};
 
+use text_parts::behind;
+
 /// The acts: the second words of their answers.
 pub const ACTS: [&str; 11] = [
     "open", "join", "pair", "move", "offer", "accept", "decline", "resign", "claim", "flag", "drop",
@@ -174,8 +176,7 @@ impl Counts {
         match first_word(text) {
             "ok" => {
                 count(&mut self.ok);
-                let behind = text.split_once(' ').map_or("", |(_, rest)| rest);
-                count_act(&mut self.acts, first_word(behind));
+                count_act(&mut self.acts, first_word(behind(text, ' ')));
             }
             "no" => count(&mut self.no),
             "fallen" => count(&mut self.fallen),
