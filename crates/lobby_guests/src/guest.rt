@@ -291,7 +291,7 @@ impl<S> Guest<S> {
     {
         match self.number {
             None => None,
-            Some(number) => talk.player_at(number),
+            Some(number) => talk.desk().player_at(number),
         }
     }
 
@@ -323,7 +323,7 @@ impl<S> Guest<S> {
     {
         match self.number {
             None => true,
-            Some(number) => talk.is_ready(number),
+            Some(number) => talk.desk().is_ready(number),
         }
     }
 

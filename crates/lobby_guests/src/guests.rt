@@ -59,7 +59,7 @@ fn is_answered(asker: Option<u64>, talk: &Talk) -> bool
 {
     match asker {
         None => true,
-        Some(number) => !talk.acts(asker) || talk.is_ready(number),
+        Some(number) => !talk.acts(asker) || talk.desk().is_ready(number),
     }
 }
 

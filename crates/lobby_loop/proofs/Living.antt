@@ -35,8 +35,8 @@ use Rattle.lobby_guests.specs.Guests.{IsNewGuest, IsHeardAs, IsAsBefore, IsLeftA
 use Rattle.lobby_talk.specs.Lines.{bytes_of as bytes_before, AreHeard}
 use Rattle.lobby_talk.specs.Held.{HoldsNoLine, IsKept}
 use Rattle.lobby_loop.specs.Turning.{BeginsHall, Admits, ServerComes, IsServerAsBefore, HearsServer, bytes_heard, PartsFromServer, TellsServer, HasTurned, texts_put, Comer, AreAdmitted, IsReached, IsLobbyTurn, is_look_time}
-use Rattle.lobby_loop.specs.Doing.{Gave, Spot, spot, DoesAt, all_tells, IsServed, AreServed, WereServed, AreAtLine, Before}
-use Rattle.lobby_loop.specs.Living.{Happening, Came, Woke, ServerCame, Turned, IsWoken, IsLife, written_in, taken_in, put_in, lost_if, presences_in, kept, sent_in, line_more, lines_heard, presence_more, presences_told, IsHeld, IsOther, HasNone, IsOneOf, AreKnown, IsOwn, AreOwn, numbers, NoLineWaits, IsRightLife, Passing, TurnAt, Rested, IsLobbyLife, Filed, Files, before_in, Changed, Relisted, Renews, Enrolled}
+use Rattle.lobby_loop.specs.Doing.{Gave, Spot, spot, DoesAt, all_tells, around, IsServed, AreServed, WereServed, AreAtLine, Before}
+use Rattle.lobby_loop.specs.Living.{Happening, Came, Woke, ServerCame, Turned, IsWoken, IsLife, left, written_in, taken_in, put_in, lost_if, presences_in, kept, sent_in, line_more, lines_heard, presence_more, presences_told, IsHeld, IsOther, HasNone, IsOneOf, AreKnown, IsOwn, AreOwn, numbers, NoLineWaits, IsRightLife, Passing, TurnAt, Rested, IsLobbyLife, Filed, Files, before_in, Changed, Relisted, Renews, Enrolled}
 use Rattle.lobby_loop.proofs.Lined.{same_line, lines_by, lines_filter, lines_both, turn_lines}
 use Rattle.lobby_loop.proofs.Serving.{IsApart, ApartFrom, AreApart, served_before, served_read, served_looked, served_written, served_told, served_caught_up, gave_nothing, gave_again, gave_early, gave_opened, gave_text, all_served_on, all_served_zip, all_served_filter, all_served_more, all_came, served_new, ClosedIf, AllClosed, closed_if_on, all_were_on, all_were_out, all_were_came, all_let_go, came_more, site_more, all_filed, all_were_filed}
 
@@ -173,11 +173,6 @@ nobody_apart e nobody (Some c) = nobody c
 all_apart : (e : DeskInput) → IsOfNobody e → (ns : List (Option ℕ)) → AreApart ns e
 all_apart e nobody [] = tt
 all_apart e nobody (n ∷ ns) = (nobody_apart e nobody n, all_apart e nobody ns)
-
--- what was written to the server's connection, once it is lost or not
-abbrev left : Bool → List ℕ → List ℕ
-left true wrote = []
-left false wrote = wrote
 
 abbrev behind_loss : Bool → Traffic → Traffic
 behind_loss gone traffic =
@@ -516,7 +511,7 @@ said_behind d how text (n ∷ ns) (one, all) = (said_behind_one d how text n one
 module _ {S : Type 0} (remaining contents : S → Option (List ℕ)) (site : Site) (came : Before S) (players : List Player) (is_paused : Bool)
     (former : List (Guest S)) (traffic : Traffic) (out : List MessageValue) where
   abbrev Served : Option ℕ → Spot S → List Step → Type 0
-  Served n now steps = IsServed remaining contents site came steps out n now
+  Served n now steps = IsServed remaining contents (around site came) steps out n now
 
   abbrev All : List (Guest S) → List Step → Type 0
   All guests steps = AreServed remaining contents site came steps out guests
@@ -1051,8 +1046,8 @@ written_on contents front (Some link) after old new (next, is, hands, kept) = ha
 module _ {S : Type 0} (remaining contents : S → Option (List ℕ)) (site : Site) (came : Before S) (former : List (Guest S)) where
   -- each is served on, and has the number that it had
   kept_zip : (out more : List MessageValue) (R : Guest S → Guest S → Type 0) →
-      ((steps : List Step) (x y : Guest S) → R x y → IsServed remaining contents site came steps out x.number (spot x) →
-      IsServed remaining contents site came steps (out ++ more) y.number (spot y)) →
+      ((steps : List Step) (x y : Guest S) → R x y → IsServed remaining contents (around site came) steps out x.number (spot x) →
+      IsServed remaining contents (around site came) steps (out ++ more) y.number (spot y)) →
       ((x y : Guest S) → R x y → y.number ≡ x.number) → (xs ys : List (Guest S)) → AllZip R xs ys → (steps : List Step) →
       AreKept remaining contents site came former out xs steps → AreKept remaining contents site came former (out ++ more) ys steps
   kept_zip out more R each same xs ys all steps kept = record {
@@ -1066,8 +1061,8 @@ module _ {S : Type 0} (remaining contents : S → Option (List ℕ)) (site : Sit
 
   -- where nothing went out
   kept_same : (out : List MessageValue) (R : Guest S → Guest S → Type 0) →
-      ((steps : List Step) (x y : Guest S) → R x y → IsServed remaining contents site came steps out x.number (spot x) →
-      IsServed remaining contents site came steps out y.number (spot y)) →
+      ((steps : List Step) (x y : Guest S) → R x y → IsServed remaining contents (around site came) steps out x.number (spot x) →
+      IsServed remaining contents (around site came) steps out y.number (spot y)) →
       ((x y : Guest S) → R x y → y.number ≡ x.number) → (xs ys : List (Guest S)) → AllZip R xs ys → (steps : List Step) →
       AreKept remaining contents site came former out xs steps → AreKept remaining contents site came former out ys steps
   kept_same out R each same xs ys all steps kept = record {
@@ -1500,12 +1495,6 @@ module _ {S : Type 0} (remaining contents : S → Option (List ℕ)) (players : 
         lined = still_lined former old new comes.guests so_far.lined;
       }
 
-  turned_by : (past : List (Happening S)) (at : ℕ) (taken : List ℕ) (gone : Bool) (put : List (List ℕ)) (front : List ℕ) (now : Hall S) →
-      IsHallAt remaining contents players is_paused (behind_turn taken gone put front (outside_in past)) (before_in past) now →
-      IsHallAt remaining contents players is_paused (outside_in (Turned at taken gone put front ∷ past)) (before_in past) now
-  turned_by past at taken true put front now so = so
-  turned_by past at taken false put front now so = so
-
   begun_at : (site : Site) (now : Hall S) → BeginsHall site players is_paused now →
       IsHallAt remaining contents players is_paused (record { wrote = []; taken = []; presences = []; put = [] }) (record { streams = []; sites = [] }) now
   begun_at site now begins = record {
@@ -1544,16 +1533,15 @@ module _ {S : Type 0} (remaining contents : S → Option (List ℕ)) (players : 
       relisted (outside_in past) (before_in past) later before now happens (life_at past before life)
   life_at (ServerCame stream ∷ past) now (before, life, happens) =
       server_came (outside_in past) (before_in past) stream before now happens (life_at past before life)
-  life_at (Turned at taken gone put front ∷ past) now (before, life, happens) =
+  life_at (Turned turn ∷ past) now (before, life, happens) =
       let o = outside_in past in
       let came = before_in past in
       let t = happens.turned in
-      turned_by past at taken gone put front now
-      (subst (λ (f : List ℕ). IsHallAt remaining contents players is_paused (behind_turn taken gone put f o) came now) happens.front_is
-      (subst (λ (p : List (List ℕ)). IsHallAt remaining contents players is_paused (behind_turn taken gone p t.hands.front o) came now) happens.put_is
-      (subst (λ (g : Bool). IsHallAt remaining contents players is_paused (behind_turn taken g (texts_put t) t.hands.front o) came now) happens.gone
+      subst (λ (f : List ℕ). IsHallAt remaining contents players is_paused (behind_turn turn.taken turn.is_gone turn.put f o) came now) happens.front_is
+      (subst (λ (p : List (List ℕ)). IsHallAt remaining contents players is_paused (behind_turn turn.taken turn.is_gone p t.hands.front o) came now) happens.put_is
+      (subst (λ (g : Bool). IsHallAt remaining contents players is_paused (behind_turn turn.taken g (texts_put t) t.hands.front o) came now) happens.gone
       (subst (λ (bytes : List ℕ). IsHallAt remaining contents players is_paused (behind_turn bytes t.takes.is_gone (texts_put t) t.hands.front o) came now)
-      happens.taken_is (turned_on remaining contents players is_paused came o at before now t (life_at past before life))))))
+      happens.taken_is (turned_on remaining contents players is_paused came o turn.at before now t (life_at past before life)))))
 
   pub life_right : (past : List (Happening S)) (now : Hall S) → IsLife remaining contents players is_paused past now →
       IsRightLife remaining contents players is_paused past now
@@ -1606,8 +1594,14 @@ module _ {S : Type 0} (remaining contents : S → Option (List ℕ)) (players : 
   turned_life at old new turn so_far =
       let so = welcomed_life at turn.comers turn.reached turn.welcomed turn.welcomes
       (reached_life old turn.reached turn.reaches so_far) in (
-        Turned at (bytes_heard remaining turn.welcomed.server turn.turns.takes.server_heard turn.welcomed.talk turn.turns.takes.heard
-            turn.turns.takes.hears) turn.turns.takes.is_gone (texts_put turn.turns) turn.turns.hands.front ∷ so.0,
+        Turned (record {
+          at = at;
+          taken = bytes_heard remaining turn.welcomed.server turn.turns.takes.server_heard turn.welcomed.talk turn.turns.takes.heard
+              turn.turns.takes.hears;
+          is_gone = turn.turns.takes.is_gone;
+          put = texts_put turn.turns;
+          front = turn.turns.hands.front;
+        }) ∷ so.0,
         (turn.welcomed, so.1, record { turned = turn.turns; taken_is = refl; gone = refl; put_is = refl; front_is = refl }),
       )
 

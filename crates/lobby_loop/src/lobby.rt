@@ -90,6 +90,23 @@ pub struct Lobby {
     events: Events,
 }
 
+/// What a lobby begins with.
+#[derive(Drop)]
+pub struct Beginning {
+    /// The keys of its tables' hashes.
+    pub keys: RandomState,
+    pub listener: LobbyListener,
+    /// The address of its server.
+    pub server: ServerAddress,
+    /// What is served.
+    pub site: Site,
+    pub players: Vec<Player>,
+    pub halts: Halts,
+    pub limits: Limits,
+    /// The address of the trusted proxy, if there is one.
+    pub proxy: Option<IpAddr>,
+}
+
 // The sockets that are watched, and what the last wait told of them.
 #[derive(Drop)]
 struct Watched {
@@ -157,25 +174,25 @@ fn has_listener(events: &Events) -> bool {
 }
 
 impl Lobby {
-    /// A lobby whose server is at this address, which begins with this halted, and has these limits, behind a trusted
-    /// proxy of this address, if there is one. The system's error where it cannot be watched.
-    pub fn new(
-        net: &impl Net,
-        alloc: Global,
-        keys: RandomState,
-        mut listener: LobbyListener,
-        server: ServerAddress,
-        site: Site,
-        players: Vec<Player>,
-        halts: Halts,
-        limits: Limits,
-        proxy: Option<IpAddr>,
-    ) -> io::Result<Lobby>
-        ensures begins { IfOk result (λ lobby. BeginsHall site players.items halts.is_paused lobby.hall) }
-        ensures halts { IfOk result (λ lobby. lobby.hall.talk.desk.halts ≡ halts) }
-        ensures limits { IfOk result (λ lobby. lobby.hall.talk.desk.limits ≡ limits) }
-        ensures proxy { IfOk result (λ lobby. lobby.hall.proxy ≡ proxy) }
+    /// A lobby that begins with this: its server is at that address, this is halted, it has these limits, and it is
+    /// behind that proxy. The system's error where it cannot be watched.
+    pub fn new(net: &impl Net, alloc: Global, beginning: Beginning) -> io::Result<Lobby>
+        ensures begins { IfOk result (λ lobby.
+            BeginsHall beginning.site beginning.players.items beginning.halts.is_paused lobby.hall) }
+        ensures halts { IfOk result (λ lobby. lobby.hall.talk.desk.halts ≡ beginning.halts) }
+        ensures limits { IfOk result (λ lobby. lobby.hall.talk.desk.limits ≡ beginning.limits) }
+        ensures proxy { IfOk result (λ lobby. lobby.hall.proxy ≡ beginning.proxy) }
     {
+        let Beginning {
+            keys,
+            mut listener,
+            server,
+            site,
+            players,
+            halts,
+            limits,
+            proxy,
+        } = beginning;
         let Watched { poll, events } = watch_listener(net, alloc, &mut listener)?;
         Ok(Lobby {
             listener,

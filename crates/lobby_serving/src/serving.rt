@@ -9,7 +9,7 @@ use crate::players::Players;
 use crate::table::Table;
 use anyhow::{Context, Result};
 use lobby_desk::Halts;
-use lobby_loop::{Lobby, LobbyListener, NoActLog, Turned};
+use lobby_loop::{Beginning, Lobby, LobbyListener, NoActLog, Turned};
 use lobby_words::Player;
 use sockets::{Moments, ServerAddress};
 use std::alloc::AllocError;
@@ -246,18 +246,17 @@ where
         let (rt, serving) = (self.rt, self.serving);
         let keys = RandomState::new(rt)?;
         let site = site_of(rt, serving.page, address, serving.hosts.as_slice())?;
-        Ok(Lobby::new(
-            rt,
-            rt.alloc(),
+        let beginning = Beginning {
             keys,
             listener,
-            serving.server,
+            server: serving.server,
             site,
-            known,
+            players: known,
             halts,
-            serving.limits,
-            serving.proxy,
-        )?)
+            limits: serving.limits,
+            proxy: serving.proxy,
+        };
+        Ok(Lobby::new(rt, rt.alloc(), beginning)?)
     }
 }
 

@@ -2,6 +2,8 @@
 ghost use Rattle.std.specs.Prelude.{◌≡◌};
 ghost use Rattle.lobby_talk.specs.Counting.{counted_up, is_answer, one_if, refuses_login};
 
+use text_parts::behind;
+
 /// The acts: the second words of their answers.
 pub const ACTS: [&str; 11] = [
     "open", "join", "pair", "move", "offer", "accept", "decline", "resign", "claim", "flag", "drop",
@@ -65,12 +67,6 @@ fn count(number: &mut u64)
 fn first_word(text: &str) -> &str {
     text.split_once(' ')
         .map_or_else(|| text.trim_end(), |(word, _)| word)
-}
-
-// The word behind that.
-fn second_word(text: &str) -> &str {
-    text.split_once(' ')
-        .map_or("", |(_, rest)| first_word(rest))
 }
 
 // An act was accepted, if it is one.
@@ -180,7 +176,7 @@ impl Counts {
         match first_word(text) {
             "ok" => {
                 count(&mut self.ok);
-                count_act(&mut self.acts, second_word(text));
+                count_act(&mut self.acts, first_word(behind(text, ' ')));
             }
             "no" => count(&mut self.no),
             "fallen" => count(&mut self.fallen),

@@ -59,7 +59,7 @@ fn say_order<K: KeepsLinks>(
     ensures says { OnOk result (Says shown.now number at talk.old talk.new) }
     ensures decided { K.decided links.new ≡ K.decided links.old }
 {
-    let done = links.change(order, full_said(shown), talk.players());
+    let done = links.change(order, full_said(shown), talk.desk().players());
     say_done(shown, number, talk, at, order, done)
 }
 
@@ -109,8 +109,8 @@ fn say_decision<K: KeepsLinks>(
     ensures decided { OnOk result (IsDecided true number shown.now (K.decided links.old) (K.decided links.new)
         talk.old talk.new) }
 {
-    let by = talk.player_at(number);
-    let is_put = links.decide(name_in(&by), shown, talk.players());
+    let by = talk.desk().player_at(number);
+    let is_put = links.decide(name_in(&by), shown, talk.desk().players());
     say_decided(shown, number, talk, at, is_put)
 }
 
@@ -126,7 +126,7 @@ fn say_plain<K: KeepsLinks>(
     ensures says { OnOk result (Says shown.now number at talk.old talk.new) }
     ensures decided { K.decided links.new ≡ K.decided links.old }
 {
-    match talk.order(number, shown, at) {
+    match talk.desk().order(number, shown, at) {
         None => {
             talk.said(number, shown, at)?;
             Ok(())
@@ -148,7 +148,7 @@ fn say<K: KeepsLinks>(
     ensures decided { OnOk result (IsDecided (decides_now talk.old.desk number shown.now at) number shown.now
         (K.decided links.old) (K.decided links.new) talk.old talk.new) }
 {
-    if talk.decides(number, shown, at) {
+    if talk.desk().decides(number, shown, at) {
         say_decision(shown, number, talk, at, links)
     } else {
         say_plain(shown, number, talk, at, links)

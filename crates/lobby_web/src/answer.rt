@@ -2,8 +2,7 @@
 ghost use Rattle.std.specs.Prelude.{◌≡◌, ◌++◌, ◌∷◌, [], Some, false, IfSome, IsTrue, OnOk, bytes_eq, codes};
 ghost use Rattle.std.specs.Option.{option_copied};
 ghost use Rattle.std.specs.Net.Grammar.{IsIpText};
-ghost use Rattle.std.specs.Char.{is_ascii_digit};
-ghost use Rattle.std.specs.List.{list_all, list_any};
+ghost use Rattle.std.specs.List.{list_any};
 ghost use Rattle.http.specs.Request.{head_of};
 ghost use Rattle.http_header.specs.Token.{lowercase};
 ghost use Rattle.http_header.specs.FieldName.{is_header_name};
@@ -353,18 +352,11 @@ fn send_file(
     }
 }
 
-// Whether all these bytes are digits.
-fn are_digits(text: &[u8]) -> bool
-    ensures { result ≡ list_all is_ascii_digit text.now }
-{
-    text.iter().all(|byte| byte.is_ascii_digit())
-}
-
 // Whether a text is the digits of a number.
 fn is_number(text: &[u8]) -> bool
     ensures { result ≡ is_number text.now }
 {
-    !text.is_empty() && are_digits(text)
+    !text.is_empty() && text.iter().all(|byte| byte.is_ascii_digit())
 }
 
 // Whether a path names a game's board: `/board/` and the digits of a number.
