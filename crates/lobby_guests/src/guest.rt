@@ -3,7 +3,8 @@ ghost use Rattle.std.specs.Prelude.{ℕ, ◌≡◌, ◌≢◌, ◌<◌, ◌≤�
 ghost use Rattle.std.specs.Prelude.{IsTrue, OnOk};
 ghost use Rattle.lobby_desk.specs.Who.{IsReady, at_table};
 ghost use Rattle.lobby_guests.specs.Guests.{has_time, IsNewGuest, ComesFrom, IsRead, IsStill};
-ghost use Rattle.lobby_guests.specs.Guests.{IsHeardAs, IsHeard, IsAsked, is_untimely, MaySpeak, IsSaid, IsTold};
+ghost use Rattle.lobby_guests.specs.Guests.{IsHeardAs, IsHeard, IsAsked, is_untimely, MaySpeak, MayBeAsked, IsSaid};
+ghost use Rattle.lobby_guests.specs.Guests.{IsTold};
 ghost use Rattle.lobby_guests.specs.Guests.{NotesLogin, IsPutBehind, IsNextTold, IsCaughtUp, IsSameVisit};
 ghost use Rattle.lobby_guests.specs.Guests.{is_first, IsAnsweredAt};
 ghost use Rattle.lobby_guests.specs.Guests.{AreTold, IsPinged, IsAskedUnless, IsSettled, IsWritten};
@@ -19,9 +20,11 @@ ghost use Rattle.lobby_guests.specs.Guests.{IsLookedAfter, is_in_time, taken_unt
 ghost use Rattle.lobby_guests.specs.Guests.{due_at, ahead_at, is_unheard, IsPaid, owed_after, paid_for, since_after};
 ghost use Rattle.lobby_web.specs.Browsing.{WantsBytes, unread};
 ghost use Rattle.lobby_talk.specs.Counting.{refuses_login, counted_up, one_if, refuses, refusals_of};
-ghost use Rattle.lobby_guests.specs.Place.{role_by, role_of, player_of, place_of, Yields};
+ghost use Rattle.lobby_guests.specs.Paces.{player_of, payer_of};
+ghost use Rattle.lobby_guests.specs.Place.{role_of, place_of, Yields};
 
 use crate::origin::Origin;
+use crate::paces::number_of;
 use crate::place::{Place, Role, is_gone};
 use crate::waiting::{Waiting, is_line};
 use lobby_desk::{Kind, Message};
@@ -109,13 +112,6 @@ fn is_among(connections: &[u64], number: u64) -> bool
     ensures { result ≡ at_table connections.now number }
 {
     connections.iter().any(|one| *one == number)
-}
-
-// What a connection is to the lobby that acts for a player or not.
-fn role_by(acts: bool) -> Role
-    ensures { result ≡ role_by acts }
-{
-    if acts { Role::Player } else { Role::Newcomer }
 }
 
 impl<S> Guest<S> {
@@ -280,9 +276,12 @@ impl<S> Guest<S> {
         ensures { result ≡ role_of talk.now.desk self.now.is_lost self.now.number }
     {
         if self.is_lost {
-            return Role::Gone;
+            Role::Gone
+        } else if talk.acts(self.number) {
+            Role::Player
+        } else {
+            Role::Newcomer
         }
-        role_by(talk.acts(self.number))
     }
 
     // The player for whom it acts.
@@ -292,6 +291,16 @@ impl<S> Guest<S> {
         match self.number {
             None => None,
             Some(number) => talk.player_at(number),
+        }
+    }
+
+    /// Who pays for its acts, as a number: the player for whom it acts; 0 where it acts for nobody.
+    pub fn payer(&self, talk: &Talk) -> u128
+        ensures { result ≡ payer_of talk.now.desk self.now.number }
+    {
+        match self.player(talk) {
+            None => 0,
+            Some(name) => number_of(&name),
         }
     }
 
@@ -336,7 +345,9 @@ impl<S> Guest<S> {
 
     /// Whether its socket is to be asked what came next: something may have come, nothing waits for it, and the desk
     /// takes it.
-    pub fn may_be_asked(&self, talk: &Talk) -> bool {
+    pub fn may_be_asked(&self, talk: &Talk) -> bool
+        ensures { IsTrue result ↔ MayBeAsked talk.now.desk self.now }
+    {
         self.has_more && !self.is_lost && self.waits.is_empty() && self.may_speak(talk)
     }
 
@@ -580,7 +591,7 @@ impl<S> Guest<S> {
     {
         match self.waits.first() {
             None => false,
-            Some(one) => !one.is_line(),
+            Some(one) => !is_line(one.kind),
         }
     }
 
@@ -626,7 +637,7 @@ impl<S> Guest<S> {
     {
         match self.waits.first() {
             None => false,
-            Some(one) => one.is_line() && one.text.as_str() == answer.pgn(),
+            Some(one) => is_line(one.kind) && one.text.as_str() == answer.pgn(),
         }
     }
 

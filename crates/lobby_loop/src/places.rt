@@ -1,6 +1,5 @@
 //! Who has a place, and who makes room for whom.
-ghost use Rattle.std.specs.Prelude.{ℕ, ◌≡◌, ◌≤◌, ◌+◌, ◌-◌, ◌==◌, ◌∷◌, [], List, None, Some, count_by, min, IfOk, OnOk};
-ghost use Rattle.std.specs.Prelude.{if◌then◌else◌};
+ghost use Rattle.std.specs.Prelude.{ℕ, ◌≡◌, ◌≤◌, ◌+◌, ◌-◌, ◌∷◌, [], List, None, Some, count_by, min, IfOk, OnOk};
 ghost use Rattle.std.specs.BTreeMap.{get};
 ghost use Rattle.std.specs.Map.{count_at};
 ghost use Rattle.std.specs.Ordering.{nat_cmp};
@@ -9,7 +8,7 @@ ghost use Rattle.lobby_loop.specs.Places.{make_room, room_for, each_room, in_tim
 ghost use Rattle.lobby_loop.specs.Places.{most_nameless, judged, IsOwned, IsFair, IsTallied};
 ghost use Rattle.lobby_loop.specs.Places.{number_of, IsTalliedByName};
 
-use lobby_guests::{Place, Role, is_gone};
+use lobby_guests::{Place, Role, is_gone, number_of, tell_at, told_at};
 use player_name::Name;
 use std::alloc::{AllocError, Global};
 use std::collections::BTreeMap;
@@ -112,25 +111,6 @@ fn make_room(places: &mut [Place], address: Option<u64>, most: usize)
     leave(places, address, &Class::Nameless, excess);
 }
 
-// How many are told at most under this number: nameless ones of an address, or those that act for a player.
-fn told_at(tally: &BTreeMap<u128, u64>, number: u128) -> u64
-    ensures { result ≡ count_at (get nat_cmp tally.now) number }
-{
-    match tally.get(&number) {
-        Some(most) => *most,
-        None => 0,
-    }
-}
-
-// So many are told from now on.
-fn tell_at(tally: &mut BTreeMap<u128, u64>, number: u128, most: u64) -> Result<(), AllocError>
-    ensures { OnOk result ((a : ℕ) → count_at (get nat_cmp tally.new) a
-        ≡ (if number == a then most else count_at (get nat_cmp tally.old) a)) }
-{
-    tally.insert(number, most)?;
-    Ok(())
-}
-
 // One more is told where this one is nameless and counts for an address.
 fn tally_one(tally: &mut BTreeMap<u128, u64>, place: &Place) -> Result<(), AllocError>
     ensures { OnOk result ((a : ℕ) →
@@ -208,14 +188,6 @@ fn own_room(places: &mut [Place], player: Option<Name>)
         let excess = count(places, None, &Class::Own(name)).saturating_sub(A_PLAYER_MOST);
         leave(places, None, &Class::Own(name), excess);
     }
-}
-
-// A name as a number.
-#[tactic(auto, unfolding(crate::specs::Places::number_of))]
-fn number_of(name: &Name) -> u128
-    ensures { result ≡ number_of name.now }
-{
-    u128::from_le_bytes(name.padded())
 }
 
 // One more is told where this one has a player.
