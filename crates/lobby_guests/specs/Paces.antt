@@ -1,6 +1,6 @@
 -- How fast a player may act: by what he has paid, over all connections that act for him.
-use Rattle.std.specs.Prelude.{ℕ, ◌≡◌, ◌+◌, ◌-◌, ◌^◌, ◌==◌, max, min, nat_le, if◌then◌else◌, Bool, true, false, List, Option}
-use Rattle.std.specs.Prelude.{None, Some}
+use Rattle.std.specs.Prelude.{ℕ, ◌≡◌, ◌+◌, ◌-◌, ◌^◌, ◌==◌, max, min, nat_le, if◌then◌else◌, Bool, true, false, List}
+use Rattle.std.specs.Prelude.{Option, None, Some}
 use Rattle.std.specs.BTreeMap.{BTreeMap, get}
 use Rattle.std.specs.Int.{w128, from_le_bytes}
 use Rattle.std.specs.Map.{count_at}

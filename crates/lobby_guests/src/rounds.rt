@@ -106,8 +106,8 @@ impl Asks {
         self.asker = number;
     }
 
-    /// An act of this player stands in front at a moment, for which he pays if it is taken. It tells whether he may act:
-    /// whether his time is not taken too far ahead. It fails where memory is refused.
+    /// An act of this player stands in front at a moment, for which he pays if it may be taken. It tells whether he may
+    /// act: whether he has not paid too far ahead. It fails where memory is refused.
     pub fn take_act(&mut self, player: u128, at: u64, pays: bool) -> Result<bool, AllocError>
         ensures { IfOk result (λ may. TakesAct may player at pays self.old self.new) }
     {

@@ -14,7 +14,8 @@ use Rattle.lobby_talk.specs.Talking.{Begins, MovesAnew}
 use Rattle.lobby_guests.specs.Origins.{IsPlain, IsFrom}
 use Rattle.lobby_guests.specs.Paces.{paid_by}
 use Rattle.lobby_guests.specs.Guests.{IsNewGuest, ComesFrom, AreAttended, AreDelivered, IsWritten, IsLookedAfter}
-use Rattle.lobby_guests.specs.Guests.{AreParted, has_waiting, earlier, first_due, LeavesOthers, KnowsAsks, LeavesStranger}
+use Rattle.lobby_guests.specs.Guests.{AreParted, has_waiting, earlier, first_due, LeavesOthers, LeavesStranger}
+use Rattle.lobby_guests.specs.Guests.{KnowsAsks}
 use Rattle.lobby_talk.specs.Held.{TakesIn, HandsOn, IsKept}
 use Rattle.lobby_loop.specs.Seating.{AreSeatedIf}
 use Rattle.lobby_loop.specs.declared.hall.Hall.{Hall}
@@ -52,8 +53,8 @@ TellsServer {S} contents front (Some link) server old new =
     (after : Link S) × (server ≡ Some after) × HandsOn front (contents link.stream) (contents after.stream) old new
     × IsKept link after
 
--- Nobody is connected, nothing was said, nobody has paid for an act, and nobody's time counts from any moment but when he
--- came. Entries are paused, or not.
+-- Nobody is connected, nothing was said, nobody has paid for an act, and nobody's time counts from any moment but when
+-- he came. Entries are paused, or not.
 pub record BeginsHall {S : Type 0} (site : Site) (players : List Player) (is_paused : Bool)
     (now : Hall S) : Type 0 where
   pub site_is : now.site ≡ site
@@ -63,8 +64,9 @@ pub record BeginsHall {S : Type 0} (site : Site) (players : List Player) (is_pau
   pub away : now.away_at ≡ 0
   pub unpaid : (player : ℕ) → paid_by now.rounds.asks.paces player ≡ 0
 
--- By what it judges who has a place, and who may ask and act, is as before: whether somebody came since, when the server
--- was away last, when it looks next, and the proxy that it trusts; who asked for much last, and what players have paid.
+-- By what it judges who has a place, and who may ask and act, is as before: whether somebody came since, when the
+-- server was away last, when it looks next, and the proxy that it trusts; who asked for much last, and until when each
+-- player has paid for his acts.
 pub record JudgesAsBefore {S : Type 0} (old new : Hall S) : Type 0 where
   pub come : new.has_come ≡ old.has_come
   pub away : new.away_at ≡ old.away_at
@@ -120,6 +122,7 @@ pub record ComesIn {S : Type 0} (key : ℕ) (peer : IpAddr) (at : ℕ) (old new 
   pub away : new.away_at ≡ old.away_at
   pub look : new.look_at ≡ next_look (length old.guests.items == 0) old.look_at at
   pub proxy : new.proxy ≡ old.proxy
+  pub asks : new.rounds.asks ≡ old.rounds.asks
 
 -- Nobody comes, and he is counted who would have.
 pub record IsTurnedAway {S : Type 0} (old new : Hall S) : Type 0 where
