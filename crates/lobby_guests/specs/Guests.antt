@@ -19,7 +19,7 @@ use Rattle.lobby_web.specs.declared.socket.Heard.TheVariants as heards
 use Rattle.lobby_web.specs.declared.socket.Unsaid.{Unsaid}
 use Rattle.lobby_web.specs.declared.socket.Unsaid.TheVariants as unsaids
 use Rattle.lobby_web.specs.Browsing.{IsNew, IsOver, pending, unread, WantsBytes, Takes, HearsNext, SaysTo, Writes}
-use Rattle.lobby_talk.specs.Front.{has_act, has_brief}
+use Rattle.lobby_talk.specs.Front.{has_act, has_brief, may_be_act}
 use Rattle.lobby_guests.specs.declared.guest.Guest.{Guest}
 use Rattle.lobby_guests.specs.declared.origin.Origin.{Origin}
 use Rattle.lobby_guests.specs.Origins.{IsToldOrigin}
@@ -272,31 +272,21 @@ pub record MayBeAsked {S : Type 0} (desk : Desk) (guest : Guest S) : Type 0 wher
   pub free : guest.waits.items ≡ []
   pub speaks : MaySpeak desk guest.number
 
--- An act that stands in front of what came of one is heard at once, where its player may act; he pays for it just where
--- it may be taken.
+-- Where an act stands in front of what came of one, or may, its player has not paid too far ahead for it, and pays for it
+-- just where it may be taken; for all else nobody pays.
+pub record IsPaced {S : Type 0} (at : ℕ) (guest : Guest S) (room after : Asking) : Type 0 where
+  pub in_time : may_be_act (unread guest.browser.stage) ≡ true → may_act at (paid_for_acts room guest) ≡ true
+  pub is_taken : Bool
+  pub taken : (is_taken ≡ true) ↔ (may_be_act (unread guest.browser.stage) ≡ true) × MayBeAsked room.talk.desk guest
+  pub pays : PaysIf is_taken at (payer_of room.talk.desk guest.number) room.paces after.paces
+  pub next_act : after.next_act ≡ room.next_act
+
+-- An act that stands in front is heard at once.
 pub record IsActing {S : Type 0} (at : ℕ) (old new : Guest S) (room after : Asking) : Type 0 where
   pub act : has_act (unread old.browser.stage) ≡ true
-  pub in_time : may_act at (paid_for_acts room old) ≡ true
   pub heard : IsHeardNow at old new room.talk after.talk
   pub left : after.left ≡ room.left
   pub asker : after.asker ≡ room.asker
-  pub next_act : after.next_act ≡ room.next_act
-  pub is_taken : Bool
-  pub taken : (is_taken ≡ true) ↔ MayBeAsked room.talk.desk old
-  pub pays : PaysIf is_taken at (payer_of room.talk.desk old.number) room.paces after.paces
-
--- Where he may not, it waits until he may.
-pub record IsActingLater {S : Type 0} (at : ℕ) (old new : Guest S) (room after : Asking) : Type 0 where
-  pub act : has_act (unread old.browser.stage) ≡ true
-  pub ahead : may_act at (paid_for_acts room old) ≡ false
-  pub guest : new ≡ old
-  pub rest : after ≡ record room { next_act = earlier room.next_act (Some (acts_from (paid_for_acts room old))) }
-
--- Nobody pays for what is no act, nor does it change when the first act may be taken that waits.
-pub record PaysNothing {S : Type 0} (guest : Guest S) (room after : Asking) : Type 0 where
-  pub other : has_act (unread guest.browser.stage) ≡ false
-  pub paces : after.paces ≡ room.paces
-  pub next_act : after.next_act ≡ room.next_act
 
 -- All else takes a turn that is left: what asks for little, and
 pub record IsBrief {S : Type 0} (at : ℕ) (old new : Guest S) (room after : Asking) : Type 0 where
@@ -304,7 +294,6 @@ pub record IsBrief {S : Type 0} (at : ℕ) (old new : Guest S) (room after : Ask
   pub heard : IsHeardNow at old new room.talk after.talk
   pub takes : after.left < room.left
   pub asker : after.asker ≡ room.asker
-  pub free : PaysNothing old room after
 
 -- what may ask for much, where the last such is answered; nobody behind it asks in the turn.
 pub record IsLong {S : Type 0} (at : ℕ) (old new : Guest S) (room after : Asking) : Type 0 where
@@ -313,7 +302,13 @@ pub record IsLong {S : Type 0} (at : ℕ) (old new : Guest S) (room after : Aski
   pub some : 0 < room.left
   pub last : after.left ≡ 0
   pub asker : after.asker ≡ old.number
-  pub free : PaysNothing old room after
+
+-- What may be an act waits where its player has paid too far ahead, until he has not.
+pub record IsAhead {S : Type 0} (at : ℕ) (old new : Guest S) (room after : Asking) : Type 0 where
+  pub act : may_be_act (unread old.browser.stage) ≡ true
+  pub ahead : may_act at (paid_for_acts room old) ≡ false
+  pub guest : new ≡ old
+  pub rest : after ≡ record room { next_act = earlier room.next_act (Some (acts_from (paid_for_acts room old))) }
 
 -- Or it stays where it is.
 pub record IsPutOff {S : Type 0} (old new : Guest S) (room after : Asking) : Type 0 where
@@ -323,8 +318,9 @@ pub record IsPutOff {S : Type 0} (old new : Guest S) (room after : Asking) : Typ
 
 abbrev pub IsPlayerHeard : {S : Type 0} → ℕ → Guest S → Guest S → Asking → Asking → Type 0
 IsPlayerHeard at old new room after =
-    IsActing at old new room after ⊎ IsActingLater at old new room after ⊎ IsBrief at old new room after
-    ⊎ IsLong at old new room after ⊎ IsPutOff old new room after
+    IsPaced at old room after × (IsActing at old new room after ⊎ IsBrief at old new room after
+    ⊎ IsLong at old new room after)
+    ⊎ IsAhead at old new room after ⊎ IsPutOff old new room after
 
 -- It is read for, and heard.
 pub record IsPlayerServed {S : Type 0} (remaining : S → Option (List ℕ)) (site : Site) (at : ℕ)

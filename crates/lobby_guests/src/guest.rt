@@ -24,8 +24,7 @@ ghost use Rattle.lobby_guests.specs.Paces.{player_of, payer_of};
 ghost use Rattle.lobby_guests.specs.Place.{role_of, place_of, Yields};
 
 use crate::origin::Origin;
-use crate::paces::number_of;
-use crate::place::{Place, Role, is_gone};
+use crate::place::{Place, Role, is_gone, number_of};
 use crate::waiting::{Waiting, is_line};
 use lobby_desk::{Kind, Message};
 use lobby_talk::{
@@ -60,9 +59,6 @@ const COME_A_MILLISECOND: u64 = 40;
 
 /// So many bytes of one are read in a turn at most: more than the head of a browser's request has.
 const READ_MOST: usize = 1_024;
-
-/// So many bytes are written at once to each player: more, to some of them in a turn.
-const LITTLE: usize = 2_048;
 
 /// One for which more messages wait than these is let go.
 const WAITING_MOST: usize = 1_024;
@@ -237,14 +233,13 @@ impl<S> Guest<S> {
         }
     }
 
-    /// Whether something waits to be written that its socket may take.
-    pub fn has_to_write(&self) -> bool {
-        self.can_write && !self.is_lost && !self.browser.out().is_empty()
-    }
-
-    /// Whether what is written to it next is short.
-    pub fn has_little_to_write(&self) -> bool {
-        self.browser.out().len() <= LITTLE
+    /// How many bytes wait to be written that its socket may take.
+    pub fn to_write(&self) -> usize {
+        if self.can_write && !self.is_lost {
+            self.browser.out().len()
+        } else {
+            0
+        }
     }
 
     /// Its socket may be ready.
@@ -778,7 +773,7 @@ impl<S: Read + Write> Guest<S> {
         ensures written { IsWritten S.contents site.now self.old self.new }
         ensures waits { is_turn ≡ false → self.new ≡ self.old }
     {
-        if !is_turn || !self.has_to_write() {
+        if !is_turn || self.to_write() == 0 {
             return false;
         }
         match write_piece(&mut self.stream, self.browser.out()) {

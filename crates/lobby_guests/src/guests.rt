@@ -10,7 +10,7 @@ ghost use Rattle.lobby_talk.specs.Counting.{counted_up};
 ghost use Rattle.lobby_guests.specs.Guests as guests;
 ghost use Rattle.lobby_guests.specs.Guests.{IsLeftAlone, IsSettled, IsServed, IsPlayersTurn, IsOthersTurn, InTurn};
 ghost use Rattle.lobby_guests.specs.Guests.{IsPlayerServed, IsAnswered, KnowsAsks, full_asking, Room, full_room};
-ghost use Rattle.lobby_guests.specs.Rounds.{room_of, others_room, TakesTurn, IsToAsk};
+ghost use Rattle.lobby_guests.specs.Rounds.{room_of, others_room, TakesTurn, HasTurn, IsToAsk};
 ghost use Rattle.lobby_guests.specs.Guests.{AreAttended, AreTold, AreDelivered, IsWritten, IsLookedAfter, IsClosedIf};
 ghost use Rattle.lobby_guests.specs.Guests.{AreClosed, AreParted, IsCaughtUp, AreAnswered, first_wanted, has_waiting};
 ghost use Rattle.lobby_guests.specs.Guests.{LeavesOthers, LeavesStranger};
@@ -20,17 +20,24 @@ ghost use Rattle.lobby_guests.specs.Waiting as waiting;
 ghost use Rattle.lobby_talk.specs.Replaying.{Replays};
 ghost use Rattle.lobby_talk.specs.declared.kept_answer.KeptAnswer.{KeptAnswer as KeptAnswerValue};
 ghost use Rattle.lobby_talk.specs.Talking.{IsTalkAsBefore, acts_at};
+ghost use Rattle.lobby_talk.specs.Front.{may_be_act};
 ghost use Rattle.lobby_talk.specs.Keeping.{AreKept};
+ghost use Rattle.lobby_web.specs.Browsing.{unread};
 
 use crate::guest::Guest;
 use crate::rounds::{
     ASKED_MOST, ATTENDED_MOST, Asks, Round, Rounds, Strangers, TOLD_MOST, WRITTEN_MOST,
 };
 use lobby_desk::Message;
-use lobby_talk::{Coming, Counts, KeepsLinks, KeptAnswer, PIECE_ROOM, Talk, has_act, has_brief};
+use lobby_talk::{
+    Coming, Counts, KeepsLinks, KeptAnswer, PIECE_ROOM, Talk, has_act, has_brief, may_be_act,
+};
 use lobby_web::Site;
 use std::alloc::{AllocError, Global};
 use std::io::{Read, Write};
+
+/// So many bytes are written at once to each player: more, to some of them in a turn.
+const LITTLE: usize = 2_048;
 
 /// So many browsers are told an answer to `line G` in a turn at most: each may be long.
 const ANSWERED_MOST: usize = 1;
@@ -82,22 +89,48 @@ fn takes_turn<S>(guest: &Guest<S>, asks: &mut Asks, talk: &Talk) -> bool
     is_free
 }
 
-// Whether a player's browser is asked what came next: where an act stands in front at once, if the player may act, who
-// pays for it if it may be taken; and else where it is its turn.
+// Whether it is the turn of a player's browser: where an act stands in front at once, and else where one is left; then it
+// has it.
+fn has_turn<S>(guest: &Guest<S>, asks: &mut Asks, talk: &Talk) -> bool
+    ensures { HasTurn result talk.now.desk guest.now asks.old asks.new }
+{
+    has_act(guest.unread()) || takes_turn(guest, asks, talk)
+}
+
+// The same where an act may stand in front: if its player may act, who pays for it if it may be taken.
+fn has_paid_turn<S>(
+    guest: &Guest<S>,
+    asks: &mut Asks,
+    talk: &Talk,
+    at: u64,
+) -> Result<bool, AllocError>
+    requires { may_be_act (unread guest.now.browser.stage) ≡ true }
+    ensures { IfOk result (λ is_asked. IsToAsk is_asked talk.now at guest.now asks.old asks.new) }
+{
+    let player = guest.payer(talk);
+    if !asks.may_act(player, at) {
+        return Ok(false);
+    }
+    if !has_turn(guest, asks, talk) {
+        return Ok(false);
+    }
+    asks.pay_if(guest.may_be_asked(talk), player, at)?;
+    Ok(true)
+}
+
+// Whether a player's browser is asked what came next: where it is its turn, and its player may act if it may be an act.
 fn is_to_ask<S>(
     guest: &Guest<S>,
     asks: &mut Asks,
     talk: &Talk,
     at: u64,
 ) -> Result<bool, AllocError>
-    ensures { IfOk result (λ is_asked. IsToAsk is_asked talk.now.desk at guest.now asks.old asks.new) }
+    ensures { IfOk result (λ is_asked. IsToAsk is_asked talk.now at guest.now asks.old asks.new) }
 {
-    if !has_act(guest.unread()) {
-        return Ok(takes_turn(guest, asks, talk));
+    if may_be_act(guest.unread()) {
+        return has_paid_turn(guest, asks, talk, at);
     }
-    let pays = guest.may_be_asked(talk);
-    let is_asked = asks.take_act(guest.payer(talk), at, pays)?;
-    Ok(is_asked)
+    Ok(takes_turn(guest, asks, talk))
 }
 
 // Reads for a player's browser, and says to the desk what came next of it, where it is asked for that.
@@ -394,10 +427,10 @@ pub fn deliver<S>(
 fn has_players_turn<S>(guest: &Guest<S>, talk: &Talk, round: &mut Round) -> bool
     ensures { acts_at talk.now.desk guest.now.number ≡ false → result ≡ false }
 {
-    if !guest.has_to_write() || !talk.acts(guest.number()) {
+    if guest.to_write() == 0 || !talk.acts(guest.number()) {
         return false;
     }
-    if guest.has_little_to_write() {
+    if guest.to_write() <= LITTLE {
         return true;
     }
     let is_turn = round.is_at(guest.key());
@@ -430,7 +463,7 @@ fn write_players<S: Read + Write>(
 
 // Whether it is the turn of a browser that something is written to it; then it has it.
 fn has_turn_to_write<S>(guest: &Guest<S>, talk: &Talk, round: &mut Round) -> bool {
-    let is_turn = round.is_at(guest.key()) && guest.has_to_write() && !talk.acts(guest.number());
+    let is_turn = round.is_at(guest.key()) && guest.to_write() > 0 && !talk.acts(guest.number());
     if is_turn {
         round.take(guest.key());
     }

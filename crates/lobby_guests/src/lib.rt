@@ -1,14 +1,13 @@
 //! The lobby's browsers: the connection of each, a stream that does not wait, and what a turn does for each of them.
 //!
 //! Modules: `guest` has one browser's connection, `waiting` what waits for it, `origin` where it comes from, `place`
-//! what its place is among all of them, `guests` what is done for all, `rounds` whose turn it is, `paces` what players
-//! have paid. `proofs/EachGuest` has browsers that are attended one after another.
+//! what its place is among all of them, `guests` what is done for all, `rounds` whose turn it is, and who may act.
+//! `proofs/EachGuest` has browsers that are attended one after another.
 #![tactic(auto)]
 
 mod guest;
 mod guests;
 mod origin;
-mod paces;
 mod place;
 mod rounds;
 mod waiting;
@@ -19,7 +18,6 @@ pub use guests::{
     wake_one, write_all,
 };
 pub use origin::Origin;
-pub use paces::{number_of, tell_at, told_at};
-pub use place::{Place, Role, is_gone};
+pub use place::{Place, Role, is_gone, number_of};
 pub use rounds::Rounds;
 pub use waiting::Waiting;

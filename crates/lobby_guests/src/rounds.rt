@@ -1,11 +1,10 @@
 //! Whose turn it is where a turn of the lobby does not do what is to be done for all: a few in each, in a round.
-ghost use Rattle.std.specs.Prelude.{ℕ, ◌≡◌, ◌<◌, ◌+◌, ◌&&◌, nat_lt, nat_le, true, false, IfOk};
+ghost use Rattle.std.specs.Prelude.{ℕ, ◌≡◌, ◌<◌, ◌+◌, ◌&&◌, nat_lt, nat_le, true, false, OnOk};
 ghost use Rattle.lobby_guests.specs.Guests.{others_most};
 ghost use Rattle.lobby_guests.specs.Paces.{paid_by};
-ghost use Rattle.lobby_guests.specs.Rounds.{KeepsPaces, TakesAct};
+ghost use Rattle.lobby_guests.specs.Rounds.{KeepsPaces, LetsAct, PaysAct};
 
 use crate::guests::earlier;
-use crate::paces::{tell_at, told_at};
 use std::alloc::{AllocError, Global};
 use std::collections::BTreeMap;
 
@@ -106,21 +105,40 @@ impl Asks {
         self.asker = number;
     }
 
-    /// An act of this player stands in front at a moment, for which he pays if it may be taken. It tells whether he may
-    /// act: whether he has not paid too far ahead. It fails where memory is refused.
-    pub fn take_act(&mut self, player: u128, at: u64, pays: bool) -> Result<bool, AllocError>
-        ensures { IfOk result (λ may. TakesAct may player at pays self.old self.new) }
+    // Until when this player has paid.
+    fn paid_by(&self, player: u128) -> u64
+        ensures { result ≡ paid_by self.now.paces player }
     {
-        let until = told_at(&self.paces, player);
-        if until.saturating_sub(at) > ACTS_AHEAD {
-            self.next_act = earlier(self.next_act, Some(until.saturating_sub(ACTS_AHEAD)));
-            return Ok(false);
+        match self.paces.get(&player) {
+            Some(until) => *until,
+            None => 0,
         }
-        if pays {
-            let later = until.max(at).saturating_add(AN_ACT);
-            tell_at(&mut self.paces, player, later)?;
+    }
+
+    /// Whether this player may act at a moment, since he has not paid too far ahead; where he may not, it is known from
+    /// when on.
+    pub fn may_act(&mut self, player: u128, at: u64) -> bool
+        ensures { LetsAct result player at self.old self.new }
+    {
+        let until = self.paid_by(player);
+        if until.saturating_sub(at) <= ACTS_AHEAD {
+            return true;
         }
-        Ok(true)
+        let from = until.saturating_sub(ACTS_AHEAD);
+        self.next_act = earlier(self.next_act, Some(from));
+        false
+    }
+
+    /// This player pays for an act at a moment, if it is one. It fails where memory is refused.
+    pub fn pay_if(&mut self, is_act: bool, player: u128, at: u64) -> Result<(), AllocError>
+        ensures { OnOk result (PaysAct is_act player at self.old self.new) }
+    {
+        if !is_act {
+            return Ok(());
+        }
+        let until = self.paid_by(player).max(at).saturating_add(AN_ACT);
+        self.paces.insert(player, until)?;
+        Ok(())
     }
 }
 

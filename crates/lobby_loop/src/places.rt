@@ -1,5 +1,6 @@
 //! Who has a place, and who makes room for whom.
-ghost use Rattle.std.specs.Prelude.{ℕ, ◌≡◌, ◌≤◌, ◌+◌, ◌-◌, ◌∷◌, [], List, None, Some, count_by, min, IfOk, OnOk};
+ghost use Rattle.std.specs.Prelude.{ℕ, ◌≡◌, ◌≤◌, ◌+◌, ◌-◌, ◌==◌, ◌∷◌, [], List, None, Some, count_by, min, IfOk, OnOk};
+ghost use Rattle.std.specs.Prelude.{if◌then◌else◌};
 ghost use Rattle.std.specs.BTreeMap.{get};
 ghost use Rattle.std.specs.Map.{count_at};
 ghost use Rattle.std.specs.Ordering.{nat_cmp};
@@ -8,7 +9,7 @@ ghost use Rattle.lobby_loop.specs.Places.{make_room, room_for, each_room, in_tim
 ghost use Rattle.lobby_loop.specs.Places.{most_nameless, judged, IsOwned, IsFair, IsTallied};
 ghost use Rattle.lobby_loop.specs.Places.{number_of, IsTalliedByName};
 
-use lobby_guests::{Place, Role, is_gone, number_of, tell_at, told_at};
+use lobby_guests::{Place, Role, is_gone, number_of};
 use player_name::Name;
 use std::alloc::{AllocError, Global};
 use std::collections::BTreeMap;
@@ -109,6 +110,25 @@ fn make_room(places: &mut [Place], address: Option<u64>, most: usize)
 {
     let excess = count(places, address, &Class::Nameless).saturating_sub(most);
     leave(places, address, &Class::Nameless, excess);
+}
+
+// How many are told at most under this number: nameless ones of an address, or those that act for a player.
+fn told_at(tally: &BTreeMap<u128, u64>, number: u128) -> u64
+    ensures { result ≡ count_at (get nat_cmp tally.now) number }
+{
+    match tally.get(&number) {
+        Some(most) => *most,
+        None => 0,
+    }
+}
+
+// So many are told from now on.
+fn tell_at(tally: &mut BTreeMap<u128, u64>, number: u128, most: u64) -> Result<(), AllocError>
+    ensures { OnOk result ((a : ℕ) → count_at (get nat_cmp tally.new) a
+        ≡ (if number == a then most else count_at (get nat_cmp tally.old) a)) }
+{
+    tally.insert(number, most)?;
+    Ok(())
 }
 
 // One more is told where this one is nameless and counts for an address.

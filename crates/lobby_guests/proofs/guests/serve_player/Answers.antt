@@ -9,22 +9,16 @@ pub returns-then-not-is_asked : goal.returns-then-not-is_asked
 returns-then-not-is_asked g c =
     let read = c.read_in-has_read.new.self in
     let talk = c.args.talk.now in
-    let asked : IsToAsk false talk.desk c.args.at read c.args.asks.now c.is_to_ask-is_asked.new.asks =
-    subst (λ (b : Bool). IsToAsk b talk.desk c.args.at read c.args.asks.now c.is_to_ask-is_asked.new.asks)
-    c.if-not-is_asked.true c.in_ok-is_asked.ensures in
-    let hears : IsPlayerHeard c.args.at read read (room_of talk c.args.asks.now) (room_of talk c.is_to_ask-is_asked.new.asks) =
-    elim asked [
-      | inl act ↦ inr (inl (record {
-        act = act.act;
-        ahead = act.takes.ahead;
-        guest = refl;
-        rest = ap (λ (a : Asks). room_of talk a) act.takes.rest;
-      }))
-      | inr (other, same) ↦ inr (inr (inr (inr (record {
+    let asks = c.is_to_ask-is_asked.new.asks in
+    let asked : IsToAsk false talk c.args.at read c.args.asks.now asks =
+    subst (λ (b : Bool). IsToAsk b talk c.args.at read c.args.asks.now asks) c.if-not-is_asked.true c.in_ok-is_asked.ensures in
+    let hears : IsPlayerHeard c.args.at read read (room_of talk c.args.asks.now) (room_of talk asks) = elim asked [
+      | inl ahead ↦ inr (inl ahead)
+      | inr (other, same) ↦ inr (inr (record {
         other = other;
         guest = refl;
         rest = ap (λ (a : Asks). room_of talk a) same;
-      }))))
+      }))
     ] in
     record {
       read = read;
@@ -38,9 +32,16 @@ returns g c =
     let read = c.read_in-has_read.new.self in
     let talk = c.args.talk.now in
     let asks = c.is_to_ask-is_asked.new.asks in
-    let asked : IsToAsk true talk.desk c.args.at read c.args.asks.now asks =
-    subst (λ (b : Bool). IsToAsk b talk.desk c.args.at read c.args.asks.now asks) c.if-not-is_asked.false
+    let asked : IsToAsk true talk c.args.at read c.args.asks.now asks =
+    subst (λ (b : Bool). IsToAsk b talk c.args.at read c.args.asks.now asks) c.if-not-is_asked.false
     c.in_ok-is_asked.ensures in
+    let paced = record {
+      in_time = asked.0.in_time;
+      is_taken = asked.0.is_taken;
+      taken = asked.0.taken;
+      pays = asked.0.pays;
+      next_act = asked.0.next_act;
+    } in
     let heard : IsHeardNow c.args.at read c.hear.new.self talk c.hear.new.talk = record {
       heard = c.in_ok-has_heard.ensures.heard;
       asks = c.in_ok-has_heard.ensures.asks;
@@ -48,34 +49,22 @@ returns g c =
       owes = c.in_ok-has_heard.ensures.owes;
     } in
     let hears : IsPlayerHeard c.args.at read c.hear.new.self (room_of talk c.args.asks.now) (room_of c.hear.new.talk asks) =
-    elim asked [
-      | inl act ↦ inl (record {
-        act = act.act;
-        in_time = act.takes.in_time;
-        heard = heard;
-        left = act.takes.left;
-        asker = act.takes.asker;
-        next_act = act.takes.next_act;
-        is_taken = act.is_taken;
-        taken = act.taken;
-        pays = act.takes.paid;
-      })
-      | inr (other, (keeps, turn)) ↦ elim turn [
-        | inl (brief, less, asker) ↦ inr (inr (inl (record {
+    elim asked.1 [
+      | inl (act, left, asker) ↦ inl (paced, inl (record { act = act; heard = heard; left = left; asker = asker }))
+      | inr one ↦ elim one [
+        | inl (brief, less, asker) ↦ inl (paced, inr (inl (record {
           brief = brief;
           heard = heard;
           takes = less;
           asker = asker;
-          free = record { other = other; paces = keeps.paces; next_act = keeps.next_act };
         })))
-        | inr (answered, some, last, asker) ↦ inr (inr (inr (inl (record {
+        | inr (answered, some, last, asker) ↦ inl (paced, inr (inr (record {
           answered = answered;
           heard = heard;
           some = some;
           last = last;
           asker = asker;
-          free = record { other = other; paces = keeps.paces; next_act = keeps.next_act };
-        }))))
+        })))
       ]
     ] in
     record {
