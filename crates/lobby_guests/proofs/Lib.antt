@@ -7,4 +7,4 @@ mod Wanted
 pub mod Catching
 mod Waking
 mod Writing
-pub mod Pacing
+mod Pacing

@@ -272,8 +272,8 @@ pub record MayBeAsked {S : Type 0} (desk : Desk) (guest : Guest S) : Type 0 wher
   pub free : guest.waits.items ≡ []
   pub speaks : MaySpeak desk guest.number
 
--- Where an act stands in front of what came of one, or may, its player has not paid too far ahead for it, and pays for it
--- just where it may be taken; for all else nobody pays.
+-- Where an act stands in front of what came of one, or may, its player has not paid too far ahead, and pays for it just
+-- where it may be taken; for all else nobody pays.
 pub record IsPaced {S : Type 0} (at : ℕ) (guest : Guest S) (room after : Asking) : Type 0 where
   pub in_time : may_be_act (unread guest.browser.stage) ≡ true → may_act at (paid_for_acts room guest) ≡ true
   pub is_taken : Bool

@@ -453,16 +453,6 @@ impl<S> Guest<S> {
         self.paid_until = self.paid_until.max(at).saturating_add(millis);
     }
 
-    // Its time is taken by an answer of so many bytes.
-    fn pay(&mut self, at: u64, bytes: usize)
-        ensures still { IsStill self.old self.new }
-        ensures logins { self.new.logins_until ≡ self.old.logins_until }
-        ensures lost { self.new.is_lost ≡ self.old.is_lost }
-        ensures paid { self.new.paid_until ≡ taken_until at self.old.paid_until (bytes / 200) }
-    {
-        self.take_time(at, bytes as u64 / BYTES_A_MILLISECOND);
-    }
-
     // A login of it was refused, if this answer says so: that takes 12 seconds of its time for it. It is to be closed
     // where there were too many.
     fn note_login(&mut self, at: u64, text: &str)
@@ -484,7 +474,7 @@ impl<S> Guest<S> {
         self.be_told_text(text);
         counts.told(text, &mut self.asked);
         if is_answer(text) {
-            self.pay(counts.at, text.len());
+            self.take_time(counts.at, text.len() as u64 / BYTES_A_MILLISECOND);
         }
     }
 

@@ -89,8 +89,8 @@ fn takes_turn<S>(guest: &Guest<S>, asks: &mut Asks, talk: &Talk) -> bool
     is_free
 }
 
-// Whether it is the turn of a player's browser: where an act stands in front at once, and else where one is left; then it
-// has it.
+// Whether it is the turn of a player's browser: where an act stands in front at once, and else where one is left; then
+// it has it.
 fn has_turn<S>(guest: &Guest<S>, asks: &mut Asks, talk: &Talk) -> bool
     ensures { HasTurn result talk.now.desk guest.now asks.old asks.new }
 {
@@ -130,7 +130,7 @@ fn is_to_ask<S>(
     if may_be_act(guest.unread()) {
         return has_paid_turn(guest, asks, talk, at);
     }
-    Ok(takes_turn(guest, asks, talk))
+    Ok(has_turn(guest, asks, talk))
 }
 
 // Reads for a player's browser, and says to the desk what came next of it, where it is asked for that.

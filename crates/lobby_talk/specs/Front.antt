@@ -56,9 +56,15 @@ has_act unread = is_act (letters unread)
 abbrev pub has_brief : List ℕ → Bool
 has_brief unread = is_brief (letters unread)
 
--- whether an act may stand in front: one does, or a frame that is no whole text message of at most 125 bytes, of which
--- nothing is told
+-- whether it asks what is offered, and is no offer of a draw: it begins with `offers`
+abbrev pub asks_offers : List ℕ → Bool
+asks_offers unread =
+    nat_le 12 (length unread) && (begins (letters unread) (codes "offer") && letter_at unread 11 3 == 115)
+
+-- whether it is no whole text message of at most 125 bytes, so that how it begins is not seen
+abbrev pub is_hidden : List ℕ → Bool
+is_hidden unread = nat_le 2 (length unread) && not (is_short_text (slice_index unread 0) (slice_index unread 1))
+
+-- whether an act may stand in front
 abbrev pub may_be_act : List ℕ → Bool
-may_be_act unread =
-    has_act unread
-    || nat_le 2 (length unread) && not (is_short_text (slice_index unread 0) (slice_index unread 1))
+may_be_act unread = (has_act unread && not (asks_offers unread)) || is_hidden unread

@@ -899,7 +899,7 @@ fn turn_five(rt: &impl Abort, lab: &mut Lab, at: u64) {
     }
 }
 
-// Of five connections that act for one player three do so at once, and then one each 50 ms; the hall wakes for the next.
+// Of five connections that act for one player three do so at once, and then one each 50 ms; the hall wakes for that.
 fn a_player_acts_at_one_pace_by_all_connections(rt: &impl Abort, lab: &mut Lab) {
     lab.begin(rt, &(RESIGNER, b"", How::Plainly));
     for key in 3..7 {

@@ -4,5 +4,5 @@ use Rattle.lobby_guests.proofs.guests.is_to_ask.Goals as goal
 
 pub returns : goal.returns
 returns g c =
-    unpaid c.args.talk.now c.args.at c.args.guest.now c.takes_turn.result c.args.asks.now c.takes_turn.new.asks
-    c.if-may_be_act.false c.takes_turn.ensures
+    unpaid c.args.talk.now c.args.at c.args.guest.now c.has_turn.result c.args.asks.now c.has_turn.new.asks
+    c.if-may_be_act.false c.has_turn.ensures

@@ -1,7 +1,7 @@
 -- It is read for first, and then heard, or what stands in front waits.
 use Rattle.std.proofs.Common.{Bool, true, false, inl, inr, refl, ap, subst}
 use Rattle.lobby_guests.specs.declared.rounds.Asks.{Asks}
-use Rattle.lobby_guests.specs.Guests.{IsHeardNow, IsPlayerHeard}
+use Rattle.lobby_guests.specs.Guests.{IsHeardNow, IsPaced, IsPlayerHeard}
 use Rattle.lobby_guests.specs.Rounds.{room_of, IsToAsk}
 use Rattle.lobby_guests.proofs.guests.serve_player.Goals as goal
 
@@ -35,7 +35,7 @@ returns g c =
     let asked : IsToAsk true talk c.args.at read c.args.asks.now asks =
     subst (λ (b : Bool). IsToAsk b talk c.args.at read c.args.asks.now asks) c.if-not-is_asked.false
     c.in_ok-is_asked.ensures in
-    let paced = record {
+    let paced : IsPaced c.args.at read (room_of talk c.args.asks.now) (room_of c.hear.new.talk asks) = record {
       in_time = asked.0.in_time;
       is_taken = asked.0.is_taken;
       taken = asked.0.taken;
