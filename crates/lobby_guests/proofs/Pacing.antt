@@ -1,20 +1,15 @@
 -- Who is asked pays where what stands in front may be an act.
 use Rattle.std.proofs.Common.{◌≡◌, ◌<◌, ◌∙◌, ℕ, Bool, true, false, inl, inr, refl, ap, sym, subst}
-use Rattle.std.specs.Prelude.{◌⊎◌, ◌↔◌, ◌||◌, Some, IsTrue}
+use Rattle.std.specs.Prelude.{◌⊎◌, ◌↔◌, Some, IsTrue}
 use Rattle.lobby_web.specs.Browsing.{unread}
-use Rattle.lobby_talk.specs.Front.{has_act, may_be_act}
+use Rattle.lobby_talk.specs.Front.{may_be_act}
 use Rattle.lobby_talk.specs.declared.talk.Talk.{Talk}
 use Rattle.lobby_guests.specs.declared.guest.Guest.{Guest}
 use Rattle.lobby_guests.specs.declared.rounds.Asks.{Asks}
 use Rattle.lobby_guests.specs.declared.rounds.Round.{Round}
 use Rattle.lobby_guests.specs.Paces.{payer_of, paid_by, may_act, acts_from, PaysIf}
 use Rattle.lobby_guests.specs.Guests.{MayBeAsked, IsPaced, earlier}
-use Rattle.lobby_guests.specs.Rounds.{room_of, LetsAct, PaysAct, KeepsPaces, TakesOne, TakesTurn, HasTurn, ActsAtOnce, IsToAsk}
-
--- of two tests of which none passes the first does not
-pub first_fails : (a b : Bool) → (a || b) ≡ false → a ≡ false
-first_fails true b is = is
-first_fails false b is = refl
+use Rattle.lobby_guests.specs.Rounds.{room_of, LetsAct, PaysAct, KeepsPaces, TakesOne, HasTurn, ActsAtOnce, IsToAsk}
 
 no_other : (b : Bool) → b ≡ false → b ≡ true → ⊥
 no_other true is so = cc
@@ -73,16 +68,17 @@ module _ {S : Type 0} (talk : Talk) (at : ℕ) (guest : Guest S) where
       )
 
   -- for what is no act nobody pays
-  pub unpaid : (b : Bool) (old new : Asks) → may_be_act (unread guest.browser.stage) ≡ false → TakesTurn b talk.desk guest old new →
+  pub unpaid : (b : Bool) (old new : Asks) → may_be_act (unread guest.browser.stage) ≡ false → HasTurn b talk.desk guest old new →
       IsToAsk b talk at guest old new
-  unpaid true old new other (kept, one) = (
-    record {
-      in_time = λ act. absurd (no_other (may_be_act (unread guest.browser.stage)) other act);
-      is_taken = false;
-      taken = (λ so. absurd (cc), λ both. absurd (no_other (may_be_act (unread guest.browser.stage)) other both.0));
-      pays = kept.paces;
-      next_act = kept.next_act;
-    },
-    inr one,
-  )
-  unpaid false old new other same = inr (first_fails (has_act (unread guest.browser.stage)) _ other, same)
+  unpaid true old new other had =
+      let kept = keeps old new had in (
+        record {
+          in_time = λ act. absurd (no_other (may_be_act (unread guest.browser.stage)) other act);
+          is_taken = false;
+          taken = (λ so. absurd (cc), λ both. absurd (no_other (may_be_act (unread guest.browser.stage)) other both.0));
+          pays = kept.paces;
+          next_act = kept.next_act;
+        },
+        turn old new new had refl refl,
+      )
+  unpaid false old new other had = inr had
