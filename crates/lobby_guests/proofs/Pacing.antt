@@ -1,13 +1,13 @@
 -- Who is asked pays where what stands in front may be an act.
-use Rattle.std.proofs.Common.{◌≡◌, ◌<◌, ◌∙◌, ℕ, Bool, true, false, inl, inr, refl, ap, sym, subst}
-use Rattle.std.specs.Prelude.{◌⊎◌, ◌↔◌, Some, IsTrue}
+use Rattle.std.proofs.Common.{◌≡◌, ◌<◌, ◌≤◌, ◌+◌, ◌-◌, ◌∙◌, ℕ, suc, Bool, true, false, List, [], ◌∷◌, length, inl, inr, refl, ap, sym, subst, arith, leb-true}
+use Rattle.std.specs.Prelude.{◌⊎◌, ◌↔◌, ◌*◌, ◌^◌, Some, IsTrue}
 use Rattle.lobby_web.specs.Browsing.{unread}
 use Rattle.lobby_talk.specs.Front.{may_be_act}
 use Rattle.lobby_talk.specs.declared.talk.Talk.{Talk}
 use Rattle.lobby_guests.specs.declared.guest.Guest.{Guest}
 use Rattle.lobby_guests.specs.declared.rounds.Asks.{Asks}
 use Rattle.lobby_guests.specs.declared.rounds.Round.{Round}
-use Rattle.lobby_guests.specs.Paces.{payer_of, paid_by, may_act, acts_from, PaysIf}
+use Rattle.lobby_guests.specs.Paces.{taken_until, payer_of, paid_by, may_act, acts_from, PaysIf, ActsAt, AreBetween}
 use Rattle.lobby_guests.specs.Guests.{MayBeAsked, IsPaced, earlier}
 use Rattle.lobby_guests.specs.Rounds.{room_of, LetsAct, PaysAct, KeepsPaces, TakesOne, HasTurn, ActsAtOnce, IsToAsk}
 
@@ -82,3 +82,28 @@ module _ {S : Type 0} (talk : Talk) (at : ℕ) (guest : Guest S) where
         turn old new new had refl refl,
       )
   unpaid false old new other had = inr had
+
+-- ---- how often somebody may act
+
+-- who acted so often has paid so far
+abbrev HasPaid : ℕ → ℕ → ℕ → ℕ → Type 0
+HasPaid from to count until = (count ≡ 0) ⊎ (from + 50 * count ≤ until) × (until ≤ to + 150)
+
+once_more : (from to at was until count : ℕ) → to + 150 < 2 ^ 64 → from ≤ at → at ≤ to → was - at ≤ 100 →
+    until ≡ taken_until at was 50 → HasPaid from to count was → HasPaid from to (suc count) until
+once_more from to at was until count room least most ahead is (inl none) = inr (omega arith, omega arith)
+once_more from to at was until count room least most ahead is (inr (paid, few)) = inr (omega arith, omega arith)
+
+paid_far : (from to had : ℕ) (moments : List ℕ) (until : ℕ) → to + 150 < 2 ^ 64 → AreBetween from to moments →
+    ActsAt had moments until → HasPaid from to (length moments) until
+paid_far from to had [] until room between acts = inl refl
+paid_far from to had (at ∷ before) until room (least, most, between) (was, acts, may, is) =
+    once_more from to at was until (length before) room least most (leb-true (was - at) 100 may) is
+    (paid_far from to had before was room between acts)
+
+pub acts_few : (from to had until : ℕ) (moments : List ℕ) → to + 150 < 2 ^ 64 → AreBetween from to moments →
+    ActsAt had moments until → 50 * length moments ≤ to - from + 150
+acts_few from to had until moments room between acts = elim (paid_far from to had moments until room between acts) [
+  | inl none ↦ omega (arith, none)
+  | inr (least, most) ↦ omega (arith, least, most)
+]

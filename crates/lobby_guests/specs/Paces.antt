@@ -1,6 +1,6 @@
 -- How fast a player may act: by what he has paid, over all connections that act for him.
 use Rattle.std.specs.Prelude.{ℕ, ◌≡◌, ◌+◌, ◌-◌, ◌^◌, ◌==◌, max, min, nat_le, if◌then◌else◌, Bool, true, false, List}
-use Rattle.std.specs.Prelude.{Option, None, Some}
+use Rattle.std.specs.Prelude.{Option, None, Some, ◌≤◌, [], ◌∷◌}
 use Rattle.std.specs.BTreeMap.{BTreeMap, get}
 use Rattle.std.specs.Int.{w128, from_le_bytes}
 use Rattle.std.specs.Map.{count_at}
@@ -47,3 +47,14 @@ abbrev pub PaysIf : Bool → ℕ → ℕ → BTreeMap ℕ ℕ → BTreeMap ℕ �
 PaysIf true at player old new =
     (one : ℕ) → paid_by new one ≡ (if player == one then taken_until at (paid_by old player) 50 else paid_by old one)
 PaysIf false at player old new = new ≡ old
+
+-- A player who had paid so far acts at these moments, the newest first, at each of which he may, and has paid so far then.
+abbrev pub ActsAt : ℕ → List ℕ → ℕ → Type 0
+ActsAt had [] until = until ≡ had
+ActsAt had (at ∷ before) until =
+    (was : ℕ) × ActsAt had before was × (may_act at was ≡ true) × (until ≡ taken_until at was 50)
+
+-- All of these moments are between two.
+abbrev pub AreBetween : ℕ → ℕ → List ℕ → Type 0
+AreBetween from to [] = Unit {0}
+AreBetween from to (at ∷ before) = (from ≤ at) × (at ≤ to) × AreBetween from to before

@@ -461,15 +461,6 @@ fn write_players<S: Read + Write>(
     any | can_more
 }
 
-// Whether it is the turn of a browser that something is written to it; then it has it.
-fn has_turn_to_write<S>(guest: &Guest<S>, talk: &Talk, round: &mut Round) -> bool {
-    let is_turn = round.is_at(guest.key()) && guest.to_write() > 0 && !talk.acts(guest.number());
-    if is_turn {
-        round.take(guest.key());
-    }
-    is_turn
-}
-
 // Writes to some of the others what they take. It tells whether that was anything, or more can be written.
 fn write_others<S: Read + Write>(
     guests: &mut Vec<Guest<S>>,
@@ -482,7 +473,11 @@ fn write_others<S: Read + Write>(
     let mut any = false;
     round.begin(WRITTEN_MOST);
     for guest in guests.iter_mut() {
-        let is_turn = has_turn_to_write(guest, talk, round);
+        let is_turn =
+            round.is_at(guest.key()) && guest.to_write() > 0 && !talk.acts(guest.number());
+        if is_turn {
+            round.take(guest.key());
+        }
         any |= guest.write_out(site, is_turn);
     }
     let can_more = round.end();

@@ -19,5 +19,5 @@ pub use guests::{
 };
 pub use origin::Origin;
 pub use place::{Place, Role, is_gone, number_of};
-pub use rounds::Rounds;
+pub use rounds::{Rounds, law_of_paces};
 pub use waiting::Waiting;

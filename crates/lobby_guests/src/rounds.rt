@@ -1,7 +1,8 @@
 //! Whose turn it is where a turn of the lobby does not do what is to be done for all: a few in each, in a round.
-ghost use Rattle.std.specs.Prelude.{ℕ, ◌≡◌, ◌<◌, ◌+◌, ◌&&◌, nat_lt, nat_le, true, false, OnOk};
+ghost use Rattle.std.specs.Prelude.{ℕ, ◌≡◌, ◌<◌, ◌≤◌, ◌+◌, ◌-◌, ◌*◌, ◌^◌, ◌&&◌, nat_lt, nat_le, true, false, OnOk};
+ghost use Rattle.std.specs.Prelude.{List, length};
 ghost use Rattle.lobby_guests.specs.Guests.{others_most};
-ghost use Rattle.lobby_guests.specs.Paces.{paid_by};
+ghost use Rattle.lobby_guests.specs.Paces.{paid_by, ActsAt, AreBetween};
 ghost use Rattle.lobby_guests.specs.Rounds.{KeepsPaces, LetsAct, PaysAct};
 
 use crate::guests::earlier;
@@ -213,3 +214,10 @@ impl Rounds {
         }
     }
 }
+
+/// Whoever acts where he may and pays for it: between two moments he acts once in 50 milliseconds at most, and three
+/// times besides.
+pub fn law_of_paces()
+    ensures { (from to had until : ℕ) (moments : List ℕ) → to + 150 < 2 ^ 64 → AreBetween from to moments
+        → ActsAt had moments until → 50 * length moments ≤ to - from + 150 }
+{}
