@@ -48,7 +48,8 @@ PaysIf true at player old new =
     (one : ℕ) → paid_by new one ≡ (if player == one then taken_until at (paid_by old player) 50 else paid_by old one)
 PaysIf false at player old new = new ≡ old
 
--- A player who had paid so far acts at these moments, the newest first, at each of which he may, and has paid so far then.
+-- A player who had paid so far acts at these moments, the newest first, at each of which he may; then he has paid so
+-- far.
 abbrev pub ActsAt : ℕ → List ℕ → ℕ → Type 0
 ActsAt had [] until = until ≡ had
 ActsAt had (at ∷ before) until =
