@@ -9,7 +9,7 @@ ghost use Rattle.lobby_loop.specs.Places.{make_room, room_for, each_room, in_tim
 ghost use Rattle.lobby_loop.specs.Places.{most_nameless, judged, IsOwned, IsFair, IsTallied};
 ghost use Rattle.lobby_loop.specs.Places.{number_of, IsTalliedByName};
 
-use lobby_guests::{Place, Role, is_gone};
+use lobby_guests::{Place, Role, is_gone, number_of};
 use player_name::Name;
 use std::alloc::{AllocError, Global};
 use std::collections::BTreeMap;
@@ -215,14 +215,6 @@ fn own_room(places: &mut [Place], player: Option<Name>)
         let excess = count(places, None, &Class::Own(name)).saturating_sub(A_PLAYER_MOST);
         leave(places, None, &Class::Own(name), excess);
     }
-}
-
-// A name as a number.
-#[tactic(auto, unfolding(crate::specs::Places::number_of))]
-fn number_of(name: &Name) -> u128
-    ensures { result ≡ number_of name.now }
-{
-    u128::from_le_bytes(name.padded())
 }
 
 // One more is told where this one has a player.

@@ -25,7 +25,7 @@ mod talk;
 mod under_way;
 
 pub use counts::{ACTS, Asked, BOUNDS, Coming, Counts, is_answer, is_refused_login};
-pub use front::{has_act, has_brief, law_of_fronts};
+pub use front::{has_act, has_brief, law_of_fronts, may_be_act};
 pub use kept_answer::KeptAnswer;
 pub use link::Link;
 pub use links::{KeepsLinks, NoLinks};

@@ -879,6 +879,47 @@ fn who_was_read_keeps_nobody_out(rt: &impl Abort, lab: &mut Lab) {
     }
 }
 
+// Ann shows her token, and acts then.
+const RESIGNER: &[u8] =
+    b"UP~\x81\xa6\0\0\0\0login aaaaaaaaaaaaaaaaaaaaaaaaaaaaaaaa~~\x81\x88\0\0\0\0resign 7";
+
+// What the server is sent where she does so five times.
+const FIVE_ACTS: &[u8] =
+    b"name ann\nresign 7\nshow 7\nfen 7\nresign 7\nshow 7\nfen 7\nresign 7\nshow 7\nfen 7\n\
+    resign 7\nshow 7\nfen 7\nresign 7\nshow 7\nfen 7\n";
+
+// Turns of five connections at a moment, with all sockets awake.
+fn turn_five(rt: &impl Abort, lab: &mut Lab, at: u64) {
+    for _ in 0..40 {
+        lab.turn_alone(rt, at);
+        for key in 2..7 {
+            lab.hall.wake(key);
+        }
+        lab.hall.wake_server();
+    }
+}
+
+// Of five connections that act for one player three do so at once, and then one each 50 ms; the hall wakes for that.
+fn a_player_acts_at_one_pace_by_all_connections(rt: &impl Abort, lab: &mut Lab) {
+    lab.begin(rt, &(RESIGNER, b"", How::Plainly));
+    for key in 3..7 {
+        lab.hall
+            .admit(Peer::new(lab.alloc, RESIGNER, 1_000), key, NEAR, 0);
+    }
+    let looks = [
+        (0, 75, 50),
+        (49, 75, 50),
+        (50, 97, 100),
+        (99, 97, 100),
+        (100, 119, 5_000),
+    ];
+    for (at, count, next) in looks {
+        turn_five(rt, lab, at);
+        assert!(rt; lab.is_asked(FIVE_ACTS.get(..count).unwrap_or(b"")));
+        assert!(rt; lab.hall.look_at(at) == Some(next));
+    }
+}
+
 #[test]
 fn halls(rt: HostRuntime) {
     let alloc = rt.alloc();
@@ -914,5 +955,6 @@ fn halls(rt: HostRuntime) {
     what_comes_of_strangers_is_paid(&rt, &mut lab);
     a_move_goes_out_beside_requests_without_end(&rt, &mut lab);
     who_was_read_keeps_nobody_out(&rt, &mut lab);
+    a_player_acts_at_one_pace_by_all_connections(&rt, &mut lab);
     drop(lab);
 }
