@@ -3,7 +3,8 @@ use Rattle.std.specs.Prelude.{ℕ, ◌≡◌, ◌≢◌, ◌<◌, ◌⊎◌, Boo
 use Rattle.std.specs.List.{AllZip, AllByRecursion}
 use Rattle.text_lines.specs.Lines.{HasNoFeed}
 use Rattle.lobby_words.specs.declared.players.Player.{Player}
-use Rattle.lobby_desk.specs.Events.{DeskInput, Heard, ServerTurned, Renewed, MessageValue, message_values}
+use Rattle.lobby_desk.specs.declared.halts.Finding.{Finding}
+use Rattle.lobby_desk.specs.Events.{DeskInput, Heard, ServerTurned, Renewed, Found, MessageValue, message_values}
 use Rattle.lobby_desk.specs.Lines.{bytes_of}
 use Rattle.lobby_desk.specs.Logging.{log_texts}
 use Rattle.lobby_desk.specs.Who.{view}
@@ -23,15 +24,16 @@ use Rattle.lobby_loop.specs.Turning.{bytes_heard, texts_put, IsLobbyTurn}
 use Rattle.lobby_loop.specs.Doing.{all_tells, AreServed, WereServed, AreAtLine, Before}
 
 -- What happens to a hall: a browser comes, sockets may be ready, the server is there, at a path another file is served
--- from now on, or none, in the place of what this site had, the players are these from now on, a turn. In a turn bytes
--- come of the server, then the connection to it may be lost; behind that the log has texts, and then bytes are written
--- to the server.
+-- from now on, or none, in the place of what this site had, the players are these from now on, it is found what halts
+-- games, a turn. In a turn bytes come of the server, then the connection to it may be lost; behind that the log has
+-- texts, and then bytes are written to the server.
 pub data Happening (S : Type 0) : Type 0 where
   Came : (stream : S) → Happening S
   Woke : Happening S
   ServerCame : (stream : S) → Happening S
   Filed : (path : List ℕ) → (file : Option File) → (before : Site) → Happening S
   Relisted : (players : List Player) → Happening S
+  Learned : (finding : Finding) → Happening S
   Turned : (at : ℕ) → (taken : List ℕ) → (is_gone : Bool) → (put : List (List ℕ)) → (front : List ℕ) → Happening S
 
 -- Sockets may be ready, and nothing else happens.
@@ -50,13 +52,20 @@ pub record Files {S : Type 0} (path : List ℕ) (file : Option File) (old new : 
   pub site : Changes path file old.site new.site
   pub door : KeepsDoor old new
 
--- The players are these from now on, and nothing else happens.
-pub record Renews {S : Type 0} (players : List Player) (old new : Hall S) : Type 0 where
+-- The desk takes this event, and nothing else happens.
+pub record Notes {S : Type 0} (event : DeskInput) (old new : Hall S) : Type 0 where
   pub guests : new.guests ≡ old.guests
-  pub talk : Moves old.talk (Renewed players) new.talk
+  pub talk : Moves old.talk event new.talk
   pub server : new.server ≡ old.server
   pub site : new.site ≡ old.site
   pub door : KeepsDoor old new
+
+-- The players are these from now on; it is found what halts games, or does so no more.
+abbrev pub Renews : {S : Type 0} → List Player → Hall S → Hall S → Type 0
+Renews players old new = Notes (Renewed players) old new
+
+abbrev pub Finds : {S : Type 0} → Finding → Hall S → Hall S → Type 0
+Finds finding old new = Notes (Found finding) old new
 
 -- The same files are served, and nothing happens.
 pub record KeepsFiles {S : Type 0} (old new : Hall S) : Type 0 where
@@ -84,6 +93,7 @@ Happens remaining contents Woke old new = IsWoken old new
 Happens remaining contents (ServerCame stream) old new = ServerComes stream old new
 Happens remaining contents (Filed path file before) old new = Files path file old new × (before ≡ old.site)
 Happens remaining contents (Relisted players) old new = Renews players old new
+Happens remaining contents (Learned finding) old new = Finds finding old new
 Happens remaining contents (Turned at taken is_gone put front) old new =
     TurnsBy remaining contents at taken is_gone put front old new
 
@@ -129,6 +139,7 @@ put_in (Came stream ∷ past) = put_in past
 put_in (Woke ∷ past) = put_in past
 put_in (Filed path file before ∷ past) = put_in past
 put_in (Relisted players ∷ past) = put_in past
+put_in (Learned finding ∷ past) = put_in past
 put_in (ServerCame stream ∷ past) = put_in past
 put_in (Turned at taken is_gone put front ∷ past) = put_in past ++ put
 
@@ -203,6 +214,7 @@ streams_in (Came stream ∷ past) = stream ∷ streams_in past
 streams_in (Woke ∷ past) = streams_in past
 streams_in (Filed path file before ∷ past) = streams_in past
 streams_in (Relisted players ∷ past) = streams_in past
+streams_in (Learned finding ∷ past) = streams_in past
 streams_in (ServerCame stream ∷ past) = streams_in past
 streams_in (Turned at taken is_gone put front ∷ past) = streams_in past
 
@@ -213,6 +225,7 @@ sites_in (Came stream ∷ past) = sites_in past
 sites_in (Woke ∷ past) = sites_in past
 sites_in (Filed path file before ∷ past) = before ∷ sites_in past
 sites_in (Relisted players ∷ past) = sites_in past
+sites_in (Learned finding ∷ past) = sites_in past
 sites_in (ServerCame stream ∷ past) = sites_in past
 sites_in (Turned at taken is_gone put front ∷ past) = sites_in past
 
@@ -260,10 +273,11 @@ pub record IsRightLife {S : Type 0} (remaining contents : S → Option (List ℕ
   pub lined : AreAtLine gone × AreAtLine now.guests.items
 
 -- Turns of a lobby, at these moments, and between them rests, in which sockets may become ready, and files that are
--- served from then on, or no more, and other players.
+-- served from then on, or no more, other players, and what is found that halts games.
 pub data Passing : Type 0 where
   TurnAt : (at : ℕ) → Passing
   Enrolled : (players : List Player) → Passing
+  Noticed : (finding : Finding) → Passing
   Changed : (path : List ℕ) → (file : Option File) → Passing
   Rested : Passing
 
@@ -281,3 +295,5 @@ IsLobbyLife {S} remaining contents players is_paused (Changed path file ∷ past
     (before : Hall S) × IsLobbyLife remaining contents players is_paused past before × Files path file before now
 IsLobbyLife {S} remaining contents players is_paused (Enrolled later ∷ past) now =
     (before : Hall S) × IsLobbyLife remaining contents players is_paused past before × Renews later before now
+IsLobbyLife {S} remaining contents players is_paused (Noticed finding ∷ past) now =
+    (before : Hall S) × IsLobbyLife remaining contents players is_paused past before × Finds finding before now

@@ -66,6 +66,7 @@ where
             can_stop: self.clocks.is_some(),
             reason: String::from_str(self.rt.alloc(), reason)?,
             announced: String::new(self.rt.alloc()),
+            is_full: false,
         })
     }
 

@@ -8,7 +8,7 @@ use crate::page::{has_port, site_of};
 use crate::players::Players;
 use crate::table::Table;
 use anyhow::{Context, Result};
-use lobby_desk::Halts;
+use lobby_desk::{Finding, Halts};
 use lobby_loop::{Lobby, LobbyListener, NoActLog, Turned};
 use lobby_words::Player;
 use sockets::{Moments, ServerAddress};
@@ -107,6 +107,8 @@ struct Beside<'a, R, D> {
     health: Health,
     games: GamesFiles<'a>,
     links: FileLinks<'a, R, D>,
+    // Whether it was told last that there is no room for the log.
+    is_full: bool,
 }
 
 impl<'a, R, D> Beside<'a, R, D>
@@ -133,7 +135,17 @@ where
             health: Health::new(rt.alloc()),
             games: GamesFiles::new(rt.alloc(), serving)?,
             links,
+            is_full: false,
         })
+    }
+
+    // Has everybody told whether there is room for the log, where that is news.
+    fn tell_room(&mut self, lobby: &mut Lobby, is_full: bool) -> Result<(), AllocError> {
+        if is_full != self.is_full {
+            lobby.found(&Finding::LogFull(is_full))?;
+            self.is_full = is_full;
+        }
+        Ok(())
     }
 
     // Takes turns until something is at fault.
@@ -152,6 +164,7 @@ where
                     let looked = log.look(at).context("the log of acts")?;
                     players.has_log_from_now_on(looked.is_safe);
                     players.look(lobby, at);
+                    self.tell_room(lobby, looked.is_full)?;
                     self.turn(lobby, log, at, looked.rest)?;
                 }
             }
