@@ -13,8 +13,8 @@ use Rattle.lobby_desk.specs.declared.halts.Halts.{Halts}
 use Rattle.lobby_desk.specs.declared.halts.Finding.{Finding}
 use Rattle.lobby_desk.specs.declared.halts.Finding.TheVariants as findings
 
--- whether entries are paused, whether clocks can be stopped, and the reason for which all are: none where they run; what
--- is announced, if anything is; and whether there is no room for the log
+-- whether entries are paused, whether clocks can be stopped, and the reason for which all are: none where they run;
+-- what is announced, if anything is; and whether there is no room for the log
 pub record Halted : Type 0 where
   pub paused : Bool
   pub can_stop : Bool
