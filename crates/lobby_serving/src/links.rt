@@ -1,6 +1,6 @@
 //! Players' links, changed in the players' file, players who are added there, whether entries are paused, kept beside
 //! it, why clocks are stopped, and what arbiters decide.
-ghost use Rattle.std.specs.Prelude.{ℕ, List, [], ◌≡◌, IfOk, IfSome};
+ghost use Rattle.std.specs.Prelude.{ℕ, false, List, [], ◌≡◌, IfOk, IfSome};
 ghost use Rattle.std.specs.String.{string_bytes};
 ghost use Rattle.hex.specs.Hex.{encode_lower};
 ghost use Rattle.lobby_words.specs.Players.{IsCarriedOut};
@@ -59,6 +59,7 @@ where
     pub fn halts(&self) -> Result<Halts>
         ensures paused { IfOk result (λ halts. halts.is_paused ≡ self.now.entries.is_paused) }
         ensures announced { IfOk result (λ halts. string_bytes halts.announced ≡ []) }
+        ensures room { IfOk result (λ halts. halts.is_full ≡ false) }
     {
         let reason = self.clocks.as_ref().map_or("", |clocks| clocks.reason());
         Ok(Halts {

@@ -1,4 +1,8 @@
 //! The word that serves browsers.
+ghost use Rattle.std.specs.Prelude.{◌≡◌, ◌≢◌, OnOk};
+ghost use Rattle.lobby_desk.specs.declared.halts.Finding.TheVariants as findings;
+ghost use Rattle.lobby_loop.specs.Living.{Finds};
+
 use crate::asked::Serving;
 use crate::games_files::GamesFiles;
 use crate::health::Health;
@@ -140,7 +144,12 @@ where
     }
 
     // Has everybody told whether there is room for the log, where that is news.
-    fn tell_room(&mut self, lobby: &mut Lobby, is_full: bool) -> Result<(), AllocError> {
+    fn tell_room(&mut self, lobby: &mut Lobby, is_full: bool) -> Result<(), AllocError>
+        ensures told { OnOk result (self.new.is_full ≡ is_full) }
+        ensures news { OnOk result (self.old.is_full ≢ is_full
+            → Finds (findings.LogFull is_full) lobby.old.hall lobby.new.hall) }
+        ensures same { self.old.is_full ≡ is_full → lobby.new.hall ≡ lobby.old.hall }
+    {
         if is_full != self.is_full {
             lobby.found(&Finding::LogFull(is_full))?;
             self.is_full = is_full;
