@@ -1451,7 +1451,8 @@ module _ {S : Type 0} (remaining contents : S → Option (List ℕ)) (players : 
       (subst (λ (gs : List (Guest S)). AreOwn old.talk.next (numbers (former ++ gs))) (sym (ap (λ gs. gs.items) guests)) own)
 
   -- the desk takes an event that is of no browser and not of the server, as that the players are others
-  noted : (e : DeskInput) → ((t : Traffic) → behind e t ≡ t) → ((bytes : List ℕ) → kept e bytes ≡ bytes) → IsOfNobody e → IsNoOpening e →
+  noted : (e : DeskInput) → ((o : Outside) (heard : List (List ℕ)) → behind e (traffic_of o heard) ≡ traffic_of o heard) →
+      ((bytes : List ℕ) → kept e bytes ≡ bytes) → IsOfNobody e → IsNoOpening e →
       (o : Outside) (came : Before S) (old new : Hall S) → Notes e old new →
       IsHallAt remaining contents players is_paused o came old → IsHallAt remaining contents players is_paused o came new
   noted e same keeps nobody none o came old new notes so_far =
@@ -1466,7 +1467,7 @@ module _ {S : Type 0} (remaining contents : S → Option (List ℕ)) (players : 
         former = former;
         logged = so_far.logged;
         talk = still_at traffic came former out old new notes.guests notes.site
-            (subst (λ (t : Traffic). IsAt players is_paused t out held new.talk.desk new.talk.wire.items (message_values new.talk.told.items)) (same traffic)
+            (subst (λ (t : Traffic). IsAt players is_paused t out held new.talk.desk new.talk.wire.items (message_values new.talk.told.items)) (same o so_far.heard)
             (at_more players is_paused traffic out held held _ _ _ _ old.talk.desk new.talk.desk e keeps
             (goes_by remaining contents old.site came players is_paused former out (message_values old.talk.told.items) e
             old.guests.items nobody none) so_far.talk notes.talk.steps));
@@ -1543,10 +1544,10 @@ module _ {S : Type 0} (remaining contents : S → Option (List ℕ)) (players : 
       subst (λ (s : Site). IsHallAt remaining contents players is_paused (outside_in past) (site_more s (before_in past)) now) (sym is)
       (filed (outside_in past) (before_in past) path file before now happens (life_at past before life))
   life_at (Relisted later ∷ past) now (before, life, happens) =
-      noted (Renewed later) (λ t. refl) (λ bytes. refl) (λ c. tt) (λ c. refl) (outside_in past) (before_in past) before now happens
+      noted (Renewed later) (λ o heard. refl) (λ bytes. refl) (λ c. tt) (λ c. refl) (outside_in past) (before_in past) before now happens
       (life_at past before life)
   life_at (Learned finding ∷ past) now (before, life, happens) =
-      noted (Found finding) (λ t. refl) (λ bytes. refl) (λ c. tt) (λ c. refl) (outside_in past) (before_in past) before now happens
+      noted (Found finding) (λ o heard. refl) (λ bytes. refl) (λ c. tt) (λ c. refl) (outside_in past) (before_in past) before now happens
       (life_at past before life)
   life_at (ServerCame stream ∷ past) now (before, life, happens) =
       server_came (outside_in past) (before_in past) stream before now happens (life_at past before life)
