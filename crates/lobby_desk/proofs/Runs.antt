@@ -1,5 +1,5 @@
 -- What is promised holds of each run.
-use Rattle.std.proofs.Common.{ℕ, ◌≡◌, ◌<◌, ◌+◌, ◌^◌, ◌⊎◌, inl, inr, Bool, true, false, ◌&&◌, ◌||◌, ◌==◌, not, List, [], ◌∷◌, ◌++◌, Option, None, Some, IfSome, codes, cond, refl, sym, ap, ◌∙◌, subst, arith}
+use Rattle.std.proofs.Common.{ℕ, ◌≡◌, ◌<◌, ◌+◌, ◌^◌, ◌⊎◌, inl, inr, Bool, true, false, ◌&&◌, ◌||◌, ◌==◌, not, List, [], ◌∷◌, ◌++◌, Option, None, Some, IfSome, codes, cond, map, refl, sym, ap, ◌∙◌, subst, arith}
 use Rattle.std.specs.Prelude.{if◌then◌else◌, option_map, is_some, nat_le, ◌-◌}
 use Rattle.std.specs.List.{AllByRecursion}
 use Rattle.std.specs.Str.{bytes_eq}
@@ -32,10 +32,10 @@ use Rattle.lobby_table.specs.Refusals.{game_named}
 use Rattle.lobby_table.specs.Watching.{watch_if, sit_if, watches_kept, table_kept, risen}
 use Rattle.lobby_table.specs.Visitors.{acting}
 use Rattle.lobby_desk.specs.Events.{DeskInput, Opened, Closed, Said, Hurried, Heard, ServerTurned, Renewed, Linked, Found}
-use Rattle.lobby_desk.specs.Halts.{found_line}
+use Rattle.lobby_desk.specs.Halts.{found_line, found_texts}
 use Rattle.lobby_words.specs.declared.words.Call.{Call}
 use Rattle.lobby_words.specs.declared.words.Call.TheVariants as calls
-use Rattle.lobby_desk.specs.Events.{MessageValue, to_one, sort_asker, asker, followers_of, follower, Following}
+use Rattle.lobby_desk.specs.Events.{MessageValue, to_one, to_log, sort_asker, asker, followers_of, follower, Following}
 use Rattle.lobby_desk.specs.Events.{is_asked_behind, game_if, asked_after}
 use Rattle.lobby_table.specs.Owed.{ForItself, ForPositions, ForTable, ForGame, ForAct, Owed, Nobody, Naming, Asker}
 use Rattle.lobby_table.specs.Owed.{Dropper, Pairer, Followers, Behind, owed_last, owed_acted, owed_some, owed_lines}
@@ -732,7 +732,7 @@ told_alike (Linked c text later token) lines tells f g same p q acts k h = (
   h.2 ∙ ap (λ (w : Option Identity). change_told (name_of w) c text token) (acts c),
 )
 told_alike (ServerTurned is_here) lines tells f g same p q acts k h = all_alike f g same (lost k.owed) (presence is_here) tells h
-told_alike (Found finding) lines tells f g same p q acts k h = all_alike f g same [] (found_line finding) tells h
+told_alike (Found finding) lines tells f g same p q acts k h = all_alike f g same (map to_log (found_texts finding)) (found_line finding) tells h
 
 -- each drop, and each pairing, that waits was asked for
 abbrev pub IsAsked : List Player → List Step → Owed → Type 0

@@ -1,6 +1,6 @@
 -- What an arbiter has halted, entries and all clocks, what he announces, and whether there is room for the log.
-use Rattle.std.specs.Prelude.{ℕ, Bool, true, false, not, ◌&&◌, ◌||◌, nat_le, List, [], ◌++◌, length, codes, Option}
-use Rattle.std.specs.Prelude.{None, Some, if◌then◌else◌}
+use Rattle.std.specs.Prelude.{ℕ, Bool, true, false, not, ◌&&◌, ◌||◌, nat_le, List, [], ◌∷◌, ◌++◌, length, codes}
+use Rattle.std.specs.Prelude.{Option, None, Some, if◌then◌else◌}
 use Rattle.std.specs.String.{string_bytes}
 use Rattle.lobby_words.specs.declared.planning.Plan.{Plan}
 use Rattle.lobby_words.specs.declared.planning.Plan.TheVariants as plans
@@ -61,14 +61,28 @@ halted_after plan text before = record {
 -- behind what is found
 abbrev pub halted_found : Finding → Halted → Halted
 halted_found (findings.LogFull is_full) before = record before { full = is_full }
+halted_found (findings.Clocks reason) before = record before { reason = string_bytes reason }
 
 -- what everybody is told of it
 abbrev pub full_line : Bool → List ℕ
 full_line true = codes "log full\n"
 full_line false = codes "log goes on\n"
 
+abbrev pub with_reason : List ℕ → List ℕ → List ℕ → List ℕ
+with_reason front reason none = if nat_le 1 (length reason) then front ++ reason ++ codes "\n" else none
+
 abbrev pub found_line : Finding → List ℕ
 found_line (findings.LogFull is_full) = full_line is_full
+found_line (findings.Clocks reason) = with_reason (codes "clocks stopped ") (string_bytes reason) (codes "clocks run\n")
+
+-- What the log is told of it, before everybody is told: that clocks were stopped by hand, or have to run, with `-` in the
+-- place of an arbiter's name. Where it is full it has lines of its own.
+abbrev pub hand_text : List ℕ → List ℕ
+hand_text reason = with_reason (codes "clocks by - stop clocks ") reason (codes "clocks by - start clocks\n")
+
+abbrev pub found_texts : Finding → List (List ℕ)
+found_texts (findings.LogFull is_full) = []
+found_texts (findings.Clocks reason) = hand_text (string_bytes reason) ∷ []
 
 -- Whether a message begins no game now, but an arbiter's. While entries are paused, and while there is no room for the
 -- log, no game is opened, and no two agree on one; while there is none, no game that waits is joined either.

@@ -24,10 +24,12 @@ pub struct Halts {
 }
 
 /// What is found beside the desk, of which everybody is told.
-#[derive(Clone, Copy)]
+#[derive(Drop)]
 pub enum Finding {
     /// Whether there is no room for the log.
     LogFull(bool),
+    /// Why all clocks are stopped by hand; empty where they have to run.
+    Clocks(String),
 }
 
 // What the line of the log behind a first message has; nothing where there is room.
@@ -44,13 +46,47 @@ fn full_line(is_full: bool) -> &'static str
     if is_full { "log full\n" } else { "log goes on\n" }
 }
 
+// A reason behind this front, as a line, or where there is none this line.
+fn with_reason(
+    alloc: Global,
+    front: &str,
+    reason: &str,
+    none: &str,
+) -> Result<String, AllocError>
+    ensures { IfOk result (λ line. string_bytes line ≡ spec.with_reason front.now reason.now none.now) }
+{
+    if reason.is_empty() {
+        return String::from_str(alloc, none);
+    }
+    let mut line = String::from_str(alloc, front)?;
+    line.push_str(reason)?;
+    line.push('\n')?;
+    Ok(line)
+}
+
 /// What everybody is told of what is found.
-pub fn found_line(finding: &Finding) -> &'static str
-    ensures { result.now ≡ spec.found_line finding.now }
+pub fn found_line(alloc: Global, finding: &Finding) -> Result<String, AllocError>
+    ensures { IfOk result (λ line. string_bytes line ≡ spec.found_line finding.now) }
 {
     match finding {
-        Finding::LogFull(is_full) => full_line(*is_full),
+        Finding::LogFull(is_full) => String::from_str(alloc, full_line(*is_full)),
+        Finding::Clocks(reason) => {
+            with_reason(alloc, "clocks stopped ", reason.as_str(), "clocks run\n")
+        }
     }
+}
+
+/// What the log is told where all clocks are stopped by hand, for this reason, or have to run: `-` stands in the place
+/// of an arbiter's name.
+pub fn hand_text(alloc: Global, reason: &str) -> Result<String, AllocError>
+    ensures { IfOk result (λ text. string_bytes text ≡ spec.hand_text reason.now) }
+{
+    with_reason(
+        alloc,
+        "clocks by - stop clocks ",
+        reason,
+        "clocks by - start clocks\n",
+    )
 }
 
 // Whether entries are paused after a plan.
@@ -109,12 +145,14 @@ impl Halts {
     }
 
     /// Notes what is found.
-    pub fn find(&mut self, finding: &Finding)
-        ensures { spec.halted self.new ≡ spec.halted_found finding.now (spec.halted self.old) }
+    pub fn find(&mut self, alloc: Global, finding: &Finding) -> Result<(), AllocError>
+        ensures { OnOk result (spec.halted self.new ≡ spec.halted_found finding.now (spec.halted self.old)) }
     {
         match finding {
             Finding::LogFull(is_full) => self.is_full = *is_full,
+            Finding::Clocks(reason) => self.reason = String::from_str(alloc, reason.as_str())?,
         }
+        Ok(())
     }
 
     /// Whether a message begins no game now, but an arbiter's: it opens one, or is a pairing, while entries are paused

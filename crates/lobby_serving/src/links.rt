@@ -13,6 +13,7 @@ use lobby_players::{ChangedFile, Hold, PauseFile, StopFile, carried_out, new_tok
 use lobby_words::{Change, Linked, Player, cut_word, player_by_name};
 use rand::rngs::SysRng;
 use rand_core::TryRng;
+use std::alloc::AllocError;
 use std::fs::File;
 use std::io::{self, ErrorKind};
 use std::random::RandomSource;
@@ -69,6 +70,14 @@ where
             announced: String::new(self.rt.alloc()),
             is_full: false,
         })
+    }
+
+    /// Looks whether somebody else has stopped all clocks or has them run: then why they are, empty where they run.
+    pub fn stopped_by_hand(&mut self) -> Result<Option<String>, AllocError> {
+        match &mut self.clocks {
+            Some(clocks) => clocks.look(),
+            None => Ok(None),
+        }
     }
 
     // One of these players, who are those of the file, which is held, or one more has the sum of a new token in it:

@@ -23,6 +23,9 @@ use std::net::{Net, SocketAddr};
 use std::random::RandomSource;
 use std::rt::{Clock, Files};
 
+// So many milliseconds lie between two looks whether all clocks were stopped by hand.
+const LOOK_EVERY: u64 = 1_000;
+
 // So many milliseconds lie at least between two lines that tell of one count.
 const REST: u64 = 60_000;
 
@@ -113,6 +116,9 @@ struct Beside<'a, R, D> {
     links: FileLinks<'a, R, D>,
     // Whether it was told last that there is no room for the log.
     is_full: bool,
+    // Whether clocks can be stopped, and when it is looked next whether they were by hand.
+    can_stop: bool,
+    clocks_at: u64,
 }
 
 impl<'a, R, D> Beside<'a, R, D>
@@ -140,6 +146,8 @@ where
             games: GamesFiles::new(rt.alloc(), serving)?,
             links,
             is_full: false,
+            can_stop: serving.stopped.is_some(),
+            clocks_at: 0,
         })
     }
 
@@ -155,6 +163,21 @@ where
             self.is_full = is_full;
         }
         Ok(())
+    }
+
+    // Has everybody told that all clocks were stopped by hand, or have to run, where that is news; it is looked at once
+    // in a second. After so many milliseconds it is to be looked at again, where clocks can be stopped.
+    fn look_at_clocks(&mut self, lobby: &mut Lobby, at: u64) -> Result<Option<u64>, AllocError> {
+        if !self.can_stop {
+            return Ok(None);
+        }
+        if at >= self.clocks_at {
+            self.clocks_at = at.saturating_add(LOOK_EVERY);
+            if let Some(reason) = self.links.stopped_by_hand()? {
+                lobby.found(&Finding::Clocks(reason))?;
+            }
+        }
+        Ok(Some(self.clocks_at.saturating_sub(at)))
     }
 
     // Takes turns until something is at fault.
@@ -192,13 +215,14 @@ where
         self.table.look(self.rt, lobby, at)?;
         self.health.look(lobby, &self.table, at)?;
         let games_rest = self.games.look(self.rt, lobby, at)?;
+        let clocks_rest = self.look_at_clocks(lobby, at)?;
         lobby.see_comers(at);
         let turned = lobby.turn(self.rt, at, log, &mut self.links)?;
         lobby.tell_roll(log)?;
         self.telling.tell_server(lobby.has_server());
         self.telling.tell_counts(lobby, at);
         let rested = within(within(turned, self.table.rest(at)), games_rest);
-        lobby.rest(within(rested, log_rest))?;
+        lobby.rest(within(within(rested, log_rest), clocks_rest))?;
         Ok(())
     }
 }

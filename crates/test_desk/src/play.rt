@@ -189,6 +189,10 @@ impl Play {
             "here" => self.desk.here(told)?,
             "gone" => self.desk.gone(told)?,
             "log" => self.desk.found(&Finding::LogFull(given == "full"), told)?,
+            "hand" => {
+                let reason = String::from_str(self.alloc, given)?;
+                self.desk.found(&Finding::Clocks(reason), told)?;
+            }
             "server" => self.desk.heard(given, wire, told)?,
             "tag" => self.tags.set(given)?,
             "clocks" => self.tags.set_clocks(given)?,
