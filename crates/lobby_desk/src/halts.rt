@@ -1,12 +1,14 @@
-//! What an arbiter has halted, entries and all clocks, and what he announces.
+//! What an arbiter has halted, entries and all clocks, what he announces, and whether there is room for the log.
 ghost use Rattle.std.specs.Prelude.{◌≡◌, ◌++◌, IfOk, OnOk};
 ghost use Rattle.std.specs.String.{string_bytes};
 ghost use Rattle.lobby_desk.specs.Halts as spec;
 
-use lobby_words::{Call, Plan, Refusal, as_line, cut_word, is_decision, is_of_clocks};
+use lobby_words::{
+    Call, Plan, Refusal, as_line, cut_word, is_decision, is_of_clocks, is_pair, joins_game, opens_game,
+};
 use std::alloc::{AllocError, Global};
 
-/// What an arbiter has halted, and what he announces.
+/// What an arbiter has halted, what he announces, and whether there is room for the log.
 #[derive(Drop)]
 pub struct Halts {
     /// Whether no games are opened, but by an arbiter.
@@ -17,6 +19,74 @@ pub struct Halts {
     pub reason: String,
     /// What is announced; empty where nothing is.
     pub announced: String,
+    /// Whether there is no room for the log: no game begins.
+    pub is_full: bool,
+}
+
+/// What is found beside the desk, of which everybody is told.
+#[derive(Drop)]
+pub enum Finding {
+    /// Whether there is no room for the log.
+    LogFull(bool),
+    /// Why all clocks are stopped by hand; empty where they have to run.
+    Clocks(String),
+}
+
+// What the line of the log behind a first message has; nothing where there is room.
+fn full_word(is_full: bool) -> &'static str
+    ensures { result.now ≡ spec.full_word is_full }
+{
+    if is_full { "full" } else { "" }
+}
+
+// What everybody is told where there is no room for the log, or there is again.
+fn full_line(is_full: bool) -> &'static str
+    ensures { result.now ≡ spec.full_line is_full }
+{
+    if is_full { "log full\n" } else { "log goes on\n" }
+}
+
+// A reason behind this front, as a line, or where there is none this line.
+fn with_reason(
+    alloc: Global,
+    front: &str,
+    reason: &str,
+    none: &str,
+) -> Result<String, AllocError>
+    ensures { IfOk result (λ line. string_bytes line ≡ spec.with_reason front.now reason.now none.now) }
+{
+    if reason.is_empty() {
+        return String::from_str(alloc, none);
+    }
+    let mut line = String::from_str(alloc, front)?;
+    line.push_str(reason)?;
+    line.push('\n')?;
+    Ok(line)
+}
+
+/// What everybody is told of what is found.
+pub fn found_line(alloc: Global, finding: &Finding) -> Result<String, AllocError>
+    ensures { IfOk result (λ line. string_bytes line ≡ spec.found_line finding.now) }
+{
+    match finding {
+        Finding::LogFull(is_full) => String::from_str(alloc, full_line(*is_full)),
+        Finding::Clocks(reason) => {
+            with_reason(alloc, "clocks stopped ", reason.as_str(), "clocks run\n")
+        }
+    }
+}
+
+/// What the log is told where all clocks are stopped by hand, for this reason, or have to run: `-` stands in the place
+/// of an arbiter's name.
+pub fn hand_text(alloc: Global, reason: &str) -> Result<String, AllocError>
+    ensures { IfOk result (λ text. string_bytes text ≡ spec.hand_text reason.now) }
+{
+    with_reason(
+        alloc,
+        "clocks by - stop clocks ",
+        reason,
+        "clocks by - start clocks\n",
+    )
 }
 
 // Whether entries are paused after a plan.
@@ -51,6 +121,7 @@ impl Halts {
             ≡ spec.announced_after plan.now text.now (string_bytes self.old.announced)) }
         ensures paused { OnOk result (self.new.is_paused ≡ self.old.is_paused) }
         ensures can { OnOk result (self.new.can_stop ≡ self.old.can_stop) }
+        ensures full { OnOk result (self.new.is_full ≡ self.old.is_full) }
     {
         match plan {
             Plan::Call(Call::StopClocks) => self.reason = String::from_str(alloc, as_line(text))?,
@@ -71,6 +142,26 @@ impl Halts {
         self.note_call(alloc, plan, text)?;
         self.is_paused = paused_after(self.is_paused, plan);
         Ok(())
+    }
+
+    /// Notes what is found.
+    pub fn find(&mut self, alloc: Global, finding: &Finding) -> Result<(), AllocError>
+        ensures { OnOk result (spec.halted self.new ≡ spec.halted_found finding.now (spec.halted self.old)) }
+    {
+        match finding {
+            Finding::LogFull(is_full) => self.is_full = *is_full,
+            Finding::Clocks(reason) => self.reason = String::from_str(alloc, reason.as_str())?,
+        }
+        Ok(())
+    }
+
+    /// Whether a message begins no game now, but an arbiter's: it opens one, or is a pairing, while entries are paused
+    /// or there is no room for the log; or it joins one while there is none.
+    pub fn shuts(&self, text: &str) -> bool
+        ensures { result ≡ spec.shuts (spec.halted self.now) text.now }
+    {
+        let opens = opens_game(text) || is_pair(text);
+        (opens && (self.is_paused || self.is_full)) || (joins_game(text) && self.is_full)
     }
 
     /// Why nobody but an arbiter acts: all clocks are stopped.
@@ -97,13 +188,15 @@ impl Halts {
         }
     }
 
-    /// A text, and behind it the lines that tell why all clocks are stopped, and what is announced, where that is so.
+    /// A text, and behind it the lines that tell why all clocks are stopped, what is announced, and that there is no
+    /// room for the log, where that is so.
     pub fn told_behind(&self, alloc: Global, text: &str) -> Result<String, AllocError>
         ensures { IfOk result (λ told. string_bytes told ≡ spec.told_behind text.now (spec.halted self.now)) }
     {
         let mut told = String::from_str(alloc, text)?;
         push_line_if(&mut told, "clocks stopped ", self.reason.as_str())?;
         push_line_if(&mut told, "announced ", self.announced.as_str())?;
+        push_line_if(&mut told, "log ", full_word(self.is_full))?;
         Ok(told)
     }
 }

@@ -10,7 +10,7 @@ use Rattle.lobby_words.specs.declared.players.Player.{Player}
 use Rattle.std.proofs.lemmas.List.Elements.{All-nil}
 use Rattle.text_lines.specs.Lines.{HasNoFeed, is_feed}
 use Rattle.lobby_desk.specs.declared.telling.Message.{Message}
-use Rattle.lobby_desk.specs.Events.{DeskInput, Opened, Closed, Heard, Gone, Here, Renewed, MessageValue, message_values}
+use Rattle.lobby_desk.specs.Events.{DeskInput, Opened, Closed, Heard, Gone, Here, Renewed, Found, MessageValue, message_values}
 use Rattle.lobby_desk.specs.Lines.{ended, bytes_of}
 use Rattle.lobby_desk.specs.Who.{IsStep, Steps, view, players_now}
 use Rattle.lobby_desk.specs.History.{Step, comes, has_come, players_in, IsRun}
@@ -36,7 +36,7 @@ use Rattle.lobby_talk.specs.Lines.{bytes_of as bytes_before, AreHeard}
 use Rattle.lobby_talk.specs.Held.{HoldsNoLine, IsKept}
 use Rattle.lobby_loop.specs.Turning.{BeginsHall, Admits, ServerComes, IsServerAsBefore, HearsServer, bytes_heard, PartsFromServer, TellsServer, HasTurned, texts_put, Comer, AreAdmitted, IsReached, IsLobbyTurn, is_look_time}
 use Rattle.lobby_loop.specs.Doing.{Gave, Spot, spot, DoesAt, all_tells, around, IsServed, AreServed, WereServed, AreAtLine, Before}
-use Rattle.lobby_loop.specs.Living.{Happening, Came, Woke, ServerCame, Turned, IsWoken, IsLife, left, written_in, taken_in, put_in, lost_if, presences_in, kept, sent_in, line_more, lines_heard, presence_more, presences_told, IsHeld, IsOther, HasNone, IsOneOf, AreKnown, IsOwn, AreOwn, numbers, NoLineWaits, IsRightLife, Passing, TurnAt, Rested, IsLobbyLife, Filed, Files, before_in, Changed, Relisted, Renews, Enrolled}
+use Rattle.lobby_loop.specs.Living.{Happening, Came, Woke, ServerCame, Turned, IsWoken, IsLife, left, written_in, taken_in, put_in, lost_if, presences_in, kept, sent_in, line_more, lines_heard, presence_more, presences_told, IsHeld, IsOther, HasNone, IsOneOf, AreKnown, IsOwn, AreOwn, numbers, NoLineWaits, IsRightLife, Passing, TurnAt, Rested, IsLobbyLife, Filed, Files, before_in, Changed, Relisted, Learned, Notes, Enrolled, Noticed}
 use Rattle.lobby_loop.proofs.Lined.{same_line, lines_by, lines_filter, lines_both, turn_lines}
 use Rattle.lobby_loop.proofs.Serving.{IsApart, ApartFrom, AreApart, served_before, served_read, served_looked, served_written, served_told, served_caught_up, gave_nothing, gave_again, gave_early, gave_opened, gave_text, all_served_on, all_served_zip, all_served_filter, all_served_more, all_came, served_new, ClosedIf, AllClosed, closed_if_on, all_were_on, all_were_out, all_were_came, all_let_go, came_more, site_more, all_filed, all_were_filed}
 
@@ -1445,27 +1445,30 @@ module _ {S : Type 0} (remaining contents : S → Option (List ℕ)) (players : 
       subst (λ (n : ℕ). AreOwn n (numbers (former ++ new.guests.items))) (sym next)
       (subst (λ (gs : List (Guest S)). AreOwn old.talk.next (numbers (former ++ gs))) (sym (ap (λ gs. gs.items) guests)) own)
 
-  -- the players are others
-  relisted : (o : Outside) (came : Before S) (later : List Player) (old new : Hall S) → Renews later old new →
+  -- the desk takes an event that is of no browser and not of the server, as that the players are others
+  noted : (e : DeskInput) → ((o : Outside) (heard : List (List ℕ)) → behind e (traffic_of o heard) ≡ traffic_of o heard) →
+      ((bytes : List ℕ) → kept e bytes ≡ bytes) → IsOfNobody e → IsNoOpening e →
+      (o : Outside) (came : Before S) (old new : Hall S) → Notes e old new →
       IsHallAt remaining contents players is_paused o came old → IsHallAt remaining contents players is_paused o came new
-  relisted o came later old new renews so_far =
+  noted e same keeps nobody none o came old new notes so_far =
       let traffic = traffic_of o so_far.heard in
       let former = so_far.former in
       let out = so_far.out in
-      let kept = AreKept remaining contents old.site came former out old.guests.items in
+      let held = AreKept remaining contents old.site came former out old.guests.items in
       record {
         out = out;
         heard = so_far.heard;
-        cut = subst (λ s. AreCut o.taken so_far.heard s) (sym renews.server) so_far.cut;
+        cut = subst (λ s. AreCut o.taken so_far.heard s) (sym notes.server) so_far.cut;
         former = former;
         logged = so_far.logged;
-        talk = still_at traffic came former out old new renews.guests renews.site
-            (at_more players is_paused traffic out kept kept _ _ _ _ old.talk.desk new.talk.desk (Renewed later) (λ bytes. refl)
-            (goes_by remaining contents old.site came players is_paused former out (message_values old.talk.told.items) (Renewed later)
-            old.guests.items (λ c. tt) (λ c. refl)) so_far.talk renews.talk.steps);
-        own = still_own former old new renews.guests renews.talk.next so_far.own;
-        whole = subst (λ s. NoLineWaits s) (sym renews.server) so_far.whole;
-        lined = still_lined former old new renews.guests so_far.lined;
+        talk = still_at traffic came former out old new notes.guests notes.site
+            (subst (λ (t : Traffic). IsAt players is_paused t out held new.talk.desk new.talk.wire.items (message_values new.talk.told.items)) (same o so_far.heard)
+            (at_more players is_paused traffic out held held _ _ _ _ old.talk.desk new.talk.desk e keeps
+            (goes_by remaining contents old.site came players is_paused former out (message_values old.talk.told.items) e
+            old.guests.items nobody none) so_far.talk notes.talk.steps));
+        own = still_own former old new notes.guests notes.talk.next so_far.own;
+        whole = subst (λ s. NoLineWaits s) (sym notes.server) so_far.whole;
+        lined = still_lined former old new notes.guests so_far.lined;
       }
 
   -- (no line is held of a connection that begins)
@@ -1530,7 +1533,11 @@ module _ {S : Type 0} (remaining contents : S → Option (List ℕ)) (players : 
       subst (λ (s : Site). IsHallAt remaining contents players is_paused (outside_in past) (site_more s (before_in past)) now) (sym is)
       (filed (outside_in past) (before_in past) path file before now happens (life_at past before life))
   life_at (Relisted later ∷ past) now (before, life, happens) =
-      relisted (outside_in past) (before_in past) later before now happens (life_at past before life)
+      noted (Renewed later) (λ o heard. refl) (λ bytes. refl) (λ c. tt) (λ c. refl) (outside_in past) (before_in past) before now happens
+      (life_at past before life)
+  life_at (Learned finding ∷ past) now (before, life, happens) =
+      noted (Found finding) (λ o heard. refl) (λ bytes. refl) (λ c. tt) (λ c. refl) (outside_in past) (before_in past) before now happens
+      (life_at past before life)
   life_at (ServerCame stream ∷ past) now (before, life, happens) =
       server_came (outside_in past) (before_in past) stream before now happens (life_at past before life)
   life_at (Turned turn ∷ past) now (before, life, happens) =
@@ -1614,6 +1621,9 @@ module _ {S : Type 0} (remaining contents : S → Option (List ℕ)) (players : 
   lobby_life (Enrolled later ∷ passed) now (before, life, renews) =
       let so = lobby_life passed before life in
       (Relisted later ∷ so.0, (before, so.1, renews))
+  lobby_life (Noticed finding ∷ passed) now (before, life, finds) =
+      let so = lobby_life passed before life in
+      (Learned finding ∷ so.0, (before, so.1, finds))
   lobby_life (Rested ∷ passed) now (before, life, wakes) =
       let so = lobby_life passed before life in
       (Woke ∷ so.0, (before, so.1, wakes))

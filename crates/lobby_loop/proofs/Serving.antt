@@ -8,7 +8,7 @@ use Rattle.std.proofs.lemmas.Bool.{eq-eqb, ne_eqb, cases_Bool, false≢true}
 use Rattle.websocket.specs.Content.{text as Text, ping as Ping}
 use Rattle.lobby_desk.specs.declared.telling.Message.{Message}
 use Rattle.lobby_desk.specs.declared.desk.Desk.{Desk}
-use Rattle.lobby_desk.specs.Events.{DeskInput, Opened, Closed, Said, Hurried, Heard, ServerTurned, Renewed, Linked, MessageValue, message_value, message_values}
+use Rattle.lobby_desk.specs.Events.{DeskInput, Opened, Closed, Said, Hurried, Heard, ServerTurned, Renewed, Linked, Found, MessageValue, message_value, message_values}
 use Rattle.lobby_desk.specs.Who.{at_table}
 use Rattle.lobby_desk.specs.History.{Step, comes, has_come}
 use Rattle.lobby_web.specs.declared.browser.Browser.{Browser}
@@ -57,6 +57,7 @@ message_apart c (Linked d text players token) before apart =
 message_apart c (Renewed players) before apart = refl
 message_apart c (Heard line) before apart = refl
 message_apart c (ServerTurned is_here) before apart = refl
+message_apart c (Found finding) before apart = refl
 
 opening_apart : (c : ℕ) (e : DeskInput) → IsApart c e → is_opening c e ≡ false
 opening_apart c (Opened d) apart = ne_eqb d c apart
@@ -67,6 +68,7 @@ opening_apart c (Linked d text players token) apart = refl
 opening_apart c (Renewed players) apart = refl
 opening_apart c (Heard line) apart = refl
 opening_apart c (ServerTurned is_here) apart = refl
+opening_apart c (Found finding) apart = refl
 
 -- who has come has come, whatever follows
 come_on : (b rest : Bool) → rest ≡ true → (b || rest) ≡ true

@@ -3,7 +3,8 @@ use Rattle.std.specs.Prelude.{ℕ, ◌≡◌, ◌≢◌, ◌<◌, ◌⊎◌, Boo
 use Rattle.std.specs.List.{AllZip, AllByRecursion}
 use Rattle.text_lines.specs.Lines.{HasNoFeed}
 use Rattle.lobby_words.specs.declared.players.Player.{Player}
-use Rattle.lobby_desk.specs.Events.{DeskInput, Heard, ServerTurned, Renewed, MessageValue, message_values}
+use Rattle.lobby_desk.specs.declared.halts.Finding.{Finding}
+use Rattle.lobby_desk.specs.Events.{DeskInput, Heard, ServerTurned, Renewed, Found, MessageValue, message_values}
 use Rattle.lobby_desk.specs.Lines.{bytes_of}
 use Rattle.lobby_desk.specs.Logging.{log_texts}
 use Rattle.lobby_desk.specs.Who.{view}
@@ -32,13 +33,15 @@ pub record Turn : Type 0 where
   pub front : List ℕ
 
 -- What happens to a hall: a browser comes, sockets may be ready, the server is there, at a path another file is served
--- from now on, or none, in the place of what this site had, the players are these from now on, a turn.
+-- from now on, or none, in the place of what this site had, the players are these from now on, it is found what halts
+-- games, a turn.
 pub data Happening (S : Type 0) : Type 0 where
   Came : (stream : S) → Happening S
   Woke : Happening S
   ServerCame : (stream : S) → Happening S
   Filed : (path : List ℕ) → (file : Option File) → (before : Site) → Happening S
   Relisted : (players : List Player) → Happening S
+  Learned : (finding : Finding) → Happening S
   Turned : (turn : Turn) → Happening S
 
 -- Sockets may be ready, and nothing else happens.
@@ -57,13 +60,20 @@ pub record Files {S : Type 0} (path : List ℕ) (file : Option File) (old new : 
   pub site : Changes path file old.site new.site
   pub door : KeepsDoor old new
 
--- The players are these from now on, and nothing else happens.
-pub record Renews {S : Type 0} (players : List Player) (old new : Hall S) : Type 0 where
+-- The desk takes this event, and nothing else happens.
+pub record Notes {S : Type 0} (event : DeskInput) (old new : Hall S) : Type 0 where
   pub guests : new.guests ≡ old.guests
-  pub talk : Moves old.talk (Renewed players) new.talk
+  pub talk : Moves old.talk event new.talk
   pub server : new.server ≡ old.server
   pub site : new.site ≡ old.site
   pub door : KeepsDoor old new
+
+-- The players are these from now on; it is found what halts games, or does so no more.
+abbrev pub Renews : {S : Type 0} → List Player → Hall S → Hall S → Type 0
+Renews players old new = Notes (Renewed players) old new
+
+abbrev pub Finds : {S : Type 0} → Finding → Hall S → Hall S → Type 0
+Finds finding old new = Notes (Found finding) old new
 
 -- The same files are served, and nothing happens.
 pub record KeepsFiles {S : Type 0} (old new : Hall S) : Type 0 where
@@ -90,6 +100,7 @@ Happens remaining contents Woke old new = IsWoken old new
 Happens remaining contents (ServerCame stream) old new = ServerComes stream old new
 Happens remaining contents (Filed path file before) old new = Files path file old new × (before ≡ old.site)
 Happens remaining contents (Relisted players) old new = Renews players old new
+Happens remaining contents (Learned finding) old new = Finds finding old new
 Happens remaining contents (Turned turn) old new = TurnsBy remaining contents turn old new
 
 -- a hall that begins with these players, with entries paused or not, and what happened to it, the newest first
@@ -138,6 +149,7 @@ put_in (Came stream ∷ past) = put_in past
 put_in (Woke ∷ past) = put_in past
 put_in (Filed path file before ∷ past) = put_in past
 put_in (Relisted players ∷ past) = put_in past
+put_in (Learned finding ∷ past) = put_in past
 put_in (ServerCame stream ∷ past) = put_in past
 put_in (Turned turn ∷ past) = put_in past ++ turn.put
 
@@ -212,6 +224,7 @@ streams_in (Came stream ∷ past) = stream ∷ streams_in past
 streams_in (Woke ∷ past) = streams_in past
 streams_in (Filed path file before ∷ past) = streams_in past
 streams_in (Relisted players ∷ past) = streams_in past
+streams_in (Learned finding ∷ past) = streams_in past
 streams_in (ServerCame stream ∷ past) = streams_in past
 streams_in (Turned turn ∷ past) = streams_in past
 
@@ -222,6 +235,7 @@ sites_in (Came stream ∷ past) = sites_in past
 sites_in (Woke ∷ past) = sites_in past
 sites_in (Filed path file before ∷ past) = before ∷ sites_in past
 sites_in (Relisted players ∷ past) = sites_in past
+sites_in (Learned finding ∷ past) = sites_in past
 sites_in (ServerCame stream ∷ past) = sites_in past
 sites_in (Turned turn ∷ past) = sites_in past
 
@@ -269,10 +283,11 @@ pub record IsRightLife {S : Type 0} (remaining contents : S → Option (List ℕ
   pub lined : AreAtLine gone × AreAtLine now.guests.items
 
 -- Turns of a lobby, at these moments, and between them rests, in which sockets may become ready, and files that are
--- served from then on, or no more, and other players.
+-- served from then on, or no more, other players, and what is found that halts games.
 pub data Passing : Type 0 where
   TurnAt : (at : ℕ) → Passing
   Enrolled : (players : List Player) → Passing
+  Noticed : (finding : Finding) → Passing
   Changed : (path : List ℕ) → (file : Option File) → Passing
   Rested : Passing
 
@@ -290,3 +305,5 @@ IsLobbyLife {S} remaining contents players is_paused (Changed path file ∷ past
     (before : Hall S) × IsLobbyLife remaining contents players is_paused past before × Files path file before now
 IsLobbyLife {S} remaining contents players is_paused (Enrolled later ∷ past) now =
     (before : Hall S) × IsLobbyLife remaining contents players is_paused past before × Renews later before now
+IsLobbyLife {S} remaining contents players is_paused (Noticed finding ∷ past) now =
+    (before : Hall S) × IsLobbyLife remaining contents players is_paused past before × Finds finding before now

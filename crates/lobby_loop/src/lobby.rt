@@ -9,7 +9,7 @@ ghost use Rattle.lobby_guests.specs.Guests.{is_crowded};
 ghost use Rattle.either.specs.Either.{either};
 ghost use Rattle.lobby_loop.specs.Turning.{BeginsHall, Comer, AreAdmitted, IsReached, IsLobbyTurn, has_more, texts_put};
 ghost use Rattle.lobby_loop.specs.Turning.{unknown, short_after, left_at, held_after};
-ghost use Rattle.lobby_loop.specs.Living.{IsWoken, Files, KeepsFiles, Renews};
+ghost use Rattle.lobby_loop.specs.Living.{IsWoken, Files, KeepsFiles, Renews, Finds};
 ghost use Rattle.lobby_loop.specs.Comers.{seen, is_over};
 ghost use Rattle.lobby_loop.specs.Logging.{Logs};
 ghost use Rattle.lobby_loop.specs.Roll.{here_in};
@@ -20,7 +20,7 @@ ghost use Rattle.lobby_loop.specs.declared.lobby.Turned.TheVariants.{Worked};
 use crate::act_log::{ActLog, Fault};
 use crate::hall::Hall;
 use crate::listener::{LobbyAcceptor, LobbyListener, Welcomed, welcome};
-use lobby_desk::{Halts, Limits};
+use lobby_desk::{Finding, Halts, Limits};
 use lobby_guests::earlier;
 use lobby_talk::{Counts, KeepsLinks, Roll};
 use lobby_web::{File, Site};
@@ -281,6 +281,13 @@ impl Lobby {
         ensures { Renews players.items self.old.hall self.new.hall }
     {
         self.hall.renew(players);
+    }
+
+    /// This is found beside the lobby: it holds from now on, and everybody is told in the next turn.
+    pub fn found(&mut self, finding: &Finding) -> Result<(), AllocError>
+        ensures { OnOk result (Finds finding.now self.old.hall self.new.hall) }
+    {
+        self.hall.found(finding)
     }
 
     // Where many wait to be heard, as who is about to show a token, who comes next waits at the listener, a second at

@@ -39,13 +39,16 @@ enum Step {
     /// A lobby stops all clocks for this reason, or has them run, and the next one finds them so.
     Stop(&'static str),
     NoClocks,
+    /// All clocks are stopped by a file of this text that is put there by hand, for this reason, and run once it is taken
+    /// away: the lobby sees both once.
+    Hand(&'static str, &'static str),
     /// A file is taken away.
     Gone(&'static str),
     /// `OTHER` is as it was left.
     Untouched,
 }
 
-static STEPS: [Step; 43] = [
+static STEPS: [Step; 48] = [
     // A new file is its owner's, and another keeps its mode.
     Step::Leave(NEW),
     Step::Put("one\n"),
@@ -74,6 +77,11 @@ static STEPS: [Step; 43] = [
     Step::There(STOPPED, true),
     Step::Stop("and still"),
     Step::Stop(""),
+    Step::There(STOPPED, false),
+    Step::Hand("the fire alarm\nOut by the back door\n", "the fire alarm"),
+    Step::Hand("still", "still"),
+    Step::Hand("", "no reason is given"),
+    Step::Hand("na\u{ef}ve\n", "no reason is given"),
     Step::There(STOPPED, false),
     // No symbolic link is followed, and none is taken for the file.
     Step::Leave(OTHER),
@@ -125,6 +133,29 @@ fn is_stopped<R: Files<File = File> + AllocGlobal + Eprint + Abort>(rt: &R, reas
     is_kept && now.reason() == reason && next.reason() == reason
 }
 
+// Whether a look finds that all clocks are stopped for this reason, or nothing.
+fn finds<R: Files<File = File> + AllocGlobal + Eprint + Abort>(
+    now: &mut StopFile<'_, R>,
+    rt: &R,
+    reason: Option<&str>,
+) -> bool {
+    let found = now.look().expect(rt, "memory");
+    found.as_ref().map(|found| found.as_str()) == reason
+}
+
+// Whether a lobby sees that the file is put there by hand with this text, for this reason, and taken away, each once.
+fn is_seen<R: Files<File = File> + AllocGlobal + Eprint + Abort>(
+    rt: &R,
+    text: &str,
+    reason: &str,
+) -> bool {
+    let mut now = StopFile::new(rt, STOPPED).ok().expect(rt, "clocks");
+    let is_put = finds(&mut now, rt, None) && fs::write(rt, STOPPED, text).is_ok();
+    let is_stopped = finds(&mut now, rt, Some(reason)) && finds(&mut now, rt, None);
+    let is_gone = now.reason() == reason && fs::remove_file(rt, STOPPED).is_ok();
+    is_put && is_stopped && is_gone && finds(&mut now, rt, Some("")) && finds(&mut now, rt, None)
+}
+
 // Whether what is done succeeds, and what is seen is so.
 fn is_so<R: Files<File = File> + AllocGlobal + Eprint + Abort>(rt: &R, step: &Step) -> bool {
     match step {
@@ -140,6 +171,7 @@ fn is_so<R: Files<File = File> + AllocGlobal + Eprint + Abort>(rt: &R, step: &St
         Step::Unclear => PauseFile::new(rt, FILE).is_err(),
         Step::Stop(reason) => is_stopped(rt, reason),
         Step::NoClocks => StopFile::new(rt, STOPPED).is_err(),
+        Step::Hand(text, reason) => is_seen(rt, text, reason),
         Step::Gone(file) => fs::remove_file(rt, file).is_ok(),
         Step::Untouched => fs::read_to_string(rt, OTHER).expect(rt, "a file").as_str() == "x",
         Step::Pause(is_paused) => paused(rt, FILE, *is_paused) == [*is_paused; 2],

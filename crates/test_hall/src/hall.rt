@@ -124,6 +124,7 @@ fn hall_of(rt: &impl Abort, alloc: Global, keys: RandomState, is_paused: bool) -
         can_stop: false,
         reason: String::new(alloc),
         announced: String::new(alloc),
+        is_full: false,
     };
     Hall::new(alloc, keys, site, players, halts, limits, None)
 }
