@@ -12,6 +12,6 @@ returns-clause-decided g c =
     let named = c.name_in.ensures ∙ ap name_in c.player_at-by.ensures in
     on_ok_weaker c.say_decided.result (λ told. (
       put,
-      subst (λ (by : List ℕ). IsPut put by c.args.shown.now before after) named c.decide-is_put.ensures,
+      subst (λ (by : List ℕ). IsPut put by c.args.shown.now before after) named c.decide-is_put.ensures.put,
       told,
     )) c.say_decided.ensures.told
