@@ -9,7 +9,7 @@ use crate::players::Players;
 use crate::table::Table;
 use anyhow::{Context, Result};
 use lobby_desk::Halts;
-use lobby_loop::{Lobby, LobbyListener, NoActLog, Turned};
+use lobby_loop::{Comers, Lobby, LobbyListener, NoActLog, Roll, Turned};
 use lobby_words::Player;
 use sockets::{Moments, ServerAddress};
 use std::alloc::AllocError;
@@ -107,6 +107,10 @@ struct Beside<'a, R, D> {
     health: Health,
     games: GamesFiles<'a>,
     links: FileLinks<'a, R, D>,
+    // Who was here when the log was told last.
+    roll: Roll,
+    // The second that goes.
+    comers: Comers,
 }
 
 impl<'a, R, D> Beside<'a, R, D>
@@ -133,6 +137,8 @@ where
             health: Health::new(rt.alloc()),
             games: GamesFiles::new(rt.alloc(), serving)?,
             links,
+            roll: Roll::new(rt.alloc()),
+            comers: Comers::new(),
         })
     }
 
@@ -170,9 +176,9 @@ where
         self.table.look(self.rt, lobby, at)?;
         self.health.look(lobby, &self.table, at)?;
         let games_rest = self.games.look(self.rt, lobby, at)?;
-        lobby.see_comers(at);
+        lobby.see_comers(&mut self.comers, at);
         let turned = lobby.turn(self.rt, at, log, &mut self.links)?;
-        lobby.tell_roll(log)?;
+        lobby.tell_roll(&mut self.roll, log)?;
         self.telling.tell_server(lobby.has_server());
         self.telling.tell_counts(lobby, at);
         let rested = within(within(turned, self.table.rest(at)), games_rest);
