@@ -415,8 +415,8 @@ impl Lobby {
         Ok(self.turned(has_reached | has_turned, at))
     }
 
-    /// Gives the log who came and went since it was told by this roll, and whether the server did: so it has that behind
-    /// each turn behind which it is told. Where the log fails the lobby ends.
+    /// Gives the log who came and went since it was told by this roll, and whether the server did: so it has that
+    /// behind each turn behind which it is told. Where the log fails the lobby ends.
     pub fn tell_roll<L: ActLog>(&self, roll: &mut Roll, log: &mut L) -> Result<(), Fault>
         ensures told { OnOk result (Logs (L.logged log.old) (L.logged log.new)
             (news (here_by roll.old) (here_in self.now.hall))) }
