@@ -14,6 +14,8 @@ ghost use Rattle.lobby_loop.specs.Comers.{seen, is_over};
 ghost use Rattle.lobby_loop.specs.Logging.{Logs};
 ghost use Rattle.lobby_loop.specs.Roll.{here_in};
 ghost use Rattle.lobby_talk.specs.Roll.{here_by, news};
+ghost use Rattle.lobby_talk.specs.Talking.{IsToldLast};
+ghost use Rattle.lobby_desk.specs.Halts.{halted};
 ghost use Rattle.lobby_web.specs.Pages.{file_at};
 ghost use Rattle.lobby_loop.specs.declared.lobby.Turned.TheVariants.{Worked};
 
@@ -400,7 +402,8 @@ impl Lobby {
         ensures turned { OnOk result ((turn : IsLobbyTurn (either unknown unknown)
             (either unknown unknown) at self.old.hall self.new.hall)
             × (turn.turns.is_short ≡ nat_lt at self.old.short_until)
-            × Logs (L.logged log.old) (L.logged log.new) (texts_put turn.turns)) }
+            × Logs (L.logged log.old) (L.logged log.new) (texts_put turn.turns)
+            × IsToldLast (halted turn.turns.between.talk.desk.halts) (K.last_halts links.new)) }
         ensures short { OnOk result (self.new.short_until ≡ short_after self.old.short_until at) }
         ensures held { OnOk result (self.new.held_until
             ≡ held_after self.old.held_until (is_crowded self.old.hall.guests.items) at) }

@@ -11,6 +11,7 @@ use Rattle.lobby_words.specs.Plans.{refusal_text}
 use Rattle.lobby_desk.specs.declared.desk.Desk.{Desk}
 use Rattle.lobby_desk.specs.Strangers.{acts}
 use Rattle.lobby_desk.specs.Events.{DeskInput, Opened, Said, Hurried, Linked, message_values, to_one}
+use Rattle.lobby_desk.specs.Halts.{Halted}
 use Rattle.lobby_desk.specs.Pace.{is_too_fast}
 use Rattle.lobby_desk.specs.Who.{Begins as BeginsDesk, Steps, decides_now, order_asked, said_event, until_of}
 use Rattle.lobby_talk.specs.declared.talk.Talk.{Talk}
@@ -105,6 +106,11 @@ with_made order full_name (Some done) before =
 abbrev pub IsMadeIn : Order → List ℕ → Option Done → Option (List Changed) → Option (List Changed) → Type 0
 IsMadeIn order full_name done None after = ⊤
 IsMadeIn order full_name done (Some before) after = after ≡ Some (with_made order full_name done before)
+
+-- this is what was told last, where that is known
+abbrev pub IsToldLast : Halted → Option Halted → Type 0
+IsToldLast halts None = ⊤
+IsToldLast halts (Some last) = last ≡ halts
 
 -- What a message has changed in the players' file: nothing where it asks for no order; else what that says, with the
 -- full name of the message, and the players are those that this has handed back; or nothing, and then it is refused.

@@ -1,9 +1,10 @@
 //! Who changes players' links, adds players, puts an arbiter's decisions down, and keeps what he halts.
-ghost use Rattle.std.specs.Prelude.{List, Option, None, ◌≡◌, IfSome};
+ghost use Rattle.std.specs.Prelude.{List, Option, None, ◌≡◌, IfSome, OnOk};
 ghost use Rattle.std.specs.String.{string_bytes};
 ghost use Rattle.lobby_words.specs.Players.{IsCarriedOut};
+ghost use Rattle.lobby_desk.specs.Halts.{Halted, halted};
 ghost use Rattle.lobby_talk.specs.Deciding.{Decision, IsPut};
-ghost use Rattle.lobby_talk.specs.Talking.{Changed, IsMadeIn};
+ghost use Rattle.lobby_talk.specs.Talking.{Changed, IsMadeIn, IsToldLast};
 
 use lobby_desk::{Halts, Order};
 use lobby_words::{Linked, Player};
@@ -16,6 +17,9 @@ pub trait KeepsLinks {
 
     /// The changes of the players' file that were made, in their order, where they are known.
     ghost changed: { Self → Option (List Changed) } = { λ _. None };
+
+    /// What it was told last that is halted, where that is known.
+    ghost last_halts: { Self → Option Halted } = { λ _. None };
 
     /// Gives one of these players a new link, or closes it, in the file: the old one holds no more; or puts one more
     /// there, of this full name. It answers once the file is on the disk, by the players from then on and the token of
@@ -37,7 +41,8 @@ pub trait KeepsLinks {
     /// clocks would run that browsers are told to stand still, or stand still, the lobby ends.
     fn keep(&mut self, halts: &Halts) -> io::Result<()>
         ensures decided { decided self.new ≡ decided self.old }
-        ensures changed { changed self.new ≡ changed self.old };
+        ensures changed { changed self.new ≡ changed self.old }
+        ensures kept { OnOk result (IsToldLast (halted halts.now) (last_halts self.new)) };
 }
 
 /// No file: no link is changed, nobody added, nothing is decided, and nothing is kept.
