@@ -668,7 +668,7 @@ speaker_alike f g same (Said c text at) = ap name_of (same c)
 speaker_alike f g same (Hurried c) = refl
 speaker_alike f g same (Heard line) = refl
 speaker_alike f g same (Renewed later) = refl
-speaker_alike f g same (Linked c text later token) = refl
+speaker_alike f g same (Linked c text later token) = ap name_of (same c)
 speaker_alike f g same (ServerTurned is_here) = refl
 speaker_alike f g same (Found finding) = refl
 

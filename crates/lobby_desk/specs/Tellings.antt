@@ -420,9 +420,11 @@ token_told closes token = if closes then codes "\n" else codes " " ++ token ++ c
 abbrev pub linked_text : List ℕ → List ℕ → List ℕ
 linked_text text token = codes "ok " ++ text ++ token_told (is_close_sort (sort_of text)) token
 
+abbrev pub change_said : List ℕ → List ℕ → List ℕ
+change_said by text = said_by (codes "players by ") by text
+
 abbrev pub change_told : List ℕ → ℕ → List ℕ → List ℕ → List MessageValue
-change_told by c text token =
-    to_log (said_by (codes "players by ") by text) ∷ to_one c (linked_text text token) ∷ []
+change_told by c text token = to_log (change_said by text) ∷ to_one c (linked_text text token) ∷ []
 
 -- these messages, and behind them one to every connection that is open
 abbrev pub AreToldAll : (ℕ → Bool) → List MessageValue → List ℕ → List MessageValue → Type 0

@@ -86,6 +86,7 @@ open_of desk c = open_in_map desk.visitors c
 -- the name of the player for whom a connection acts that says a message
 abbrev pub speaker : (ℕ → Option Identity) → DeskInput → List ℕ
 speaker who (Said c text at) = name_of (who c)
+speaker who (Linked c text players token) = name_of (who c)
 speaker who _ = []
 
 -- the player for whom a connection acts, after the plan for a message of it

@@ -533,10 +533,11 @@ pub record IsCaughtUp {S : Type 0} (at : ℕ) (old new : Guest S) : Type 0 where
   pub are : AreNextTold at front old new
   pub at_line : AtLine old.waits.items → AtLine new.waits.items
 
--- One more may be told this answer, for which it waits first: then less waits for it, and one less may be told it.
+-- One more may be told this answer, for which it waits first: then less waits for it, and one less may be told it. All
+-- others are told nothing.
 abbrev pub IsAnsweredIf : {S : Type 0} → Bool → Guest S → Guest S → ℕ → ℕ → Type 0
 IsAnsweredIf true old new left after = (length new.waits.items < length old.waits.items) × (after ≡ left - 1)
-IsAnsweredIf false old new left after = after ≡ left
+IsAnsweredIf false old new left after = (new ≡ old) × (after ≡ left)
 
 abbrev pub IsAnsweredAt : {S : Type 0} → KeptAnswer → Guest S → Guest S → ℕ → ℕ → Type 0
 IsAnsweredAt answer old new left after =

@@ -14,10 +14,13 @@ ghost use Rattle.lobby_loop.specs.Comers.{seen, is_over};
 ghost use Rattle.lobby_loop.specs.Logging.{Logs};
 ghost use Rattle.lobby_loop.specs.Roll.{here_in};
 ghost use Rattle.lobby_talk.specs.Roll.{here_by, news};
+ghost use Rattle.lobby_talk.specs.Talking.{IsToldLast};
+ghost use Rattle.lobby_desk.specs.Halts.{halted};
 ghost use Rattle.lobby_web.specs.Pages.{file_at};
 ghost use Rattle.lobby_loop.specs.declared.lobby.Turned.TheVariants.{Worked};
 
 use crate::act_log::{ActLog, Fault};
+use crate::comers::Comers;
 use crate::hall::Hall;
 use crate::listener::{LobbyAcceptor, LobbyListener, Welcomed, welcome};
 use lobby_desk::{Finding, Halts, Limits};
@@ -84,8 +87,6 @@ pub struct Lobby {
     // Whether something else may have happened since the last turn: at the server, of a player, or that time passed.
     is_awake: bool,
     hall: Hall<Call>,
-    // Who was here when the log was told last.
-    roll: Roll,
     poll: Poll,
     events: Events,
 }
@@ -206,7 +207,6 @@ impl Lobby {
             short_until: 0,
             is_awake: true,
             hall: Hall::new(alloc, keys, site, players, halts, limits, proxy),
-            roll: Roll::new(alloc),
             poll,
             events,
         })
@@ -251,13 +251,15 @@ impl Lobby {
     pub fn put_file(&mut self, file: File) -> Result<(), AllocError>
         ensures put { OnOk result (Files file.path.items (Some file) self.old.hall self.new.hall) }
         ensures err { OnErr result (KeepsFiles self.old.hall self.new.hall) }
+        ensures full { self.new.hall.site.is_full ≡ self.old.hall.site.is_full }
     {
         self.hall.put_file(file)
     }
 
     /// From now on nothing is served at this path.
     pub fn take_off_file(&mut self, path: &[u8])
-        ensures { Files path.now None self.old.hall self.new.hall }
+        ensures off { Files path.now None self.old.hall self.new.hall }
+        ensures full { self.new.hall.site.is_full ≡ self.old.hall.site.is_full }
     {
         self.hall.take_off_file(path);
     }
@@ -265,14 +267,14 @@ impl Lobby {
     /// It is seen at a moment, in milliseconds, how many connections came in the second that goes: one begins where the
     /// last one is over. Once these are more than 2,200 who asks for games is told to come later, by 503, until it is
     /// over; all files stay as they are.
-    pub fn see_comers(&mut self, at: u64)
-        ensures comers { self.new.hall.comers ≡ seen self.old.hall.next_key at self.old.hall.comers }
-        ensures full { self.new.hall.site.is_full ≡ is_over self.old.hall.next_key self.new.hall.comers }
+    pub fn see_comers(&mut self, comers: &mut Comers, at: u64)
+        ensures comers { comers.new ≡ seen self.old.hall.next_key at comers.old }
+        ensures full { self.new.hall.site.is_full ≡ is_over self.old.hall.next_key comers.new }
         ensures files { (path : List ℕ) → Files path (file_at self.old.hall.site path) self.old.hall self.new.hall }
         ensures held { self.new.held_until ≡ self.old.held_until }
         ensures short { self.new.short_until ≡ self.old.short_until }
     {
-        self.hall.see_comers(at);
+        self.hall.see_comers(comers, at);
     }
 
     /// The players are these from now on. A connection acts for a player on just where these have him with the sum that
@@ -424,7 +426,8 @@ impl Lobby {
         ensures turned { OnOk result ((turn : IsLobbyTurn (either unknown unknown)
             (either unknown unknown) at self.old.hall self.new.hall)
             × (turn.turns.is_short ≡ nat_lt at self.old.short_until)
-            × Logs (L.logged log.old) (L.logged log.new) (texts_put turn.turns)) }
+            × Logs (L.logged log.old) (L.logged log.new) (texts_put turn.turns)
+            × IsToldLast (halted turn.turns.between.talk.desk.halts) (K.last_halts links.new)) }
         ensures short { OnOk result (self.new.short_until ≡ short_after self.old.short_until at) }
         ensures held { OnOk result (self.new.held_until
             ≡ held_after self.old.held_until (is_crowded self.old.hall.guests.items) at) }
@@ -439,17 +442,14 @@ impl Lobby {
         Ok(self.turned(has_reached | has_turned, at))
     }
 
-    /// Gives the log who came and went since it was told last, and whether the server did: so it has that behind each
-    /// turn behind which it is told. Where the log fails the lobby ends.
-    pub fn tell_roll<L: ActLog>(&mut self, log: &mut L) -> Result<(), Fault>
+    /// Gives the log who came and went since it was told by this roll, and whether the server did: so it has that
+    /// behind each turn behind which it is told. Where the log fails the lobby ends.
+    pub fn tell_roll<L: ActLog>(&self, roll: &mut Roll, log: &mut L) -> Result<(), Fault>
         ensures told { OnOk result (Logs (L.logged log.old) (L.logged log.new)
-            (news (here_by self.old.roll) (here_in self.old.hall))) }
-        ensures roll { OnOk result (here_by self.new.roll ≡ here_in self.old.hall) }
-        ensures hall { self.new.hall ≡ self.old.hall }
-        ensures held { self.new.held_until ≡ self.old.held_until }
-        ensures short { self.new.short_until ≡ self.old.short_until }
+            (news (here_by roll.old) (here_in self.now.hall))) }
+        ensures roll { OnOk result (here_by roll.new ≡ here_in self.now.hall) }
     {
-        self.hall.tell_roll(&mut self.roll, log)
+        self.hall.tell_roll(roll, log)
     }
 
     // The sockets that were ready are looked at in the next turn.

@@ -13,7 +13,7 @@ use crate::players::Players;
 use crate::table::Table;
 use anyhow::{Context, Result};
 use lobby_desk::{Finding, Halts};
-use lobby_loop::{Beginning, Lobby, LobbyListener, NoActLog, Turned};
+use lobby_loop::{Beginning, Comers, Lobby, LobbyListener, NoActLog, Roll, Turned};
 use lobby_words::Player;
 use sockets::{Moments, ServerAddress};
 use std::alloc::AllocError;
@@ -114,6 +114,10 @@ struct Beside<'a, R, D> {
     health: Health,
     games: GamesFiles<'a>,
     links: FileLinks<'a, R, D>,
+    // Who was here when the log was told last.
+    roll: Roll,
+    // The second that goes.
+    comers: Comers,
     // Whether it was told last that there is no room for the log.
     is_full: bool,
     // Whether clocks can be stopped, and when it is looked next whether they were by hand.
@@ -145,6 +149,8 @@ where
             health: Health::new(rt.alloc()),
             games: GamesFiles::new(rt.alloc(), serving)?,
             links,
+            roll: Roll::new(rt.alloc()),
+            comers: Comers::new(),
             is_full: false,
             can_stop: serving.stopped.is_some(),
             clocks_at: 0,
@@ -216,9 +222,9 @@ where
         self.health.look(lobby, &self.table, at)?;
         let games_rest = self.games.look(self.rt, lobby, at)?;
         let clocks_rest = self.look_at_clocks(lobby, at)?;
-        lobby.see_comers(at);
+        lobby.see_comers(&mut self.comers, at);
         let turned = lobby.turn(self.rt, at, log, &mut self.links)?;
-        lobby.tell_roll(log)?;
+        lobby.tell_roll(&mut self.roll, log)?;
         self.telling.tell_server(lobby.has_server());
         self.telling.tell_counts(lobby, at);
         let rested = within(within(turned, self.table.rest(at)), games_rest);

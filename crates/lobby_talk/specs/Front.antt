@@ -1,9 +1,9 @@
 -- What stands in front of what came of a browser's socket.
 use Rattle.std.specs.Prelude.{ℕ, Bool, List, [], ◌∷◌, ◌==◌, ◌&&◌, ◌||◌, if◌then◌else◌, nat_le, eqb, codes, bit_xor}
 use Rattle.std.specs.Prelude.{length, slice_index, not}
-use Rattle.std.specs.List.{starts_with}
+use Rattle.std.specs.List.{starts_with, list_any}
 use Rattle.std.specs.Str.{bytes_eq}
-use Rattle.lobby_words.specs.Words.{is_act_word, is_as_word}
+use Rattle.lobby_words.specs.Words.{word_of, is_act_word, is_as_word}
 
 abbrev pub begins : List ℕ → List ℕ → Bool
 begins text word = starts_with eqb text word
@@ -22,6 +22,21 @@ abbrev pub is_hasty_word : List ℕ → Bool
 is_hasty_word w =
     is_act_word w || bytes_eq w (codes "drop") || is_as_word w || bytes_eq w (codes "pair")
     || bytes_eq w (codes "login")
+
+-- The other words of messages: of those that ask for little, and of all others, which may ask for much.
+abbrev pub brief_words : List (List ℕ)
+brief_words =
+    codes "watch" ∷ codes "leave" ∷ codes "show" ∷ codes "fen" ∷ codes "room" ∷ codes "moves" ∷ codes "unpair" ∷ []
+
+abbrev pub long_words : List (List ℕ)
+long_words =
+    codes "pgn" ∷ codes "list" ∷ codes "line" ∷ codes "lobby" ∷ codes "players" ∷ codes "who" ∷ codes "pause"
+    ∷ codes "resume" ∷ codes "stop" ∷ codes "start" ∷ codes "announce" ∷ codes "decide" ∷ codes "link"
+    ∷ codes "close" ∷ codes "player" ∷ []
+
+-- the first word of a text is one of these
+abbrev pub has_word : List (List ℕ) → List ℕ → Bool
+has_word words text = list_any (λ w. bytes_eq (word_of text) w) words
 
 -- Whether it asks for little: how one game stands, or that no more is told.
 unfoldable pub is_brief : List ℕ → Bool

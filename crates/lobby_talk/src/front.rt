@@ -1,8 +1,9 @@
 //! What stands in front of what came of a browser's socket.
-ghost use Rattle.std.specs.Prelude.{ℕ, ◌≡◌, ◌≤◌, ◌<◌, true, List, length, take};
+ghost use Rattle.std.specs.Prelude.{ℕ, ◌≡◌, ◌≤◌, ◌<◌, ◌++◌, true, false, List, length, take};
 ghost use Rattle.lobby_words.specs.Words.{word_of};
 ghost use Rattle.lobby_talk.specs.Front.{is_act, is_brief, is_short_text, letter_at, has_letters, letters};
 ghost use Rattle.lobby_talk.specs.Front.{has_act, has_brief, asks_offers, is_hidden, may_be_act, is_hasty_word};
+ghost use Rattle.lobby_talk.specs.Front.{brief_words, long_words, has_word};
 
 /// The first byte of a frame that is a whole text message, and the least and the most that the second one has where a
 /// mask stands behind it, and then at most 125 bytes (RFC 6455, 5.2).
@@ -128,7 +129,12 @@ pub fn may_be_act(unread: &[u8]) -> bool
 }
 
 /// Whatever the first word of an act, of a pairing or of a login is: a text of five letters or more with it begins as
-/// `has_act` has it. So nothing of these is put off as a question.
+/// `has_act` has it, so nothing of these is put off as a question; and none with another message's word does, but for
+/// `offers`, nor one that may ask for much as `has_brief` has it.
 pub fn law_of_fronts()
-    ensures { (text : List ℕ) → is_hasty_word (word_of text) ≡ true → 5 ≤ length text → is_act (take 5 text) ≡ true }
+    ensures hasty { (text : List ℕ) → is_hasty_word (word_of text) ≡ true → 5 ≤ length text →
+        is_act (take 5 text) ≡ true }
+    ensures others { (text : List ℕ) → has_word (brief_words ++ long_words) text ≡ true →
+        is_act (take 5 text) ≡ false }
+    ensures long { (text : List ℕ) → has_word long_words text ≡ true → is_brief (take 5 text) ≡ false }
 {}

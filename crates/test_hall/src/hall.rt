@@ -3,7 +3,7 @@ use crate::browser::{file_of, site_of};
 use crate::peer::{MANY, PINGS, Peer};
 use lobby_desk::{Halts, Limits, Order};
 use lobby_loop::{
-    Acceptor, ActLog, Fault, Hall, KeepsLinks, NoActLog, NoLinks, Roll, Welcomed, welcome,
+    Acceptor, ActLog, Comers, Fault, Hall, KeepsLinks, NoActLog, NoLinks, Roll, Welcomed, welcome,
 };
 use lobby_players::carried_out;
 use lobby_web::Kind;
@@ -537,7 +537,7 @@ fn check_look(rt: &impl Abort, lab: &mut Lab, came: usize, at: u64, front: &[u8]
     for _ in 0..came {
         assert!(rt; lab.hall.next_key().is_some());
     }
-    lab.hall.see_comers(at);
+    lab.hall.see_comers(&mut Comers::new(), at);
     assert!(rt; lab.turn(rt, 4, 1).is_none());
     assert!(rt; lab.is_told(front));
 }

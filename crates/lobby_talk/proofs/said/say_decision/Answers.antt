@@ -16,6 +16,6 @@ returns-clause-decided g c =
     ∙ (ap name_in c.player_at-by.ensures ∙ ap (λ (d : Desk). name_in (player_at d c.args.number)) c.desk.ensures) in
     on_ok_weaker c.say_decided.result (λ told. (
       put,
-      subst (λ (by : List ℕ). IsPut put by c.args.shown.now before after) named c.decide-is_put.ensures,
+      subst (λ (by : List ℕ). IsPut put by c.args.shown.now before after) named c.decide-is_put.ensures.put,
       told,
     )) c.say_decided.ensures.told
