@@ -75,8 +75,8 @@ abbrev pub found_line : Finding → List ℕ
 found_line (findings.LogFull is_full) = full_line is_full
 found_line (findings.Clocks reason) = with_reason (codes "clocks stopped ") (string_bytes reason) (codes "clocks run\n")
 
--- What the log is told of it, before everybody is told: that clocks were stopped by hand, or have to run, with `-` in the
--- place of an arbiter's name. Where it is full it has lines of its own.
+-- What the log is told of it, before everybody is told: that clocks were stopped by hand, or have to run, with `-` in
+-- the place of an arbiter's name. Where it is full it has lines of its own.
 abbrev pub hand_text : List ℕ → List ℕ
 hand_text reason = with_reason (codes "clocks by - stop clocks ") reason (codes "clocks by - start clocks\n")
 

@@ -39,8 +39,8 @@ enum Step {
     /// A lobby stops all clocks for this reason, or has them run, and the next one finds them so.
     Stop(&'static str),
     NoClocks,
-    /// All clocks are stopped by a file of this text that is put there by hand, for this reason, and run once it is taken
-    /// away: the lobby sees both once.
+    /// All clocks are stopped by a file of this text that is put there by hand, for this reason, and run once it is
+    /// taken away: the lobby sees both once.
     Hand(&'static str, &'static str),
     /// A file is taken away.
     Gone(&'static str),
