@@ -1,6 +1,7 @@
 -- Who is asked pays where what stands in front may be an act.
 use Rattle.std.proofs.Common.{◌≡◌, ◌<◌, ◌≤◌, ◌+◌, ◌-◌, ◌∙◌, ℕ, suc, Bool, true, false, List, [], ◌∷◌, length, inl, inr, refl, ap, sym, subst, arith, leb-true}
 use Rattle.std.specs.Prelude.{◌⊎◌, ◌↔◌, ◌*◌, ◌^◌, Some, IsTrue}
+use Rattle.std.specs.BTreeMap.{BTreeMap}
 use Rattle.lobby_web.specs.Browsing.{unread}
 use Rattle.lobby_talk.specs.Front.{may_be_act}
 use Rattle.lobby_talk.specs.declared.talk.Talk.{Talk}
@@ -61,7 +62,7 @@ module _ {S : Type 0} (talk : Talk) (at : ℕ) (guest : Guest S) where
           is_taken = pays;
           taken = (λ so. (act, taken.0 so), λ both. taken.1 both.1);
           pays = subst (λ (n : ℕ). PaysIf pays at n old.paces new.paces) is
-              (subst (λ b. PaysIf pays player at b new.paces) kept.paces pay.pays);
+              (subst (λ (b : BTreeMap ℕ ℕ). PaysIf pays at player b new.paces) kept.paces pay.pays);
           next_act = pay.next_act ∙ kept.next_act;
         },
         turn old turned new had pay.round pay.asker,
