@@ -239,7 +239,7 @@ no_acts =
     (refl, λ rest. refl), (refl, λ rest. refl), (refl, λ rest. refl), (refl, λ rest. refl), (refl, λ rest. refl),
     (refl, λ rest. refl), (refl, λ rest. refl), (refl, λ rest. refl), (refl, λ rest. refl), (refl, λ rest. refl),
     (refl, λ rest. refl), (refl, λ rest. refl), (refl, λ rest. refl), (refl, λ rest. refl), (refl, λ rest. refl),
-    (refl, λ rest. refl), (refl, λ rest. refl), tt)
+    (refl, λ rest. refl), tt)
 
 none_brief : AllByRecursion (IsNotFront is_brief) long_words
 unfolding is_brief

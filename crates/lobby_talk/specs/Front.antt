@@ -26,7 +26,7 @@ is_hasty_word w =
 -- The other words of messages: of those that ask for little, and of all others, which may ask for much.
 abbrev pub brief_words : List (List ℕ)
 brief_words =
-    codes "watch" ∷ codes "leave" ∷ codes "show" ∷ codes "fen" ∷ codes "room" ∷ codes "moves" ∷ codes "unpair" ∷ []
+    codes "watch" ∷ codes "leave" ∷ codes "show" ∷ codes "fen" ∷ codes "room" ∷ codes "moves" ∷ []
 
 abbrev pub long_words : List (List ℕ)
 long_words =
