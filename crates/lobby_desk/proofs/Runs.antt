@@ -32,7 +32,7 @@ use Rattle.lobby_table.specs.Refusals.{game_named}
 use Rattle.lobby_table.specs.Watching.{watch_if, sit_if, watches_kept, table_kept, risen}
 use Rattle.lobby_table.specs.Visitors.{acting}
 use Rattle.lobby_desk.specs.Events.{DeskInput, Opened, Closed, Said, Hurried, Heard, ServerTurned, Renewed, Linked, Found}
-use Rattle.lobby_desk.specs.Halts.{found_line, found_texts}
+use Rattle.lobby_players.specs.Halts.{found_line, found_texts}
 use Rattle.lobby_words.specs.declared.words.Call.{Call}
 use Rattle.lobby_words.specs.declared.words.Call.TheVariants as calls
 use Rattle.lobby_desk.specs.Events.{MessageValue, to_one, to_log, sort_asker, asker, followers_of, follower, Following}

@@ -5,7 +5,7 @@ use Rattle.std.specs.String.{string_bytes}
 use Rattle.lobby_desk.specs.declared.telling.Kind.{Kind}
 use Rattle.lobby_desk.specs.declared.telling.Kind.TheVariants as kinds
 use Rattle.lobby_desk.specs.declared.telling.Message.{Message}
-use Rattle.lobby_desk.specs.declared.halts.Finding.{Finding}
+use Rattle.lobby_players.specs.declared.halts.Finding.{Finding}
 use Rattle.lobby_words.specs.declared.players.Player.{Player}
 use Rattle.lobby_table.specs.declared.server_line.Due.{Due}
 use Rattle.lobby_table.specs.declared.server_line.Due.TheVariants as dues

@@ -13,7 +13,7 @@ use Rattle.lobby_words.specs.Words.{is_login_sort, is_link_sort, number_or_0}
 use Rattle.lobby_words.specs.Players.{holder_of, known_name, renewed, IsChanged}
 use Rattle.lobby_words.specs.Answers.{act_game, answer, is_entered, lone_player}
 use Rattle.lobby_table.specs.Sending.{name_line, game_line, join_line, notice_lines}
-use Rattle.lobby_desk.specs.Halts.{found_texts}
+use Rattle.lobby_players.specs.Halts.{found_texts}
 use Rattle.lobby_desk.specs.Events.{DeskInput, Opened, Closed, Said, Heard, ServerTurned, Renewed, Linked, Found}
 use Rattle.lobby_table.specs.Owed.{ForAct, Owed, Asker, Dropper, Pairer, Followers}
 use Rattle.lobby_desk.specs.Events.{MessageValue, Following, asked_after, told_as}

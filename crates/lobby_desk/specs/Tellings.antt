@@ -24,7 +24,7 @@ use Rattle.lobby_table.specs.Watching.{watches_kept, table_kept}
 use Rattle.lobby_table.specs.Visitors.{acting}
 use Rattle.lobby_desk.specs.Events.{DeskInput, Opened, Closed, Said, Hurried, Heard, ServerTurned, Renewed, Linked}
 use Rattle.lobby_desk.specs.Events.{Found, MessageValue, to_one, to_one_as, to_log}
-use Rattle.lobby_desk.specs.Halts.{found_line, found_texts}
+use Rattle.lobby_players.specs.Halts.{found_line, found_texts}
 use Rattle.lobby_table.specs.Owed.{Ask, ForPositions, ForGame, ForTable, ForAct, Owed}
 use Rattle.lobby_table.specs.Owed.{Nobody, Naming, Asker, Dropper, Pairer, Followers, Behind, owed_lines}
 use Rattle.lobby_desk.specs.Events.{asker}

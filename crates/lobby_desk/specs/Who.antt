@@ -20,8 +20,9 @@ use Rattle.lobby_words.specs.declared.players.Player.{Player}
 use Rattle.lobby_table.specs.declared.visitors.Visitor.{Visitor}
 use Rattle.lobby_table.specs.declared.watching.Watch.{Watch}
 use Rattle.lobby_desk.specs.declared.desk.Desk.{Desk}
-use Rattle.lobby_desk.specs.declared.halts.Finding.{Finding}
-use Rattle.lobby_desk.specs.Halts.{Halted, halted, halted_after, halted_found, halts_bar, stop_bar, shuts, told_behind}
+use Rattle.lobby_players.specs.declared.halts.Finding.{Finding}
+use Rattle.lobby_players.specs.Halts.{Halted, halted, halted_after, halted_found, halts_bar, stop_bar, shuts}
+use Rattle.lobby_players.specs.Halts.{told_behind}
 use Rattle.lobby_words.specs.Words.{rest_of, as_name, black_name, is_pair, actor, is_message, sort_of, u32_in}
 use Rattle.lobby_words.specs.Words.{is_decide_sort, is_decision, is_login_sort}
 use Rattle.lobby_words.specs.Waiting.{opens_game, joins_game}

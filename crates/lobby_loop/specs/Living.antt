@@ -3,7 +3,7 @@ use Rattle.std.specs.Prelude.{ℕ, ◌≡◌, ◌≢◌, ◌<◌, ◌⊎◌, Boo
 use Rattle.std.specs.List.{AllZip, AllByRecursion}
 use Rattle.text_lines.specs.Lines.{HasNoFeed}
 use Rattle.lobby_words.specs.declared.players.Player.{Player}
-use Rattle.lobby_desk.specs.declared.halts.Finding.{Finding}
+use Rattle.lobby_players.specs.declared.halts.Finding.{Finding}
 use Rattle.lobby_desk.specs.Events.{DeskInput, Heard, ServerTurned, Renewed, Found, MessageValue, message_values}
 use Rattle.lobby_desk.specs.Lines.{bytes_of}
 use Rattle.lobby_desk.specs.Logging.{log_texts}

@@ -15,7 +15,7 @@ ghost use Rattle.lobby_loop.specs.Logging.{Logs};
 ghost use Rattle.lobby_loop.specs.Roll.{here_in};
 ghost use Rattle.lobby_talk.specs.Roll.{here_by, news};
 ghost use Rattle.lobby_talk.specs.Talking.{IsToldLast};
-ghost use Rattle.lobby_desk.specs.Halts.{halted};
+ghost use Rattle.lobby_players.specs.Halts.{halted};
 ghost use Rattle.lobby_web.specs.Pages.{file_at};
 ghost use Rattle.lobby_loop.specs.declared.lobby.Turned.TheVariants.{Worked};
 

@@ -1,6 +1,6 @@
 //! The word that serves browsers.
 ghost use Rattle.std.specs.Prelude.{◌≡◌, ◌≢◌, OnOk};
-ghost use Rattle.lobby_desk.specs.declared.halts.Finding.TheVariants as findings;
+ghost use Rattle.lobby_players.specs.declared.halts.Finding.TheVariants as findings;
 ghost use Rattle.lobby_loop.specs.Living.{Finds};
 
 use crate::asked::Serving;

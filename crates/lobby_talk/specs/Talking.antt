@@ -11,7 +11,7 @@ use Rattle.lobby_words.specs.Plans.{refusal_text}
 use Rattle.lobby_desk.specs.declared.desk.Desk.{Desk}
 use Rattle.lobby_desk.specs.Strangers.{acts}
 use Rattle.lobby_desk.specs.Events.{DeskInput, Opened, Said, Hurried, Linked, message_values, to_one}
-use Rattle.lobby_desk.specs.Halts.{Halted}
+use Rattle.lobby_players.specs.Halts.{Halted}
 use Rattle.lobby_desk.specs.Pace.{is_too_fast}
 use Rattle.lobby_desk.specs.Who.{Begins as BeginsDesk, Steps, decides_now, order_asked, said_event, until_of}
 use Rattle.lobby_talk.specs.declared.talk.Talk.{Talk}

@@ -2,7 +2,7 @@
 ghost use Rattle.std.specs.Prelude.{List, Option, None, ◌≡◌, IfSome, OnOk};
 ghost use Rattle.std.specs.String.{string_bytes};
 ghost use Rattle.lobby_words.specs.Players.{IsCarriedOut};
-ghost use Rattle.lobby_desk.specs.Halts.{Halted, halted};
+ghost use Rattle.lobby_players.specs.Halts.{Halted, halted};
 ghost use Rattle.lobby_talk.specs.Deciding.{Decision, IsPut};
 ghost use Rattle.lobby_talk.specs.Talking.{Changed, IsMadeIn, IsToldLast};
 

@@ -1,7 +1,7 @@
 use Rattle.std.proofs.Common.{ℕ, List, ◌++◌, codes, ap, ◌∙◌}
 use Rattle.std.specs.String.{string_bytes}
-use Rattle.lobby_desk.specs.Halts as spec
-use Rattle.lobby_desk.proofs.halts.Halts.told_behind.Goals as goal
+use Rattle.lobby_players.specs.Halts as spec
+use Rattle.lobby_players.proofs.halts.Halts.told_behind.Goals as goal
 
 pub returns : goal.returns
 returns c =

@@ -1,7 +1,7 @@
 //! What an arbiter has halted, entries and all clocks, what he announces, and whether there is room for the log.
 ghost use Rattle.std.specs.Prelude.{◌≡◌, ◌++◌, IfOk, OnOk};
 ghost use Rattle.std.specs.String.{string_bytes};
-ghost use Rattle.lobby_desk.specs.Halts as spec;
+ghost use Rattle.lobby_players.specs.Halts as spec;
 
 use lobby_words::{
     Call, Plan, Refusal, as_line, cut_word, is_decision, is_of_clocks, is_pair, joins_game, opens_game,

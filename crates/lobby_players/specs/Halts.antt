@@ -9,9 +9,9 @@ use Rattle.lobby_words.specs.declared.refusals.Refusal.TheVariants as refusals
 use Rattle.lobby_words.specs.declared.words.Call.TheVariants as calls
 use Rattle.lobby_words.specs.Words.{rest_of, as_line, is_decision, is_of_clocks, is_pair}
 use Rattle.lobby_words.specs.Waiting.{opens_game, joins_game}
-use Rattle.lobby_desk.specs.declared.halts.Halts.{Halts}
-use Rattle.lobby_desk.specs.declared.halts.Finding.{Finding}
-use Rattle.lobby_desk.specs.declared.halts.Finding.TheVariants as findings
+use Rattle.lobby_players.specs.declared.halts.Halts.{Halts}
+use Rattle.lobby_players.specs.declared.halts.Finding.{Finding}
+use Rattle.lobby_players.specs.declared.halts.Finding.TheVariants as findings
 
 -- whether entries are paused, whether clocks can be stopped, and the reason for which all are: none where they run;
 -- what is announced, if anything is; and whether there is no room for the log
