@@ -1,10 +1,9 @@
 //! The sockets of a lobby, and what wakes it.
-ghost use Rattle.std.specs.Prelude.{ℕ, ◌≡◌, ◌≤◌, true, false, List, [], None, Some, is_some, length, nat_lt};
+ghost use Rattle.std.specs.Prelude.{ℕ, ◌≡◌, ◌≤◌, true, false, List, [], None, Some, nat_lt};
 ghost use Rattle.std.specs.Prelude.{IfOk, OnOk, OnErr};
 ghost use Rattle.mio.specs.declared.net.stream.TcpStream.{TcpStream};
 ghost use Rattle.mio.specs.declared.net.uds.stream.UnixStream.{UnixStream};
 ghost use Rattle.either.specs.declared.Either.{Either};
-ghost use Rattle.lobby_desk.specs.Who.{watched_games};
 ghost use Rattle.lobby_guests.specs.Guests.{is_crowded};
 ghost use Rattle.either.specs.Either.{either};
 ghost use Rattle.lobby_loop.specs.Turning.{BeginsHall, Comer, AreAdmitted, IsReached, IsLobbyTurn, has_more, texts_put};
@@ -25,7 +24,7 @@ use crate::hall::Hall;
 use crate::listener::{LobbyAcceptor, LobbyListener, Welcomed, welcome};
 use lobby_desk::{Finding, Halts, Limits};
 use lobby_guests::earlier;
-use lobby_talk::{Counts, KeepsLinks, Roll};
+use lobby_talk::{KeepsLinks, Roll};
 use lobby_web::{File, Site};
 use lobby_words::Player;
 use mio::{Events, Interest, Poll, Token};
@@ -212,39 +211,11 @@ impl Lobby {
         })
     }
 
-    /// Whether the server is there.
-    pub fn has_server(&self) -> bool
-        ensures { result ≡ is_some self.now.hall.server }
+    /// All that are connected, to be asked.
+    pub fn hall(&self) -> &Hall<Call>
+        ensures { result.now ≡ self.now.hall }
     {
-        self.hall.has_server()
-    }
-
-    /// How many connections were turned away since it began; at most 2^64 - 1.
-    pub fn turned_away(&self) -> u64
-        ensures { result ≡ self.now.hall.turned_away }
-    {
-        self.hall.turned_away()
-    }
-
-    /// How many browsers are connected.
-    pub fn connections(&self) -> usize
-        ensures { result ≡ length self.now.hall.guests.items }
-    {
-        self.hall.len()
-    }
-
-    /// What was counted since it began.
-    pub fn counts(&self) -> &Counts
-        ensures { result.now ≡ self.now.hall.counts }
-    {
-        self.hall.counts()
-    }
-
-    /// The games that connections watch, each once for each connection that watches it.
-    pub fn watched_games(&self) -> Result<Vec<u32>, AllocError>
-        ensures { IfOk result (λ games. games.items ≡ watched_games self.now.hall.talk.desk) }
-    {
-        self.hall.watched_games()
+        &self.hall
     }
 
     /// From now on this file is served at its path, in the place of the one that was there, if any.

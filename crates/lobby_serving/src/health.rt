@@ -35,7 +35,7 @@ fn put_connections(
         "connections",
         "gauge",
         "Browsers that were connected when these figures were made.",
-        lobby.connections() as u64,
+        lobby.hall().len() as u64,
     )?;
     put_number(
         text,
@@ -43,7 +43,7 @@ fn put_connections(
         "turned_away_total",
         "counter",
         "Connections that were turned away since the lobby began.",
-        lobby.turned_away(),
+        lobby.hall().turned_away(),
     )?;
     put_number(
         text,
@@ -51,7 +51,7 @@ fn put_connections(
         "logins_refused_total",
         "counter",
         "Logins that were refused since the lobby began.",
-        lobby.counts().logins_refused,
+        lobby.hall().counts().logins_refused,
     )
 }
 
@@ -202,11 +202,11 @@ impl Health {
         let mut text = String::new(alloc);
         put_up(&mut text, alloc, at)?;
         put_connections(&mut text, alloc, lobby, table)?;
-        let games = lobby.watched_games()?;
+        let games = lobby.hall().watched_games()?;
         put_watchers(&mut text, alloc, games.as_slice())?;
-        put_answers(&mut text, alloc, lobby.counts())?;
-        put_acts(&mut text, alloc, lobby.counts())?;
-        put_times(&mut text, alloc, lobby.counts())?;
+        put_answers(&mut text, alloc, lobby.hall().counts())?;
+        put_acts(&mut text, alloc, lobby.hall().counts())?;
+        put_times(&mut text, alloc, lobby.hall().counts())?;
         if let Some(games) = table.games(at) {
             put_games(&mut text, alloc, games)?;
         }

@@ -81,13 +81,13 @@ impl<R: Eprint> Telling<'_, R> {
 
     // How many connections were turned away, and how many logins were refused, since it began.
     fn tell_counts(&mut self, lobby: &Lobby, at: u64) {
-        let turned_away = lobby.turned_away();
+        let turned_away = lobby.hall().turned_away();
         if self.turned_away.is_news(turned_away, at) {
             let _ = eprintln!(self.rt;
                 "so many connections were turned away or made room by now: {turned_away}"
             );
         }
-        let refused = lobby.counts().logins_refused;
+        let refused = lobby.hall().counts().logins_refused;
         if self.logins_refused.is_news(refused, at) {
             let _ = eprintln!(self.rt;
                 "so many logins were refused by now, by links that hold no more or by guesses: {refused}"
@@ -225,7 +225,7 @@ where
         lobby.see_comers(&mut self.comers, at);
         let turned = lobby.turn(self.rt, at, log, &mut self.links)?;
         lobby.tell_roll(&mut self.roll, log)?;
-        self.telling.tell_server(lobby.has_server());
+        self.telling.tell_server(lobby.hall().has_server());
         self.telling.tell_counts(lobby, at);
         let rested = within(within(turned, self.table.rest(at)), games_rest);
         lobby.rest(within(within(rested, log_rest), clocks_rest))?;

@@ -99,13 +99,13 @@ impl Table {
     /// Asks the server, where its connection is new, or it is time and somebody wants it, or goes on with that. It
     /// waits for nothing.
     pub fn look(&mut self, net: &impl Net, lobby: &Lobby, at: u64) -> Result<(), AllocError> {
-        let asked = lobby.counts().figures;
+        let asked = lobby.hall().counts().figures;
         if asked != self.asked {
             self.asked = asked;
             self.wanted_until = at.saturating_add(WANTED);
         }
         let was_here = self.is_here;
-        self.is_here = lobby.has_server();
+        self.is_here = lobby.hall().has_server();
         if !self.is_here {
             self.forget();
             return Ok(());
