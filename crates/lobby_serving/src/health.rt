@@ -204,9 +204,10 @@ impl Health {
         put_connections(&mut text, alloc, lobby, table)?;
         let games = lobby.hall().watched_games()?;
         put_watchers(&mut text, alloc, games.as_slice())?;
-        put_answers(&mut text, alloc, lobby.hall().counts())?;
-        put_acts(&mut text, alloc, lobby.hall().counts())?;
-        put_times(&mut text, alloc, lobby.hall().counts())?;
+        let counts = lobby.hall().counts();
+        put_answers(&mut text, alloc, counts)?;
+        put_acts(&mut text, alloc, counts)?;
+        put_times(&mut text, alloc, counts)?;
         if let Some(games) = table.games(at) {
             put_games(&mut text, alloc, games)?;
         }

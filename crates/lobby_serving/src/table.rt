@@ -88,14 +88,6 @@ impl Table {
         }
     }
 
-    // What was told is told no more.
-    fn forget(&mut self) {
-        self.question = None;
-        self.is_answering = false;
-        self.games = None;
-        self.next_at = 0;
-    }
-
     /// Asks the server, where its connection is new, or it is time and somebody wants it, or goes on with that. It
     /// waits for nothing.
     pub fn look(&mut self, net: &impl Net, lobby: &Lobby, at: u64) -> Result<(), AllocError> {
@@ -107,7 +99,11 @@ impl Table {
         let was_here = self.is_here;
         self.is_here = lobby.hall().has_server();
         if !self.is_here {
-            self.forget();
+            // (what was told is told no more)
+            self.question = None;
+            self.is_answering = false;
+            self.games = None;
+            self.next_at = 0;
             return Ok(());
         }
         if !was_here || self.is_due(at) {
