@@ -28,7 +28,7 @@ use crate::place::{Place, Role, is_gone, number_of};
 use crate::waiting::{Waiting, is_line};
 use lobby_desk::{Kind, Message};
 use lobby_talk::{
-    Asked, Coming, Counts, Gone, KeepsLinks, KeptAnswer, PIECE_ROOM, Talk, is_answer,
+    Asked, Coming, Counts, Gone, KeepsLinks, KeptAnswer, NOTHING_ASKED, PIECE_ROOM, Talk, is_answer,
     is_refused_login, say_to_desk, write_piece,
 };
 use lobby_web::{Browser, Heard, Site, Unsaid};
@@ -137,7 +137,7 @@ impl<S> Guest<S> {
             since: at,
             heard_at: at,
             is_asked: false,
-            asked: Asked::new(),
+            asked: NOTHING_ASKED,
             paid_until: 0,
             logins_until: 0,
             waits: Vec::new(alloc),

@@ -30,7 +30,8 @@ use crate::rounds::{
 };
 use lobby_desk::Message;
 use lobby_talk::{
-    Coming, Counts, KeepsLinks, KeptAnswer, PIECE_ROOM, Talk, has_act, has_brief, may_be_act,
+    Coming, Counts, KeepsLinks, KeptAnswer, NOTHING_CAME, PIECE_ROOM, Talk, has_act, has_brief,
+    may_be_act,
 };
 use lobby_web::Site;
 use std::alloc::{AllocError, Global};
@@ -287,7 +288,7 @@ pub fn attend_all<S: Read + Write, K: KeepsLinks>(
         × KnowsAsks rounds.old.asks rounds.new.asks attended) }
     ensures logins { OnOk result (counts.new.logins_refused ≡ counts.old.logins_refused) }
 {
-    let mut coming = Coming::new();
+    let mut coming = NOTHING_CAME;
     let players = attend_players(
         guests,
         &mut rounds.asks,

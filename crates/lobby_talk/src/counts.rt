@@ -94,15 +94,13 @@ pub struct Coming {
     messages: u64,
 }
 
-impl Coming {
-    /// Nothing came.
-    pub fn new() -> Coming {
-        Coming {
-            figures: 0,
-            messages: 0,
-        }
-    }
+/// Nothing came.
+pub const NOTHING_CAME: Coming = Coming {
+    figures: 0,
+    messages: 0,
+};
 
+impl Coming {
     /// A piece came of a browser.
     pub fn take(&mut self, piece: &[u8]) {
         if piece.starts_with(FIGURES) {
@@ -116,25 +114,23 @@ impl Coming {
     }
 }
 
-impl Counts {
-    /// Nothing was counted.
-    pub fn new() -> Counts {
-        Counts {
-            at: 0,
-            figures: 0,
-            messages: 0,
-            ok: 0,
-            no: 0,
-            fallen: 0,
-            lost: 0,
-            logins_refused: 0,
-            acts: [0; 11],
-            timed: 0,
-            time: 0,
-            within: [0; 12],
-        }
-    }
+/// Nothing was counted.
+pub const NOTHING_COUNTED: Counts = Counts {
+    at: 0,
+    figures: 0,
+    messages: 0,
+    ok: 0,
+    no: 0,
+    fallen: 0,
+    lost: 0,
+    logins_refused: 0,
+    acts: [0; 11],
+    timed: 0,
+    time: 0,
+    within: [0; 12],
+};
 
+impl Counts {
     /// What came is counted too.
     pub fn add(&mut self, coming: &Coming)
         ensures logins { self.new.logins_refused ≡ self.old.logins_refused }
@@ -194,15 +190,13 @@ pub struct Asked {
     second: Option<u64>,
 }
 
-impl Asked {
-    /// Nothing was asked.
-    pub fn new() -> Asked {
-        Asked {
-            first: None,
-            second: None,
-        }
-    }
+/// Nothing was asked.
+pub const NOTHING_ASKED: Asked = Asked {
+    first: None,
+    second: None,
+};
 
+impl Asked {
     /// A message was taken at a moment.
     pub fn push(&mut self, at: u64) {
         if self.first.is_none() {

@@ -43,8 +43,8 @@ fn let_go_beyond(answers: &mut Vec<KeptAnswer>, most: usize)
 fn put(answers: &mut Vec<KeptAnswer>, one: KeptAnswer) -> Result<(), AllocError>
     ensures { size_of_all answers.new.items ≤ kept_most }
 {
-    let game = one.game();
-    answers.retain(|kept| kept.game() != game);
+    let game = one.game;
+    answers.retain(|kept| kept.game != game);
     match KEPT_MOST.checked_sub(one.size()) {
         None => {
             let_go_beyond(answers, KEPT_MOST);

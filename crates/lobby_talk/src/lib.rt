@@ -24,7 +24,10 @@ mod said;
 mod talk;
 mod under_way;
 
-pub use counts::{ACTS, Asked, BOUNDS, Coming, Counts, is_answer, is_refused_login};
+pub use counts::{
+    ACTS, Asked, BOUNDS, Coming, Counts, NOTHING_ASKED, NOTHING_CAME, NOTHING_COUNTED, is_answer,
+    is_refused_login,
+};
 pub use front::{has_act, has_brief, law_of_fronts, may_be_act};
 pub use kept_answer::KeptAnswer;
 pub use link::Link;
