@@ -9,7 +9,7 @@ use std::io;
 use std::io::{ErrorKind, Read};
 use std::rt::Files;
 
-/// So many milliseconds lie at least between two looks at the file.
+/// So many milliseconds lie at least between two looks at the file: half as many where spectators watch by it.
 const REST: u64 = 1_000;
 
 /// A file of more bytes is not served.
@@ -182,8 +182,8 @@ impl GamesFile {
         }
     }
 
-    /// Looks at the file, where the last look was a second ago, and reads it where it has changed: in each turn a part,
-    /// and what was read is served once all of it is there.
+    /// Looks at the file where that is due, and reads it where it has changed: in each turn a part, and what was read
+    /// is served once all of it is there.
     pub fn look<R>(&mut self, rt: &R, lobby: &mut Lobby, at: u64) -> Result<(), AllocError>
     where
         R: Files<File = DiskFile> + AllocGlobal + Eprint,
@@ -194,7 +194,8 @@ impl GamesFile {
         if at < self.next_at {
             return Ok(());
         }
-        self.next_at = at.saturating_add(REST);
+        let is_watched = matches!(self.kind, Kind::Games);
+        self.next_at = at.saturating_add(if is_watched { REST / 2 } else { REST });
         let found = mark_of(rt, self.file.as_str());
         if found == self.seen {
             return Ok(());
