@@ -1,7 +1,8 @@
 //! The word that serves browsers.
-ghost use Rattle.std.specs.Prelude.{◌≡◌, ◌≢◌, OnOk};
+ghost use Rattle.std.specs.Prelude.{◌≡◌, ◌≢◌, ◌<◌, OnOk};
 ghost use Rattle.lobby_players.specs.declared.halts.Finding.TheVariants as findings;
 ghost use Rattle.lobby_loop.specs.Living.{Finds};
+ghost use Rattle.lobby_serving.specs.Beside.{TellsClocks};
 
 use crate::asked::Serving;
 use crate::games_files::GamesFiles;
@@ -173,7 +174,10 @@ where
 
     // Has everybody told that all clocks were stopped by hand, or have to run, where that is news; it is looked at once
     // in a second. After so many milliseconds it is to be looked at again, where clocks can be stopped.
-    fn look_at_clocks(&mut self, lobby: &mut Lobby, at: u64) -> Result<Option<u64>, AllocError> {
+    fn look_at_clocks(&mut self, lobby: &mut Lobby, at: u64) -> Result<Option<u64>, AllocError>
+        ensures early { at < self.old.clocks_at → lobby.new.hall ≡ lobby.old.hall }
+        ensures told { OnOk result (TellsClocks lobby.old.hall lobby.new.hall) }
+    {
         if !self.can_stop {
             return Ok(None);
         }
