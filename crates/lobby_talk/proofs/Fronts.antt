@@ -187,6 +187,30 @@ by_login : (text : List ℕ) → bytes_eq (word_of text) (codes "login") ≡ tru
 by_login text is long =
     begins_with text (codes "login") is long (λ _. login_alone) login_begins
 
+offers_alone : is_act (take 5 (codes "offers")) ≡ true
+unfolding is_act
+offers_alone = refl
+
+offers_begins : (rest : List ℕ) → is_act (take 5 (codes "offers" ++ 32 ∷ rest)) ≡ true
+unfolding is_act
+offers_begins rest = refl
+
+by_offers : (text : List ℕ) → bytes_eq (word_of text) (codes "offers") ≡ true → 5 ≤ length text → is_act (take 5 text) ≡ true
+by_offers text is long =
+    begins_with text (codes "offers") is long (λ _. offers_alone) offers_begins
+
+unpair_alone : is_act (take 5 (codes "unpair")) ≡ true
+unfolding is_act
+unpair_alone = refl
+
+unpair_begins : (rest : List ℕ) → is_act (take 5 (codes "unpair" ++ 32 ∷ rest)) ≡ true
+unfolding is_act
+unpair_begins rest = refl
+
+by_unpair : (text : List ℕ) → bytes_eq (word_of text) (codes "unpair") ≡ true → 5 ≤ length text → is_act (take 5 text) ≡ true
+by_unpair text is long =
+    begins_with text (codes "unpair") is long (λ _. unpair_alone) unpair_begins
+
 or_either : (a b : Bool) → (a || b) ≡ true → (a ≡ true) ⊎ (b ≡ true)
 or_either true b is = inl refl
 or_either false b is = inr is
@@ -208,7 +232,7 @@ by_act text = either text _ _ (either text _ _ (by_open text) (by_join text)) (b
 
 pub begins_as_act : (text : List ℕ) → Begins text (is_hasty_word (word_of text))
 begins_as_act text =
-    either text _ _ (either text _ _ (either text _ _ (either text _ _ (by_act text) (by_drop text)) (by_as text)) (by_pair text)) (by_login text)
+    either text _ _ (either text _ _ (either text _ _ (either text _ _ (either text _ _ (either text _ _ (by_act text) (by_drop text)) (by_as text)) (by_pair text)) (by_login text)) (by_offers text)) (by_unpair text)
 
 -- ---- a text with another first word does not
 

@@ -17,11 +17,11 @@ is_act text =
     || begins text (codes "drop ") || begins text (codes "login") || begins text (codes "pair ")
     || begins text (codes "as ") || begins text (codes "unpai")
 
--- the first words of acts, of a pairing and of a login
+-- the first words of acts, of a pairing, of what is offered, and of a login
 abbrev pub is_hasty_word : List ℕ → Bool
 is_hasty_word w =
     is_act_word w || bytes_eq w (codes "drop") || is_as_word w || bytes_eq w (codes "pair")
-    || bytes_eq w (codes "login")
+    || bytes_eq w (codes "login") || bytes_eq w (codes "offers") || bytes_eq w (codes "unpair")
 
 -- The other words of messages: of those that ask for little, and of all others, which may ask for much.
 abbrev pub brief_words : List (List ℕ)

@@ -128,9 +128,9 @@ pub fn may_be_act(unread: &[u8]) -> bool
     has_act(unread) && !asks_offers(unread) || is_hidden(unread)
 }
 
-/// Whatever the first word of an act, of a pairing or of a login is: a text of five letters or more with it begins as
-/// `has_act` has it, so nothing of these is put off as a question; and none with another message's word does, but for
-/// `offers` and `unpair`, nor one that may ask for much as `has_brief` has it.
+/// Whatever the first word of an act, of a pairing, of what is offered or of a login is: a text of five letters or more
+/// with it begins as `has_act` has it, so nothing of these is put off as a question; and none with another message's
+/// word does, nor one that may ask for much as `has_brief` has it.
 pub fn law_of_fronts()
     ensures hasty { (text : List ℕ) → is_hasty_word (word_of text) ≡ true → 5 ≤ length text →
         is_act (take 5 text) ≡ true }
