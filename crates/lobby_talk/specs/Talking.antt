@@ -104,8 +104,8 @@ with_made order full_name (Some done) before =
     before ++ record { order = order; full_name = full_name; token = string_bytes done.token } ∷ []
 
 abbrev pub IsMadeIn : Order → List ℕ → Option Done → Option (List Changed) → Option (List Changed) → Type 0
-IsMadeIn order full_name done None after = ⊤
-IsMadeIn order full_name done (Some before) after = after ≡ Some (with_made order full_name done before)
+IsMadeIn order full_name linked None after = ⊤
+IsMadeIn order full_name linked (Some before) after = after ≡ Some (with_made order full_name linked before)
 
 -- this is what was told last, where that is known
 abbrev pub IsToldLast : Halted → Option Halted → Type 0
