@@ -99,8 +99,10 @@ export class Adjournments {
 
   /** The note of a game that has left the table; null where there is none. */
   async kept(number) {
-    const kept = await findKept(number), told = kept && toldOf(kept, (full) => this.app.nameOf(full));
-    return told ? this.noteOf(told.standing, told.standing.fen, kept.tags.TimeControl || '') : null;
+    const [kept] = await Promise.all([findKept(number), this.app.round.look()]);
+    const told = kept && toldOf(kept, (full) => this.app.nameOf(full));
+    if (!told) return null;
+    return { ...this.noteOf(told.standing, told.standing.fen, kept.tags.TimeControl || ''), isKept: true };
   }
 
   /** How a game stands, as a note has it. */
@@ -174,7 +176,9 @@ export class Adjournments {
     const row = (head, text) => [make('dt', {}, head), make('dd', {}, text)];
     return [...SIDES.flatMap((side) => row(colourWord(side), t`${this.nameOf(note, side)}: ${clockOf(note, side)}`)),
       ...row(t`Position`, positionOf(note)), ...row('FEN', note.fen),
-      ...row(t`Times`, timesOf(note.times)), ...(note.taken ? row(t`Goes on with`, timesOf(note.taken)) : [])];
+      ...row(t`Times`, timesOf(note.times)), ...(note.taken ? row(t`Goes on with`, timesOf(note.taken)) : []),
+      ...(note.isKept
+        ? row(t`Clocks`, t`as they stood behind the last move; whose turn it was had less at the end`) : [])];
   }
 
   nameOf(note, side) {

@@ -104,8 +104,9 @@ export class AgainView {
 
   /** A game as it was played, and behind that what was tried before. */
   loaded({ tags, start }) {
-    const kept = this.kept(), isOwn = this.plays(tags);
-    const isOfIt = kept && kept.tags.White === tags.White && kept.tags.Black === tags.Black
+    // (the archive has full names where the server has short ones)
+    const kept = this.kept(), isOwn = this.plays(tags), who = (name) => this.app.nameOf(name || '');
+    const isOfIt = kept && who(kept.tags.White) === who(tags.White) && who(kept.tags.Black) === who(tags.Black)
       && fenOf(kept.start.position) === fenOf(start.position);
     if (isOfIt && !isOwn) graft(start, kept.start);
     const path = pathOf(this.at);

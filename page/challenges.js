@@ -12,12 +12,13 @@ const BEGINS_WITHIN = 1500;          // so long after an offer that was accepted
 const QUIET = 10000;                 // so long after a player's offer was said another one of the same is only shown
 
 export class Challenges {
-  /** app: {wire, me(), isArbiter(), nameWords(name), players, reachable(), go(route), turns}. */
+  /** app: {wire, me(), isArbiter(), nameWords(name), players, reachable(), go(route), ownRunning(), turns}. */
   constructor(app) {
     this.app = app;
     this.items = new Map();            // of each offer that is shown, by its row, the element
     this.said = new Set();             // the rows of those that were said
     this.saidAt = new Map();           // of each player of whom one was said, when
+    this.asked = new Set();            // the rows of those that were to be accepted while another game goes on
     this.isLooking = this.isStale = false;
     setInterval(() => this.items.size && this.look(), LOOKS);
   }
@@ -106,8 +107,16 @@ export class Challenges {
       words);
     return make('div', { class: 'banner good' }, make('p', {}, this.words(row)),
       ...this.isOwn(row) ? [button(t`Take it back`, part, false)]
-        : [button(t`Accept`, () => this.say(line, (words) => this.refused(row, words)), true),
+        : [button(t`Accept`, () => this.accept(row, line), true),
           button(t`Decline`, part, false)]);
+  }
+
+  /** The game begins at once, clocks and all: who plays another one is asked once more. */
+  accept(row, line) {
+    const isAsked = this.asked.has(row) || !this.app.ownRunning().length;
+    this.asked.add(row);
+    if (isAsked) this.say(line, (words) => this.refused(row, words));
+    else this.refused(row, t`Another game of yours goes on: press “Accept” again to play both at once.`);
   }
 
   refused(row, words) {

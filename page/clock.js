@@ -5,16 +5,20 @@ import { clockText, clockWords } from './words.js';
 
 const LOW = 20000;
 
-// Since when all clocks are stopped, by performance.now(), or 0; and how long they were before.
-let since = 0, stood = 0;
+// When all clocks stood still, {from, to} by performance.now(); they do so still where the last has no end.
+const halts = [];
 
-const moment = () => (since || performance.now()) - stood;
+/** A moment of performance.now() as clocks count it, which stands still while they do. */
+function moment(at = performance.now()) {
+  return at - halts.reduce((stood, { from, to }) => stood + Math.max(0, Math.min(at, to) - from), 0);
+}
 
 /** All clocks stand still from now on, or run again. */
 export function halt(isHalted) {
-  if (isHalted === Boolean(since)) return;
-  if (!isHalted) stood += performance.now() - since;
-  since = isHalted ? performance.now() : 0;
+  const last = halts[halts.length - 1], areHalted = Boolean(last) && last.to === Infinity;
+  if (isHalted === areHalted) return;
+  if (isHalted) halts.push({ from: performance.now(), to: Infinity });
+  else last.to = performance.now();
 }
 
 export class Clock {
@@ -25,13 +29,18 @@ export class Clock {
     this.lowered = lowered;
     this.label = '';
     this.left = this.at = 0;
-    this.set({ left: 0, at: 0, running: false });
+    this.called = false;
+    this.told = { left: 0, at: 0, running: false };
+    this.set(this.told);
   }
 
-  /** The time left at the moment `at` of performance.now(), and whether it runs. */
+  /** The time left at the moment `at` of performance.now(), and whether it runs. (One that is set again as it was is the
+   * one that was: it falls once.) */
   set(told) {
     clearTimeout(this.timer);
-    Object.assign(this, told, { at: moment() - (performance.now() - told.at), called: false });
+    const { at, left, running } = this.told;
+    const isSame = at === told.at && left === told.left && running === told.running;
+    Object.assign(this, told, { told, at: moment(told.at), called: isSame && this.called });
     this.isAbove = this.now() >= LOW;
     this.tick();
   }

@@ -34,6 +34,7 @@ export class FinishedView {
     if (name !== this.number) byId('finished-form').reset();
     Object.assign(this, { number: name, most: FIRST_SHOWN });
     if (!this.reading) this.read();
+    this.app.round.look().then(() => this.render());
     this.render();
   }
 
@@ -68,9 +69,11 @@ export class FinishedView {
     return names.includes(tags.White) || names.includes(tags.Black);
   }
 
-  /** The names under which the player of this page may stand in the archive: where full names are hidden, initials. */
+  /** The names under which the player of this page may stand in the archive, also those of a tournament's particulars:
+   * where full names are hidden, initials. */
   names() {
-    const full = this.app.nameWords(this.number), names = [this.number, full];
+    const { app, number } = this, full = app.nameWords(number);
+    const names = [number, full, ...app.round.players().filter(({ name }) => name === number).map((one) => one.full)];
     return this.games.some((game) => FinishedView.has(game, names)) ? names : [initialsOf(full)];
   }
 
@@ -166,8 +169,10 @@ function initialsOf(full) {
 }
 
 /** A player's points: `7½ of 12: 6 won, 3 drawn, 3 lost`, by the games in which both have moved: one that was begun by
- * mistake, and one whose opponent did not come, is ended before. */
-function scoreWords(games, names) {
+ * mistake, and one whose opponent did not come, is ended before. One that was played on as another is that one. */
+function scoreWords(all, names) {
+  const continued = new Set(all.map(({ tags }) => tags.Continues));
+  const games = all.filter(({ number }) => !continued.has(String(number)));
   const count = { won: 0, drawn: 0, lost: 0 }, counted = games.filter(bothMoved);
   for (const { tags: { White, Result } } of counted) {
     const isWhite = names.includes(White);

@@ -68,7 +68,7 @@ export class Offers {
     if (!at) return '';
     const place = language === 'en' ? 'en-GB' : language;
     const time = new Date(at + LASTS).toLocaleTimeString(place, { timeStyle: 'short' });
-    return t`It is taken back at ${time}, when you leave this page, or when another game of yours begins.`;
+    return t`It is taken back at ${time}, when you close this page, or when another game of yours begins.`;
   }
 
   // ---- taking back

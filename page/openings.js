@@ -8,6 +8,7 @@ import { isOf } from './pairing.js';
 import { arbiterWords, timesWords } from './words.js';
 
 const HEADER = 'board,white,black,times,start', FIELDS = 5;
+const LEAST = 60;                    // seconds of each player at first: fewer are taken for minutes that were meant
 const SETTLES = 700;                 // milliseconds between two looks at the table
 const ZONE = /(Z|[+-]\d\d:\d\d)$/;
 const FIELD = /(?:"((?:[^"]|"")*)"|([^,"\r\n]*))(,|\r?\n|$)/y;
@@ -72,13 +73,13 @@ export class Openings {
   /** Whether the next board may be opened: not behind an answer that was lost. */
   async openOne(board) {
     const rows = await this.table(), { white, black, line } = board;
-    const known = rows && rows.find((row) => row.white === white && row.black === black);
     if (!rows) return this.isLost('');
+    const known = await this.found(rows, board, black);
     if (known) {
-      Object.assign(board, { game: known.number, said: t`A game of the two is on the table already.` });
+      Object.assign(board, { game: known, said: t`A game of the two is on the table already.` });
       return true;
     }
-    const waits = await this.waiting(rows, board), join = waits && `as ${black} join ${waits}`;
+    const waits = await this.found(rows, board, ''), join = waits && `as ${black} join ${waits}`;
     const [answer] = await this.app.wire.say(join || `pair ${white} ${black} ${line}`);
     const done = /^ok (?:pair|join) (\d+)/.exec(answer), refusal = readRefusal(answer);
     if (done) Object.assign(board, { game: Number(done[1]), said: '' });
@@ -88,10 +89,11 @@ export class Openings {
     return true;
   }
 
-  /** The game of White's with the board's times that waits for a second player, as a pairing that was cut off leaves
-   * it; 0 where there is none. */
-  async waiting(rows, { white, line }) {
-    for (const row of rows.filter((one) => one.white === white && !one.black && one.result === '*')) {
+  /** The game of White's with the board's times against Black, also one that is over; or, against nobody, that waits
+   * for a second player, as a pairing that was cut off leaves it. 0 where there is none. */
+  async found(rows, { white, line }, black) {
+    const isFit = (one) => one.white === white && (one.black || '') === black && (black || one.result === '*');
+    for (const row of rows.filter(isFit)) {
       const pgn = await this.app.wire.say(`pgn ${row.number}`);
       if (pgn[0].startsWith('ok ') && isOf(readPgn(pgn.slice(1)).tags, `open white ${line}`)) return row.number;
     }
@@ -204,5 +206,8 @@ function wrongWith(row, { line, start }, stranger, twice) {
   if (twice !== undefined) return t`${twice} stands twice`;
   if (Number.isNaN(start) || begins && !ZONE.test(begins)) return t`the start is not as 2026-11-26T19:30Z is`;
   const isBye = !black && !begins, areTimes = timesOfOpen(`open white ${line}`) === times;
-  return isBye || areTimes ? '' : t`the times are not as 300+2 is`;
+  if (!isBye && !areTimes) return t`the times are not as 300+2 is`;
+  // (the page writes 15+10 for 15 minutes, and this file has seconds)
+  const isShort = !isBye && readTimes(times).initial < LEAST;
+  return isShort ? t`the times are in seconds, and less than a minute: 15 minutes are 900` : '';
 }

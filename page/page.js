@@ -134,10 +134,12 @@ class Page {
     return this.wire instanceof Broadcast ? this.wire.rankOf(name) : '';
   }
 
-  /** The name in the protocol of who has this full name, where that is one player; else the name as it is. */
+  /** The name in the protocol of who has this full name, here or in a tournament's particulars, where that is one
+   * player; else the name as it is. */
   nameOf(full) {
-    const names = [...this.players].filter(([, player]) => player.full === full).map(([name]) => name);
-    return names.length === 1 ? names[0] : full;
+    const known = [...this.players].map(([name, player]) => ({ name, full: player.full }));
+    const found = [...known, ...this.round.players()].filter((one) => one.full === full).map(({ name }) => name);
+    return new Set(found).size === 1 ? found[0] : full;
   }
 
   go(route) {
@@ -145,7 +147,16 @@ class Page {
   }
 
   titled(text) {
-    document.title = t`${text} · Chess club`;
+    this.text = text;
+    this.retitle();
+  }
+
+  /** The tab's title: what is shown, unless it is one's turn in a game that is not. */
+  retitle() {
+    const own = this.view === this.table || this.isPlaying() ? [] : this.ownRunning(), { text } = this;
+    const yours = own.filter((row) => this.table.mayMove(row)).length;
+    const words = !yours ? text : yours === 1 ? t`Your turn in 1 game` : t`Your turn in ${yours} games`;
+    document.title = t`${words} · Chess club`;
   }
 
   /** It is one's turn, by a key that each turn has for its own; or it is not, by an empty one. */
@@ -235,12 +246,14 @@ class Page {
     this.leaveLater();
     this.atTable();
     byId('invited').hidden = byId('taken-back').hidden = true;
+    if (view !== this.table) this.tellOther(isGame ? number : 0);
     for (const link of document.querySelectorAll('.top nav a')) {
       if (link.getAttribute('href') === (isGame ? '' : view.hash || '#/')) link.setAttribute('aria-current', 'page');
       else link.removeAttribute('aria-current');
     }
     scrollTo(0, 0);
     byId('main').scrollTop = 0;
+    this.round.refresh();
   }
 
   /** Who plays, and who looks at the table or the hall, is told of the table; a watcher of one game is not. */
@@ -274,6 +287,7 @@ class Page {
     if (this.lostOpen) this.findOpened();
     this.findBegun();
     this.offers.look();
+    this.round.refresh();
     return true;
   }
 
@@ -296,35 +310,54 @@ class Page {
     return this.view === this.game && this.game.isPlaying();
   }
 
+  /** One's own games that go on, as the table has them: the newest first. */
+  ownRunning() {
+    const me = this.me();
+    if (!me) return [];
+    return [...this.table.rows.values()].filter(({ white, black, result }) => white && black && result === '*'
+      && (white === me || black === me)).reverse();
+  }
+
+  /** Elsewhere, and at another board, that a game of one's own goes on, where it does. */
+  tellOther(number) {
+    const row = this.ownRunning().find((one) => one.number !== number);
+    if (row) this.tellRunning(row.number, this.gameWords(row, t`goes on`));
+  }
+
+  gameWords({ number, white, black }, what) {
+    return t`Your game ${number} against ${this.nameWords(white === this.me() ? black : white)} ${what}`;
+  }
+
   /** A game of one's own that has begun since the table was first told; and one that runs already, for who comes by a
    * personal link. */
   findBegun() {
     const me = this.me();
     if (!me) return;
-    const own = [...this.table.rows.values()].filter(({ white, black, result }) => white && black && result === '*'
-      && (white === me || black === me)).reverse();
+    const own = this.ownRunning();
     const begun = this.begunFor === me && own.find(({ number }) => !this.begun.has(number));
     const row = begun || this.who.arrives && this.view === this.table && own[0];
     this.begunFor = me;
     this.who.arrives = false;
     own.forEach(({ number }) => this.begun.add(number));
-    if (row) this.begin(row.number, t`Your game ${row.number} against ${
-      this.nameWords(row.white === me ? row.black : row.white)} ${begun ? t`has begun` : t`goes on`}`);
+    if (row) this.begin(row.number, this.gameWords(row, begun ? t`has begun` : t`goes on`));
+    else if (this.view !== this.table) this.tellOther(this.view === this.game ? this.game.number : 0);
   }
 
   /** One's own game has begun: one is taken to its board, or told the way where one plays at another. */
   begin(number, words) {
     this.begun.add(number);
-    if (this.isPlaying()) {
-      byId('invited').hidden = false;
-      byId('invited').replaceChildren(t`${words}: the clocks run. `,
-        make('a', { class: 'button strong', href: `#/game/${number}` }, t`Go there`));
-    } else {
-      this.go(`/game/${number}`);
-    }
+    if (this.isPlaying()) this.tellRunning(number, words);
+    else this.go(`/game/${number}`);
     say(`${words}.`);
     sound('offer');
     this.turns.tell(`${words}.`);
+  }
+
+  /** That a game goes on or has begun at another board, and the way there. */
+  tellRunning(number, words) {
+    byId('invited').hidden = false;
+    byId('invited').replaceChildren(t`${words}: the clocks run. `,
+      make('a', { class: 'button strong', href: `#/game/${number}` }, t`Go there`));
   }
 
   findOpened() {

@@ -297,8 +297,10 @@ export class Pairing {
   /** A step and what came of it, with the way to a game. */
   step(words, isDone = true, number = 0) {
     this.hasSteps = true;
-    byId('pair-steps').append(make('li', { class: isDone ? 'done' : 'open' }, words,
-      number > 0 && ' ', number > 0 && make('a', { href: `#/game/${number}` }, t`Look at game ${number}`)));
+    const item = make('li', { class: isDone ? 'done' : 'open' }, words,
+      number > 0 && ' ', number > 0 && make('a', { href: `#/game/${number}` }, t`Look at game ${number}`));
+    byId('pair-steps').append(item);
+    item.scrollIntoView({ block: 'nearest' });
   }
 
   note(text) {

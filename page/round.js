@@ -20,6 +20,7 @@ export class RoundView {
     this.hash = '#/round';
     this.number = 0;                   // the round that is shown, 0 for the newest
     this.told = null;                  // what the file tells
+    this.text = '';                    // the file, as it was told last
     this.state = 'sought';
     this.readAt = -Infinity;
   }
@@ -48,9 +49,11 @@ export class RoundView {
    * of no round. */
   async look() {
     this.readAt = performance.now();
+    const before = this.text;
     try {
       const answer = await fetch(FILE, { cache: 'no-cache' }), text = answer.ok ? await answer.text() : '';
       const isNone = answer.ok ? !text.trim() : answer.status === 404;
+      if (isNone || answer.ok) this.text = text;
       if (isNone) Object.assign(this, { told: null, state: 'none' });
       else if (answer.ok) Object.assign(this, { told: JSON.parse(text), state: 'told' });
       else this.state = this.told ? 'told' : 'failed';
@@ -59,12 +62,17 @@ export class RoundView {
     }
     byId('to-round').hidden = !this.told;
     this.render();
-    if (this.app.view === this.app.game) this.app.game.render();
+    if (this.text !== before && this.app.view === this.app.game) this.app.game.render();
+  }
+
+  /** Reads the file where it was read some time ago: so the head has the way here wherever one is. */
+  refresh() {
+    if (performance.now() - this.readAt > (this.told ? KNOWS_FOR : LOOKS_AGAIN)) this.look();
   }
 
   /** For a game's page: which round's board a game is, in words; '' where it is none's. */
   boardWords(number) {
-    if (performance.now() - this.readAt > (this.told ? KNOWS_FOR : LOOKS_AGAIN)) this.look();
+    this.refresh();
     const place = this.placeOf(number);
     return place ? t`Round ${place.round}, board ${place.board}` : '';
   }
@@ -89,6 +97,11 @@ export class RoundView {
   lawOf(number) {
     const found = this.asked().find(({ game }) => game === number);
     return found ? found.law : null;
+  }
+
+  /** The players by {name, full}, as they were told last; of teams these. */
+  players() {
+    return this.told ? this.told.players : [];
   }
 
   /** How far the log goes, as it was told last: {lines, sum, at, broken}; null where it was not. */

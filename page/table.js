@@ -135,6 +135,7 @@ export class TableView {
   }
 
   render() {
+    this.app.retitle();
     if (this.root.hidden) return;
     const groups = this.groups(), me = this.app.me();
     byId('own-games').hidden = groups.own.length === 0;

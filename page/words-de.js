@@ -58,6 +58,9 @@ export const WORDS = {
   'the smaller time, {0} ({1})': 'die kleinere Zeit, {0} ({1})',
   '{0} gains {1}': '{0} bekommt {1} mehr',
   '{0} loses {1}': '{0} bekommt {1} weniger',
+  'Clocks': 'Uhren',
+  'as they stood behind the last move; whose turn it was had less at the end':
+    'wie sie nach dem letzten Zug standen; wer am Zug war, hatte am Ende weniger',
   'Goes on with': 'Geht weiter mit',
   'The game has ended meanwhile.': 'Die Partie ist inzwischen zu Ende.',
   ['A draw can be agreed on once both sides have made a move, so this game cannot be closed yet. Have both make '
@@ -738,8 +741,8 @@ export const WORDS = {
   'Hide': 'Ausblenden',
   'By the arbiter, {0}: it goes on later as another game. In the record this one is a draw.':
     'Durch den Schiedsrichter, {0}: sie geht später als andere Partie weiter. In der Aufzeichnung ist diese remis.',
-  'It is taken back at {0}, when you leave this page, or when another game of yours begins.':
-    'Sie wird um {0} zurückgenommen, wenn du diese Seite verlässt oder wenn eine andere deiner Partien beginnt.',
+  'It is taken back at {0}, when you close this page, or when another game of yours begins.':
+    'Sie wird um {0} zurückgenommen, wenn du diese Seite schließt oder wenn eine andere deiner Partien beginnt.',
   'Your other game that waited is taken back, since one has begun.':
     'Deine andere wartende Partie ist zurückgenommen, da eine begonnen hat.',
   'Nobody has joined your game in ten minutes: it is taken back.':
@@ -812,6 +815,8 @@ export const WORDS = {
   'no player has the name {0}': 'kein Spieler hat den Namen {0}',
   '{0} stands twice': '{0} steht zweimal da',
   'the times are not as 300+2 is': 'die Zeiten sind nicht wie 300+2',
+  'the times are in seconds, and less than a minute: 15 minutes are 900':
+    'die Zeiten sind in Sekunden und unter einer Minute: 15 Minuten sind 900',
   'the start is not as 2026-11-26T19:30Z is': 'der Beginn ist nicht wie 2026-11-26T19:30Z',
   'Row {0}: {1}.': 'Zeile {0}: {1}.',
   'There is no board in it.': 'Es steht kein Brett darin.',
@@ -825,6 +830,8 @@ export const WORDS = {
   'Copy the games for chess-club start': 'Partien für chess-club start kopieren',
   'Look it up': 'Nachsehen',
   '{0} has not accepted your game.': '{0} hat deine Partie nicht angenommen.',
+  'Another game of yours goes on: press “Accept” again to play both at once.':
+    'Eine andere Partie von dir läuft: Drücke noch einmal „Annehmen“, um beide zugleich zu spielen.',
   'It is offered.': 'Angeboten.',
   'The round': 'Die Runde',
   'There is no round here.': 'Hier gibt es keine Runde.',

@@ -56,6 +56,9 @@ export const WORDS = {
   'the smaller time, {0} ({1})': 'el tiempo menor, {0} ({1})',
   '{0} gains {1}': '{0}: {1} más',
   '{0} loses {1}': '{0}: {1} menos',
+  'Clocks': 'Relojes',
+  'as they stood behind the last move; whose turn it was had less at the end':
+    'como estaban tras la última jugada; quien tenía el turno tenía menos al final',
   'Goes on with': 'Sigue con',
   'The game has ended meanwhile.': 'La partida ha terminado entretanto.',
   ['A draw can be agreed on once both sides have made a move, so this game cannot be closed yet. Have both make '
@@ -732,8 +735,8 @@ export const WORDS = {
   'Hide': 'Ocultar',
   'By the arbiter, {0}: it goes on later as another game. In the record this one is a draw.':
     'Por el árbitro, {0}: continúa más tarde como otra partida. En el registro esta es tablas.',
-  'It is taken back at {0}, when you leave this page, or when another game of yours begins.':
-    'Se retira a las {0}, cuando dejes esta página o cuando empiece otra partida tuya.',
+  'It is taken back at {0}, when you close this page, or when another game of yours begins.':
+    'Se retira a las {0}, cuando cierres esta página o cuando empiece otra partida tuya.',
   'Your other game that waited is taken back, since one has begun.':
     'Tu otra partida en espera se ha retirado, porque una ha empezado.',
   'Nobody has joined your game in ten minutes: it is taken back.':
@@ -805,6 +808,8 @@ export const WORDS = {
   'no player has the name {0}': 'ningún jugador tiene el nombre {0}',
   '{0} stands twice': '{0} aparece dos veces',
   'the times are not as 300+2 is': 'los tiempos no son como 300+2',
+  'the times are in seconds, and less than a minute: 15 minutes are 900':
+    'los tiempos están en segundos y son de menos de un minuto: 15 minutos son 900',
   'the start is not as 2026-11-26T19:30Z is': 'el comienzo no es como 2026-11-26T19:30Z',
   'Row {0}: {1}.': 'Fila {0}: {1}.',
   'There is no board in it.': 'No contiene ningún tablero.',
@@ -817,6 +822,8 @@ export const WORDS = {
   'Copy the games for chess-club start': 'Copiar las partidas para chess-club start',
   'Look it up': 'Buscarla',
   '{0} has not accepted your game.': '{0} no ha aceptado tu partida.',
+  'Another game of yours goes on: press “Accept” again to play both at once.':
+    'Otra partida tuya está en curso: pulsa «Aceptar» otra vez para jugar las dos a la vez.',
   'It is offered.': 'Está ofrecida.',
   'The round': 'La ronda',
   'There is no round here.': 'Aquí no hay ninguna ronda.',

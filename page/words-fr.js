@@ -60,6 +60,9 @@ export const WORDS = {
   'the smaller time, {0} ({1})': 'le plus petit temps, {0} ({1})',
   '{0} gains {1}': '{0} : {1} de plus',
   '{0} loses {1}': '{0} : {1} de moins',
+  'Clocks': 'Pendules',
+  'as they stood behind the last move; whose turn it was had less at the end':
+    'telles qu’après le dernier coup ; le camp au trait avait moins à la fin',
   'Goes on with': 'Reprise avec',
   'The game has ended meanwhile.': 'La partie s’est terminée entre-temps.',
   ['A draw can be agreed on once both sides have made a move, so this game cannot be closed yet. Have both make '
@@ -743,8 +746,8 @@ export const WORDS = {
   'Hide': 'Masquer',
   'By the arbiter, {0}: it goes on later as another game. In the record this one is a draw.':
     'Par l’arbitre, {0} : elle reprend plus tard comme une autre partie. Dans les archives, celle-ci est nulle.',
-  'It is taken back at {0}, when you leave this page, or when another game of yours begins.':
-    'Elle est retirée à {0}, quand vous quittez cette page ou quand une autre de vos parties commence.',
+  'It is taken back at {0}, when you close this page, or when another game of yours begins.':
+    'Elle est retirée à {0}, quand vous fermez cette page ou quand une autre de vos parties commence.',
   'Your other game that waited is taken back, since one has begun.':
     'Votre autre partie en attente est retirée, puisqu’une a commencé.',
   'Nobody has joined your game in ten minutes: it is taken back.':
@@ -818,6 +821,8 @@ export const WORDS = {
   'no player has the name {0}': 'aucun joueur ne porte le nom {0}',
   '{0} stands twice': '{0} y figure deux fois',
   'the times are not as 300+2 is': 'la cadence ne s’écrit pas comme 300+2',
+  'the times are in seconds, and less than a minute: 15 minutes are 900':
+    'la cadence est en secondes, et de moins d’une minute : 15 minutes font 900',
   'the start is not as 2026-11-26T19:30Z is': 'le début ne s’écrit pas comme 2026-11-26T19:30Z',
   'Row {0}: {1}.': 'Ligne {0} : {1}.',
   'There is no board in it.': 'Il n’y a aucun échiquier dedans.',
@@ -831,6 +836,8 @@ export const WORDS = {
   'Copy the games for chess-club start': 'Copier les parties pour chess-club start',
   'Look it up': 'La chercher',
   '{0} has not accepted your game.': '{0} n’a pas accepté votre partie.',
+  'Another game of yours goes on: press “Accept” again to play both at once.':
+    'Une autre de vos parties est en cours : appuyez encore sur « Accepter » pour jouer les deux à la fois.',
   'It is offered.': 'Elle est proposée.',
   'The round': 'La ronde',
   'There is no round here.': 'Il n’y a pas de ronde ici.',

@@ -57,6 +57,9 @@ export const WORDS = {
   'the smaller time, {0} ({1})': 'il tempo minore, {0} ({1})',
   '{0} gains {1}': '{0}: {1} in più',
   '{0} loses {1}': '{0}: {1} in meno',
+  'Clocks': 'Orologi',
+  'as they stood behind the last move; whose turn it was had less at the end':
+    'come stavano dopo l’ultima mossa; chi doveva muovere aveva meno alla fine',
   'Goes on with': 'Riprende con',
   'The game has ended meanwhile.': 'Nel frattempo la partita è finita.',
   ['A draw can be agreed on once both sides have made a move, so this game cannot be closed yet. Have both make '
@@ -736,8 +739,8 @@ export const WORDS = {
   'Hide': 'Nascondi',
   'By the arbiter, {0}: it goes on later as another game. In the record this one is a draw.':
     'Dall’arbitro, {0}: continua più tardi come un’altra partita. Nel registro questa è patta.',
-  'It is taken back at {0}, when you leave this page, or when another game of yours begins.':
-    'Viene ritirata alle {0}, quando lasci questa pagina o quando comincia un’altra tua partita.',
+  'It is taken back at {0}, when you close this page, or when another game of yours begins.':
+    'Viene ritirata alle {0}, quando chiudi questa pagina o quando comincia un’altra tua partita.',
   'Your other game that waited is taken back, since one has begun.':
     'L’altra tua partita in attesa è ritirata, perché una è cominciata.',
   'Nobody has joined your game in ten minutes: it is taken back.':
@@ -810,6 +813,8 @@ export const WORDS = {
   'no player has the name {0}': 'nessun giocatore ha il nome {0}',
   '{0} stands twice': '{0} compare due volte',
   'the times are not as 300+2 is': 'i tempi non sono come 300+2',
+  'the times are in seconds, and less than a minute: 15 minutes are 900':
+    'i tempi sono in secondi, e sotto un minuto: 15 minuti sono 900',
   'the start is not as 2026-11-26T19:30Z is': 'l’inizio non è come 2026-11-26T19:30Z',
   'Row {0}: {1}.': 'Riga {0}: {1}.',
   'There is no board in it.': 'Non contiene nessuna scacchiera.',
@@ -822,6 +827,8 @@ export const WORDS = {
   'Copy the games for chess-club start': 'Copia le partite per chess-club start',
   'Look it up': 'Cercala',
   '{0} has not accepted your game.': '{0} non ha accettato la tua partita.',
+  'Another game of yours goes on: press “Accept” again to play both at once.':
+    'Un’altra tua partita è in corso: premi di nuovo «Accetta» per giocarle entrambe insieme.',
   'It is offered.': 'È proposta.',
   'The round': 'Il turno',
   'There is no round here.': 'Qui non c’è alcun turno.',

@@ -57,6 +57,9 @@ export const WORDS = {
   'the smaller time, {0} ({1})': 'de kleinste tijd, {0} ({1})',
   '{0} gains {1}': '{0} krijgt {1} meer',
   '{0} loses {1}': '{0} krijgt {1} minder',
+  'Clocks': 'Klokken',
+  'as they stood behind the last move; whose turn it was had less at the end':
+    'zoals ze na de laatste zet stonden; wie aan zet was, had aan het eind minder',
   'Goes on with': 'Gaat verder met',
   'The game has ended meanwhile.': 'De partij is intussen afgelopen.',
   ['A draw can be agreed on once both sides have made a move, so this game cannot be closed yet. Have both make '
@@ -738,8 +741,8 @@ export const WORDS = {
   'Hide': 'Verbergen',
   'By the arbiter, {0}: it goes on later as another game. In the record this one is a draw.':
     'Door de arbiter, {0}: ze gaat later verder als een andere partij. In het verslag is deze remise.',
-  'It is taken back at {0}, when you leave this page, or when another game of yours begins.':
-    'Ze wordt teruggenomen om {0}, als je deze pagina verlaat of als een andere partij van je begint.',
+  'It is taken back at {0}, when you close this page, or when another game of yours begins.':
+    'Ze wordt teruggenomen om {0}, als je deze pagina sluit of als een andere partij van je begint.',
   'Your other game that waited is taken back, since one has begun.':
     'Je andere wachtende partij is teruggenomen, omdat er een begonnen is.',
   'Nobody has joined your game in ten minutes: it is taken back.':
@@ -811,6 +814,8 @@ export const WORDS = {
   'no player has the name {0}': 'geen speler heeft de naam {0}',
   '{0} stands twice': '{0} staat er twee keer in',
   'the times are not as 300+2 is': 'de tijden zijn niet zoals 300+2',
+  'the times are in seconds, and less than a minute: 15 minutes are 900':
+    'de tijden zijn in seconden en korter dan een minuut: 15 minuten is 900',
   'the start is not as 2026-11-26T19:30Z is': 'het begin is niet zoals 2026-11-26T19:30Z',
   'Row {0}: {1}.': 'Regel {0}: {1}.',
   'There is no board in it.': 'Er staat geen bord in.',
@@ -824,6 +829,8 @@ export const WORDS = {
   'Copy the games for chess-club start': 'Partijen kopiëren voor chess-club start',
   'Look it up': 'Opzoeken',
   '{0} has not accepted your game.': '{0} heeft je partij niet aangenomen.',
+  'Another game of yours goes on: press “Accept” again to play both at once.':
+    'Er loopt nog een partij van je: druk nogmaals op ‘Aannemen’ om beide tegelijk te spelen.',
   'It is offered.': 'Ze is aangeboden.',
   'The round': 'De ronde',
   'There is no round here.': 'Er is hier geen ronde.',

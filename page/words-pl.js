@@ -57,6 +57,9 @@ export const WORDS = {
   'the smaller time, {0} ({1})': 'mniejszy czas, {0} ({1})',
   '{0} gains {1}': '{0}: o {1} więcej',
   '{0} loses {1}': '{0}: o {1} mniej',
+  'Clocks': 'Zegary',
+  'as they stood behind the last move; whose turn it was had less at the end':
+    'jak stały po ostatnim ruchu; strona na posunięciu miała na końcu mniej',
   'Goes on with': 'Wznowiona z czasem',
   'The game has ended meanwhile.': 'W międzyczasie partia się skończyła.',
   ['A draw can be agreed on once both sides have made a move, so this game cannot be closed yet. Have both make '
@@ -729,8 +732,8 @@ export const WORDS = {
   'Hide': 'Ukryj',
   'By the arbiter, {0}: it goes on later as another game. In the record this one is a draw.':
     'Przez sędziego, {0}: będzie kontynuowana później jako inna partia. W zapisie ta jest remisem.',
-  'It is taken back at {0}, when you leave this page, or when another game of yours begins.':
-    'Zostanie cofnięta o {0}, gdy opuścisz tę stronę albo gdy zacznie się inna twoja partia.',
+  'It is taken back at {0}, when you close this page, or when another game of yours begins.':
+    'Zostanie cofnięta o {0}, gdy zamkniesz tę stronę albo gdy zacznie się inna twoja partia.',
   'Your other game that waited is taken back, since one has begun.':
     'Twoja druga oczekująca partia została cofnięta, bo jedna się zaczęła.',
   'Nobody has joined your game in ten minutes: it is taken back.':
@@ -803,6 +806,8 @@ export const WORDS = {
   'no player has the name {0}': 'żaden gracz nie ma nazwy {0}',
   '{0} stands twice': '{0} występuje dwa razy',
   'the times are not as 300+2 is': 'tempo nie jest jak 300+2',
+  'the times are in seconds, and less than a minute: 15 minutes are 900':
+    'czas podaje się w sekundach, a tu jest mniej niż minuta: 15 minut to 900',
   'the start is not as 2026-11-26T19:30Z is': 'początek nie jest jak 2026-11-26T19:30Z',
   'Row {0}: {1}.': 'Wiersz {0}: {1}.',
   'There is no board in it.': 'Nie ma w tym żadnej szachownicy.',
@@ -815,6 +820,8 @@ export const WORDS = {
   'Copy the games for chess-club start': 'Kopiuj partie dla chess-club start',
   'Look it up': 'Wyszukaj',
   '{0} has not accepted your game.': '{0}: twoja partia nie została przyjęta.',
+  'Another game of yours goes on: press “Accept” again to play both at once.':
+    'Twoja inna partia trwa: naciśnij „Przyjmij” jeszcze raz, aby grać obie naraz.',
   'It is offered.': 'Zaproponowano.',
   'The round': 'Runda',
   'There is no round here.': 'Nie ma tu żadnej rundy.',

@@ -56,6 +56,9 @@ export const WORDS = {
   'the smaller time, {0} ({1})': 'o tempo menor, {0} ({1})',
   '{0} gains {1}': '{0}: mais {1}',
   '{0} loses {1}': '{0}: menos {1}',
+  'Clocks': 'Relógios',
+  'as they stood behind the last move; whose turn it was had less at the end':
+    'como estavam depois do último lance; quem tinha a vez tinha menos no fim',
   'Goes on with': 'Continua com',
   'The game has ended meanwhile.': 'Nesse meio-tempo a partida terminou.',
   ['A draw can be agreed on once both sides have made a move, so this game cannot be closed yet. Have both make '
@@ -727,8 +730,8 @@ export const WORDS = {
   'Hide': 'Ocultar',
   'By the arbiter, {0}: it goes on later as another game. In the record this one is a draw.':
     'Pelo árbitro, {0}: continua mais tarde como outra partida. No registro, esta é empate.',
-  'It is taken back at {0}, when you leave this page, or when another game of yours begins.':
-    'É retirada às {0}, quando você deixa esta página ou quando outra partida sua começa.',
+  'It is taken back at {0}, when you close this page, or when another game of yours begins.':
+    'É retirada às {0}, quando você fecha esta página ou quando outra partida sua começa.',
   'Your other game that waited is taken back, since one has begun.':
     'Sua outra partida em espera foi retirada, pois uma começou.',
   'Nobody has joined your game in ten minutes: it is taken back.':
@@ -800,6 +803,8 @@ export const WORDS = {
   'no player has the name {0}': 'nenhum jogador tem o nome {0}',
   '{0} stands twice': '{0} aparece duas vezes',
   'the times are not as 300+2 is': 'os tempos não são como 300+2',
+  'the times are in seconds, and less than a minute: 15 minutes are 900':
+    'os tempos são em segundos e de menos de um minuto: 15 minutos são 900',
   'the start is not as 2026-11-26T19:30Z is': 'o início não é como 2026-11-26T19:30Z',
   'Row {0}: {1}.': 'Linha {0}: {1}.',
   'There is no board in it.': 'Não há nenhum tabuleiro.',
@@ -812,6 +817,8 @@ export const WORDS = {
   'Copy the games for chess-club start': 'Copiar as partidas para chess-club start',
   'Look it up': 'Procurar',
   '{0} has not accepted your game.': '{0} não aceitou a sua partida.',
+  'Another game of yours goes on: press “Accept” again to play both at once.':
+    'Outra partida sua está em curso: prima «Aceitar» outra vez para jogar as duas ao mesmo tempo.',
   'It is offered.': 'Está oferecida.',
   'The round': 'A ronda',
   'There is no round here.': 'Não há nenhuma ronda aqui.',

@@ -10,6 +10,7 @@ import time
 from lib.browser import Keys
 from lib.net import Door
 from lib.program import content, laid_out, path_of, put
+from lib.web import Guest
 from page_lines import by_lines, truth
 from readable import COORDINATES, on_screens, reads_well, well_on_screens
 
@@ -565,12 +566,38 @@ def in_every_language(hall):
 JOINS = 'return [...document.querySelectorAll("[data-key^=join-]")].map((e) => e.dataset.key)'
 
 
+def the_board_stays(hall):
+    """What is told does not move the board of who plays. Another game that is offered meanwhile begins once that is
+    accepted twice, and at every board one is told of one's own other game."""
+    number, ann, bob, sue = hall.begin(minutes='20')
+    place = 'const at = document.querySelector("#board").getBoundingClientRect(); return [at.left, at.top, at.width]'
+    stood = [person.run(place) for person in (ann, bob)]
+    by_lines(hall, 'eve', 'announce Coffee is ready')
+    hall.both.shows('#announced-words', 'The arbiter announces: Coffee is ready', 'an announcement')
+    carl = Guest(hall.lobby.port, hall.lobby.tokens['cid'])
+    carl.ask('pair cid ann 1200 0')
+    ann.reads('#challenges', 'offers you a game')
+    ann.is_so([person.run(place) for person in (ann, bob)] == stood, 'each board is where it was')
+    well_on_screens(ann, 'news over a game', '.news .banner')
+    here = ann.driver.current_url
+    ann.click('#challenges .strong').reads('#challenges', 'Another game of yours goes on')
+    ann.is_so(ann.driver.current_url == here, 'nothing has begun')
+    ann.click('#challenges .strong').until(lambda: ann.driver.current_url != here, 'the other game begins')
+    ann.reads('#invited', 'Your game %s against' % number, 'goes on')
+    second = ann.driver.current_url.rsplit('/', 1)[1]
+    ann.click('#invited a').until(lambda: ann.driver.current_url == here, 'the way to it')
+    ann.reads('#invited', 'Your game %s against' % second, 'goes on')
+    by_lines(hall, 'ann', 'resign ' + second)
+    by_lines(hall, 'eve', 'announce')
+    carl.close()
+
+
 def offers_end(hall):
     """A game of one's own that waits is taken back: once another begins, after ten minutes, and where one's last page
     is left; where it is loaded anew it is opened again, and it stays where another page is there."""
     ann, bob, _ = hall.sit()
     first, second = hall.set_up(), hall.set_up()
-    ann.reads('#outcome', 'It is taken back at', 'when you leave this page')
+    ann.reads('#outcome', 'It is taken back at', 'when you close this page')
     number = lambda: ann.driver.current_url.rsplit('/', 1)[1]
     ann.reload().until(lambda: number() not in (first, second), 'loaded anew, they are opened again')
     ann.reads('#outcome', 'Waiting for an opponent', 'It is taken back at')
@@ -780,4 +807,4 @@ def the_first_minutes(hall):
 
 EVENING = (no_dead_buttons, handy_moves, full_names, planned_moves, asked_first, heard_tones, own_marks, taken_men,
            boards_and_men, told_elsewhere, slow_answers, foreign_links, room_for_all, read_by_all, in_german,
-           in_every_language, offers_end, a_killed_browser, looked_at_again, the_first_minutes)
+           in_every_language, the_board_stays, offers_end, a_killed_browser, looked_at_again, the_first_minutes)

@@ -150,7 +150,8 @@ def a_kept_game(hall):
     for look_up in (lambda: sue.click(drawn),
                     lambda: sue.type('#adjourned-form [name=number]', NUMBERS[2]).click('#adjourned-form button')):
         look_up()
-        sue.reads('#adjourned-list', 'Looked up', ' w KQkq - 2 3', '5:00').lacks(drawn, 'and not twice')
+        sue.reads('#adjourned-list', 'Looked up', ' w KQkq - 2 3', '5:00', 'behind the last move')
+        sue.lacks(drawn, 'and not twice')
         sue.run('localStorage.clear()')
         sue.reload().click('#adjourned-games > summary').finds(drawn, 'another browser finds it too')
     sue.goes('game/' + number).finds('#game-kept', 'a kept game')

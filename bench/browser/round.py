@@ -64,6 +64,7 @@ def the_round(hall):
     sue.click('#to-round').shows('#round-title', 'Round 2', 'the newest again')
     sue.click('#round-boards a').shows('#game-board', 'Round 2, board 1', 'the game says so')
     ann.reload().shows('#game-board', 'Round 2, board 1', 'to its player too')
+    ann.goes('').reload().finds('#to-round', 'the way to it, at the table too')
     for person in (ann, sue):
         person.is_quiet()
     serves(hall, '')

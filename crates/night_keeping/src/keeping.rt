@@ -42,8 +42,10 @@ where
 struct Looking<'a, R> {
     rt: &'a R,
     keeping: &'a Keeping<'a>,
-    // The archive's file, also between looks: which of two that look first would set the Round of a game.
-    held: HeldFile<'a>,
+    // The archive's file, also between looks: which of two that look first would set the Round of a game. None behind a
+    // look that failed at it: a volume may answer nothing more of a file that was open while its machines were gone, and
+    // the next look opens it anew.
+    held: Option<HeldFile<'a>>,
     sources: Sources<'a, R>,
     watchers: Option<Watchers>,
     // Whether the archive was opened: then it is left alone while no game is over.
@@ -57,7 +59,7 @@ impl<'a, R: Files<File = File> + AllocGlobal + Eprint> Looking<'a, R> {
         Ok(Looking {
             rt,
             keeping,
-            held: HeldFile::open(rt, path).context(format_args!("opening {path}"))?,
+            held: Some(HeldFile::open(rt, path).context(format_args!("opening {path}"))?),
             sources: Sources::open(rt, &keeping.source)?,
             watchers: keeping.lobby.map(|lobby| Watchers::new(rt.alloc(), lobby)),
             has_looked: false,
@@ -134,11 +136,13 @@ where
         // (behind the list, so that they are all there who played its games)
         self.sources.players.renew()?;
         let path = self.keeping.archive;
-        let file = self
-            .held
-            .file(self.rt)
-            .context(format_args!("opening {path}"))?;
+        let mut held = match self.held.take() {
+            Some(held) => held,
+            None => HeldFile::open(self.rt, path).context(format_args!("opening {path}"))?,
+        };
+        let file = held.file(self.rt).context(format_args!("opening {path}"))?;
         let opened = open_archive(self.rt, path, file)?;
+        self.held = Some(held);
         self.has_looked = true;
         Ok(Some(opened))
     }
@@ -167,6 +171,9 @@ where
         }
         let (counted, watchers) = self.keep_games(link, opened, rows, over.as_slice(), watchers);
         self.watchers = watchers;
+        if !matches!(counted, Ok((_, Ok(())))) {
+            self.held = None;
+        }
         counted
     }
 
