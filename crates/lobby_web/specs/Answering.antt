@@ -19,7 +19,8 @@ use Rattle.lobby_web.specs.Requests.{served_path}
 -- The browser runs and loads only what is of the page's own host, frames it nowhere, and sends no form.
 abbrev pub policy : List ℕ
 policy =
-    codes "default-src 'none'; script-src 'self'; style-src 'self'; img-src 'self'; connect-src 'self'; base-uri 'none'; form-action 'none'; frame-ancestors 'none'"
+    codes "default-src 'none'; script-src 'self'; style-src 'self'; img-src 'self'; "
+    ++ codes "connect-src 'self'; base-uri 'none'; form-action 'none'; frame-ancestors 'none'"
 
 -- the fields that each answer has but an upgrade
 abbrev pub guards : List Header

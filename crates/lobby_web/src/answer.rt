@@ -50,6 +50,7 @@ fn path_of(request: &Request<Bytes>) -> &[u8]
 fn is_made_of(text: &[u8], front: &[u8], end: &[u8]) -> bool
     ensures { result ≡ bytes_eq text.now (front.now ++ end.now) }
 {
+    // (a `match`: the proof by hand goes by its arms)
     match text.strip_prefix(front) {
         Some(rest) => rest == end,
         None => false,
@@ -101,10 +102,9 @@ fn is_taken(site: &Site, request: &Request<Bytes>) -> bool
 fn is_page_of(scheme: &[u8], port: &[u8], host: &[u8], origin: &[u8]) -> bool
     ensures { result ≡ is_page_of scheme.now port.now host.now origin.now }
 {
-    match origin.strip_prefix(scheme) {
-        Some(rest) => is_same_host(port, rest, host),
-        None => false,
-    }
+    origin
+        .strip_prefix(scheme)
+        .is_some_and(|rest| is_same_host(port, rest, host))
 }
 
 // Whether a request comes from a page of the host that it names, and says once from which.
@@ -205,8 +205,8 @@ fn add_value(
 }
 
 // The browser runs and loads only what is of the page's own host, frames it nowhere, and sends no form.
-const POLICY: &str =
-    "default-src 'none'; script-src 'self'; style-src 'self'; img-src 'self'; connect-src 'self'; base-uri 'none'; form-action 'none'; frame-ancestors 'none'";
+const POLICY: &str = "default-src 'none'; script-src 'self'; style-src 'self'; img-src 'self'; \
+    connect-src 'self'; base-uri 'none'; form-action 'none'; frame-ancestors 'none'";
 
 // The status and the fields that each answer has but an upgrade, and no body yet.
 fn guard(response: &mut Response, status: StatusCode) -> Result<(), AllocError>
@@ -273,7 +273,7 @@ fn spare(alloc: Global, response: &mut Response, file: &File) -> Result<(), Allo
 {
     guard(response, StatusCode::NOT_MODIFIED)?;
     add_readers(response, file.kind)?;
-    Ok(add_value(alloc, response, "etag", file.tag.as_slice())?)
+    add_value(alloc, response, "etag", file.tag.as_slice())
 }
 
 // Whether an entity tag is a file's: one that packs its bytes on the way makes it a weak one.
@@ -363,6 +363,7 @@ fn is_number(text: &[u8]) -> bool
 fn names_game(path: &[u8]) -> bool
     ensures { result ≡ names_game path.now }
 {
+    // (a `match`: the proof by hand goes by its arms)
     match path.strip_prefix(b"/board/") {
         Some(number) => is_number(number),
         None => false,
@@ -508,13 +509,7 @@ fn forwarded(request: &Request<Bytes>) -> Option<IpAddr>
     ensures { IfSome result (IsIpText (forwarded_text request.now)) }
 {
     let text = last_element(last_field(request, "x-forwarded-for"));
-    match str::from_utf8(text) {
-        Ok(text) => match text.parse::<IpAddr>() {
-            Ok(address) => Some(address),
-            Err(_) => None,
-        },
-        Err(_) => None,
-    }
+    str::from_utf8(text).ok()?.parse::<IpAddr>().ok()
 }
 
 /// The site, as it answers the requests of one connection, whether the last answer was an upgrade, and for whom the

@@ -57,6 +57,7 @@ fn answered(
     let mut asked = Asked::new(alloc, site);
     connection.advance(&mut asked);
     *told = asked.forwarded.or(*told);
+    // (a `match`: the proof by hand goes by its arms)
     match connection.state() {
         State::Upgraded => {}
         _ => return Stage::Http(connection),
@@ -213,10 +214,7 @@ impl Browser {
         ensures { IsTrue result ↔ IsOver self.now.stage }
     {
         match &self.stage {
-            Stage::Http(connection) => match connection.state() {
-                State::Open => false,
-                _ => true,
-            },
+            Stage::Http(connection) => !matches!(connection.state(), State::Open),
             Stage::Socket(socket) => socket.is_over(),
             Stage::Over => true,
         }

@@ -115,10 +115,7 @@ pub struct Site {
 fn without_port<'a>(port: &[u8], host: &'a [u8]) -> &'a [u8]
     ensures { result.now ≡ without_port port.now host.now }
 {
-    match host.strip_suffix(port) {
-        Some(host) => host,
-        None => host,
-    }
+    host.strip_suffix(port).unwrap_or(host)
 }
 
 /// Whether two hosts are one by a scheme whose port this is, as `:80`: a host without a port has that one, and small

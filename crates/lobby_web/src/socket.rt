@@ -197,9 +197,8 @@ impl Socket {
             self.is_over = true;
             return;
         }
-        match self.input.extend_from_slice(bytes) {
-            Ok(()) => {}
-            Err(_) => self.is_over = true,
+        if self.input.extend_from_slice(bytes).is_err() {
+            self.is_over = true;
         }
     }
 
@@ -320,10 +319,7 @@ impl Socket {
             self.is_told = true;
             return Some(Heard::Opened);
         }
-        match self.next() {
-            Some(text) => Some(Heard::Text(text)),
-            None => None,
-        }
+        self.next().map(Heard::Text)
     }
 
     // Puts a message behind what waits to be written.
