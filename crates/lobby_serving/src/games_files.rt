@@ -53,11 +53,11 @@ impl<'a> GamesFiles<'a> {
         let mut is_reading = false;
         for file in self.files.iter_mut() {
             file.look(rt, lobby, at)?;
-            is_reading = is_reading || file.is_reading();
+            is_reading |= file.is_reading();
         }
         if let Some(folder) = &mut self.folder {
             folder.look(rt, lobby, at)?;
-            is_reading = is_reading || folder.is_reading();
+            is_reading |= folder.is_reading();
         }
         Ok(is_reading.then_some(0))
     }

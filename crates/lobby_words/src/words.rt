@@ -96,7 +96,7 @@ fn is_show_word(word: &str) -> bool
 fn are_digit_bytes(bytes: &[u8]) -> bool
     ensures { result ≡ list_all words.is_digit bytes.now }
 {
-    bytes.iter().all(|byte| (48..=57).contains(byte))
+    bytes.iter().all(|byte| (b'0'..=b'9').contains(byte))
 }
 
 // Whether a text has digits alone, one or more.
