@@ -49,7 +49,6 @@ fn put(offers: &mut Vec<Offer>, offer: Offer) -> Result<(), AllocError>
         ≡ spec.but_by offer.by (map spec.offered offers.old.items) ++ spec.offered offer ∷ []) }
 {
     take_off(offers, offer.by.as_str());
-    // (`?` and `Ok(())`: the prover has no proof of the result of `push` itself)
     offers.push(offer)?;
     Ok(())
 }
