@@ -54,7 +54,7 @@ fn is_brief(text: &[u8]) -> bool
 fn is_short_text(first: u8, second: u8) -> bool
     ensures { result ≡ is_short_text first second }
 {
-    first == TEXT && SHORT_LEAST <= second && second <= SHORT_MOST
+    first == TEXT && (SHORT_LEAST..=SHORT_MOST).contains(&second)
 }
 
 // A letter of the text, under a byte of the mask.

@@ -1,4 +1,5 @@
 //! What a browser says, as the desk takes it.
+// (`?` and `Ok(())` behind a call: a proof by hand has what the call gives at `Ok` then)
 ghost use Rattle.std.specs.Prelude.{ℕ, ◌≡◌, true, List, [], Some, IfSome, IsUtf8, OnOk};
 ghost use Rattle.std.specs.String.{string_bytes};
 ghost use Rattle.lobby_words.specs.Players.{IsCarriedOut};
@@ -91,10 +92,7 @@ fn say_decided(
 fn name_in(by: &Option<Name>) -> &str
     ensures { result.now ≡ name_in by.now }
 {
-    match by {
-        None => "",
-        Some(name) => name.as_str(),
-    }
+    by.as_ref().map_or("", |name| name.as_str())
 }
 
 // A message is said to the desk by which an arbiter decides: whoever keeps the decisions is asked first.
