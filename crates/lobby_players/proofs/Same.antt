@@ -1,5 +1,5 @@
 -- Players that are the same.
-use Rattle.std.proofs.Common.{ℕ, ◌≡◌, ◌≢◌, ◌<◌, ◌≤◌, ◌+◌, Bool, true, false, not, ◌&&◌, List, [], ◌∷◌, ◌++◌, length, get_or, take, refl, sym, ap, ◌∙◌, arith}
+use Rattle.std.proofs.Common.{ℕ, ◌≡◌, ◌≢◌, ◌<◌, ◌≤◌, ◌+◌, Bool, true, false, not, ◌&&◌, List, [], ◌∷◌, ◌++◌, length, get_or, take, refl, sym, ap, ◌∙◌, subst, arith}
 use Rattle.std.specs.Prelude.{◌==◌}
 use Rattle.std.specs.Str.{bytes_eq}
 use Rattle.std.specs.String.{string_bytes}
@@ -10,7 +10,7 @@ use Rattle.std.proofs.lemmas.List.{length-map, length-take-le, take_more}
 use Rattle.std.proofs.lemmas.List.Folds.{list_all-append}
 use Rattle.std.proofs.lemmas.Slice.Eq.{bytes_eq-Decides}
 use Rattle.lobby_words.specs.declared.players.Player.{Player}
-use Rattle.lobby_players.specs.File.{Entry, entry_of, entries_of}
+use Rattle.lobby_players.specs.File.{Entry, IsFileOf, entry_of, entries_of}
 use Rattle.lobby_players.specs.Relinking.{is_same_role, is_same_player, are_same_players}
 
 abbrev entry_by : List ℕ → Bool → List ℕ → List ℕ → Entry
@@ -75,6 +75,13 @@ pub same_entries : (some others : List Player) → are_same_players some others 
 same_entries some others is =
     let parts = and_parts (length some == length others) (list_all same_pair (zip some others)) is in
     all_entries some others ((Decides-eqb (length some) (length others)).0 parts.0) parts.1
+
+-- a file of players who are the same as these is one of these
+pub file_of_same : (text : List ℕ) (found shown known : List Player) → shown ≡ found → true ≡ are_same_players shown known →
+    IsFileOf text (entries_of found) → IsFileOf text (entries_of known)
+file_of_same text found shown known is same file =
+    subst (λ (es : List Entry). IsFileOf text es)
+    (same_entries found known (ap (λ (ps : List Player). are_same_players ps known) (sym is) ∙ sym same)) file
 
 abbrev pub first_or : Entry → List Entry → Entry
 first_or d [] = d

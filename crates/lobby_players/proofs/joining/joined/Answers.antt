@@ -1,16 +1,23 @@
-use Rattle.std.proofs.Common.{ℕ, ◌≡◌, Bool, List, refl, sym, ap, ◌∙◌, subst}
+use Rattle.std.proofs.Common.{ℕ, ◌≡◌, Bool, true, List, refl, sym, ap, ◌∙◌, subst}
 use Rattle.std.specs.String.{string_bytes}
 use Rattle.sha2.specs.Sha256.{sha256}
 use Rattle.lobby_words.specs.declared.players.Player.{Player}
 use Rattle.lobby_words.specs.Players.{is_token}
-use Rattle.lobby_players.specs.File.{Entry, IsFileOf, entries_of}
+use Rattle.lobby_players.specs.File.{IsFileOf, entries_of}
 use Rattle.lobby_players.specs.Adding.{IsAdded}
 use Rattle.lobby_players.specs.Relinking.{are_same_players}
 use Rattle.lobby_players.specs.Joining.{entry_joined}
-use Rattle.lobby_players.proofs.Same.{same_entries, other_entries}
+use Rattle.lobby_players.proofs.Same.{file_of_same, other_entries}
 use Rattle.lobby_players.proofs.TokenText.{token_is}
 use Rattle.lobby_players.proofs.Newcomer.{file_joined, players_joined}
 use Rattle.lobby_players.proofs.joining.joined.Goals as goal
+
+-- whom the file had not is added under the name that was shown
+added_new : (text new shown name full token : List ℕ) (is_new : Bool) → is_new ≡ true → shown ≡ name →
+    IsAdded text (entry_joined shown full token) new is_new → IsAdded text (entry_joined name full token) new true
+added_new text new shown name full token is_new so is added =
+    subst (λ (b : Bool). IsAdded text (entry_joined name full token) new b) so
+    (subst (λ (n : List ℕ). IsAdded text (entry_joined n full token) new is_new) is added)
 
 pub returns-then-not-are_same_players-clause-fault : goal.returns-then-not-are_same_players-clause-fault
 returns-then-not-are_same_players-clause-fault c =
@@ -30,13 +37,8 @@ returns-clause-file c =
     let token = c.args.token.now in
     let new = string_bytes c.in-Ok-added.new.text in
     file_joined text new (entry_joined c.args.name.now full token) known c.in-Ok-read.players.items
-    (subst (λ (es : List Entry). IsFileOf c.args.text.now es)
-    (same_entries c.in-Ok.players.items c.args.known.now
-    (ap (λ (ps : List Player). are_same_players ps c.args.known.now) (sym c.as_slice.ensures.value) ∙ sym c.if-not-are_same_players.ensures))
-    c.in-Ok.ensures.players)
-    (subst (λ (b : Bool). IsAdded text (entry_joined c.args.name.now full token) new b) c.if-not-new.false
-    (subst (λ (n : List ℕ). IsAdded text (entry_joined n full token) new c.in-Ok-added.new.is_new) c.as_str.ensures.text
-    c.in-Ok-added.ensures.added))
+    (file_of_same text c.in-Ok.players.items _ known c.as_slice.ensures.value c.if-not-are_same_players.ensures c.in-Ok.ensures.players)
+    (added_new text new _ c.args.name.now full token _ c.if-not-new.false c.as_str.ensures.text c.in-Ok-added.ensures.added)
     (subst (λ (t : List ℕ). IsFileOf t (entries_of c.in-Ok-read.players.items)) c.as_bytes.ensures.value c.in-Ok-read.ensures.players)
 
 pub returns-clause-players : goal.returns-clause-players
@@ -47,13 +49,8 @@ returns-clause-players c =
     let token = c.args.token.now in
     let new = string_bytes c.in-Ok-added.new.text in
     players_joined text new (string_bytes c.in_ok-shown.shown) (entry_joined c.args.name.now full token) known c.in-Ok-read.players.items
-    (subst (λ (es : List Entry). IsFileOf c.args.text.now es)
-    (same_entries c.in-Ok.players.items c.args.known.now
-    (ap (λ (ps : List Player). are_same_players ps c.args.known.now) (sym c.as_slice.ensures.value) ∙ sym c.if-not-are_same_players.ensures))
-    c.in-Ok.ensures.players)
-    (subst (λ (b : Bool). IsAdded text (entry_joined c.args.name.now full token) new b) c.if-not-new.false
-    (subst (λ (n : List ℕ). IsAdded text (entry_joined n full token) new c.in-Ok-added.new.is_new) c.as_str.ensures.text
-    c.in-Ok-added.ensures.added))
+    (file_of_same text c.in-Ok.players.items _ known c.as_slice.ensures.value c.if-not-are_same_players.ensures c.in-Ok.ensures.players)
+    (added_new text new _ c.args.name.now full token _ c.if-not-new.false c.as_str.ensures.text c.in-Ok-added.ensures.added)
     (subst (λ (t : List ℕ). IsFileOf t (entries_of c.in-Ok-read.players.items)) c.as_bytes.ensures.value c.in-Ok-read.ensures.players)
     (ap is_token c.in_ok-shown.ensures ∙ token_is c.args.token.now c.told-token c.fits-token)
     (ap sha256 (sym c.in_ok-shown.ensures)) refl

@@ -8,9 +8,8 @@ use Rattle.lobby_words.specs.declared.players.Player.{Player}
 use Rattle.lobby_players.specs.File.{IsFileOf, has_sum, entries_of}
 use Rattle.lobby_players.specs.Adding.{added_text}
 use Rattle.lobby_words.specs.Players.{is_token}
-use Rattle.lobby_players.specs.File.{Entry}
 use Rattle.lobby_players.specs.Relinking.{entry_linked, are_same_players}
-use Rattle.lobby_players.proofs.Same.{same_entries, other_entries}
+use Rattle.lobby_players.proofs.Same.{file_of_same, other_entries}
 use Rattle.lobby_players.proofs.TokenText.{token_is}
 use Rattle.lobby_players.proofs.EachLine.{any_of}
 use Rattle.lobby_players.proofs.NewLink.{named, file_relinked, players_relinked, nobody}
@@ -31,10 +30,8 @@ returns-in_default-clause-fault c =
     let known = c.args.known.now in
     record {
       entries = entries_of known;
-      before = subst (λ (es : List Entry). IsFileOf c.args.text.now es)
-          (same_entries c.in-Ok-read_text.players.items c.args.known.now
-          (ap (λ (ps : List Player). are_same_players ps c.args.known.now) (sym c.as_slice.ensures.value) ∙ sym c.if-not-are_same_players.ensures))
-          (subst (λ (t : List ℕ). IsFileOf t (entries_of c.in-Ok-read_text.players.items)) c.in-Ok.ensures.text c.in-Ok-read_text.ensures.players);
+      before = file_of_same c.args.text.now c.in-Ok-read_text.players.items _ known c.as_slice.ensures.value
+          c.if-not-are_same_players.ensures (subst (λ (t : List ℕ). IsFileOf t (entries_of c.in-Ok-read_text.players.items)) c.in-Ok.ensures.text c.in-Ok-read_text.ensures.players);
       none = nobody c.args.name.now known
           (ap (λ (n : List ℕ). find (named n) known) (sym c.as_str.ensures.text) ∙ (sym c.player_by_name.ensures ∙ ap option_copied c.in_default.is));
     }
@@ -45,10 +42,8 @@ returns-then-has_sum-clause-fault c =
     let summed = c.digest-sum.ensures ∙ ap sha256 (c.as_str-2.ensures.value ∙ c.in_ok-shown.ensures) in
     record {
       entries = entries_of known;
-      before = subst (λ (es : List Entry). IsFileOf c.args.text.now es)
-          (same_entries c.in-Ok-read_text.players.items c.args.known.now
-          (ap (λ (ps : List Player). are_same_players ps c.args.known.now) (sym c.as_slice.ensures.value) ∙ sym c.if-not-are_same_players.ensures))
-          (subst (λ (t : List ℕ). IsFileOf t (entries_of c.in-Ok-read_text.players.items)) c.in-Ok.ensures.text c.in-Ok-read_text.ensures.players);
+      before = file_of_same c.args.text.now c.in-Ok-read_text.players.items _ known c.as_slice.ensures.value
+          c.if-not-are_same_players.ensures (subst (λ (t : List ℕ). IsFileOf t (entries_of c.in-Ok-read_text.players.items)) c.in-Ok.ensures.text c.in-Ok-read_text.ensures.players);
       held = subst (λ (s : List ℕ). list_any (has_sum s) (entries_of known) ≡ true) summed
           (any_of (has_sum c.digest-sum.result) c.has_sum.result true known known c.has_sum.ensures refl c.if-has_sum.true);
     }
@@ -60,9 +55,8 @@ returns-clause-file c =
     let sum = c.digest-sum.result in
     let p = c.in-Some.player.now in
     file_relinked name sum c.args.text.now (string_bytes c.in_ok-new.new) p known c.in_ok-players.players.items
-    (subst (λ (es : List Entry). IsFileOf c.args.text.now es)
-    (same_entries c.in-Ok-read_text.players.items c.args.known.now
-    (ap (λ (ps : List Player). are_same_players ps c.args.known.now) (sym c.as_slice.ensures.value) ∙ sym c.if-not-are_same_players.ensures))
+    (file_of_same c.args.text.now c.in-Ok-read_text.players.items _ known c.as_slice.ensures.value
+    c.if-not-are_same_players.ensures
     (subst (λ (t : List ℕ). IsFileOf t (entries_of c.in-Ok-read_text.players.items)) c.in-Ok.ensures.text c.in-Ok-read_text.ensures.players))
     (ap (λ (n : List ℕ). find (named n) known) (sym c.as_str.ensures.text) ∙ (sym c.player_by_name.ensures ∙ ap option_copied c.in-Some.is))
     (any_of (has_sum sum) c.has_sum.result false known known c.has_sum.ensures refl c.if-has_sum.false)
