@@ -69,8 +69,7 @@ fn push_word(text: &mut String, word: &str) -> Result<(), AllocError>
     ensures { OnOk result (string_bytes text.new ≡ string_bytes text.old ++ (word.now ++ codes " ")) }
 {
     text.push_str(word)?;
-    text.push(' ')?;
-    Ok(())
+    text.push(' ')
 }
 
 // Appends the line of a player, without a line feed.
@@ -86,6 +85,7 @@ fn push_player(
     push_word(text, who.name)?;
     push_word(text, role_word(who.is_arbiter))?;
     push_word(text, hex::encode(alloc, sum.as_slice())?.as_str())?;
+    // (`?` and `Ok(())`: a proof by hand has what the call gives at `Ok` then)
     text.push_str(who.full_name)?;
     Ok(())
 }
@@ -95,8 +95,7 @@ fn push_line(text: &mut String, line: &str) -> Result<(), AllocError>
     ensures { OnOk result (string_bytes text.new ≡ string_bytes text.old ++ ended line.now) }
 {
     text.push_str(line)?;
-    text.push('\n')?;
-    Ok(())
+    text.push('\n')
 }
 
 // Whether a line is the first of the name, where the new one stands nowhere yet.

@@ -123,15 +123,11 @@ pub fn carried_out(
     ensures fault { IfErr result (IsOrderFault known.now order.now full_name.now token.now text.now) }
 {
     match order.change {
-        Change::NewPlayer => match joined(alloc, known, text, &order.name, full_name, token) {
-            Ok(new) => Ok(new),
-            Err(fault) => Err(OrderFault::Join(fault)),
-        },
+        Change::NewPlayer => {
+            joined(alloc, known, text, &order.name, full_name, token).map_err(OrderFault::Join)
+        }
         Change::NewLink | Change::NoLink => {
-            match relinked(alloc, known, text, &order.name, token) {
-                Ok(new) => Ok(new),
-                Err(fault) => Err(OrderFault::Link(fault)),
-            }
+            relinked(alloc, known, text, &order.name, token).map_err(OrderFault::Link)
         }
     }
 }

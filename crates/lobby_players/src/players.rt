@@ -1,7 +1,7 @@
 //! The players of a file.
 use crate::file::read_regular;
 use anyhow::{Context, Result};
-use lobby_words::Player;
+use lobby_words::{Player, player_by_name};
 use std::rt::Files;
 
 /// The players of a file. It fails where there is no file, or what it has is no players' file.
@@ -19,10 +19,5 @@ pub fn later_players_of<R: Files + AllocGlobal>(rt: &R, file: &str) -> Result<Ve
 
 /// The full name of a player, and the name itself where it is not among the players.
 pub fn full_name<'a>(players: &'a [Player], name: &'a str) -> &'a str {
-    for player in players {
-        if player.name.as_str() == name {
-            return player.full_name.as_str();
-        }
-    }
-    name
+    player_by_name(players, name).map_or(name, |player| player.full_name.as_str())
 }

@@ -134,10 +134,7 @@ pub fn reread(alloc: Global, text: &[u8]) -> Result<Vec<Player>, RereadFault>
     ensures whole { OnOk result (ends_line text.now ≡ true) }
     ensures fault { IfErr result (IsRereadFault text.now) }
 {
-    let players = match read(alloc, text) {
-        Ok(players) => players,
-        Err(fault) => return Err(RereadFault::File(fault)),
-    };
+    let players = read(alloc, text).map_err(RereadFault::File)?;
     if players.is_empty() {
         return Err(RereadFault::NoPlayer);
     }

@@ -45,7 +45,7 @@ pub fn are_same_players(some: &[Player], others: &[Player]) -> bool
     }
     let mut same = true;
     for i in 0..some.len() {
-        same = same & is_same_player(&some[i], &others[i]);
+        same &= is_same_player(&some[i], &others[i]);
     }
     same
 }
@@ -114,8 +114,7 @@ fn text_linked(
         full_name: player.full_name.as_str(),
         is_arbiter: player.is_arbiter,
     };
-    let new = text_with(alloc, text, &who, sum)?;
-    Ok(new)
+    text_with(alloc, text, &who, sum)
 }
 
 /// The file of these players in which the one of this name has this token, in the place of the one that he had: in
