@@ -5,7 +5,7 @@ use Rattle.lobby_talk.specs.Talking.{acts_at}
 use Rattle.lobby_guests.specs.declared.guest.Guest.{Guest}
 use Rattle.lobby_guests.specs.declared.place.Place.{Place}
 use Rattle.lobby_guests.specs.declared.place.Role.{Role}
-use Rattle.lobby_guests.specs.declared.place.Role.TheVariants.{Gone, Player, Newcomer}
+use Rattle.lobby_guests.specs.declared.place.Role.TheVariants.{Gone, Player, Nameless}
 use Rattle.lobby_guests.specs.Guests.{IsAsBefore}
 pub use Rattle.lobby_guests.specs.Paces.{player_of}
 
@@ -13,12 +13,12 @@ pub use Rattle.lobby_guests.specs.Paces.{player_of}
 abbrev pub is_gone : Role → Bool
 is_gone Gone = true
 is_gone Player = false
-is_gone Newcomer = false
+is_gone Nameless = false
 
 -- what a connection is to the lobby that acts for a player or not
 abbrev pub role_by : Bool → Role
 role_by true = Player
-role_by false = Newcomer
+role_by false = Nameless
 
 -- what a connection is that is to be closed or not, and has this number at the desk
 abbrev pub role_of : Desk → Bool → Option ℕ → Role

@@ -275,7 +275,7 @@ impl<S> Guest<S> {
         } else if talk.acts(self.number) {
             Role::Player
         } else {
-            Role::Newcomer
+            Role::Nameless
         }
     }
 

@@ -13,7 +13,7 @@ pub enum Role {
     /// It acts for a player.
     Player,
     /// It acts for nobody.
-    Newcomer,
+    Nameless,
 }
 
 /// A connection's place.

@@ -189,7 +189,7 @@ player_kept p q kept =
     no_player : (role : Role) → is_nameless role ≡ true → is_player role ≡ false
     no_player roles.Gone is = refl
     no_player roles.Player is = absurd (cc)
-    no_player roles.Newcomer is = refl
+    no_player roles.Nameless is = refl
 
 pub players_stay : (ps qs : List Place) → AllZip IsKeptOrClosed ps qs → count_of None Players qs ≡ count_of None Players ps
 players_stay [] [] kept = refl

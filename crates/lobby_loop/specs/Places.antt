@@ -19,13 +19,13 @@ use Rattle.lobby_loop.specs.declared.places.Class.TheVariants.{Gone, Players, Na
 abbrev pub is_player : Role → Bool
 is_player roles.Gone = false
 is_player roles.Player = true
-is_player roles.Newcomer = false
+is_player roles.Nameless = false
 
 -- It acts for nobody.
 abbrev pub is_nameless : Role → Bool
 is_nameless roles.Gone = false
 is_nameless roles.Player = false
-is_nameless roles.Newcomer = true
+is_nameless roles.Nameless = true
 
 -- It acts for the player of this name.
 abbrev pub is_of : List ℕ → Option (List ℕ) → Bool

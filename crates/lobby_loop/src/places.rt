@@ -71,9 +71,9 @@ fn is_in(place: &Place, class: &Class) -> bool
     match class {
         Class::Gone => is_gone(place.role),
         Class::Players => matches!(place.role, Role::Player),
-        Class::Nameless => matches!(place.role, Role::Newcomer),
+        Class::Nameless => matches!(place.role, Role::Nameless),
         Class::Aged(at, age) => {
-            matches!(place.role, Role::Newcomer) && (*at).saturating_sub(place.since) >= *age
+            matches!(place.role, Role::Nameless) && (*at).saturating_sub(place.since) >= *age
         }
         Class::Own(name) => matches!(place.role, Role::Player) && is_of(place, name),
     }
