@@ -106,7 +106,8 @@ fn results_of(
     Ok(text_of(alloc, boards, pairings, told.as_slice())?)
 }
 
-// Writes the results of a round, and tells before what is to be told of boards.
+// Writes the results of a round, and tells before what is to be told of boards. It fails behind that where something
+// was wrong.
 fn write_outcomes<R>(
     rt: &R,
     boards: Boards<'_>,
@@ -118,20 +119,7 @@ where
 {
     let text = results_of(rt.alloc(), boards, pairings, outcomes)?;
     outcomes.tell(rt)?;
-    Ok(io::writer(rt).write_all(text.as_slice())?)
-}
-
-// The same. It fails behind that where something was wrong.
-fn write_checked<R>(
-    rt: &R,
-    boards: Boards<'_>,
-    pairings: &[Pairing],
-    outcomes: &mut Outcomes<'_>,
-) -> Result<()>
-where
-    R: AllocGlobal + Print + Eprint,
-{
-    write_outcomes(rt, boards, pairings, outcomes)?;
+    io::writer(rt).write_all(text.as_slice())?;
     outcomes.check_names()?;
     check_fault(outcomes.fault())
 }
@@ -153,12 +141,12 @@ where
         decisions,
     };
     let mut outcomes = Outcomes::open(rt, asking.source, players)?;
-    let written = write_checked(rt, boards, paired.pairings.as_slice(), &mut outcomes);
+    let written = write_outcomes(rt, boards, paired.pairings.as_slice(), &mut outcomes);
     drop(outcomes);
     written
 }
 
-// The same, of which the files are still to be read.
+// Writes the results of a round, of which the files are still to be read.
 fn write_with<R>(rt: &R, asking: &Asking<'_>, players: &[Player]) -> Result<()>
 where
     R: Files + Net<Stream = TcpStream> + AllocGlobal + Print + Eprint,
