@@ -283,10 +283,7 @@ impl<S> Guest<S> {
     fn player(&self, talk: &Talk) -> Option<Name>
         ensures { result ≡ player_of talk.now.desk self.now.number }
     {
-        match self.number {
-            None => None,
-            Some(number) => talk.desk().player_at(number),
-        }
+        talk.desk().player_at(self.number?)
     }
 
     /// Who pays for its acts, as a number: the player for whom it acts; 0 where it acts for nobody.
@@ -436,10 +433,8 @@ impl<S> Guest<S> {
         ensures waits { self.new.waits ≡ self.old.waits }
         ensures paid { self.new.paid_until ≡ self.old.paid_until }
     {
-        match self.browser.say(text.as_bytes()) {
-            Ok(()) => {}
-            Err(Unsaid::NotOpen | Unsaid::NotText) => {}
-            Err(Unsaid::Slow | Unsaid::Memory) => self.is_lost = true,
+        if let Err(Unsaid::Slow | Unsaid::Memory) = self.browser.say(text.as_bytes()) {
+            self.is_lost = true;
         }
     }
 
@@ -484,9 +479,7 @@ impl<S> Guest<S> {
     {
         let one = Waiting::copy_of(alloc, made)?;
         self.waits.push(one)?;
-        if self.waits.len() > WAITING_MOST {
-            self.is_lost = true;
-        }
+        self.is_lost |= self.waits.len() > WAITING_MOST;
         Ok(())
     }
 
@@ -533,14 +526,10 @@ impl<S> Guest<S> {
         ensures at { OnOk result (counts.new.at ≡ counts.old.at) }
     {
         match self.number {
-            None => Ok(()),
-            Some(number) => {
-                if is_among(made.to.as_slice(), number) {
-                    self.pass_on(alloc, made, counts)
-                } else {
-                    Ok(())
-                }
+            Some(number) if is_among(made.to.as_slice(), number) => {
+                self.pass_on(alloc, made, counts)
             }
+            _ => Ok(()),
         }
     }
 
@@ -574,10 +563,7 @@ impl<S> Guest<S> {
     fn has_whole(&self) -> bool
         ensures { result ≡ waiting.has_whole self.now.waits.items }
     {
-        match self.waits.first() {
-            None => false,
-            Some(one) => !is_line(one.kind),
-        }
+        self.waits.first().is_some_and(|one| !is_line(one.kind))
     }
 
     // What waits first is told, where that is not to be made. It tells whether it was.
@@ -620,10 +606,7 @@ impl<S> Guest<S> {
     fn is_first(&self, answer: &KeptAnswer) -> bool
         ensures { result ≡ is_first answer.now self.now.waits.items }
     {
-        match self.waits.first() {
-            None => false,
-            Some(one) => is_line(one.kind) && one.text.as_str() == answer.pgn(),
-        }
+        self.waits.first().is_some_and(|one| is_line(one.kind) && one.text.as_str() == answer.pgn())
     }
 
     /// Where the first message that waits is to be made by this answer, and somebody more may be told one, it is told

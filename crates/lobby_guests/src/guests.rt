@@ -1,4 +1,5 @@
 //! All browsers that are connected, by the names of their sockets, which grow.
+// (`|` of two that are there already, in place of `||`: that is one way more, to be proved by itself)
 #![tactic(auto, using(lobby_talk::proofs::Each::zipped_none, lobby_talk::proofs::Each::zipped_vec))]
 
 ghost use Rattle.std.specs.Prelude.{ℕ, Bool, true, false, nat_lt, length, ◌<◌, ◌≡◌, [], List, Option, IfOk, OnOk};
@@ -394,8 +395,7 @@ fn answer_waiting<S>(
 pub fn has_waiting<S>(guests: &[Guest<S>], talk: &Talk) -> bool
     ensures { result ≡ has_waiting guests.now talk.now }
 {
-    let has_first = first_wanted(guests).is_some();
-    talk.is_replaying() | has_first
+    talk.is_replaying() || first_wanted(guests).is_some()
 }
 
 /// Those who are told something are told it, or it waits behind an answer to `line G` that is not there yet; and the
@@ -419,6 +419,7 @@ pub fn deliver<S>(
     talk.make_told()?;
     tell_all(alloc, guests, talk.told.as_slice(), counts)?;
     talk.told.clear();
+    // (`?` and `Ok(())`: a proof by hand has what the call gives at `Ok` then)
     answer_waiting(guests, talk, counts)?;
     Ok(())
 }

@@ -30,8 +30,5 @@ impl Waiting {
 pub fn is_line(kind: Kind) -> bool
     ensures { result ≡ waiting.is_line kind }
 {
-    match kind {
-        Kind::Line => true,
-        Kind::Whole | Kind::Position | Kind::Moves | Kind::Log => false,
-    }
+    matches!(kind, Kind::Line)
 }
