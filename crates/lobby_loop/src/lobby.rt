@@ -166,11 +166,9 @@ fn wake_each(events: &Events, hall: &mut Hall<Call>) -> bool
 
 // Whether the listener is among the sockets of these events.
 fn has_listener(events: &Events) -> bool {
-    let mut any = false;
-    for event in events.iter() {
-        any |= usize::from(event.token()) == LISTENER;
-    }
-    any
+    events
+        .iter()
+        .any(|event| usize::from(event.token()) == LISTENER)
 }
 
 impl Lobby {
@@ -458,12 +456,10 @@ impl Lobby {
             Turned::Worked => Some(Duration::ZERO),
             Turned::Idle(most) => most.map(Duration::from_millis),
         };
-        match self.poll.poll(&mut self.events, most) {
-            Ok(()) => {
-                self.wake();
-                Ok(())
-            }
-            Err(_) => Err(Fault::NoEvents),
+        if self.poll.poll(&mut self.events, most).is_err() {
+            return Err(Fault::NoEvents);
         }
+        self.wake();
+        Ok(())
     }
 }

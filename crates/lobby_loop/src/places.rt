@@ -58,10 +58,10 @@ fn is_at(place: &Place, address: Option<u64>) -> bool
 fn is_of(place: &Place, name: &Name) -> bool
     ensures { result ≡ is_of name.now place.now.player }
 {
-    match &place.player {
-        None => false,
-        Some(player) => player.as_str() == name.as_str(),
-    }
+    place
+        .player
+        .as_ref()
+        .is_some_and(|player| player.as_str() == name.as_str())
 }
 
 // Whether a connection is of a class.
