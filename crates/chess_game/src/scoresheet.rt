@@ -77,6 +77,7 @@ impl Scoresheet {
         ensures none { IfOk result (λ told. IfNone told (¬ IsScoresheet start.now moves.now)) }
     {
         let mut line = Scoresheet::new(alloc, start)?;
+        line.reserve(moves.len())?;
         let mut by_line = None;
         for mv in moves {
             if by_line.is_some() {
@@ -88,6 +89,14 @@ impl Scoresheet {
             by_line = line.push_with(mv, board)?;
         }
         Ok(Some(Replayed { line, by_line }))
+    }
+
+    // Makes room for so many more moves. It fails where memory is refused; all is as it was either way.
+    fn reserve(&mut self, more: usize) -> Result<(), AllocError>
+        ensures { self.new ≡ self.old }
+    {
+        self.moves.reserve(more)?;
+        self.history.reserve(more)
     }
 
     /// The position that the line starts from.
