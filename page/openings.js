@@ -9,6 +9,7 @@ import { arbiterWords, timesWords } from './words.js';
 
 const HEADER = 'board,white,black,times,start', FIELDS = 5;
 const LEAST = 60;                    // seconds of each player at first: fewer are taken for minutes that were meant
+const UNTOLD = -1;                   // in the place of a game's number
 const SETTLES = 700;                 // milliseconds between two looks at the table
 const ZONE = /(Z|[+-]\d\d:\d\d)$/;
 const FIELD = /(?:"((?:[^"]|"")*)"|([^,"\r\n]*))(,|\r?\n|$)/y;
@@ -74,12 +75,13 @@ export class Openings {
   async openOne(board) {
     const rows = await this.table(), { white, black, line } = board;
     if (!rows) return this.isLost('');
-    const known = await this.found(rows, board, black);
+    const known = await this.found(rows, board, black), waits = known ? 0 : await this.found(rows, board, '');
+    if (known === UNTOLD || waits === UNTOLD) return this.isLost('');
     if (known) {
       Object.assign(board, { game: known, said: t`A game of the two is on the table already.` });
       return true;
     }
-    const waits = await this.found(rows, board, ''), join = waits && `as ${black} join ${waits}`;
+    const join = waits && `as ${black} join ${waits}`;
     const [answer] = await this.app.wire.say(join || `pair ${white} ${black} ${line}`);
     const done = /^ok (?:pair|join) (\d+)/.exec(answer), refusal = readRefusal(answer);
     if (done) Object.assign(board, { game: Number(done[1]), said: '' });
@@ -90,11 +92,13 @@ export class Openings {
   }
 
   /** The game of White's with the board's times against Black, also one that is over; or, against nobody, that waits
-   * for a second player, as a pairing that was cut off leaves it. 0 where there is none. */
+   * for a second player, as a pairing that was cut off leaves it. 0 where there is none, UNTOLD where an answer was lost:
+   * a board that was opened is not opened again. */
   async found(rows, { white, line }, black) {
     const isFit = (one) => one.white === white && (one.black || '') === black && (black || one.result === '*');
     for (const row of rows.filter(isFit)) {
       const pgn = await this.app.wire.say(`pgn ${row.number}`);
+      if (!pgn[0].startsWith('ok ') && !readRefusal(pgn[0])) return UNTOLD;
       if (pgn[0].startsWith('ok ') && isOf(readPgn(pgn.slice(1)).tags, `open white ${line}`)) return row.number;
     }
     return 0;
